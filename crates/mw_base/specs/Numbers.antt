@@ -1,0 +1,11 @@
+-- Numbers as reports print them.
+use Rattle.std.specs.Prelude.{ℕ, ◌+◌, List, [], ◌∷◌, map, if◌then◌else◌, nat_lt, ◌==◌}
+use Rattle.std.specs.Int.Digits.{digits_of}
+
+-- the letter or figure of a hexadecimal digit: '0' to '9', 'A' to 'F'
+abbrev pub glyph : ℕ → ℕ
+glyph d = if nat_lt d 10 then d + 48 else d + 55
+
+-- "0x", and the hexadecimal digits without leading zeros; 0 has the one digit 0
+unfoldable pub hex : ℕ → List ℕ
+hex n = 48 ∷ 120 ∷ (if n == 0 then 48 ∷ [] else map glyph (digits_of 16 n))

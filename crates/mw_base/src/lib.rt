@@ -1,0 +1,17 @@
+//! What every crate of the bench shares: widths, bits of a word, the causes of refusal, events and printed numbers.
+#![tactic(auto)]
+
+mod cause;
+mod event;
+mod hex;
+mod memory;
+mod width;
+
+pub use cause::Cause;
+pub use event::Event;
+pub use hex::append_hex;
+pub use memory::NoMemory;
+pub use width::{Width, bit, mask};
+
+#[cfg(test)]
+mod tests;
