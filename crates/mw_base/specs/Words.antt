@@ -1,5 +1,5 @@
 -- Words of a width w: the numbers below 2 ^ w.
-use Rattle.std.specs.Prelude.{ℕ, ◌+◌, ◌-◌, ◌*◌, ◌/◌, ◌%◌, ◌^◌, Bool, true, false, ◌==◌}
+use Rattle.std.specs.Prelude.{ℕ, ◌+◌, ◌-◌, ◌*◌, ◌/◌, ◌%◌, ◌^◌, Bool, true, false, not, ◌==◌}
 
 -- bit j of a word, from the least, bit 0
 abbrev pub bit_of : ℕ → ℕ → Bool
@@ -9,6 +9,11 @@ bit_of x j = x / 2 ^ j % 2 == 1
 abbrev pub num : Bool → ℕ
 num true = 1
 num false = 0
+
+-- one of two bits, and not both
+abbrev pub differ : Bool → Bool → Bool
+differ true b = not b
+differ false b = b
 
 -- the word of width w whose bits are all 1
 abbrev pub ones : ℕ → ℕ
