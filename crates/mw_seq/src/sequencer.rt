@@ -1,0 +1,129 @@
+// The state of the sequencer, and one step of it.
+ghost use Rattle.std.specs.Prelude.{◌≡◌, ℕ, ◌+◌, ◌-◌, ◌<◌, ◌≤◌, ◌^◌, ◌==◌, slice_index};
+ghost use Rattle.mw_seq.specs.declared.sequencer.TheConstants.{DEPTH};
+ghost use Rattle.mw_seq.specs.Sequencer.{IsSequencer, is_full, top, pushed, stack_after, counter_after, address, next_of, step_of};
+
+use crate::instruction::{AddressFrom, CounterMove, Instruction, StackMove};
+use std::marker::Model;
+
+/// How many words the stack has.
+pub const DEPTH: u8 = 5;
+
+/// The state of an Am2910. Addresses have 12 bits.
+#[derive(Clone, Copy, Debug, PartialEq, Eq)]
+pub struct Seq {
+    /// The microprogram counter.
+    pub pc: u16,
+    /// The register/counter.
+    pub r: u16,
+    /// The stack's words, the oldest first.
+    pub stack: [u16; 5],
+    /// The stack pointer: how many of the words are on the stack. The top is word `sp - 1`.
+    pub sp: u8,
+}
+
+impl Model for Seq {
+    ghost use Rattle.mw_seq.specs.declared.sequencer.TheConstants.{DEPTH};
+    ghost use Rattle.mw_seq.specs.Sequencer.{Sequencer, IsSequencer};
+
+    ghost Value = { Sequencer };
+
+    ghost view = { λ s. record { pc = s.pc; r = s.r; stack = s.stack; sp = s.sp } };
+
+    ghost invariant = { λ s. IsSequencer DEPTH (record { pc = s.pc; r = s.r; stack = s.stack; sp = s.sp }) };
+
+    ghost inverse = { λ s. record { pc = s.pc; r = s.r; stack = s.stack; sp = s.sp } };
+}
+
+fn counted(counter: CounterMove, d: u16, r: u16) -> u16
+    requires d_in { d < 2 ^ 12 }
+    requires r_in { r < 2 ^ 12 }
+    ensures exact { result ≡ counter_after counter d r }
+    ensures below { result < 2 ^ 12 }
+{
+    match counter {
+        CounterMove::Same => r,
+        CounterMove::Loaded => d,
+        CounterMove::Counted => r.saturating_sub(1),
+    }
+}
+
+impl Seq {
+    /// Whether each word of the stack is on it.
+    pub fn full(&self) -> bool
+        ensures { result ≡ is_full DEPTH self.now }
+    {
+        self.sp == DEPTH
+    }
+
+    #[tactic(auto, unfolding(crate::specs::Sequencer::top))]
+    fn top(&self, noise: u16) -> u16
+        ensures exact { result ≡ top self.now noise }
+        ensures below { result < 2 ^ 12 }
+    {
+        if self.sp == 0 {
+            noise % 4096
+        } else {
+            self.stack[usize::from(self.sp) - 1]
+        }
+    }
+
+    #[tactic(auto, unfolding(crate::specs::Sequencer::pushed))]
+    fn push(&mut self)
+        ensures { self.new ≡ pushed DEPTH self.old }
+    {
+        if self.sp < DEPTH {
+            self.stack[usize::from(self.sp)] = self.pc;
+            self.sp += 1;
+        } else {
+            self.stack[usize::from(DEPTH) - 1] = self.pc;
+        }
+    }
+
+    #[tactic(auto, unfolding(crate::specs::Sequencer::stack_after))]
+    fn move_stack(&mut self, stack: StackMove)
+        ensures { self.new ≡ stack_after stack DEPTH self.old }
+    {
+        match stack {
+            StackMove::Held => {}
+            StackMove::Pushed => self.push(),
+            StackMove::Popped => self.sp = self.sp.saturating_sub(1),
+            StackMove::Cleared => self.sp = 0,
+        }
+    }
+
+    fn address(&self, from: AddressFrom, d: u16, noise: u16) -> u16
+        requires { d < 2 ^ 12 }
+        ensures exact { result ≡ address from d noise self.now }
+        ensures below { result < 2 ^ 12 }
+    {
+        match from {
+            AddressFrom::Zero => 0,
+            AddressFrom::Pc => self.pc,
+            AddressFrom::D => d,
+            AddressFrom::R => self.r,
+            AddressFrom::F => self.top(noise),
+        }
+    }
+
+    /// One instruction, by its code from 0 to 15, and the next address. `d` is the address at the direct input, `ci` the
+    /// carry into PC, `rld` loads R from `d` in place of the instruction's effect on it, and the low 12 bits of `noise`
+    /// stand on an empty stack.
+    #[tactic(auto, unfolding(crate::specs::Sequencer::next_of, crate::specs::Sequencer::step_of))]
+    pub fn step(&mut self, ins: u8, pass: bool, d: u16, ci: bool, rld: bool, noise: u16) -> u16
+        requires ins_in { ins < 16 }
+        requires d_in { d < 2 ^ 12 }
+        ensures next { result ≡ next_of ins pass d noise self.old }
+        ensures below { result < 2 ^ 12 }
+        ensures exact { self.new ≡ step_of DEPTH ins pass d ci rld noise self.old }
+        ensures fits { IsSequencer DEPTH self.new }
+    {
+        let effect = Instruction::of(ins).effect(pass, self.r == 0);
+        let next = self.address(effect.next, d, noise);
+        let r = counted(effect.counter, d, self.r);
+        self.move_stack(effect.stack);
+        self.pc = (next + u16::from(ci)) % 4096;
+        self.r = if rld { d } else { r };
+        next
+    }
+}
