@@ -1,0 +1,7 @@
+pub mod Board
+pub mod Microword
+pub mod State
+pub mod Environment
+pub mod Cycle
+pub mod Run
+pub mod Boundary

@@ -1,0 +1,27 @@
+-- The state of a board, and when it fits one.
+use Rattle.std.specs.Prelude.{◌≡◌, ℕ, ◌<◌, ◌^◌, List, length, slice_index}
+use Rattle.mw_seq.specs.Sequencer.{Sequencer, IsSequencer}
+use Rattle.mw_cycle.specs.Board.{BoardParts, depth_of}
+
+-- the control address in the pipeline register, the Am2901's registers and Q, the memory address register, the instruction
+-- register, the Am2910, and the memory image
+pub record BoardState : Type 0 where
+  pub at : ℕ
+  pub regs : List ℕ
+  pub q : ℕ
+  pub mar : ℕ
+  pub ir : ℕ
+  pub seq : Sequencer
+  pub memory : List ℕ
+
+-- each part is in range, and the memory has each of its words
+pub record Fits (board : BoardParts) (s : BoardState) : Type 0 where
+  pub at : s.at < 2 ^ 12
+  pub sixteen : length s.regs ≡ 16
+  pub regs : (i : ℕ) → slice_index s.regs i < 2 ^ board.width
+  pub q : s.q < 2 ^ board.width
+  pub mar : s.mar < 2 ^ board.address
+  pub ir : s.ir < 2 ^ board.width
+  pub seq : IsSequencer (depth_of board) s.seq
+  pub size : length s.memory ≡ 2 ^ board.address
+  pub memory : (i : ℕ) → slice_index s.memory i < 2 ^ board.width

@@ -1,0 +1,18 @@
+//! One cycle of a board, and runs of cycles from boundary to boundary.
+#![tactic(auto)]
+
+mod board;
+mod datapath;
+mod environment;
+mod microword;
+mod one_cycle;
+mod run;
+mod state;
+
+pub use board::{Board, Store};
+pub use datapath::{Datapath, Whole};
+pub use environment::{Clock, Env};
+pub use microword::{Bit, DFrom, Microword};
+pub use one_cycle::cycle;
+pub use run::{Run, run_to_boundary};
+pub use state::{CycleIn, Nets, State};
