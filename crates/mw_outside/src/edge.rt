@@ -1,5 +1,6 @@
 // The trusted edge: a folder of files and standard output. No contract tells what they hold.
-ghost use Rattle.std.specs.Prelude.{◌≡◌, ◌≤◌, None, IfOk, length};
+ghost use Rattle.std.specs.Prelude.{◌≡◌, ◌≤◌, ◌↔◌, None, Some, IsNone, IsErr, IfOk, OnOk, OnErr, length};
+ghost use Rattle.mw_outside.specs.Causes.{one_more};
 
 use crate::shelf::{Failed, Shelf};
 use crate::sink::Sink;
@@ -7,6 +8,20 @@ use std::fs::File;
 use std::io::{self, Read, Seek, SeekFrom};
 use std::marker::Model;
 use std::rt::Files;
+
+/// How many bytes were moved, or a fault, which is counted.
+fn counted(faults: &mut u64, moved: Option<usize>) -> Result<usize, Failed>
+    ensures moved { IfOk result (λ n. moved ≡ Some n) }
+    ensures none { IsErr result ↔ IsNone moved }
+    ensures ok { OnOk result (faults.new ≡ faults.old) }
+    ensures err { OnErr result (faults.new ≡ one_more faults.old) }
+    ensures later { faults.old ≤ faults.new }
+{
+    if moved.is_none() {
+        *faults = faults.saturating_add(1);
+    }
+    moved.ok_or(Failed)
+}
 
 /// Files of the folder in which the program runs, seen as their count of faults, which is the count of
 /// every name. Their contents aren't told.
@@ -47,13 +62,7 @@ impl<R: Files> Shelf for FolderShelf<'_, R> {
     ghost faults = { λ shelf _. shelf };
 
     fn fetch(&mut self, name: &str, at: u64, into: &mut [u8]) -> Result<usize, Failed> {
-        match bytes_at(self.rt, name, at, into) {
-            Ok(count) => Ok(count),
-            Err(_) => {
-                self.faults = self.faults.saturating_add(1);
-                Err(Failed)
-            }
-        }
+        counted(&mut self.faults, bytes_at(self.rt, name, at, into).ok())
     }
 }
 
@@ -89,11 +98,8 @@ impl<R: Print> Sink for ScreenSink<'_, R> {
 
     fn put(&mut self, piece: &[u8]) -> Result<usize, Failed> {
         match self.rt.write_some(piece) {
-            Ok(count) if count > 0 => Ok(count),
-            _ => {
-                self.faults = self.faults.saturating_add(1);
-                Err(Failed)
-            }
+            Ok(count) if count > 0 => counted(&mut self.faults, Some(count)),
+            _ => counted(&mut self.faults, None),
         }
     }
 }
