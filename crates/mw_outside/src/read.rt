@@ -93,7 +93,10 @@ pub fn write_all<K: Sink>(sink: &mut K, bytes: &[u8]) -> Result<(), Failed>
 {
     let mut place = 0;
     while place < bytes.len() {
-        place += sink.put(&bytes[place..])?;
+        match sink.put(&bytes[place..]) {
+            Ok(count) => place += count,
+            Err(failed) => return Err(failed),
+        }
     }
     Ok(())
 }
