@@ -1,3 +1,5 @@
+ghost use Rattle.std.specs.Prelude.{◌<◌};
+
 use super::*;
 use std::test::Fail;
 
@@ -39,6 +41,7 @@ fn files_in_memory(rt: HostRuntime) -> Result<(), Fail> {
 #[test]
 fn whole_files(rt: HostRuntime) -> Result<(), Fail> {
     for most in [1, 3, 4096] {
+        assert!(rt; most > 0);
         let mut shelf = shelf_of(&rt, most, &[], b"micro")?;
         let bytes = read_whole(rt.alloc(), &mut shelf, "t")?;
         assert_eq!(rt; bytes.as_slice(), b"micro".as_slice(), "{most} at a time");
@@ -90,6 +93,7 @@ fn whole_texts(rt: HostRuntime) -> Result<(), Fail> {
         assert_eq!(rt; sink.bytes(), &text[..taken], "call {number} fails");
     }
     for most in [2, 4, 100] {
+        assert!(rt; most > 0);
         let mut sink = MemorySink::new(rt.alloc(), most, &[])?;
         assert_eq!(rt; sink.put(text), Ok(most.min(6)));
         assert_eq!(rt; write_all(&mut sink, b" or 2"), Ok(()));
