@@ -1,8 +1,8 @@
 // Files and a sink in memory, with calls that fail by their numbers.
-ghost use Rattle.std.specs.Prelude.{◌≡◌, ◌≢◌, ◌<◌, ◌≤◌, ◌-◌, ◌++◌, ◌↔◌, ◌⊎◌, [], List, ℕ, Option, Some, None, min, take, length, IsErr, IsNone, IfOk, IfSome, OnOk, OnErr};
+ghost use Rattle.std.specs.Prelude.{◌≡◌, ◌≢◌, ◌<◌, ◌≤◌, ◌-◌, ◌++◌, ◌↔◌, ◌⊎◌, [], List, ℕ, Some, None, min, take, length, IsErr, IsNone, IfOk, IfSome, OnOk, OnErr};
 ghost use Rattle.mw_outside.specs.Calls.{no_calls, FailsNext, after_call, with_fault};
 ghost use Rattle.mw_outside.specs.Causes.{Rose};
-ghost use Rattle.mw_outside.specs.Contents.{Gives, with_more};
+ghost use Rattle.mw_outside.specs.Contents.{Gives};
 
 use crate::calls::Calls;
 use crate::shelf::{Failed, Shelf};
