@@ -1,0 +1,5 @@
+pub mod Calls
+pub mod Causes
+pub mod Contents
+pub mod MemoryShelf
+pub mod MemorySink
