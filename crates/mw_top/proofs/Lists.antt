@@ -1,13 +1,14 @@
 -- Lists of values, read one after the other.
-use Rattle.std.proofs.Common.{◌≡◌, ◌≢◌, ℕ, suc, ◌+◌, ◌<◌, ◌≤◌, List, [], ◌∷◌, ◌++◌, length, get_or, drop, append_assoc, Result, Ok, Err, refl, sym, ap, ◌∙◌, arith, add-one, drop-cons}
+use Rattle.std.proofs.Common.{◌≡◌, true, false, ◌&&◌, nat_le, ◌≢◌, ℕ, suc, ◌+◌, ◌<◌, ◌≤◌, List, [], ◌∷◌, ◌++◌, length, get_or, drop, append_assoc, Result, Ok, Err, refl, sym, ap, ◌∙◌, arith, add-one, drop-cons}
 use Rattle.std.proofs.lemmas.List.{append-nil, drop_all}
 use Rattle.mw_base.specs.declared.cause.Cause.{Cause}
 use Rattle.mw_base.specs.declared.cause.Cause.TheVariants.{NotBundle}
 use Rattle.mw_top.specs.declared.refusal.BundleRefusal.{BundleRefusal}
 use Rattle.mw_top.specs.declared.refusal.BundleRefusal.TheVariants.{Refused, NoMemory}
-use Rattle.mw_top.specs.Reading.{◌>>=◌, Fails, each_of, count_of}
+use Rattle.mw_top.specs.Reading.{◌>>=◌, Fails, present, each_of, count_of, list_of}
 use Rattle.mw_top.specs.Bundle.{assignment_from, link_from}
-use Rattle.toml.specs.Data.{Data, Items}
+use Rattle.std.proofs.lemmas.Bool.Decides.{nat_tests}
+use Rattle.toml.specs.Data.{Data, as_array}
 use Rattle.toml.specs.View.{view, items_view}
 use Rattle.toml.specs.declared.value.Value.{Value}
 
@@ -79,3 +80,17 @@ link_from-other registers [] other = refl
 link_from-other registers (b ∷ []) other = refl
 link_from-other registers (b ∷ m ∷ []) other = absurd (other refl)
 link_from-other registers (b ∷ m ∷ more ∷ rest) other = refl
+
+-- a list of a length within the range is read item by item
+pub list_of-within : {A : Type 0} (reader : Data → Result A Cause) (least most : ℕ) (value : Data) (values : List Value) → present (as_array value) ≡ Ok (items_view values)
+    → least ≤ length values → length values ≤ most → list_of reader least most value ≡ each_of reader (items_view values)
+unfolding list_of
+list_of-within reader least most value values is some few =
+    let within : (nat_le least (length values) && nat_le (length values) most) ≡ true = grind (arith, nat_tests) in
+    rw (is, count_of-items_view values, within) refl
+
+-- a list of another length is none
+pub list_of-outside : {A : Type 0} (reader : Data → Result A Cause) (least most : ℕ) (value : Data) (values : List Value) → present (as_array value) ≡ Ok (items_view values)
+    → (nat_le least (length values) && nat_le (length values) most) ≡ false → list_of reader least most value ≡ Err NotBundle
+unfolding list_of
+list_of-outside reader least most value values is outside = rw (is, count_of-items_view values, outside) refl

@@ -61,6 +61,8 @@ impl Bundle {
         ensures exact { result ≡ self.now.registers }
         ensures least { 1 ≤ result }
         ensures most { result ≤ 16 }
+        // What is known of every bundle.
+        ensures valid { IsBundle self.now }
     {
         self.registers
     }
@@ -89,7 +91,6 @@ impl Bundle {
         ensures exact { result.now ≡ self.now.start }
         ensures each { length result.now ≡ self.now.registers }
         ensures fit { All (λ value. value < 16) result.now }
-        ensures valid { IsBundle self.now }
     {
         self.start.as_slice()
     }
@@ -112,7 +113,8 @@ fn has_bundle_keys_only(table: &Table) -> bool
 
 #[tactic(auto, unfolding(crate::specs::Bundle::bundle_of))]
 fn bundle_from(alloc: Global, table: &Table) -> Result<Bundle, BundleRefusal>
-    ensures { Gives (λ bundle. bundle) result (bundle_of (table_view table.now)) }
+    ensures exact { Gives (λ bundle. bundle) result (bundle_of (table_view table.now)) }
+    ensures valid { IfOk result (λ bundle. IsBundle bundle) }
 {
     if !has_bundle_keys_only(table) {
         return Err(NO_BUNDLE);

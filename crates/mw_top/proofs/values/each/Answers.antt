@@ -1,4 +1,3 @@
-use Rattle.std.proofs.Common.{◌≡◌, ◌++◌, ◌∷◌, []}
 use Rattle.std.proofs.lemmas.Result.{err_from_is_err_and}
 use Rattle.mw_top.specs.Reading.{each_of}
 use Rattle.mw_top.proofs.Lists.{goes_on, ends, is_done}

@@ -1,7 +1,5 @@
-use Rattle.std.proofs.Common.{◌≡◌, sym, ap, ◌∙◌, Some, None, refl}
-use Rattle.std.proofs.Common.{Bor, Option, option_map}
+use Rattle.std.proofs.Common.{sym, ap, Some, None}
 use Rattle.toml.proofs.Views.{table_get}
-use Rattle.toml.specs.View.{view}
 use Rattle.mw_top.specs.Reading.{present}
 use Rattle.mw_top.proofs.values.value_at.Goals as goal
 
