@@ -1,5 +1,5 @@
 // The bytes of a file as a TOML document.
-ghost use Rattle.std.specs.Prelude.{◌≡◌, ◌≢◌};
+ghost use Rattle.std.specs.Prelude.{◌≡◌, ◌≢◌, ◌↔◌};
 ghost use Rattle.mw_base.specs.declared.cause.Cause.TheVariants.{NotToml};
 ghost use Rattle.mw_top.specs.declared.refusal.BundleRefusal.TheVariants.{Refused, NoMemory};
 ghost use Rattle.mw_top.specs.Document.{document_of, document_or_refusal};
@@ -23,8 +23,8 @@ pub(crate) fn read_document(alloc: Global, bytes: &[u8]) -> Result<Table, Bundle
 }
 
 fn refusal_of(e: &toml::de::Error) -> BundleRefusal
-    ensures memory { IsMemory e.now → result ≡ NoMemory }
-    ensures refused { result ≢ NoMemory → (result ≡ Refused NotToml) × (¬ IsMemory e.now) }
+    ensures memory { (result ≡ NoMemory) ↔ IsMemory e.now }
+    ensures refused { result ≢ NoMemory → result ≡ Refused NotToml }
 {
     if e.is_memory() {
         BundleRefusal::NoMemory

@@ -12,5 +12,5 @@ returns-in_default c =
       same_key_other key (codes "registers") c.in_default.not-registers,
       same_key_other key (codes "assign") c.in_default.not-assign,
       same_key_other key (codes "relation") c.in_default.not-relation,
-      same_key_other key (codes "start") c.in_default.not-start
+      same_key_other key (codes "start") c.in_default.not-start,
     ) refl

@@ -31,4 +31,4 @@ unfolding document_of
 returns-in-Ok c = rw (is_utf8-from_IsUtf8 _ c.in-Ok.ensures.ok.0, c.in-Ok.ensures.ok.1) refl
 
 pub returns-in-Err : goal.returns-in-Err
-returns-in-Err c = fails_from c.refusal_of.result c.args.bytes.now (λ e. let p = c.refusal_of.ensures.refused e in (p.0, none_from _ (c.in-Err.ensures.refused p.1)))
+returns-in-Err c = fails_from c.refusal_of.result c.args.bytes.now (λ e. (c.refusal_of.ensures.refused e, none_from _ (c.in-Err.ensures.refused (λ m. e (c.refusal_of.ensures.memory.1 m)))))
