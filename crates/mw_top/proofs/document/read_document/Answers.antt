@@ -1,0 +1,34 @@
+use Rattle.std.proofs.Common.{◌≡◌, ◌≢◌, Bool, true, false, refl}
+use Rattle.std.specs.Prelude.{ℕ, List, None}
+use Rattle.std.proofs.lemmas.Str.{IsUtf8-from_is_utf8, is_utf8-from_IsUtf8}
+use Rattle.std.specs.Str.{is_utf8, IsUtf8}
+use Rattle.toml.specs.Parse.{parse_document}
+use Rattle.mw_base.specs.declared.cause.Cause.TheVariants.{NotToml}
+use Rattle.mw_top.specs.declared.refusal.BundleRefusal.{BundleRefusal}
+use Rattle.mw_top.specs.declared.refusal.BundleRefusal.TheVariants.{Refused, NoMemory}
+use Rattle.mw_top.specs.Document.{document_of, document_or_refusal}
+use Rattle.mw_top.specs.Reading.{Fails}
+use Rattle.mw_top.proofs.document.read_document.Goals as goal
+
+by_test : {P : Type 0} (b : Bool) → (b ≡ true → P) → (b ≡ false → P) → P
+by_test true f g = f refl
+by_test false f g = g refl
+
+-- text that spells no document, and what is no text
+none_from : (bytes : List ℕ) → (IsUtf8 bytes → parse_document bytes ≡ None) → document_of bytes ≡ None
+unfolding document_of
+none_from bytes h = by_test (is_utf8 bytes) (λ e. rw e (h (IsUtf8-from_is_utf8 bytes e))) (λ e. rw e refl)
+
+-- a refusal that is no want of memory is that of bytes that spell no document
+fails_from : (r : BundleRefusal) (bytes : List ℕ) → (r ≢ NoMemory → (r ≡ Refused NotToml) × (document_of bytes ≡ None)) → Fails r (document_or_refusal (document_of bytes))
+fails_from NoMemory bytes h = tt
+fails_from (Refused cause) bytes h =
+    let p = h (λ e. cc) in
+    rw p.1 cc
+
+pub returns-in-Ok : goal.returns-in-Ok
+unfolding document_of
+returns-in-Ok c = rw (is_utf8-from_IsUtf8 _ c.in-Ok.ensures.ok.0, c.in-Ok.ensures.ok.1) refl
+
+pub returns-in-Err : goal.returns-in-Err
+returns-in-Err c = fails_from c.refusal_of.result c.args.bytes.now (λ e. (c.refusal_of.ensures.refused e, none_from _ (c.in-Err.ensures.refused (λ m. e (c.refusal_of.ensures.memory.1 m)))))

@@ -1,0 +1,34 @@
+// The bytes of a file as a TOML document.
+ghost use Rattle.std.specs.Prelude.{◌≡◌, ◌≢◌, ◌↔◌};
+ghost use Rattle.mw_base.specs.declared.cause.Cause.TheVariants.{NotToml};
+ghost use Rattle.mw_top.specs.declared.refusal.BundleRefusal.TheVariants.{Refused, NoMemory};
+ghost use Rattle.mw_top.specs.Document.{document_of, document_or_refusal};
+ghost use Rattle.mw_top.specs.Reading.{Gives};
+ghost use Rattle.toml.specs.Errors.{IsMemory};
+ghost use Rattle.toml.specs.View.{table_view};
+
+use crate::refusal::BundleRefusal;
+use mw_base::Cause;
+use std::alloc::Global;
+use toml::Table;
+
+/// The document that the bytes spell, or cause 20 where they spell none.
+pub(crate) fn read_document(alloc: Global, bytes: &[u8]) -> Result<Table, BundleRefusal>
+    ensures { Gives table_view result (document_or_refusal (document_of bytes.now)) }
+{
+    match toml::table_from_slice(alloc, bytes) {
+        Ok(table) => Ok(table),
+        Err(e) => Err(refusal_of(&e)),
+    }
+}
+
+fn refusal_of(e: &toml::de::Error) -> BundleRefusal
+    ensures memory { (result ≡ NoMemory) ↔ IsMemory e.now }
+    ensures refused { result ≢ NoMemory → result ≡ Refused NotToml }
+{
+    if e.is_memory() {
+        BundleRefusal::NoMemory
+    } else {
+        BundleRefusal::Refused(Cause::NotToml)
+    }
+}

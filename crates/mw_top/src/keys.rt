@@ -1,0 +1,186 @@
+// Readers of the keys of a bundle, one for each.
+ghost use Rattle.std.specs.Prelude.{◌≡◌, ◌<◌, IfOk};
+ghost use Rattle.mw_base.specs.Words.{part};
+ghost use Rattle.mw_top.specs.Bundle.{is_plain_word, word_in, register_in, assignment_in, link_in, is_linked, links_each_once, version_of, words_of, bound_of, registers_of, assignments_of, relation_of, start_of};
+ghost use Rattle.mw_top.specs.Reading.{Gives, number_in};
+ghost use Rattle.toml.specs.View.{view, table_view};
+
+use crate::parts::{Assignment, Link};
+use crate::refusal::BundleRefusal;
+use crate::values::{NO_BUNDLE, items, list, number, value_at};
+use std::alloc::Global;
+use toml::{Table, Value};
+
+/// The greatest microword, of 35 bits.
+const LAST_WORD: u64 = 0x7_FFFF_FFFF;
+
+fn field(word: u64, low: u32, width: u32) -> u64
+    requires low_in { low < 64 }
+    requires width_in { width < 64 }
+    ensures { result ≡ part low width word }
+{
+    (word >> low) % (1 << width)
+}
+
+/// Whether the word adds and stores, and goes on or jumps.
+fn is_plain_word(word: u64) -> bool
+    ensures { result ≡ is_plain_word word }
+{
+    let adds = field(word, 0, 3) == 1 && field(word, 3, 3) == 0 && field(word, 6, 3) == 3;
+    let sequencer = field(word, 18, 4);
+    adds && (sequencer == 3 || sequencer == 14)
+}
+
+#[tactic(auto, unfolding(crate::specs::Bundle::word_in))]
+fn word(value: &Value) -> Result<u64, BundleRefusal>
+    ensures { Gives (λ word. word) result (word_in (view value.now)) }
+{
+    let word = number(value, 0, LAST_WORD)?;
+    if !is_plain_word(word) {
+        return Err(NO_BUNDLE);
+    }
+    Ok(word)
+}
+
+/// A number of 4 bits.
+fn nibble(value: &Value) -> Result<u8, BundleRefusal>
+    ensures { Gives (λ n. n) result (number_in 0 15 (view value.now)) }
+{
+    Ok(number(value, 0, 15)? as u8)
+}
+
+#[tactic(auto, unfolding(crate::specs::Bundle::register_in))]
+fn register(value: &Value, registers: u8) -> Result<u8, BundleRefusal>
+    ensures { Gives (λ register. register) result (register_in registers (view value.now)) }
+{
+    let register = nibble(value)?;
+    if register >= registers {
+        return Err(NO_BUNDLE);
+    }
+    Ok(register)
+}
+
+#[tactic(auto, unfolding(crate::specs::Bundle::assignment_in, crate::specs::Bundle::assignment_from))]
+fn assignment(value: &Value, registers: u8) -> Result<Assignment, BundleRefusal>
+    ensures { Gives (λ assignment. assignment) result (assignment_in registers (view value.now)) }
+{
+    match items(value)? {
+        [x, y, z] => {
+            let target = register(x, registers)?;
+            let left = register(y, registers)?;
+            let right = register(z, registers)?;
+            Ok(Assignment {
+                target,
+                left,
+                right,
+            })
+        }
+        _ => Err(NO_BUNDLE),
+    }
+}
+
+#[tactic(auto, unfolding(crate::specs::Bundle::link_in, crate::specs::Bundle::link_from))]
+fn link(value: &Value, registers: u8) -> Result<Link, BundleRefusal>
+    ensures { Gives (λ link. link) result (link_in registers (view value.now)) }
+{
+    match items(value)? {
+        [b, m] => {
+            let board = nibble(b)?;
+            let machine = register(m, registers)?;
+            Ok(Link { board, machine })
+        }
+        _ => Err(NO_BUNDLE),
+    }
+}
+
+fn is_linked(board: u8, links: &[Link]) -> bool
+    ensures { result ≡ is_linked board links.now }
+{
+    links.iter().any(|link| link.board == board)
+}
+
+/// Whether no two links have one board register.
+fn links_each_once(links: &[Link]) -> bool
+    ensures { result ≡ links_each_once links.now }
+{
+    match links {
+        [] => true,
+        [first, rest @ ..] => !is_linked(first.board, rest) && links_each_once(rest),
+    }
+}
+
+/// The number of the form of bundles, which is 1.
+#[tactic(auto, unfolding(crate::specs::Bundle::version_of))]
+pub(crate) fn version(table: &Table) -> Result<u64, BundleRefusal>
+    ensures { Gives (λ n. n) result (version_of (table_view table.now)) }
+{
+    let value = value_at(table, "bundle")?;
+    number(value, 1, 1)
+}
+
+/// The microwords.
+#[tactic(auto, unfolding(crate::specs::Bundle::words_of))]
+pub(crate) fn words(alloc: Global, table: &Table) -> Result<Vec<u64>, BundleRefusal>
+    ensures { Gives (λ words. words.items) result (words_of (table_view table.now)) }
+{
+    let value = value_at(table, "words")?;
+    list(alloc, value, 1, 16, word)
+}
+
+/// How many cycles a step of the board may take.
+#[tactic(auto, unfolding(crate::specs::Bundle::bound_of))]
+pub(crate) fn bound(table: &Table) -> Result<u32, BundleRefusal>
+    ensures { Gives (λ bound. bound) result (bound_of (table_view table.now)) }
+{
+    let value = value_at(table, "bound")?;
+    Ok(number(value, 1, 500)? as u32)
+}
+
+/// How many described registers there are.
+#[tactic(auto, unfolding(crate::specs::Bundle::registers_of))]
+pub(crate) fn registers(table: &Table) -> Result<u8, BundleRefusal>
+    ensures { Gives (λ registers. registers) result (registers_of (table_view table.now)) }
+{
+    let value = value_at(table, "registers")?;
+    Ok(number(value, 1, 16)? as u8)
+}
+
+/// The assignments, in order.
+#[tactic(auto, unfolding(crate::specs::Bundle::assignments_of))]
+pub(crate) fn assignments(
+    alloc: Global,
+    table: &Table,
+    registers: u8,
+) -> Result<Vec<Assignment>, BundleRefusal>
+    ensures { Gives (λ assignments. assignments.items) result (assignments_of registers (table_view table.now)) }
+{
+    let value = value_at(table, "assign")?;
+    list(alloc, value, 0, 64, |item| assignment(item, registers))
+}
+
+/// The links, each board register at most once.
+#[tactic(auto, unfolding(crate::specs::Bundle::relation_of))]
+pub(crate) fn relation(
+    alloc: Global,
+    table: &Table,
+    registers: u8,
+) -> Result<Vec<Link>, BundleRefusal>
+    ensures { Gives (λ relation. relation.items) result (relation_of registers (table_view table.now)) }
+{
+    let value = value_at(table, "relation")?;
+    let links = list(alloc, value, 0, 16, |item| link(item, registers))?;
+    if !links_each_once(&links) {
+        return Err(NO_BUNDLE);
+    }
+    Ok(links)
+}
+
+/// The values of the described registers at the start.
+#[tactic(auto, unfolding(crate::specs::Bundle::start_of))]
+pub(crate) fn start(alloc: Global, table: &Table, registers: u8) -> Result<Vec<u8>, BundleRefusal>
+    ensures { Gives (λ start. start.items) result (start_of registers (table_view table.now)) }
+{
+    let value = value_at(table, "start")?;
+    let count = usize::from(registers);
+    list(alloc, value, count, count, nibble)
+}
