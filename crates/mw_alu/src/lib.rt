@@ -9,3 +9,6 @@ mod size;
 pub use answer::{AluOut, alu};
 pub use edge::{Pins, ShiftOut, shift};
 pub use instruction::{Destination, Function, Source};
+
+#[cfg(test)]
+mod tests;
