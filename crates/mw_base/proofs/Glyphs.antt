@@ -1,5 +1,5 @@
 -- The digits of a number, printed.
-use Rattle.std.proofs.Common.{◌≡◌, ℕ, ◌/◌, ◌%◌, ◌<◌, List, [], ◌∷◌, ◌++◌, map, arith, refl, ap, ◌∙◌}
+use Rattle.std.proofs.Common.{◌≡◌, ℕ, ◌/◌, ◌%◌, ◌<◌, ◌≤◌, List, [], ◌∷◌, ◌++◌, map, arith, refl, ap, ◌∙◌}
 use Rattle.std.specs.Int.Digits.{digits_of}
 use Rattle.std.proofs.lemmas.Int.Digits.{digits_of_step}
 use Rattle.mw_base.specs.Numbers.{glyph}
@@ -9,5 +9,5 @@ map-append f [] ys = refl
 map-append f (x ∷ xs) ys = ap (λ (zs : List ℕ). f x ∷ zs) (map-append f xs ys)
 
 -- the last glyph
-pub glyphs_step : (n : ℕ) → 0 < n → map glyph (digits_of 16 n) ≡ map glyph (digits_of 16 (n / 16)) ++ glyph (n % 16) ∷ []
-glyphs_step n h = ap (map glyph) (digits_of_step 16 n (omega arith) h) ∙ map-append glyph (digits_of 16 (n / 16)) (n % 16 ∷ [])
+pub glyphs_step : (base n : ℕ) → 2 ≤ base → 0 < n → map glyph (digits_of base n) ≡ map glyph (digits_of base (n / base)) ++ glyph (n % base) ∷ []
+glyphs_step base n b h = ap (map glyph) (digits_of_step base n b h) ∙ map-append glyph (digits_of base (n / base)) (n % base ∷ [])

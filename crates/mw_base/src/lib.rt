@@ -3,14 +3,14 @@
 
 mod cause;
 mod event;
-mod hex;
 mod memory;
+mod printed;
 mod width;
 
 pub use cause::Cause;
 pub use event::Event;
-pub use hex::append_hex;
 pub use memory::NoMemory;
+pub use printed::{append_decimal, append_hex};
 pub use width::{Width, bit, mask};
 
 #[cfg(test)]

@@ -29,7 +29,14 @@ fn printed_numbers(rt: HostRuntime) -> Result<(), Fail> {
             .ok_or("memory")?;
         text.push(b' ')?;
     }
-    let wanted = b"0x0 0x9 0xA 0x10000 0x3802C1 0xFFFFFFFFFFFFFFFFFFFFFFFFFFFFFFFF ";
+    for value in [0, 7, 10, 65_535, u64::MAX] {
+        append_decimal(rt.alloc(), &mut text, value)
+            .ok()
+            .ok_or("memory")?;
+        text.push(b' ')?;
+    }
+    let wanted = b"0x0 0x9 0xA 0x10000 0x3802C1 0xFFFFFFFFFFFFFFFFFFFFFFFFFFFFFFFF \
+        0 7 10 65535 18446744073709551615 ";
     assert_eq!(rt; text.as_slice(), wanted.as_slice());
     Ok(())
 }

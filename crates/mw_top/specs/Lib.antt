@@ -1,3 +1,11 @@
 pub mod Document
 pub mod Reading
 pub mod Bundle
+pub mod Machine
+pub mod Relation
+pub mod Differs
+pub mod BundleJob
+pub mod Request
+pub mod Report
+pub mod Answer
+pub mod Status

@@ -1,16 +1,22 @@
-//! The bench's commands over files.
+//! The bench's commands over files, from the words of a command line to a report and a status.
 #![tactic(auto)]
 
 mod bundle;
+mod difference;
 mod document;
 mod keys;
 mod parts;
 mod refusal;
+mod request;
+mod status;
 mod values;
 
 pub use bundle::{Bundle, read_bundle};
+pub use difference::Difference;
 pub use parts::{Assignment, Link};
 pub use refusal::BundleRefusal;
+pub use request::Command;
+pub use status::Status;
 
 #[cfg(test)]
 mod tests;
