@@ -4,7 +4,7 @@ use Rattle.mw_base.specs.declared.cause.Cause.{Cause}
 use Rattle.mw_base.specs.declared.cause.Cause.TheVariants.{FileTooLong}
 use Rattle.mw_outside.specs.declared.read.TheConstants.{MOST_BYTES}
 use Rattle.mw_outside.specs.Causes.{Rose}
-use Rattle.mw_outside.specs.Contents.{with_more}
+use Rattle.mw_outside.specs.Contents.{TookFront}
 use Rattle.mw_top.specs.declared.status.Status.{Status}
 use Rattle.mw_top.specs.declared.status.Status.TheVariants.{Done, Differs, Unknown, Usage, Refused, ReadFault, WriteFault, NoMemory}
 use Rattle.mw_top.specs.declared.request.Command.{Command}
@@ -100,11 +100,9 @@ IsReport told before now words ReadFault report = IsReadFault before now words r
 IsReport told before now words WriteFault report = ⊥
 IsReport told before now words NoMemory report = ⊥
 
--- a front of a report that the words permit was taken, or nothing
-pub record TookFront (told : List ℕ → Option (List ℕ)) (before now : List ℕ → ℕ) (words : List (List ℕ)) (old new : Option (List ℕ)) : Type 0 where
+-- Of a report that the words permit a front part was taken, or nothing.
+pub record TookPart (told : List ℕ → Option (List ℕ)) (before now : List ℕ → ℕ) (words : List (List ℕ)) (old new : Option (List ℕ)) : Type 0 where
   pub status : Status
   pub report : List ℕ
   pub permitted : IsReport told before now words status report
-  pub count : ℕ
-  pub within : count ≤ length report
-  pub taken : new ≡ with_more old (take count report)
+  pub taken : TookFront old new report

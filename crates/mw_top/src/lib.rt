@@ -2,6 +2,7 @@
 #![tactic(auto)]
 
 mod bundle;
+mod compare;
 mod difference;
 mod document;
 mod keys;
@@ -12,6 +13,7 @@ mod status;
 mod values;
 
 pub use bundle::{Bundle, read_bundle};
+pub use compare::compare_bundle;
 pub use difference::Difference;
 pub use parts::{Assignment, Link};
 pub use refusal::BundleRefusal;
