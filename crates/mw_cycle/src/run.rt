@@ -1,5 +1,5 @@
 // Runs of cycles.
-ghost use Rattle.std.specs.Prelude.{◌≡◌, ℕ, ◌+◌, ◌<◌, ◌≤◌, ◌^◌, OnOk, IfOk, IfSome, [], Some, None, true, false};
+ghost use Rattle.std.specs.Prelude.{◌≡◌, ℕ, ◌+◌, ◌<◌, ◌≤◌, ◌^◌, OnOk, IfOk, IfSome, length, [], Some, None, true, false};
 ghost use Rattle.mw_cycle.specs.Environment.{IsEnvironment, at_start};
 ghost use Rattle.mw_cycle.specs.State.{Fits};
 ghost use Rattle.mw_cycle.specs.Run.{BoardRun, clock_after, longer_run, run_of};
@@ -82,6 +82,7 @@ impl Run {
         ensures fits { OnOk result (Fits board.now self.new.state) }
         ensures cycle { OnOk result (self.new.clock.cycle ≡ self.old.clock.cycle + 1) }
         ensures taken { OnOk result (self.new.clock.taken ≤ self.new.clock.cycle) }
+        ensures events { OnOk result (length self.new.events ≤ length self.old.events + 1) }
     {
         let given = env.given(self.clock);
         let nets = cycle(part, board, store, &mut self.state, given);
@@ -115,6 +116,8 @@ impl Run {
         ensures reached { IfOk result (λ reached. reached ≡ true → first_segment board.now store.now env.now self.old.state addresses.now limit ≡ Some self.new) }
         ensures late { IfOk result (λ reached. reached ≡ false → first_segment board.now store.now env.now self.old.state addresses.now limit ≡ None) }
         ensures fits { OnOk result (Fits board.now self.new.state) }
+        ensures events { OnOk result (length self.new.events ≤ limit) }
+        ensures named { IfOk result (λ reached. reached ≡ true → is_named addresses.now self.new.state.at ≡ true) }
     {
         'cycles: for _ in 0..limit {
             self.advance(part, board, store, env)?;
@@ -142,6 +145,8 @@ pub fn run_to_boundary<A: Datapath>(
     requires env_in { IsEnvironment board.now env.now }
     ensures exact { IfOk result (λ run. run ≡ first_segment board.now store.now env.now start addresses.now limit) }
     ensures fits { IfOk result (λ run. IfSome run (λ r. Fits board.now r.state)) }
+    ensures events { IfOk result (λ run. IfSome run (λ r. length r.events ≤ limit)) }
+    ensures named { IfOk result (λ run. IfSome run (λ r. is_named addresses.now r.state.at ≡ true)) }
 {
     let mut run = Run::begun(alloc, start);
     if run.reach(part, board, store, env, addresses, limit)? {

@@ -2,10 +2,11 @@
 use Rattle.std.specs.Prelude.{◌≡◌, ◌≢◌, ℕ, ◌<◌, List, [], ◌∷◌, map, replicate, All, slice_index}
 use Rattle.mw_cycle.specs.Board.{BoardParts}
 use Rattle.mw_cycle.specs.Boundary.{Boundary}
+use Rattle.mw_cycle.specs.Environment.{Environment}
 use Rattle.mw_top.specs.declared.parts.Link.{Link}
 use Rattle.mw_top.specs.Bundle.{BundleData}
 use Rattle.mw_top.specs.Machine.{bundle_step}
-use Rattle.mw_top.specs.Relation.{Line, Job, InRelation, element, element_count}
+use Rattle.mw_top.specs.Relation.{Line, Job, Pair, InRelation, element, element_count}
 use Rattle.mw_top.specs.Differs.{Start}
 
 -- the small board that bundles stand for: words of 4 bits and 16 memory words; past the store stands its first word
@@ -38,6 +39,10 @@ job_of bundle = record {
   boundaries = boundary_of bundle ∷ [];
 }
 
+-- an environment of nothing but 0
+abbrev pub no_environment : Environment
+no_environment = record { line = []; noise = []; inputs = [] }
+
 -- The start of a bundle: at its boundary, in relation, with the described registers that it gives, and with every free
 -- element of the board, the memory and the environment 0.
 pub record IsBundleStart (bundle : BundleData) (start : Start) : Type 0 where
@@ -46,4 +51,8 @@ pub record IsBundleStart (bundle : BundleData) (start : Start) : Type 0 where
   pub registers : start.pair.machine.registers ≡ bundle.start
   pub free : (e : ℕ) → e < element_count (board_of bundle) → All (λ line. line.left ≢ e) (lines_of bundle) → element start.pair.board e ≡ 0
   pub memory : (a : ℕ) → slice_index start.pair.machine.memory a ≡ 0
-  pub env : start.env ≡ record { line = []; noise = []; inputs = [] }
+  pub env : start.env ≡ no_environment
+
+-- a pair at the boundary of a bundle, in an environment of nothing but 0
+abbrev pub start_with : BundleData → Pair → Start
+start_with bundle pair = record { boundary = boundary_of bundle; pair = pair; env = no_environment }

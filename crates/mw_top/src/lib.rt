@@ -6,9 +6,11 @@ mod compare;
 mod difference;
 mod document;
 mod keys;
+mod machine;
 mod parts;
 mod refusal;
 mod request;
+mod start;
 mod status;
 mod values;
 

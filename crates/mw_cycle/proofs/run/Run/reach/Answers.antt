@@ -15,6 +15,7 @@ cycles-init g c =
       fits = c.requires.fits;
       cycle = none;
       taken = omega arith;
+      events = rw c.requires.begun (omega arith);
     }
 
 pub returns-then-is_at-clause-reached : goal.returns-then-is_at-clause-reached
@@ -29,6 +30,7 @@ cycles-preserved g c =
       fits = c.in_ok-advance.ensures.fits;
       cycle = omega (arith, c.in_ok-advance.ensures.cycle, c.cycles.invariant.cycle);
       taken = c.in_ok-advance.ensures.taken;
+      events = omega (arith, c.in_ok-advance.ensures.events, c.cycles.invariant.events);
     }
 
 pub returns-clause-late : goal.returns-clause-late

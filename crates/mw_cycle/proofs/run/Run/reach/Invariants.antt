@@ -1,4 +1,4 @@
-use Rattle.std.proofs.Common.{◌≡◌, ℕ, ◌+◌, ◌-◌, ◌≤◌, find}
+use Rattle.std.proofs.Common.{◌≡◌, ℕ, ◌+◌, ◌-◌, ◌≤◌, find, length}
 use Rattle.mw_cycle.specs.State.{Fits}
 use Rattle.mw_cycle.specs.Run.{run_of}
 use Rattle.mw_cycle.specs.Boundary.{is_named, numbers, first_boundary}
@@ -14,4 +14,5 @@ invariant-cycles g l =
       fits : Fits l.board l.self.state;
       cycle : l.self.clock.cycle ≡ l.counter;
       taken : l.self.clock.taken ≤ l.self.clock.cycle;
+      events : length l.self.events ≤ l.counter;
     }
