@@ -14,6 +14,7 @@ use Rattle.mw_top.specs.Reading.{◌>>=◌, present, only_if, value_at, in_range
 use Rattle.mw_top.specs.Bundle.{is_plain_word, word_in, register_in, assignment_from, assignment_in, link_from, link_in, is_linked, links_each_once, BundleData, IsBundle, words_of, bound_of, registers_of, assignments_of, relation_of, start_of, IsAssignment, IsLink}
 use Rattle.std.specs.Prelude.{codes}
 
+-- a result that is a value
 abbrev done : {A : Type 0} → A → Result A Cause
 done x = Ok x
 
@@ -31,12 +32,14 @@ only_if_ok : {A : Type 0} (test : Bool) (x y : A) → only_if test x ≡ Ok y �
 only_if_ok true x y e = (refl, cc)
 only_if_ok false x y e = absurd cc
 
+-- an integer that is read is in the range
 in_range_ok : (low high : ℕ) (z : ℤ) (n : ℕ) → in_range low high z ≡ Ok n → (low ≤ n) × (n ≤ high)
 in_range_ok low high (pos m) n e =
     let p = only_if_ok (nat_le low m && nat_le m high) m n e in
     rw (← p.1) (let q = and_parts (nat_le low m) (nat_le m high) p.0 in (grind (arith, nat_tests, q.0), grind (arith, nat_tests, q.1)))
 in_range_ok low high (negsuc m) n e = absurd cc
 
+-- a number that is read is in the range
 number_in_ok : (low high : ℕ) (value : Data) (n : ℕ) → number_in low high value ≡ Ok n → (low ≤ n) × (n ≤ high)
 unfolding number_in
 number_in_ok low high value n e =
@@ -60,6 +63,7 @@ record IsListOf {A : Type 0} (P : A → Type 0) (least most : ℕ) (xs : List A)
   few : length xs ≤ most
   each : All P xs
 
+-- a list that is read has a length within the range
 list_of_ok : {A : Type 0} (P : A → Type 0) (reader : Data → Result A Cause) → ((value : Data) (x : A) → reader value ≡ Ok x → P x)
     → (least most : ℕ) (value : Data) (xs : List A) → list_of reader least most value ≡ Ok xs → IsListOf P least most xs
 unfolding list_of
@@ -75,6 +79,7 @@ list_of_ok P reader each least most value xs e =
       each = All-from_recursion P xs k.1;
     }
 
+-- a microword has 35 bits
 word_in_ok : (value : Data) (word : ℕ) → word_in value ≡ Ok word → word < 2 ^ 35
 unfolding word_in
 word_in_ok value word e =
@@ -82,6 +87,7 @@ word_in_ok value word e =
     let t = only_if_ok (is_plain_word a.0) a.0 word a.2 in
     rw (← t.1) (omega (arith, number_in_ok 0 (2 ^ 35 - 1) value a.0 a.1))
 
+-- a register is one of so many
 register_in_ok : (registers : ℕ) (value : Data) (register : ℕ) → register_in registers value ≡ Ok register → register < registers
 unfolding register_in
 register_in_ok registers value register e =
@@ -89,6 +95,11 @@ register_in_ok registers value register e =
     let t = only_if_ok (nat_lt a.0 registers) a.0 register a.2 in
     rw (← t.1) (grind (arith, nat_tests, t.0))
 
+-- an assignment by its numbers
+assignment_is : (registers target left right : ℕ) → target < registers → left < registers → right < registers → IsAssignment registers (record { target = target; left = left; right = right })
+assignment_is registers target left right target_below left_below right_below = record { target_below = target_below; left_below = left_below; right_below = right_below }
+
+-- an assignment that is read is among the registers
 assignment_from_ok : (registers : ℕ) (items : Items) (assignment : Assignment) → assignment_from registers items ≡ Ok assignment → IsAssignment registers assignment
 unfolding assignment_from
 assignment_from_ok registers no_items assignment e = absurd cc
@@ -98,19 +109,21 @@ assignment_from_ok registers (item x (item y (item z no_items))) assignment e =
     let a = bind_ok (register_in registers x) (λ target. register_in registers y >>= λ left. register_in registers z >>= λ right. Ok (record { target = target; left = left; right = right })) assignment e in
     let b = bind_ok (register_in registers y) (λ left. register_in registers z >>= λ right. Ok (record { target = a.0; left = left; right = right })) assignment a.2 in
     let c = bind_ok (register_in registers z) (λ right. Ok (record { target = a.0; left = b.0; right = right })) assignment b.2 in
-    subst (IsAssignment registers) (ok_is (record { target = a.0; left = b.0; right = c.0 }) assignment c.2) (record {
-      target_below = register_in_ok registers x a.0 a.1;
-      left_below = register_in_ok registers y b.0 b.1;
-      right_below = register_in_ok registers z c.0 c.1;
-    })
+    rw (← ok_is _ _ c.2) (assignment_is registers a.0 b.0 c.0 (register_in_ok registers x a.0 a.1) (register_in_ok registers y b.0 b.1) (register_in_ok registers z c.0 c.1))
 assignment_from_ok registers (item x (item y (item z (item more rest)))) assignment e = absurd cc
 
+-- and so is one that is written as a list
 assignment_in_ok : (registers : ℕ) (value : Data) (assignment : Assignment) → assignment_in registers value ≡ Ok assignment → IsAssignment registers assignment
 unfolding assignment_in
 assignment_in_ok registers value assignment e =
     let a = bind_ok (present (as_array value)) (assignment_from registers) assignment e in
     assignment_from_ok registers a.0 assignment a.2
 
+-- a link by its numbers
+link_is : (registers board machine : ℕ) → board < 16 → machine < registers → IsLink registers (record { board = board; machine = machine })
+link_is registers board machine board_below machine_below = record { board_below = board_below; machine_below = machine_below }
+
+-- a link that is read is of a board register and of one of the described registers
 link_from_ok : (registers : ℕ) (items : Items) (link : Link) → link_from registers items ≡ Ok link → IsLink registers link
 unfolding link_from
 link_from_ok registers no_items link e = absurd cc
@@ -118,12 +131,10 @@ link_from_ok registers (item b no_items) link e = absurd cc
 link_from_ok registers (item b (item m no_items)) link e =
     let a = bind_ok (number_in 0 15 b) (λ board. register_in registers m >>= λ machine. Ok (record { board = board; machine = machine })) link e in
     let c = bind_ok (register_in registers m) (λ machine. Ok (record { board = a.0; machine = machine })) link a.2 in
-    subst (IsLink registers) (ok_is (record { board = a.0; machine = c.0 }) link c.2) (record {
-      board_below = omega (arith, number_in_ok 0 15 b a.0 a.1);
-      machine_below = register_in_ok registers m c.0 c.1;
-    })
+    rw (← ok_is _ _ c.2) (link_is registers a.0 c.0 (omega (arith, number_in_ok 0 15 b a.0 a.1)) (register_in_ok registers m c.0 c.1))
 link_from_ok registers (item b (item m (item more rest))) link e = absurd cc
 
+-- and so is one that is written as a list
 link_in_ok : (registers : ℕ) (value : Data) (link : Link) → link_in registers value ≡ Ok link → IsLink registers link
 unfolding link_in
 link_in_ok registers value link e =
@@ -135,6 +146,7 @@ neither : (a b : Bool) → (a || b) ≡ false → (a ≡ false) × (b ≡ false)
 neither true b e = absurd cc
 neither false b e = (refl, e)
 
+-- a test whose opposite holds
 failed : (test : Bool) → not test ≡ true → test ≡ false
 failed true e = absurd cc
 failed false e = refl
@@ -146,6 +158,7 @@ other_links board (link ∷ links) e =
     let q = neither (link.board == board) (is_linked board links) e in
     (λ same. grind (arith, nat_tests, q.0, same), other_links board links q.1)
 
+-- links of which none repeats the board register of an earlier one
 links_differ : (links : List Link) → links_each_once links ≡ true → AllPairs (λ first second. first.board ≢ second.board) links
 links_differ [] e = λ i j d before within. absurd (omega arith)
 links_differ (link ∷ links) e =
@@ -155,30 +168,35 @@ links_differ (link ∷ links) e =
 
 -- ---- the keys
 
+-- 1 to 16 words of 35 bits
 words_ok : (document : Members) (words : List ℕ) → words_of document ≡ Ok words → IsListOf (λ word. word < 2 ^ 35) 1 16 words
 unfolding words_of
 words_ok document words e =
     let a = bind_ok (value_at (codes "words") document) (list_of word_in 1 16) words e in
     list_of_ok (λ word. word < 2 ^ 35) word_in word_in_ok 1 16 a.0 words a.2
 
+-- a bound of 1 to 500
 bound_ok : (document : Members) (bound : ℕ) → bound_of document ≡ Ok bound → (1 ≤ bound) × (bound ≤ 500)
 unfolding bound_of
 bound_ok document bound e =
     let a = bind_ok (value_at (codes "bound") document) (number_in 1 500) bound e in
     number_in_ok 1 500 a.0 bound a.2
 
+-- 1 to 16 registers
 registers_ok : (document : Members) (registers : ℕ) → registers_of document ≡ Ok registers → (1 ≤ registers) × (registers ≤ 16)
 unfolding registers_of
 registers_ok document registers e =
     let a = bind_ok (value_at (codes "registers") document) (number_in 1 16) registers e in
     number_in_ok 1 16 a.0 registers a.2
 
+-- up to 64 assignments among the registers
 assignments_ok : (registers : ℕ) (document : Members) (assignments : List Assignment) → assignments_of registers document ≡ Ok assignments → IsListOf (IsAssignment registers) 0 64 assignments
 unfolding assignments_of
 assignments_ok registers document assignments e =
     let a = bind_ok (value_at (codes "assign") document) (list_of (assignment_in registers) 0 64) assignments e in
     list_of_ok (IsAssignment registers) (assignment_in registers) (assignment_in_ok registers) 0 64 a.0 assignments a.2
 
+-- up to 16 links, of different board registers
 relation_ok : (registers : ℕ) (document : Members) (relation : List Link) → relation_of registers document ≡ Ok relation
     → IsListOf (IsLink registers) 0 16 relation × AllPairs (λ first second. first.board ≢ second.board) relation
 unfolding relation_of
@@ -188,6 +206,7 @@ relation_ok registers document relation e =
     let t = only_if_ok (links_each_once b.0) b.0 relation b.2 in
     rw (← t.1) (list_of_ok (IsLink registers) (link_in registers) (link_in_ok registers) 0 16 a.0 b.0 b.1, links_differ b.0 t.0)
 
+-- a value of 4 bits for each register
 start_ok : (registers : ℕ) (document : Members) (start : List ℕ) → start_of registers document ≡ Ok start → IsListOf (λ value. value < 16) registers registers start
 unfolding start_of
 start_ok registers document start e =

@@ -10,7 +10,8 @@ use Rattle.mw_top.specs.Reading.{◌>>=◌, present, only_if, value_at, number_i
 use Rattle.mw_top.specs.declared.parts.Assignment.{Assignment}
 use Rattle.mw_top.specs.declared.parts.Link.{Link}
 
--- one start of a board and of a described machine, with what each of them does
+-- one start of a board and of a described machine: the microwords of the board, the bound of its steps, and of the machine the number of
+-- registers, the assignments, the relation to the board and the values at the start
 pub record BundleData : Type 0 where
   pub words : List ℕ
   pub bound : ℕ
@@ -28,20 +29,23 @@ abbrev pub has_bundle_keys_only : Members → Bool
 has_bundle_keys_only no_members = true
 has_bundle_keys_only (member key value rest) = list_any (same_key key) bundle_keys && has_bundle_keys_only rest
 
--- the fields of a microword: bits 0 to 2 are its source, 3 to 5 its function, 6 to 8 its destination, 18 to 21 its sequencer code
+-- the source field of a microword, bits 0 to 2
 abbrev pub source_of : ℕ → ℕ
 source_of word = part 0 3 word
 
+-- its function field, bits 3 to 5
 abbrev pub function_of : ℕ → ℕ
 function_of word = part 3 3 word
 
+-- its destination field, bits 6 to 8
 abbrev pub destination_of : ℕ → ℕ
 destination_of word = part 6 3 word
 
+-- its sequencer code, bits 18 to 21
 abbrev pub sequencer_of : ℕ → ℕ
 sequencer_of word = part 18 4 word
 
--- a microword that adds and stores (source 1, function 0, destination 3), and goes on or jumps (sequencer code 14 or 3)
+-- a microword that adds two registers into one (source 1, function 0, destination 3), and jumps or goes on (sequencer code 3 or 14)
 abbrev pub is_plain_word : ℕ → Bool
 is_plain_word word =
     ((source_of word == 1 && function_of word == 0) && destination_of word == 3)
@@ -59,7 +63,7 @@ register_in registers value = do
   register ← number_in 0 15 value
   only_if (nat_lt register registers) register
 
--- [x, y, z]: register x takes y + z
+-- the items x, y, z: register x takes y + z
 unfoldable pub assignment_from : ℕ → Items → Result Assignment Cause
 assignment_from registers (item x (item y (item z no_items))) = do
   target ← register_in registers x
@@ -68,12 +72,13 @@ assignment_from registers (item x (item y (item z no_items))) = do
   Ok (record { target = target; left = left; right = right })
 assignment_from registers other = Err NotBundle
 
+-- a list [x, y, z]
 unfoldable pub assignment_in : ℕ → Data → Result Assignment Cause
 assignment_in registers value = do
   items ← present (as_array value)
   assignment_from registers items
 
--- [b, m]: board register b equals described register m
+-- the items b, m: board register b equals described register m
 unfoldable pub link_from : ℕ → Items → Result Link Cause
 link_from registers (item b (item m no_items)) = do
   board ← number_in 0 15 b
@@ -81,6 +86,7 @@ link_from registers (item b (item m no_items)) = do
   Ok (record { board = board; machine = machine })
 link_from registers other = Err NotBundle
 
+-- a list [b, m]
 unfoldable pub link_in : ℕ → Data → Result Link Cause
 link_in registers value = do
   items ← present (as_array value)
@@ -151,7 +157,14 @@ bundle_of document = do
   assignments ← assignments_of registers complete
   relation ← relation_of registers complete
   start ← start_of registers complete
-  Ok (record { words = words; bound = bound; registers = registers; assignments = assignments; relation = relation; start = start })
+  Ok (record {
+    words = words;
+    bound = bound;
+    registers = registers;
+    assignments = assignments;
+    relation = relation;
+    start = start;
+  })
 
 -- the bundle that the bytes of a file spell: cause 20 where they are no TOML document, cause 90 where the document is no bundle
 unfoldable pub read_bundle_of : List ℕ → Result BundleData Cause

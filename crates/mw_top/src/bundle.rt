@@ -1,6 +1,7 @@
 // A bundle, and its reader.
 ghost use Rattle.std.specs.Prelude.{◌≡◌, ◌<◌, ◌≤◌, ◌^◌, All, AllPairs, ◌≢◌, IfOk, length};
-ghost use Rattle.mw_top.specs.Bundle.{BundleData, IsBundle, IsAssignment, IsLink, bundle_keys, has_bundle_keys_only, bundle_of, read_bundle_of};
+ghost use Rattle.mw_top.specs.Bundle.{IsBundle, IsAssignment, IsLink};
+ghost use Rattle.mw_top.specs.Bundle.{bundle_keys, has_bundle_keys_only, bundle_of, read_bundle_of};
 ghost use Rattle.mw_top.specs.Reading.{Gives};
 ghost use Rattle.std.specs.List.{list_any};
 ghost use Rattle.toml.specs.Data.{same_key};
@@ -15,7 +16,8 @@ use std::alloc::Global;
 use std::marker::Model;
 use toml::Table;
 
-/// One start of a board and of a described machine, with the microprogram of the one and the assignments of the other.
+/// One start of a board and of a described machine, with the microprogram of the one and the
+/// assignments of the other.
 #[derive(Debug, Drop)]
 pub struct Bundle {
     words: Vec<u64>,
@@ -31,9 +33,23 @@ impl Model for Bundle {
 
     ghost Value = { BundleData };
 
-    ghost view = { λ b. record { words = b.words.items; bound = b.bound; registers = b.registers; assignments = b.assignments.items; relation = b.relation.items; start = b.start.items } };
+    ghost view = { λ b. record {
+      words = b.words.items;
+      bound = b.bound;
+      registers = b.registers;
+      assignments = b.assignments.items;
+      relation = b.relation.items;
+      start = b.start.items;
+    } };
 
-    ghost invariant = { λ b. IsBundle (record { words = b.words.items; bound = b.bound; registers = b.registers; assignments = b.assignments.items; relation = b.relation.items; start = b.start.items }) };
+    ghost invariant = { λ b. IsBundle (record {
+      words = b.words.items;
+      bound = b.bound;
+      registers = b.registers;
+      assignments = b.assignments.items;
+      relation = b.relation.items;
+      start = b.start.items;
+    }) };
 }
 
 impl Bundle {
@@ -96,6 +112,7 @@ impl Bundle {
     }
 }
 
+/// Whether a key is one that bundles have.
 fn is_bundle_key(key: &str) -> bool
     ensures { result ≡ list_any (same_key key.now) bundle_keys }
 {
@@ -105,12 +122,14 @@ fn is_bundle_key(key: &str) -> bool
     )
 }
 
+/// Whether the document has no key that bundles have not.
 fn has_bundle_keys_only(table: &Table) -> bool
     ensures { result ≡ has_bundle_keys_only (table_view table.now) }
 {
     table.keys().all(|key| is_bundle_key(key.as_str()))
 }
 
+/// The bundle that a document is.
 #[tactic(auto, unfolding(crate::specs::Bundle::bundle_of))]
 fn bundle_from(alloc: Global, table: &Table) -> Result<Bundle, BundleRefusal>
     ensures exact { Gives (λ bundle. bundle) result (bundle_of (table_view table.now)) }
@@ -136,7 +155,9 @@ fn bundle_from(alloc: Global, table: &Table) -> Result<Bundle, BundleRefusal>
     })
 }
 
-/// The bundle that the bytes of a file spell, all of them. Refused with cause 20 where the bytes are no TOML document, and with cause 90 where the document is no bundle.
+/// The bundle that the bytes of a file spell, all of them. They are refused with cause 20 exactly where
+/// they are no TOML document, and with cause 90 exactly where they are one that is no bundle, unless
+/// memory runs out first.
 #[tactic(auto, unfolding(crate::specs::Bundle::read_bundle_of))]
 pub fn read_bundle(alloc: Global, bytes: &[u8]) -> Result<Bundle, BundleRefusal>
     ensures exact { Gives (λ bundle. bundle) result (read_bundle_of bytes.now) }

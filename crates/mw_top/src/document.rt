@@ -22,6 +22,7 @@ pub(crate) fn read_document(alloc: Global, bytes: &[u8]) -> Result<Table, Bundle
     }
 }
 
+/// What an error of the TOML reader means: want of memory, or cause 20.
 fn refusal_of(e: &toml::de::Error) -> BundleRefusal
     ensures memory { (result ≡ NoMemory) ↔ IsMemory e.now }
     ensures refused { result ≢ NoMemory → result ≡ Refused NotToml }

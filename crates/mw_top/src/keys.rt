@@ -1,7 +1,9 @@
 // Readers of the keys of a bundle, one for each.
 ghost use Rattle.std.specs.Prelude.{◌≡◌, ◌<◌, IfOk};
 ghost use Rattle.mw_base.specs.Words.{part};
-ghost use Rattle.mw_top.specs.Bundle.{is_plain_word, word_in, register_in, assignment_in, link_in, is_linked, links_each_once, version_of, words_of, bound_of, registers_of, assignments_of, relation_of, start_of};
+ghost use Rattle.mw_top.specs.Bundle.{is_plain_word, word_in, register_in, assignment_in, link_in};
+ghost use Rattle.mw_top.specs.Bundle.{is_linked, links_each_once, version_of, words_of, bound_of};
+ghost use Rattle.mw_top.specs.Bundle.{registers_of, assignments_of, relation_of, start_of};
 ghost use Rattle.mw_top.specs.Reading.{Gives, number_in};
 ghost use Rattle.toml.specs.View.{view, table_view};
 
@@ -14,6 +16,7 @@ use toml::{Table, Value};
 /// The greatest microword, of 35 bits.
 const LAST_WORD: u64 = 0x7_FFFF_FFFF;
 
+/// The field of a word that begins at bit low and is so many bits wide.
 fn field(word: u64, low: u32, width: u32) -> u64
     requires low_in { low < 64 }
     requires width_in { width < 64 }
@@ -22,7 +25,7 @@ fn field(word: u64, low: u32, width: u32) -> u64
     (word >> low) % (1 << width)
 }
 
-/// Whether the word adds and stores, and goes on or jumps.
+/// Whether the word adds two registers into one, and jumps or goes on.
 fn is_plain_word(word: u64) -> bool
     ensures { result ≡ is_plain_word word }
 {
@@ -31,6 +34,7 @@ fn is_plain_word(word: u64) -> bool
     adds && (sequencer == 3 || sequencer == 14)
 }
 
+/// A microword.
 #[tactic(auto, unfolding(crate::specs::Bundle::word_in))]
 fn word(value: &Value) -> Result<u64, BundleRefusal>
     ensures { Gives (λ word. word) result (word_in (view value.now)) }
@@ -49,6 +53,7 @@ fn nibble(value: &Value) -> Result<u8, BundleRefusal>
     Ok(number(value, 0, 15)? as u8)
 }
 
+/// The number of one of so many described registers.
 #[tactic(auto, unfolding(crate::specs::Bundle::register_in))]
 fn register(value: &Value, registers: u8) -> Result<u8, BundleRefusal>
     ensures { Gives (λ register. register) result (register_in registers (view value.now)) }
@@ -60,6 +65,7 @@ fn register(value: &Value, registers: u8) -> Result<u8, BundleRefusal>
     Ok(register)
 }
 
+/// A list [x, y, z].
 #[tactic(auto, unfolding(crate::specs::Bundle::assignment_in, crate::specs::Bundle::assignment_from))]
 fn assignment(value: &Value, registers: u8) -> Result<Assignment, BundleRefusal>
     ensures { Gives (λ assignment. assignment) result (assignment_in registers (view value.now)) }
@@ -79,6 +85,7 @@ fn assignment(value: &Value, registers: u8) -> Result<Assignment, BundleRefusal>
     }
 }
 
+/// A list [b, m].
 #[tactic(auto, unfolding(crate::specs::Bundle::link_in, crate::specs::Bundle::link_from))]
 fn link(value: &Value, registers: u8) -> Result<Link, BundleRefusal>
     ensures { Gives (λ link. link) result (link_in registers (view value.now)) }
@@ -93,6 +100,7 @@ fn link(value: &Value, registers: u8) -> Result<Link, BundleRefusal>
     }
 }
 
+/// Whether the board register is in one of the links.
 fn is_linked(board: u8, links: &[Link]) -> bool
     ensures { result ≡ is_linked board links.now }
 {
@@ -152,7 +160,8 @@ pub(crate) fn assignments(
     table: &Table,
     registers: u8,
 ) -> Result<Vec<Assignment>, BundleRefusal>
-    ensures { Gives (λ assignments. assignments.items) result (assignments_of registers (table_view table.now)) }
+    ensures { Gives (λ assignments. assignments.items) result
+        (assignments_of registers (table_view table.now)) }
 {
     let value = value_at(table, "assign")?;
     list(alloc, value, 0, 64, |item| assignment(item, registers))
@@ -165,7 +174,8 @@ pub(crate) fn relation(
     table: &Table,
     registers: u8,
 ) -> Result<Vec<Link>, BundleRefusal>
-    ensures { Gives (λ relation. relation.items) result (relation_of registers (table_view table.now)) }
+    ensures { Gives (λ relation. relation.items) result
+        (relation_of registers (table_view table.now)) }
 {
     let value = value_at(table, "relation")?;
     let links = list(alloc, value, 0, 16, |item| link(item, registers))?;

@@ -23,6 +23,7 @@ pub(crate) fn value_at<'a>(table: &'a Table, key: &str) -> Result<&'a Value, Bun
     }
 }
 
+/// The integer, if it is from low to high.
 fn in_range(integer: i64, low: u64, high: u64) -> Result<u64, BundleRefusal>
     ensures exact { Gives (λ n. n) result (in_range low high integer) }
     ensures within { IfOk result (λ n. (low ≤ n) × (n ≤ high)) }
@@ -55,13 +56,16 @@ pub(crate) fn items(value: &Value) -> Result<&[Value], BundleRefusal>
     }
 }
 
+/// Each of the values, read in order by one reader.
 fn each<T: Drop, F: Fn(&Value) -> Result<T, BundleRefusal>>(
     alloc: Global,
     values: &[Value],
     read: F,
 ) -> Result<Vec<T>, BundleRefusal>
     requires { F.IsAlwaysCallable read }
-    ensures { (reader : Data → Result T Cause) → Reads (F.post read) reader → Gives (λ done. done.items) result (each_of reader (items_view values.now)) }
+    // What is so of every reader that the closure follows.
+    ensures { (reader : Data → Result T Cause) → Reads (F.post read) reader
+        → Gives (λ done. done.items) result (each_of reader (items_view values.now)) }
 {
     let mut done = Vec::new(alloc);
     for value in values {
@@ -80,7 +84,9 @@ pub(crate) fn list<T: Drop, F: Fn(&Value) -> Result<T, BundleRefusal>>(
     read: F,
 ) -> Result<Vec<T>, BundleRefusal>
     requires { F.IsAlwaysCallable read }
-    ensures { (reader : Data → Result T Cause) → Reads (F.post read) reader → Gives (λ done. done.items) result (list_of reader least most (view value.now)) }
+    // What is so of every reader that the closure follows.
+    ensures { (reader : Data → Result T Cause) → Reads (F.post read) reader
+        → Gives (λ done. done.items) result (list_of reader least most (view value.now)) }
 {
     let values = items(value)?;
     if values.len() < least || most < values.len() {
