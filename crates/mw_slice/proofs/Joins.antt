@@ -1,6 +1,6 @@
 -- Words put together slice by slice.
 use Rattle.std.proofs.Common.{◌≡◌, ℕ, zero, suc, ◌+◌, ◌-◌, ◌*◌, ◌%◌, ◌^◌, ◌<◌, ◌≤◌, arith, refl, ap, ap₂, ◌∙◌, pow_mono, add-one}
-use Rattle.std.specs.Prelude.{Bool, true, ◌&&◌, List}
+use Rattle.std.specs.Prelude.{Bool, true, ◌&&◌}
 use Rattle.std.proofs.lemmas.Nat.{pow-add, shl_whole, mul-add-lt}
 use Rattle.mw_base.specs.Words.{join}
 use Rattle.mw_slice.specs.Lookahead.{line}
@@ -9,7 +9,7 @@ use Rattle.mw_alu.specs.declared.answer.AluOut.{AluOut}
 use Rattle.mw_alu.specs.Instruction.{function_of}
 use Rattle.mw_alu.specs.WholeWord.{is_sum}
 use Rattle.mw_slice.specs.declared.am2901.SliceOut.{SliceOut}
-use Rattle.mw_slice.specs.Board.{slice_at, generate_at, propagate_at, carry_into_slice, answers_of}
+use Rattle.mw_slice.specs.Board.{slice_at, answers_of}
 use Rattle.mw_slice.specs.Signals.{eight_of}
 
 -- the new word is as wide as its slices
@@ -82,21 +82,18 @@ line-eight lines (suc (suc (suc (suc (suc (suc zero)))))) below = refl
 line-eight lines (suc (suc (suc (suc (suc (suc (suc zero))))))) below = refl
 line-eight lines (suc (suc (suc (suc (suc (suc (suc (suc k)))))))) below = absurd (omega arith)
 
--- the answers of a board, from the carries in a list of lines
-pub answers_of-lines : (n ins a b q d : ℕ) (c : Bool) (into : List Bool) (f y : ℕ) (none : Bool) (top : SliceOut) → 1 ≤ n → n ≤ 8
-    → into ≡ eight_of (λ k. carry_into_slice (generate_at n ins a b q d) (propagate_at n ins a b q d) c k)
-    → f ≡ joined (λ k. (slice_at ins a b q d k (line into k)).f) n
-    → y ≡ joined (λ k. (slice_at ins a b q d k (line into k)).y) n
-    → none ≡ wired_and (λ k. (slice_at ins a b q d k (line into k)).zero) n
-    → top ≡ slice_at ins a b q d (n - 1) (line into (n - 1))
-    → (let out : AluOut = record { f = f; y = y; carry = top.carry; overflow = top.overflow; defined = is_sum (function_of ins); zero = none; sign = top.sign } in out) ≡ answers_of n ins a b q d c
+answer_of-parts : {f f' y y' : ℕ} {none none' : Bool} {top top' : SliceOut} (sum : Bool) → f ≡ f' → y ≡ y' → none ≡ none' → top ≡ top'
+    → (let out : AluOut = record { f = f; y = y; carry = top.carry; overflow = top.overflow; defined = sum; zero = none; sign = top.sign } in out)
+    ≡ (let out : AluOut = record { f = f'; y = y'; carry = top'.carry; overflow = top'.overflow; defined = sum; zero = none'; sign = top'.sign } in out)
+answer_of-parts sum is_f is_y is_none is_top = rw (is_f, is_y, is_none, is_top) refl
+
+-- the answers of at most eight slices, from the carries in a list of lines
+pub answers_of-lines : (n ins a b q d : ℕ) (into : ℕ → Bool) → 1 ≤ n → n ≤ 8 → answers_of n ins a b q d (line (eight_of into)) ≡ answers_of n ins a b q d into
 unfolding answers_of
-answers_of-lines n ins a b q d c into f y none top some few lines is_f is_y is_none is_top =
-    let carries : ℕ → Bool = carry_into_slice (generate_at n ins a b q d) (propagate_at n ins a b q d) c in
-    let at : (k : ℕ) → k < n → slice_at ins a b q d k (line into k) ≡ slice_at ins a b q d k (carries k) =
-    λ k below. ap (slice_at ins a b q d k) (ap (λ (lines : List Bool). line lines k) lines ∙ line-eight carries k (omega arith)) in
-    let all_f = is_f ∙ joined-same _ (λ (k : ℕ). (slice_at ins a b q d k (carries k)).f) n (λ k below. ap (λ (out : SliceOut). out.f) (at k below)) in
-    let all_y = is_y ∙ joined-same _ (λ (k : ℕ). (slice_at ins a b q d k (carries k)).y) n (λ k below. ap (λ (out : SliceOut). out.y) (at k below)) in
-    let all_none = is_none ∙ wired_and-same _ (λ (k : ℕ). (slice_at ins a b q d k (carries k)).zero) n (λ k below. ap (λ (out : SliceOut). out.zero) (at k below)) in
-    let last = is_top ∙ at (n - 1) (omega arith) in
-    rw (all_f, all_y, all_none, last) refl
+answers_of-lines n ins a b q d into some few =
+    let at : (k : ℕ) → k < n → slice_at ins a b q d k (line (eight_of into) k) ≡ slice_at ins a b q d k (into k) =
+    λ k below. ap (slice_at ins a b q d k) (line-eight into k (omega arith)) in
+    let same_f = joined-same (λ (k : ℕ). (slice_at ins a b q d k (line (eight_of into) k)).f) (λ (k : ℕ). (slice_at ins a b q d k (into k)).f) n (λ k below. ap (λ (out : SliceOut). out.f) (at k below)) in
+    let same_y = joined-same (λ (k : ℕ). (slice_at ins a b q d k (line (eight_of into) k)).y) (λ (k : ℕ). (slice_at ins a b q d k (into k)).y) n (λ k below. ap (λ (out : SliceOut). out.y) (at k below)) in
+    let same_zero = wired_and-same (λ (k : ℕ). (slice_at ins a b q d k (line (eight_of into) k)).zero) (λ (k : ℕ). (slice_at ins a b q d k (into k)).zero) n (λ k below. ap (λ (out : SliceOut). out.zero) (at k below)) in
+    answer_of-parts (is_sum (function_of ins)) same_f same_y same_zero (at (n - 1) (omega arith))

@@ -55,10 +55,9 @@ generate_at n ins a b q d k = if nat_lt k n then (slice_at ins a b q d k false).
 abbrev pub propagate_at : ℕ → ℕ → ℕ → ℕ → ℕ → ℕ → ℕ → Bool
 propagate_at n ins a b q d k = if nat_lt k n then (slice_at ins a b q d k false).p else true
 
--- the answers of n slices to one instruction: carry, overflow and sign are the top slice's
-unfoldable pub answers_of : ℕ → ℕ → ℕ → ℕ → ℕ → ℕ → Bool → AluOut
-answers_of n ins a b q d c =
-    let into = carry_into_slice (generate_at n ins a b q d) (propagate_at n ins a b q d) c in
+-- the answers of n slices to one instruction, from the carry into each: carry, overflow and sign are the top slice's
+unfoldable pub answers_of : ℕ → ℕ → ℕ → ℕ → ℕ → ℕ → (ℕ → Bool) → AluOut
+answers_of n ins a b q d into =
     let slices = λ (k : ℕ). slice_at ins a b q d k (into k) in
     let top = slices (n - 1) in
     record {
@@ -71,9 +70,11 @@ answers_of n ins a b q d c =
       sign = top.sign;
     }
 
--- the answers of a board of w bits
+-- the answers of a board of w bits, whose carries are looked ahead
 unfoldable pub sliced_of : ℕ → ℕ → ℕ → ℕ → ℕ → ℕ → Bool → AluOut
-sliced_of w ins a b q d c = answers_of (w / 4) ins a b q d c
+sliced_of w ins a b q d c =
+    let n = w / 4 in
+    answers_of n ins a b q d (carry_into_slice (generate_at n ins a b q d) (propagate_at n ins a b q d) c)
 
 -- the high pin of slice k of n: the lowest bit of the slice above, and at the top the board's
 abbrev pub high_pin : ℕ → ℕ → Bool → ℕ → Bool

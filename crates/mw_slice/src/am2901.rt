@@ -1,5 +1,5 @@
 // One slice of four bits.
-ghost use Rattle.std.specs.Prelude.{◌≡◌, ◌<◌, ◌&&◌, ℕ, slice_index};
+ghost use Rattle.std.specs.Prelude.{◌≡◌, ◌<◌, ℕ, slice_index};
 ghost use Rattle.mw_alu.specs.WholeWord.{r_of, s_of, is_sum, y_of};
 ghost use Rattle.mw_alu.specs.Instruction.{destination_of};
 ghost use Rattle.mw_slice.specs.Lookahead.{line};

@@ -95,12 +95,10 @@ impl Board {
     {
         let ((low_g, low_p), (high_g, high_p)) = (self.group(0), self.group(4));
         let low = lookahead(low_g, low_p, cin);
+        // The G and P of a group are the same with any carry in.
         let high = lookahead(high_g, high_p, false);
-        let between = lookahead(
-            [low.g, high.g, false, false],
-            [low.p, high.p, true, true],
-            cin,
-        );
+        let (g, p) = ([low.g, high.g, false, false], [low.p, high.p, true, true]);
+        let between = lookahead(g, p, cin);
         let high = lookahead(high_g, high_p, between.x);
         [cin, low.x, low.y, low.z, between.x, high.x, high.y, high.z]
     }
@@ -124,13 +122,13 @@ impl Board {
         (f, y, zero)
     }
 
-    /// The answers of the board.
-    fn answers(&self, cin: bool) -> AluOut
-        ensures exact { result ≡ answers_of self.now.slices self.now.ins self.now.a self.now.b self.now.q self.now.d cin }
+    /// The answers of the board, from the carry into each slice.
+    #[tactic(auto, unfolding(crate::specs::Board::answers_of))]
+    fn answers(&self, into: [bool; 8]) -> AluOut
+        ensures exact { result ≡ answers_of self.now.slices self.now.ins self.now.a self.now.b self.now.q self.now.d (line into) }
         ensures f_below { result.f < 2 ^ (4 * self.now.slices) }
         ensures y_below { result.y < 2 ^ (4 * self.now.slices) }
     {
-        let into = self.carries(cin);
         let (f, y, zero) = self.words(into);
         let last = self.slices - 1;
         let top = self.answer(last, into[usize::from(last)]);
@@ -230,7 +228,7 @@ pub fn sliced(width: Width, ins: u16, a: u32, b: u32, q: u32, d: u32, cin: bool)
         q,
         d,
     };
-    board.answers(cin)
+    board.answers(board.carries(cin))
 }
 
 /// What one instruction writes into B and Q of a board at the edge, slice by slice. It is what the whole word writes.
