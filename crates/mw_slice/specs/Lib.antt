@@ -1,0 +1,5 @@
+pub mod Lookahead
+pub mod Slice
+pub mod Board
+pub mod Signals
+pub mod Law
