@@ -48,6 +48,9 @@ pub wired_and_none : (lines : ℕ → Bool) → wired_and lines 0 ≡ true
 unfolding wired_and
 wired_and_none lines = refl
 
+-- what a loop over the slices needs
+pub ruleset slice_by_slice = (joined_next, joined_none, wired_and_next, wired_and_none)
+
 -- the same nibbles make the same word
 pub joined-same : (left right : ℕ → ℕ) (n : ℕ) → ((k : ℕ) → k < n → left k ≡ right k) → joined left n ≡ joined right n
 unfolding joined

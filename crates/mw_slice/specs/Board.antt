@@ -20,7 +20,7 @@ unfoldable pub joined : (ℕ → ℕ) → ℕ → ℕ
 joined nibbles zero = 0
 joined nibbles (suc n) = join (4 * n) (nibbles n) (joined nibbles n)
 
--- a line that each of n slices can hold low
+-- a line that is high where each of n slices leaves it high, as their open outputs tied together
 unfoldable pub wired_and : (ℕ → Bool) → ℕ → Bool
 wired_and lines zero = true
 wired_and lines (suc n) = wired_and lines n && lines n
@@ -29,15 +29,15 @@ wired_and lines (suc n) = wired_and lines n && lines n
 abbrev pub over_group : (ℕ → Bool) → (ℕ → Bool) → Bool → ℕ → Look
 over_group g p c i = looked (λ k. g (4 * i + k)) (λ k. p (4 * i + k)) c
 
--- the third Am2902, over the groups
+-- the Am2902 that joins the groups, over the G and P of each
 abbrev pub over_groups : (ℕ → Bool) → (ℕ → Bool) → Bool → Look
 over_groups g p c = looked (λ i. (over_group g p c i).g) (λ i. (over_group g p c i).p) c
 
--- the carry into group i
+-- the carry into group i, from the Am2902 that joins them
 abbrev pub carry_into_group : (ℕ → Bool) → (ℕ → Bool) → Bool → ℕ → Bool
 carry_into_group g p c i = carry_to (over_groups g p c) c i
 
--- the carry into slice k
+-- the carry into slice k, from the Am2902 of its group
 unfoldable pub carry_into_slice : (ℕ → Bool) → (ℕ → Bool) → Bool → ℕ → Bool
 carry_into_slice g p c k =
     let c = carry_into_group g p c (k / 4) in
@@ -47,11 +47,11 @@ carry_into_slice g p c k =
 abbrev pub slice_at : ℕ → ℕ → ℕ → ℕ → ℕ → ℕ → Bool → SliceOut
 slice_at ins a b q d k c = slice_of ins (nibble k a) (nibble k b) (nibble k q) (nibble k d) c
 
--- G of slice k of n, which hangs on no carry; of a missing slice 0
+-- G of slice k of n, which is the same with any carry in; a missing slice has 0
 abbrev pub generate_at : ℕ → ℕ → ℕ → ℕ → ℕ → ℕ → ℕ → Bool
 generate_at n ins a b q d k = if nat_lt k n then (slice_at ins a b q d k false).g else false
 
--- P of slice k of n, which hangs on no carry; of a missing slice 1
+-- P of slice k of n, which is the same with any carry in; a missing slice has 1
 abbrev pub propagate_at : ℕ → ℕ → ℕ → ℕ → ℕ → ℕ → ℕ → Bool
 propagate_at n ins a b q d k = if nat_lt k n then (slice_at ins a b q d k false).p else true
 

@@ -2,15 +2,15 @@
 use Rattle.std.specs.Prelude.{ℕ, Bool, false, ◌&&◌, ◌||◌, List, ◌==◌, if◌then◌else◌, slice_index_or}
 use Rattle.mw_slice.specs.declared.am2902.Look.{Look}
 
--- G of four: one generates a carry, and all above it propagate
+-- G = G3 or P3G2 or P3P2G1 or P3P2P1G0: one of the four generates a carry, and all above it propagate it
 abbrev pub group_generate : (ℕ → Bool) → (ℕ → Bool) → Bool
 group_generate g p = g 3 || p 3 && g 2 || p 3 && p 2 && g 1 || p 3 && p 2 && p 1 && g 0
 
--- P of four: all propagate
+-- P = P3P2P1P0: all four propagate a carry
 abbrev pub group_propagate : (ℕ → Bool) → Bool
 group_propagate p = p 3 && p 2 && p 1 && p 0
 
--- Cx, Cy, Cz, G and P, from G0 to G3, P0 to P3 and the carry in C
+-- Cx = G0 or P0C, Cy = G1 or P1G0 or P1P0C, Cz = G2 or P2G1 or P2P1G0 or P2P1P0C, and G and P of the four
 abbrev pub looked : (ℕ → Bool) → (ℕ → Bool) → Bool → Look
 looked g p c = record {
   x = g 0 || p 0 && c;
@@ -20,15 +20,15 @@ looked g p c = record {
   p = group_propagate p;
 }
 
--- the carry into each of the four: C, Cx, Cy and Cz
+-- the carry into each of the four: C into the first, then Cx, Cy and Cz
 abbrev pub carry_to : Look → Bool → ℕ → Bool
 carry_to look c i = if i == 0 then c else (if i == 1 then look.x else (if i == 2 then look.y else look.z))
 
--- the carry out of the four
+-- the carry out of the four: G or PC
 abbrev pub carry_out_of : Look → Bool → Bool
 carry_out_of look c = look.g || look.p && c
 
--- the level of one of four lines
+-- the level of one line of several
 abbrev pub line : List Bool → ℕ → Bool
 line lines i = slice_index_or lines i false
 

@@ -21,23 +21,23 @@ abbrev pub s_bit : Function → Bool → Bool
 s_bit Subs s = not s
 s_bit _ s = s
 
--- g: bit j generates a carry
+-- g = r and s: bit j generates a carry
 abbrev pub generates : Function → ℕ → ℕ → ℕ → Bool
 generates function r s j = r_bit function (bit_of r j) && s_bit function (bit_of s j)
 
--- p: bit j propagates a carry
+-- p = r or s: bit j propagates a carry
 abbrev pub propagates : Function → ℕ → ℕ → ℕ → Bool
 propagates function r s j = r_bit function (bit_of r j) || s_bit function (bit_of s j)
 
--- a slice looks ahead over its own bits
+-- within a slice the carries are looked ahead over its four bits, by the same formulas
 abbrev pub over_bits : Function → ℕ → ℕ → Bool → Look
 over_bits function r s c = looked (generates function r s) (propagates function r s) c
 
--- a slice's G, of a sum
+-- G of a slice; in a function that is no sum it is 0
 abbrev pub slice_generate : Function → ℕ → ℕ → Bool
 slice_generate function r s = is_sum function && group_generate (generates function r s) (propagates function r s)
 
--- a slice's P, of a sum
+-- P of a slice; in a function that is no sum it is 0
 abbrev pub slice_propagate : Function → ℕ → ℕ → Bool
 slice_propagate function r s = is_sum function && group_propagate (propagates function r s)
 
@@ -50,11 +50,11 @@ f_bit Exor r s c = differ r s
 f_bit Exnor r s c = not (differ r s)
 f_bit function r s c = differ (differ (r_bit function r) (s_bit function s)) c
 
--- the word of four bits
+-- the word whose bits 0 to 3 these are, each at its place
 abbrev pub of_bits : (ℕ → Bool) → ℕ
 of_bits bits = num (bits 3) * 8 + num (bits 2) * 4 + num (bits 1) * 2 + num (bits 0)
 
--- F of a slice
+-- F of a slice, bit by bit
 unfoldable pub slice_f : Function → ℕ → ℕ → Bool → ℕ
 slice_f function r s c = of_bits (λ j. f_bit function (bit_of r j) (bit_of s j) (carry_to (over_bits function r s c) c j))
 

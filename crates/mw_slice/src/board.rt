@@ -104,7 +104,7 @@ impl Board {
     }
 
     /// The words F and Y, and whether the F of each slice is 0, from the carry into each.
-    #[tactic(auto, using(crate::proofs::Joins::joined_next, crate::proofs::Joins::wired_and_next, crate::proofs::Joins::joined_none, crate::proofs::Joins::wired_and_none))]
+    #[tactic(auto, using(crate::proofs::Joins::slice_by_slice))]
     fn words(&self, into: [bool; 8]) -> (u32, u32, bool)
         ensures f { result.0 ≡ joined (λ k. (slice_on self.now k (line into k)).f) self.now.slices }
         ensures f_below { result.0 < 2 ^ (4 * self.now.slices) }
@@ -117,7 +117,7 @@ impl Board {
             let out = self.answer(k, into[usize::from(k)]);
             f = joined(f, k, out.f);
             y = joined(y, k, out.y);
-            zero = zero & out.zero;
+            zero &= out.zero;
         }
         (f, y, zero)
     }
@@ -180,7 +180,7 @@ fn slice_pins(slices: u8, k: u8, f: u32, q: u32, pins: Pins) -> Pins
 }
 
 /// What the slices write into B and Q at the edge, where neighbours are each other's pins.
-#[tactic(auto, using(crate::proofs::Joins::joined_next, crate::proofs::Joins::joined_none), unfolding(crate::specs::Board::edges_of))]
+#[tactic(auto, using(crate::proofs::Joins::slice_by_slice), unfolding(crate::specs::Board::edges_of))]
 fn edges(slices: u8, ins: u16, f: u32, q: u32, pins: Pins) -> ShiftOut
     requires few { slices ≤ 8 }
     requires ins_in { ins < 512 }
