@@ -8,6 +8,7 @@ mod document;
 mod keys;
 mod parts;
 mod refusal;
+mod report;
 mod request;
 mod status;
 mod values;
@@ -17,7 +18,7 @@ pub use compare::compare_bundle;
 pub use difference::Difference;
 pub use parts::{Assignment, Link};
 pub use refusal::BundleRefusal;
-pub use request::Command;
+pub use request::{Command, Request, read_words};
 pub use status::Status;
 
 #[cfg(test)]
