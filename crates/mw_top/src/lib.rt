@@ -6,6 +6,7 @@ mod compare;
 mod difference;
 mod document;
 mod keys;
+mod outcome;
 mod parts;
 mod refusal;
 mod report;

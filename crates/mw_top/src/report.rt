@@ -1,10 +1,11 @@
 // The texts of reports.
-ghost use Rattle.std.specs.Prelude.{◌≡◌, ◌++◌, OnOk};
+ghost use Rattle.std.specs.Prelude.{◌≡◌, ◌++◌, [], map, slice_index_or, OnOk};
 ghost use Rattle.mw_base.specs.Causes.{number_of};
 ghost use Rattle.mw_base.specs.Numbers.{decimal};
-ghost use Rattle.mw_top.specs.Report.{line, usage_line, fault_line, place_of, refusal_line};
+ghost use Rattle.mw_top.specs.Report.{line, usage_line, fault_line, place_of, refusal_line, element_names, difference_text, compare_report};
 
-use mw_base::{Cause, NoMemory, append_decimal};
+use crate::difference::Difference;
+use mw_base::{Cause, NoMemory, append_decimal, append_hex};
 use std::alloc::Global;
 
 const USAGE: &[u8] = b"usage: mw_bench COMMAND FILES [--nodes N] [--paths P] [--steps K] [--cycles C] [--parts]";
@@ -57,4 +58,76 @@ pub(crate) fn append_refusal(
     report.extend_from_slice(place_of(cause))?;
     append_decimal(alloc, report, u64::from(cause.number()))?;
     append_line(report, b"")
+}
+
+/// The names of the board's elements, by number.
+const ELEMENT_NAMES: [&str; 26] = [
+    "b.r0", "b.r1", "b.r2", "b.r3", "b.r4", "b.r5", "b.r6", "b.r7", "b.r8", "b.r9", "b.r10", "b.r11",
+    "b.r12", "b.r13", "b.r14", "b.r15", "b.q", "b.mar", "b.ir", "b.upc", "b.count", "b.stack0",
+    "b.stack1", "b.stack2", "b.stack3", "b.stack4",
+];
+
+/// The name of a number; nothing past the last one.
+fn name_in(names: &[&'static str], number: u32) -> &'static str
+    ensures { result.now ≡ slice_index_or (map (λ name. name.now) names.now) number [] }
+{
+    match names.get(number as usize) {
+        Some(name) => name,
+        None => "",
+    }
+}
+
+/// The name of an element of the board.
+fn element_name(element: u32) -> &'static str
+    ensures { result.now ≡ slice_index_or element_names element [] }
+{
+    name_in(&ELEMENT_NAMES, element)
+}
+
+/// Appends a difference.
+#[tactic(auto, unfolding(crate::specs::Report::difference_text))]
+fn append_difference(
+    alloc: Global,
+    report: &mut Vec<u8>,
+    difference: Difference,
+) -> Result<(), NoMemory>
+    ensures { OnOk result (report.new.items ≡ report.old.items ++ difference_text difference) }
+{
+    match difference {
+        Difference::Late => report.extend_from_slice(b"late")?,
+        Difference::Event(number) => {
+            report.extend_from_slice(b"event ")?;
+            append_decimal(alloc, report, u64::from(number))?;
+        }
+        Difference::StackPointer => report.extend_from_slice(b"element b.sp")?,
+        Difference::Element(element) => {
+            report.extend_from_slice(b"element ")?;
+            report.extend_from_slice(element_name(element).as_bytes())?;
+        }
+        Difference::Memory(address) => {
+            report.extend_from_slice(b"memory ")?;
+            append_hex(alloc, report, u128::from(address))?;
+        }
+    }
+    Ok(())
+}
+
+/// Appends what a comparison of one step shows.
+#[tactic(auto, unfolding(crate::specs::Report::compare_report))]
+pub(crate) fn append_comparison(
+    alloc: Global,
+    report: &mut Vec<u8>,
+    shown: Option<Difference>,
+) -> Result<(), NoMemory>
+    ensures { OnOk result (report.new.items ≡ report.old.items ++ compare_report shown) }
+{
+    match shown {
+        None => append_line(report, b"same 1"),
+        Some(difference) => {
+            append_line(report, b"differs step 1")?;
+            report.extend_from_slice(b"difference ")?;
+            append_difference(alloc, report, difference)?;
+            append_line(report, b"")
+        }
+    }
 }
