@@ -2,3 +2,4 @@ pub mod Lists
 pub mod Known
 pub mod Ranges
 pub mod Names
+pub mod Outcomes

@@ -3,6 +3,7 @@
 
 mod bundle;
 mod compare;
+mod comparison;
 mod difference;
 mod document;
 mod keys;
