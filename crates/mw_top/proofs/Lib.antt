@@ -3,3 +3,4 @@ pub mod Known
 pub mod Ranges
 pub mod Names
 pub mod Outcomes
+pub mod Ends

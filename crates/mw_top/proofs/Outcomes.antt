@@ -1,5 +1,5 @@
 -- From what the parts of a command give to what it ends with.
-use Rattle.std.proofs.Common.{◌≡◌, ℕ, zero, suc, ◌<◌, ◌≤◌, List, [], ◌∷◌, length, nat_lt, true, false, Option, Some, None, Result, Ok, Err, IfOk, IfSome, refl, ap, arith, sym, ◌∙◌}
+use Rattle.std.proofs.Common.{◌≡◌, ℕ, zero, suc, ◌<◌, ◌≤◌, List, [], ◌∷◌, length, nat_lt, true, false, Option, Some, None, Result, Ok, Err, IfOk, IfSome, refl, ap, arith, ◌∙◌}
 use Rattle.std.proofs.lemmas.Bool.Decides.{nat_tests}
 use Rattle.mw_base.specs.declared.cause.Cause.{Cause}
 use Rattle.mw_base.specs.declared.cause.Cause.TheVariants.{FileTooLong}
@@ -9,7 +9,7 @@ use Rattle.mw_top.specs.declared.request.Command.{Command}
 use Rattle.mw_top.specs.declared.request.Command.TheVariants.{Compare}
 use Rattle.mw_top.specs.declared.status.Status.{Status}
 use Rattle.mw_top.specs.declared.status.Status.TheVariants.{Done, Differs, Unknown, Usage, Refused, ReadFault, WriteFault, NoMemory}
-use Rattle.mw_top.specs.Answer.{bundle_in, compare_status, IsAnswer, IsReport, AreRead}
+use Rattle.mw_top.specs.Answer.{bundle_in, compare_status, IsReport, AreRead}
 use Rattle.mw_top.specs.Bundle.{BundleData, read_bundle_of}
 use Rattle.mw_top.specs.BundleJob.{job_of, IsBundleStart}
 use Rattle.mw_top.specs.Differs.{Start, difference_of}

@@ -1,14 +1,14 @@
 -- How a call of the bench ends.
-use Rattle.std.specs.Prelude.{◌≡◌, ℕ, List, [], ◌∷◌, Option, Some, Ok, Contains}
+use Rattle.std.specs.Prelude.{◌≡◌, ◌⊎◌, ℕ, List, [], ◌∷◌, Option, Some, Ok, Contains}
 use Rattle.mw_outside.specs.Causes.{Rose}
 use Rattle.mw_outside.specs.Contents.{with_more}
 use Rattle.mw_top.specs.declared.status.Status.{Status}
-use Rattle.mw_top.specs.declared.status.Status.TheVariants.{Done, Differs, Unknown, Refused}
+use Rattle.mw_top.specs.declared.status.Status.TheVariants.{Done, Differs, Unknown, Refused, WriteFault, NoMemory}
 use Rattle.mw_top.specs.declared.request.Command.{Command}
 use Rattle.mw_top.specs.declared.request.Command.TheVariants.{Compare}
 use Rattle.mw_top.specs.Request.{RequestData, request_of}
 use Rattle.mw_top.specs.Bundle.{BundleData}
-use Rattle.mw_top.specs.Answer.{bundle_in, IsAnswer, IsRefusal}
+use Rattle.mw_top.specs.Answer.{bundle_in, IsAnswer, IsRefusal, IsReport, TookPart}
 
 -- the whole report was taken, and nothing else
 abbrev pub Took : Option (List ℕ) → Option (List ℕ) → List ℕ → Type 0
@@ -31,3 +31,11 @@ IsOutcome command files contents Differs report = IsAnswer command contents Diff
 IsOutcome command files contents Unknown report = IsAnswer command contents Unknown report
 IsOutcome command files contents Refused report = IsRefusal command files contents report
 IsOutcome command files contents other report = ⊥
+
+-- What a status says of a call: the report that it permits was taken. With a write fault, where the sink's count of faults rose,
+-- that is a part of one, and with want of memory nothing or a part of one.
+abbrev pub IsEnd : (List ℕ → Option (List ℕ)) → (List ℕ → ℕ) → (List ℕ → ℕ) → List (List ℕ) → ℕ → ℕ → Option (List ℕ) → Option (List ℕ) → Status → Type 0
+IsEnd told before now words failed fails old new WriteFault = Rose failed fails × TookPart told before now words old new
+IsEnd told before now words failed fails old new NoMemory = (new ≡ old) ⊎ TookPart told before now words old new
+IsEnd told before now words failed fails old new other =
+    (report : List ℕ) × IsReport told before now words other report × Took old new report

@@ -13,6 +13,7 @@ mod refusal;
 mod report;
 mod request;
 mod status;
+mod top_call;
 mod values;
 
 pub use bundle::{Bundle, read_bundle};
@@ -22,6 +23,7 @@ pub use parts::{Assignment, Link};
 pub use refusal::BundleRefusal;
 pub use request::{Command, Request, read_words};
 pub use status::Status;
+pub use top_call::bench;
 
 #[cfg(test)]
 mod tests;
