@@ -26,4 +26,6 @@ pub use status::Status;
 pub use top_call::bench;
 
 #[cfg(test)]
+mod call_tests;
+#[cfg(test)]
 mod tests;

@@ -8,7 +8,8 @@ use crate::difference::Difference;
 use mw_base::{Cause, NoMemory, append_decimal, append_hex};
 use std::alloc::Global;
 
-const USAGE: &[u8] = b"usage: mw_bench COMMAND FILES [--nodes N] [--paths P] [--steps K] [--cycles C] [--parts]";
+const USAGE: &[u8] =
+    b"usage: mw_bench COMMAND FILES [--nodes N] [--paths P] [--steps K] [--cycles C] [--parts]";
 
 /// Appends a line.
 fn append_line(report: &mut Vec<u8>, text: &[u8]) -> Result<(), NoMemory>
@@ -62,9 +63,9 @@ pub(crate) fn append_refusal(
 
 /// The names of the board's elements, by number.
 const ELEMENT_NAMES: [&str; 26] = [
-    "b.r0", "b.r1", "b.r2", "b.r3", "b.r4", "b.r5", "b.r6", "b.r7", "b.r8", "b.r9", "b.r10", "b.r11",
-    "b.r12", "b.r13", "b.r14", "b.r15", "b.q", "b.mar", "b.ir", "b.upc", "b.count", "b.stack0",
-    "b.stack1", "b.stack2", "b.stack3", "b.stack4",
+    "b.r0", "b.r1", "b.r2", "b.r3", "b.r4", "b.r5", "b.r6", "b.r7", "b.r8", "b.r9", "b.r10",
+    "b.r11", "b.r12", "b.r13", "b.r14", "b.r15", "b.q", "b.mar", "b.ir", "b.upc", "b.count",
+    "b.stack0", "b.stack1", "b.stack2", "b.stack3", "b.stack4",
 ];
 
 /// The name of a number; nothing past the last one.
