@@ -4,3 +4,6 @@ pub mod Ranges
 pub mod Unlike
 pub mod Starts
 pub mod Shown
+pub mod Names
+pub mod Outcomes
+pub mod Ends

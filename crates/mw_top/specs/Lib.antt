@@ -9,3 +9,4 @@ pub mod Request
 pub mod Report
 pub mod Answer
 pub mod Status
+pub mod Ending

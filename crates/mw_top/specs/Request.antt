@@ -1,14 +1,19 @@
 -- What the words of a command line ask for.
-use Rattle.std.specs.Prelude.{ℕ, List, [], ◌∷◌, codes, length, Bool, true, not, ◌&&◌, ◌==◌, if◌then◌else◌, Option, Some, None}
+use Rattle.std.specs.Prelude.{ℕ, List, [], ◌∷◌, codes, string_bytes, map, length, Bool, true, not, ◌&&◌, ◌==◌, if◌then◌else◌, Option, Some, None}
 use Rattle.std.specs.List.{list_all}
 use Rattle.std.specs.Str.{bytes_eq}
 use Rattle.mw_top.specs.declared.request.Command.{Command}
 use Rattle.mw_top.specs.declared.request.Command.TheVariants.{Compare}
+use Rattle.mw_top.specs.declared.request.Request.{Request}
 
 -- a command and the names of its files, in the order of the words
 pub record RequestData : Type 0 where
   pub command : Command
   pub files : List (List ℕ)
+
+-- a request with the bytes of its files' names
+abbrev pub data_of : Request → RequestData
+data_of request = record { command = request.command; files = map string_bytes request.files.now }
 
 -- the command of a word
 abbrev pub command_of : List ℕ → Option Command

@@ -3,15 +3,19 @@
 
 mod bundle;
 mod compare;
+mod comparison;
 mod difference;
 mod document;
 mod keys;
 mod machine;
+mod outcome;
 mod parts;
 mod refusal;
+mod report;
 mod request;
 mod start;
 mod status;
+mod top_call;
 mod values;
 
 pub use bundle::{Bundle, read_bundle};
@@ -19,8 +23,11 @@ pub use compare::compare_bundle;
 pub use difference::Difference;
 pub use parts::{Assignment, Link};
 pub use refusal::BundleRefusal;
-pub use request::Command;
+pub use request::{Command, Request, read_words};
 pub use status::Status;
+pub use top_call::bench;
 
+#[cfg(test)]
+mod call_tests;
 #[cfg(test)]
 mod tests;

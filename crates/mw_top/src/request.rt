@@ -1,8 +1,84 @@
-// The words of a command line.
+// What the words of a command line ask for.
+ghost use Rattle.std.specs.Prelude.{◌≡◌, ◌==◌, ◌&&◌, IsTrue, map, length, option_map, string_bytes, Some, IfSome};
+ghost use Rattle.mw_top.specs.Request.{command_of, file_count, is_file_word, with_files, request_of, data_of};
+ghost use Rattle.std.specs.List.{list_all};
 
 /// What the bench can do.
 #[derive(Clone, Copy, Debug, PartialEq, Eq)]
 pub enum Command {
     /// Compares one start of the one bundle named.
     Compare,
+}
+
+/// A command and the words that name its files.
+#[derive(Clone, Copy, Debug)]
+pub struct Request<'a> {
+    /// What is to be done.
+    pub command: Command,
+    /// The names of its files, in the order of the words.
+    pub files: &'a [String],
+}
+
+fn command_of(word: &str) -> Option<Command>
+    ensures { result ≡ command_of word.now }
+{
+    match word {
+        "compare" => Some(Command::Compare),
+        _ => None,
+    }
+}
+
+/// How many files the command has.
+fn file_count(command: Command) -> usize
+    ensures { result ≡ file_count command }
+{
+    match command {
+        Command::Compare => 1,
+    }
+}
+
+fn is_file_word(word: &str) -> bool
+    ensures { result ≡ is_file_word word.now }
+{
+    word.as_bytes().first() != Some(&b'-')
+}
+
+fn are_file_words(words: &[String]) -> bool
+    ensures { result ≡ list_all (λ word. is_file_word (string_bytes word)) words.now }
+{
+    words.iter().all(|word| is_file_word(word.as_str()))
+}
+
+fn are_files_of(command: Command, words: &[String]) -> bool
+    ensures exact { result ≡ ((length words.now == file_count command) && list_all (λ word. is_file_word (string_bytes word)) words.now) }
+    ensures count { IsTrue result → length words.now ≡ file_count command }
+{
+    words.len() == file_count(command) && are_file_words(words)
+}
+
+/// The command with its files, where there are exactly as many.
+fn with_files(command: Command, files: &[String]) -> Option<Request<'_>>
+    ensures exact { option_map data_of result ≡ with_files (map string_bytes files.now) (Some command) }
+    ensures count { IfSome result (λ request. length request.files.now ≡ file_count request.command) }
+{
+    if are_files_of(command, files) {
+        Some(Request { command, files })
+    } else {
+        None
+    }
+}
+
+/// The request of the words of a command line, without the program's name. None where they are no request.
+#[tactic(auto, unfolding(crate::specs::Request::request_of))]
+pub fn read_words(words: &[String]) -> Option<Request<'_>>
+    ensures exact { option_map data_of result ≡ request_of (map string_bytes words.now) }
+    ensures count { IfSome result (λ request. length request.files.now ≡ file_count request.command) }
+{
+    match words {
+        [] => None,
+        [word, files @ ..] => match command_of(word.as_str()) {
+            Some(command) => with_files(command, files),
+            None => None,
+        },
+    }
 }

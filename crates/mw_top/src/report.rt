@@ -1,0 +1,134 @@
+// The texts of reports.
+ghost use Rattle.std.specs.Prelude.{◌≡◌, ◌++◌, [], map, slice_index_or, OnOk};
+ghost use Rattle.mw_base.specs.Causes.{number_of};
+ghost use Rattle.mw_base.specs.Numbers.{decimal};
+ghost use Rattle.mw_top.specs.Report.{line, usage_line, fault_line, place_of, refusal_line, element_names, difference_text, compare_report};
+
+use crate::difference::Difference;
+use mw_base::{Cause, NoMemory, append_decimal, append_hex};
+use std::alloc::Global;
+
+const USAGE: &[u8] =
+    b"usage: mw_bench COMMAND FILES [--nodes N] [--paths P] [--steps K] [--cycles C] [--parts]";
+
+/// Appends a line.
+fn append_line(report: &mut Vec<u8>, text: &[u8]) -> Result<(), NoMemory>
+    ensures { OnOk result (report.new.items ≡ report.old.items ++ line text.now) }
+{
+    report.extend_from_slice(text)?;
+    report.push(b'\n')?;
+    Ok(())
+}
+
+/// Appends the answer to faulty words.
+pub(crate) fn append_usage(report: &mut Vec<u8>) -> Result<(), NoMemory>
+    ensures { OnOk result (report.new.items ≡ report.old.items ++ usage_line) }
+{
+    append_line(report, USAGE)
+}
+
+/// Appends that a file can't be read.
+pub(crate) fn append_fault(report: &mut Vec<u8>, file: &str) -> Result<(), NoMemory>
+    ensures { OnOk result (report.new.items ≡ report.old.items ++ fault_line file.now) }
+{
+    report.extend_from_slice(b"fault read ")?;
+    append_line(report, file.as_bytes())
+}
+
+/// The words between a refused file's name and the number of the cause.
+fn place_of(cause: Cause) -> &'static [u8]
+    ensures { result.now ≡ place_of cause }
+{
+    match cause {
+        Cause::FileTooLong => b" line 0 column 0 cause ",
+        Cause::NotToml | Cause::NotBundle => b" key - cause ",
+    }
+}
+
+/// Appends that a file is refused.
+pub(crate) fn append_refusal(
+    alloc: Global,
+    report: &mut Vec<u8>,
+    file: &str,
+    cause: Cause,
+) -> Result<(), NoMemory>
+    ensures { OnOk result (report.new.items ≡ report.old.items ++ refusal_line file.now cause) }
+{
+    report.extend_from_slice(b"refused ")?;
+    report.extend_from_slice(file.as_bytes())?;
+    report.extend_from_slice(place_of(cause))?;
+    append_decimal(alloc, report, u64::from(cause.number()))?;
+    append_line(report, b"")
+}
+
+/// The names of the board's elements, by number.
+const ELEMENT_NAMES: [&str; 26] = [
+    "b.r0", "b.r1", "b.r2", "b.r3", "b.r4", "b.r5", "b.r6", "b.r7", "b.r8", "b.r9", "b.r10",
+    "b.r11", "b.r12", "b.r13", "b.r14", "b.r15", "b.q", "b.mar", "b.ir", "b.upc", "b.count",
+    "b.stack0", "b.stack1", "b.stack2", "b.stack3", "b.stack4",
+];
+
+/// The name of a number; nothing past the last one.
+fn name_in(names: &[&'static str], number: u32) -> &'static str
+    ensures { result.now ≡ slice_index_or (map (λ name. name.now) names.now) number [] }
+{
+    match names.get(number as usize) {
+        Some(name) => name,
+        None => "",
+    }
+}
+
+/// The name of an element of the board.
+fn element_name(element: u32) -> &'static str
+    ensures { result.now ≡ slice_index_or element_names element [] }
+{
+    name_in(&ELEMENT_NAMES, element)
+}
+
+/// Appends a difference.
+#[tactic(auto, unfolding(crate::specs::Report::difference_text))]
+fn append_difference(
+    alloc: Global,
+    report: &mut Vec<u8>,
+    difference: Difference,
+) -> Result<(), NoMemory>
+    ensures { OnOk result (report.new.items ≡ report.old.items ++ difference_text difference) }
+{
+    match difference {
+        Difference::Late => report.extend_from_slice(b"late")?,
+        Difference::Event(number) => {
+            report.extend_from_slice(b"event ")?;
+            append_decimal(alloc, report, u64::from(number))?;
+        }
+        Difference::StackPointer => report.extend_from_slice(b"element b.sp")?,
+        Difference::Element(element) => {
+            report.extend_from_slice(b"element ")?;
+            report.extend_from_slice(element_name(element).as_bytes())?;
+        }
+        Difference::Memory(address) => {
+            report.extend_from_slice(b"memory ")?;
+            append_hex(alloc, report, u128::from(address))?;
+        }
+    }
+    Ok(())
+}
+
+/// Appends what a comparison of one step shows.
+#[tactic(auto, unfolding(crate::specs::Report::compare_report))]
+pub(crate) fn append_comparison(
+    alloc: Global,
+    report: &mut Vec<u8>,
+    shown: Option<Difference>,
+) -> Result<(), NoMemory>
+    ensures { OnOk result (report.new.items ≡ report.old.items ++ compare_report shown) }
+{
+    match shown {
+        None => append_line(report, b"same 1"),
+        Some(difference) => {
+            append_line(report, b"differs step 1")?;
+            report.extend_from_slice(b"difference ")?;
+            append_difference(alloc, report, difference)?;
+            append_line(report, b"")
+        }
+    }
+}
