@@ -30,4 +30,6 @@ pub use top_call::bench;
 #[cfg(test)]
 mod call_tests;
 #[cfg(test)]
+mod row_tests;
+#[cfg(test)]
 mod tests;
