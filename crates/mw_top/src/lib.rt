@@ -28,7 +28,11 @@ pub use status::Status;
 pub use top_call::bench;
 
 #[cfg(test)]
+mod bundle_cases;
+#[cfg(test)]
 mod call_tests;
+#[cfg(test)]
+mod compare_tests;
 #[cfg(test)]
 mod row_tests;
 #[cfg(test)]
