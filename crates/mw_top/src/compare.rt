@@ -118,6 +118,7 @@ fn first_run(alloc: Global, bundle: &Bundle, board: State) -> Result<Option<Run>
 }
 
 /// The first difference that a completed start shows.
+#[tactic(auto, using(crate::proofs::Shown::shown_late))]
 fn shown(
     alloc: Global,
     bundle: &Bundle,

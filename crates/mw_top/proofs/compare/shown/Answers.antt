@@ -1,9 +1,6 @@
 use Rattle.std.proofs.Common.{◌∙◌, sym, [], false}
-use Rattle.mw_top.proofs.Shown.{shown_after, shown_late}
+use Rattle.mw_top.proofs.Shown.{shown_after}
 use Rattle.mw_top.proofs.compare.shown.Goals as goal
-
-pub returns-in-None : goal.returns-in-None
-returns-in-None c = sym (shown_late c.args.bundle.now _ (sym c.in-None.is ∙ c.in_ok-first_run.ensures.exact))
 
 pub returns-in-Some : goal.returns-in-Some
 returns-in-Some c =
