@@ -82,44 +82,56 @@ pub fn bench<S: Shelf, K: Sink>(
     out: &mut K,
 ) -> Status
     // `Usage`: the words are no request, and the usage line was taken.
-    ensures usage { result ≡ Status.Usage → (request_of (map string_bytes words.now) ≡ None) × Took (K.taken out.old) (K.taken out.new) usage_line }
+    ensures usage { result ≡ Status.Usage → (request_of (map string_bytes words.now) ≡ None)
+        × Took (K.taken out.old) (K.taken out.new) usage_line }
 
     // Words that are no request have no other end, but for a write fault and want of memory.
-    ensures usage_due { request_of (map string_bytes words.now) ≡ None → Contains (Status.Usage ∷ Status.WriteFault ∷ Status.NoMemory ∷ []) result }
+    ensures usage_due { request_of (map string_bytes words.now) ≡ None
+        → Contains (Status.Usage ∷ Status.WriteFault ∷ Status.NoMemory ∷ []) result }
 
     // `Done`, `Differs`, `Unknown`: the work was done, and its report was taken.
     ensures answer { is_worked result ≡ true → (report : List ℕ)
-        × IsWorked (S.told shelf.old) (map string_bytes words.now) result report × Took (K.taken out.old) (K.taken out.new) report }
+        × IsWorked (S.told shelf.old) (map string_bytes words.now) result report
+        × Took (K.taken out.old) (K.taken out.new) report }
 
     // Good words and good files are not refused.
-    ensures answer_due { (request : RequestData) (contents : List (List ℕ)) → request_of (map string_bytes words.now) ≡ Some request
+    ensures answer_due { (request : RequestData) (contents : List (List ℕ))
+        → request_of (map string_bytes words.now) ≡ Some request
         → AreTold (S.told shelf.old) request.files contents → IsAccepted request.command contents
         → (result ≢ Status.Usage) × (result ≢ Status.Refused) }
 
     // `Refused`: a file is refused, and the line that says so was taken.
     ensures refused { result ≡ Status.Refused → (report : List ℕ)
-        × IsRefused (S.told shelf.old) (map string_bytes words.now) report × Took (K.taken out.old) (K.taken out.new) report }
+        × IsRefused (S.told shelf.old) (map string_bytes words.now) report
+        × Took (K.taken out.old) (K.taken out.new) report }
 
     // Files that are refused have no other end, but for the faults and want of memory.
-    ensures refused_due { (request : RequestData) (contents : List (List ℕ)) (report : List ℕ) → request_of (map string_bytes words.now) ≡ Some request
-        → AreTold (S.told shelf.old) request.files contents → IsRefusal request.command request.files contents report
+    ensures refused_due { (request : RequestData) (contents : List (List ℕ)) (report : List ℕ)
+        → request_of (map string_bytes words.now) ≡ Some request
+        → AreTold (S.told shelf.old) request.files contents
+        → IsRefusal request.command request.files contents report
         → Contains (Status.Refused ∷ Status.ReadFault ∷ Status.WriteFault ∷ Status.NoMemory ∷ []) result }
 
     // `ReadFault`: the shelf failed at one of the files, and the line that says so was taken.
     ensures read_fault { result ≡ Status.ReadFault → (report : List ℕ)
-        × IsReadFault (S.faults shelf.old) (S.faults shelf.new) (map string_bytes words.now) report × Took (K.taken out.old) (K.taken out.new) report }
+        × IsReadFault (S.faults shelf.old) (S.faults shelf.new) (map string_bytes words.now) report
+        × Took (K.taken out.old) (K.taken out.new) report }
 
     // `WriteFault`: the sink failed, and a front part of a report was taken.
     ensures write_fault { result ≡ Status.WriteFault → Rose (K.faults out.old) (K.faults out.new)
-        × TookPart (S.told shelf.old) (S.faults shelf.old) (S.faults shelf.new) (map string_bytes words.now) (K.taken out.old) (K.taken out.new) }
+        × TookPart (S.told shelf.old) (S.faults shelf.old) (S.faults shelf.new)
+        (map string_bytes words.now) (K.taken out.old) (K.taken out.new) }
 
     // `NoMemory`: nothing was taken, or a front part of a report.
     ensures no_memory { result ≡ Status.NoMemory → (K.taken out.new ≡ K.taken out.old)
-        ⊎ TookPart (S.told shelf.old) (S.faults shelf.old) (S.faults shelf.new) (map string_bytes words.now) (K.taken out.old) (K.taken out.new) }
+        ⊎ TookPart (S.told shelf.old) (S.faults shelf.old) (S.faults shelf.new)
+        (map string_bytes words.now) (K.taken out.old) (K.taken out.new) }
 
     // Where neither the shelf nor the sink fails, only memory can keep the work from its end.
-    ensures complete { NoneRose (S.faults shelf.old) (S.faults shelf.new) (map string_bytes words.now) → ¬ Rose (K.faults out.old) (K.faults out.new)
-        → Contains (Status.Done ∷ Status.Differs ∷ Status.Unknown ∷ Status.Usage ∷ Status.Refused ∷ Status.NoMemory ∷ []) result }
+    ensures complete { NoneRose (S.faults shelf.old) (S.faults shelf.new) (map string_bytes words.now)
+        → ¬ Rose (K.faults out.old) (K.faults out.new)
+        → Contains (Status.Done ∷ Status.Differs ∷ Status.Unknown ∷ Status.Usage ∷ Status.Refused
+        ∷ Status.NoMemory ∷ []) result }
 
     // The files are as before, and no count of faults fell.
     ensures kept { (name : List ℕ) → S.told shelf.new name ≡ S.told shelf.old name }
