@@ -1,3 +1,4 @@
 pub mod Edge
 pub mod Segments
 pub mod OnLiterals
+pub mod Times

@@ -1,5 +1,5 @@
 -- Where a run is compared: the boundaries that a relation names, and the times at which a run reaches them.
-use Rattle.std.specs.Prelude.{◌≡◌, ℕ, zero, suc, ◌+◌, ◌<◌, List, [], ◌∷◌, Bool, true, false, ◌==◌, Option, find, option_map}
+use Rattle.std.specs.Prelude.{◌≡◌, ℕ, zero, suc, ◌+◌, ◌<◌, List, [], ◌∷◌, Bool, true, false, ◌==◌, ◌≤◌, Option, Some, None, find, option_map}
 use Rattle.std.specs.List.{list_any}
 use Rattle.mw_cycle.specs.Board.{BoardParts}
 use Rattle.mw_cycle.specs.State.{BoardState}
@@ -42,3 +42,9 @@ first_boundary addresses at limit = find (λ n. is_named addresses (at n)) (numb
 unfoldable pub first_segment : BoardParts → List ℕ → Environment → BoardState → List ℕ → ℕ → Option BoardRun
 first_segment board store env start addresses limit =
     option_map (run_of board store env start) (first_boundary addresses (λ n. (run_of board store env start n).state.at) limit)
+
+-- A segment that keeps its limit ends at the next boundary of the run, and one that is late has none so soon.
+abbrev pub SegmentsEndAtBoundaries : Type 0
+SegmentsEndAtBoundaries = (addresses : List ℕ) (at : ℕ → ℕ) (limit : ℕ)
+    → ((n : ℕ) → first_boundary addresses at limit ≡ Some n → IsNextBoundary addresses at 0 n × (n ≤ limit))
+    × (first_boundary addresses at limit ≡ None → (e : ℕ) → 0 < e → e ≤ limit → is_named addresses (at e) ≡ false)

@@ -1,4 +1,4 @@
-// The board of a bundle, and its control store.
+// A board, and its control store.
 ghost use Rattle.std.specs.Prelude.{◌≡◌, ℕ, ◌<◌, ◌≤◌, ◌^◌, ◌%◌, IfSome, IsSome, ◌↔◌, List};
 ghost use Rattle.mw_cycle.specs.Board.{BoardParts, IsBoard, word_at};
 

@@ -14,5 +14,5 @@ pub use datapath::{Datapath, Whole};
 pub use environment::{Clock, Env};
 pub use microword::{Bit, DFrom, Microword};
 pub use one_cycle::cycle;
-pub use run::{Run, run_to_boundary};
+pub use run::{Run, run_to_boundary, segments_end_at_boundaries};
 pub use state::{CycleIn, Nets, State};

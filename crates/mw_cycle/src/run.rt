@@ -3,7 +3,7 @@ ghost use Rattle.std.specs.Prelude.{◌≡◌, ℕ, ◌+◌, ◌<◌, ◌≤◌,
 ghost use Rattle.mw_cycle.specs.Environment.{IsEnvironment, at_start};
 ghost use Rattle.mw_cycle.specs.State.{Fits};
 ghost use Rattle.mw_cycle.specs.Run.{BoardRun, clock_after, longer_run, run_of};
-ghost use Rattle.mw_cycle.specs.Boundary.{first_segment, is_named};
+ghost use Rattle.mw_cycle.specs.Boundary.{SegmentsEndAtBoundaries, first_segment, is_named};
 
 use crate::board::{Board, Store};
 use crate::datapath::Datapath;
@@ -155,3 +155,9 @@ pub fn run_to_boundary<A: Datapath>(
         Ok(None)
     }
 }
+
+/// The law of segments: the first boundary within a limit is the run's next boundary, and where there is none within it
+/// no cycle start up to it is at a boundary.
+pub fn segments_end_at_boundaries()
+    ensures { SegmentsEndAtBoundaries }
+{}

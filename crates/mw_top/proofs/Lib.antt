@@ -7,3 +7,4 @@ pub mod Shown
 pub mod Names
 pub mod Outcomes
 pub mod Ends
+pub mod OneStart

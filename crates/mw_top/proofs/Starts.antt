@@ -62,8 +62,8 @@ zero_chosen true x y p q = p
 zero_chosen false x y p q = q
 
 -- a register is an element
-register_element : (regs : List ℕ) (e : ℕ) → e < 16 → element (board_with regs) e ≡ get_or regs e 0
-register_element regs e h = rw (lt-ltb e 16 h) refl
+pub register_element : (b : BoardState) (e : ℕ) → e < 16 → element b e ≡ get_or b.regs e 0
+register_element b e h = rw (lt-ltb e 16 h) refl
 
 -- an element that is neither linked nor the microprogram counter
 free_element : (regs : List ℕ) (e : ℕ) → 19 ≢ e → get_or regs e 0 ≡ 0 → element (board_with regs) e ≡ 0
@@ -72,7 +72,7 @@ free_element regs e counter free =
     rw other (zero_chosen _ _ _ free (zero_chosen (e == 16) _ _ refl (zero_chosen (e == 17) _ _ refl (zero_chosen (e == 18) _ _ refl (zero_chosen (e == 20) _ _ refl (zero_at 5 (e - 21)))))))
 
 -- what holds of each image holds so of each item
-unmapped : {X Y : Type 0} (P : X → Type 0) (f : Y → X) (ys : List Y) → All P (map f ys) → All (λ y. P (f y)) ys
+pub unmapped : {X Y : Type 0} (P : X → Type 0) (f : Y → X) (ys : List Y) → All P (map f ys) → All (λ y. P (f y)) ys
 unmapped P f [] h = All-nil (λ y. P (f y))
 unmapped P f (y ∷ ys) h = All-cons (λ z. P (f z)) y ys (All-head P (f y) (map f ys) h) (unmapped P f ys (All-tail P (f y) (map f ys) h))
 
@@ -114,7 +114,7 @@ is_start bundle regs is sixteen below linked free = record {
     sp = refl;
     memory = refl;
     lines = All-cons (Holds bundle regs) counter_line (map link_line bundle.relation) refl
-        (All-map (Holds bundle regs) link_line bundle.relation (λ k d h. register_element regs (get_or bundle.relation k d).board (is.links_fit k d h).board_below ∙ linked k d h));
+        (All-map (Holds bundle regs) link_line bundle.relation (λ k d h. register_element (board_with regs) (get_or bundle.relation k d).board (is.links_fit k d h).board_below ∙ linked k d h));
   };
   registers = refl;
   free = λ e few none.

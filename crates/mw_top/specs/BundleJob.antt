@@ -4,7 +4,7 @@ use Rattle.mw_cycle.specs.Board.{BoardParts}
 use Rattle.mw_cycle.specs.Boundary.{Boundary}
 use Rattle.mw_cycle.specs.Environment.{Environment}
 use Rattle.mw_top.specs.declared.parts.Link.{Link}
-use Rattle.mw_top.specs.Bundle.{BundleData}
+use Rattle.mw_top.specs.Bundle.{BundleData, IsBundle}
 use Rattle.mw_top.specs.Machine.{bundle_step}
 use Rattle.mw_top.specs.Relation.{Line, Job, Pair, InRelation, element, element_count}
 use Rattle.mw_top.specs.Differs.{Start}
@@ -56,3 +56,7 @@ pub record IsBundleStart (bundle : BundleData) (start : Start) : Type 0 where
 -- a pair at the boundary of a bundle, in an environment of nothing but 0
 abbrev pub start_with : BundleData → Pair → Start
 start_with bundle pair = record { boundary = boundary_of bundle; pair = pair; env = no_environment }
+
+-- a bundle has one start
+abbrev pub StartsAreOne : Type 0
+StartsAreOne = (bundle : BundleData) (first second : Start) → IsBundle bundle → IsBundleStart bundle first → IsBundleStart bundle second → first ≡ second

@@ -140,7 +140,8 @@ fn shown(
 pub fn compare_bundle(alloc: Global, bundle: &Bundle) -> Result<Option<Difference>, NoMemory>
     ensures { IfOk result (λ shown. (start : Start) × IsBundleStart bundle.now start × (shown ≡ difference_of (job_of bundle.now) start)) }
 {
-    let _count = bundle.registers();
+    // What holds of every bundle is known by its accessors.
+    let _ = bundle.registers();
     let (board, machine) = completed(alloc, bundle)?;
     shown(alloc, bundle, board, machine)
 }

@@ -24,6 +24,7 @@ pub use difference::Difference;
 pub use parts::{Assignment, Link};
 pub use refusal::BundleRefusal;
 pub use request::{Command, Request, read_words};
+pub use start::starts_are_one;
 pub use status::Status;
 pub use top_call::bench;
 

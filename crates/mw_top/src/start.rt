@@ -2,7 +2,7 @@
 ghost use Rattle.std.specs.Prelude.{◌≡◌, ◌≢◌, ◌<◌, ℕ, All, AllPairs, IfOk, length, replicate, slice_index};
 ghost use Rattle.mw_top.specs.declared.start.TheConstants.{MEMORY_WORDS};
 ghost use Rattle.mw_top.specs.Bundle.{IsBundle, IsLink};
-ghost use Rattle.mw_top.specs.BundleJob.{IsBundleStart, start_with};
+ghost use Rattle.mw_top.specs.BundleJob.{IsBundleStart, StartsAreOne, start_with};
 
 use crate::bundle::Bundle;
 use crate::machine::MacState;
@@ -79,3 +79,8 @@ pub fn completed(alloc: Global, bundle: &Bundle) -> Result<(State, MacState), No
     };
     Ok((board, machine))
 }
+
+/// The law of starts: a bundle has one, since everything in it is given.
+pub fn starts_are_one()
+    ensures { StartsAreOne }
+{}
