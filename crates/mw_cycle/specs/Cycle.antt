@@ -51,6 +51,7 @@ operands_of board m s given = record {
   cin = early_bit board m.carry_in s given;
 }
 
+-- F, the flags and Y of those operands
 unfoldable pub answer_of : BoardParts → Microword → BoardState → CycleIn → AluOut
 answer_of board m s given =
     let operands = operands_of board m s given in

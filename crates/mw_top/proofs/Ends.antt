@@ -10,20 +10,6 @@ use Rattle.mw_top.specs.Answer.{AreRead, AreTold, IsAnswer, IsRefusal, IsReport,
 use Rattle.mw_top.specs.Ending.{IsAccepted, IsEnd, NoneRose, Took}
 use Rattle.mw_top.specs.Request.{RequestData, request_of}
 
--- ---- how a call ended
-
--- its report was taken
-pub end_taken : (told : List ℕ → Option (List ℕ)) (before now : List ℕ → ℕ) (words : List (List ℕ)) (failed fails : ℕ) (old new : Option (List ℕ)) (status : Status) (report : List ℕ)
-    → IsReport told before now words status report → Took old new report → IsEnd told before now words failed fails old new status
-end_taken told before now words failed fails old new Done report permitted taken = (report, permitted, taken)
-end_taken told before now words failed fails old new Differs report permitted taken = (report, permitted, taken)
-end_taken told before now words failed fails old new Unknown report permitted taken = (report, permitted, taken)
-end_taken told before now words failed fails old new Usage report permitted taken = (report, permitted, taken)
-end_taken told before now words failed fails old new Refused report permitted taken = (report, permitted, taken)
-end_taken told before now words failed fails old new ReadFault report permitted taken = (report, permitted, taken)
-end_taken told before now words failed fails old new WriteFault report permitted taken = absurd permitted
-end_taken told before now words failed fails old new NoMemory report permitted taken = absurd permitted
-
 -- ---- what the contents decide
 
 -- contents that were read are those that are told

@@ -16,11 +16,6 @@ use Rattle.toml.specs.declared.value.Value.{Value}
 abbrev pub with_front : {A : Type 0} → List A → Result (List A) Cause → Result (List A) Cause
 with_front front read = read >>= λ xs. Ok (front ++ xs)
 
--- a list that was read, before nothing
-pub with_front-nil : {A : Type 0} (read : Result (List A) Cause) → with_front [] read ≡ read
-with_front-nil (Ok xs) = refl
-with_front-nil (Err e) = refl
-
 regroup : {A : Type 0} (front : List A) (x : A) (read : Result (List A) Cause) → with_front front (read >>= λ xs. Ok (x ∷ xs)) ≡ with_front (front ++ x ∷ []) read
 regroup front x (Ok xs) = ap Ok (sym (append_assoc front (x ∷ []) xs))
 regroup front x (Err e) = refl

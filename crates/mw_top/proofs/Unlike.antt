@@ -16,10 +16,6 @@ alike same xs ys n x y h k ex ey e = rw (rest_from xs n x h ex, rest_from ys n y
 pub unlike : {A : Type 0} (same : A → A → Bool) (xs ys : List A) (n : ℕ) (x y : A) → n < length xs → n < length ys → x ≡ get_or xs n x → y ≡ get_or ys n y → same x y ≡ false → unlike_from same n (drop n xs) (drop n ys) ≡ Some n
 unlike same xs ys n x y h k ex ey e = rw (rest_from xs n x h ex, rest_from ys n y k ey, e) refl
 
--- two lists that end together
-pub ended : {A : Type 0} (same : A → A → Bool) (xs ys : List A) (n : ℕ) → length xs ≤ n → length ys ≤ n → unlike_from same n (drop n xs) (drop n ys) ≡ None
-ended same xs ys n h k = rw (drop_all n xs h, drop_all n ys k) refl
-
 -- one list that goes on where the other has ended
 goes_on : {A : Type 0} (same : A → A → Bool) (zs : List A) (n : ℕ) → 0 < length zs → (unlike_from same n zs [] ≡ Some n) × (unlike_from same n [] zs ≡ Some n)
 goes_on same [] n h = absurd (omega arith)

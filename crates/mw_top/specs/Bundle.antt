@@ -1,10 +1,11 @@
 -- What a bundle is: a document of seven keys, all required, and no other key.
-use Rattle.std.specs.Prelude.{◌≡◌, ◌≢◌, ℕ, ◌-◌, ◌^◌, ◌<◌, ◌≤◌, List, [], ◌∷◌, codes, length, All, AllPairs, Result, Ok, Err, Bool, true, not, nat_lt, ◌==◌, ◌&&◌, ◌||◌}
+use Rattle.std.specs.Prelude.{◌≡◌, ◌≢◌, ℕ, ◌+◌, ◌*◌, ◌-◌, ◌^◌, ◌<◌, ◌≤◌, List, [], ◌∷◌, codes, length, All, AllPairs, Result, Ok, Err, Bool, true, not, nat_lt, ◌==◌, ◌&&◌, ◌||◌}
 use Rattle.std.specs.List.{list_any}
 use Rattle.toml.specs.Data.{Data, Items, no_items, item, Members, no_members, member, same_key, as_array}
-use Rattle.mw_base.specs.Words.{part}
 use Rattle.mw_base.specs.declared.cause.Cause.{Cause}
 use Rattle.mw_base.specs.declared.cause.Cause.TheVariants.{NotBundle}
+use Rattle.mw_cycle.specs.declared.microword.Microword.{Microword}
+use Rattle.mw_cycle.specs.Microword.{points_of}
 use Rattle.mw_top.specs.Document.{document_of, document_or_refusal}
 use Rattle.mw_top.specs.Reading.{◌>>=◌, present, only_if, value_at, number_in, list_of}
 use Rattle.mw_top.specs.declared.parts.Assignment.{Assignment}
@@ -29,33 +30,15 @@ abbrev pub has_bundle_keys_only : Members → Bool
 has_bundle_keys_only no_members = true
 has_bundle_keys_only (member key value rest) = list_any (same_key key) bundle_keys && has_bundle_keys_only rest
 
--- the source field of a microword, bits 0 to 2
-abbrev pub source_of : ℕ → ℕ
-source_of word = part 0 3 word
-
--- its function field, bits 3 to 5
-abbrev pub function_of : ℕ → ℕ
-function_of word = part 3 3 word
-
--- its destination field, bits 6 to 8
-abbrev pub destination_of : ℕ → ℕ
-destination_of word = part 6 3 word
-
--- its sequencer code, bits 18 to 21
-abbrev pub sequencer_of : ℕ → ℕ
-sequencer_of word = part 18 4 word
-
--- a microword that adds two registers into one (source 1, function 0, destination 3), and jumps or goes on (sequencer code 3 or 14)
-abbrev pub is_plain_word : ℕ → Bool
-is_plain_word word =
-    ((source_of word == 1 && function_of word == 0) && destination_of word == 3)
-    && (sequencer_of word == 3 || sequencer_of word == 14)
+-- The Am2901 adds A and B into B (source 1, function 0, destination 3), and the Am2910 jumps or goes on (CJP 3, CONT 14).
+abbrev pub is_plain : Microword → Bool
+is_plain m = (m.instruction == 1 + 0 * 8 + 3 * 64) && ((m.sequencer == 3) || (m.sequencer == 14))
 
 -- a microword of 35 bits, and a plain one
 unfoldable pub word_in : Data → Result ℕ Cause
 word_in value = do
   word ← number_in 0 (2 ^ 35 - 1) value
-  only_if (is_plain_word word) word
+  only_if (is_plain (points_of word)) word
 
 -- the number of one of so many described registers, of which there are at most 16
 unfoldable pub register_in : ℕ → Data → Result ℕ Cause

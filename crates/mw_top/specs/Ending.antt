@@ -35,7 +35,7 @@ IsOutcome command files contents other report = ⊥
 -- What a status says of a call: the report that it permits was taken. With a write fault, where the sink's count of faults rose,
 -- that is a part of one, and with want of memory nothing or a part of one.
 abbrev pub IsEnd : (List ℕ → Option (List ℕ)) → (List ℕ → ℕ) → (List ℕ → ℕ) → List (List ℕ) → ℕ → ℕ → Option (List ℕ) → Option (List ℕ) → Status → Type 0
-IsEnd told before now words failed fails old new WriteFault = Rose failed fails × TookPart told before now words old new
-IsEnd told before now words failed fails old new NoMemory = (new ≡ old) ⊎ TookPart told before now words old new
-IsEnd told before now words failed fails old new other =
+IsEnd told before now words sink_before sink_now old new WriteFault = Rose sink_before sink_now × TookPart told before now words old new
+IsEnd told before now words sink_before sink_now old new NoMemory = (new ≡ old) ⊎ TookPart told before now words old new
+IsEnd told before now words sink_before sink_now old new other =
     (report : List ℕ) × IsReport told before now words other report × Took old new report

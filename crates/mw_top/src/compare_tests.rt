@@ -13,49 +13,33 @@ fn compared(rt: &HostRuntime, contents: &[u8], out: &mut MemorySink) -> Result<u
     Ok(bench(rt.alloc(), &words, &mut shelf, out).number())
 }
 
-const SAME: &[u8] = b"bundle = 1\n\
-    words = [0x3802C1, 0x4000C24C1]\n\
-    registers = 3\n\
-    relation = [[0, 0], [1, 1], [2, 2]]\n\
-    bound = 2\n\
-    assign = [[0, 0, 1], [1, 1, 2]]\n\
-    start = [7, 1, 15]\n";
-
-const ELEMENT: &[u8] = b"bundle = 1\n\
-    words = [0x3802C1, 0x4000C24C1]\n\
-    registers = 3\n\
-    relation = [[0, 0], [1, 1], [2, 2]]\n\
-    bound = 2\n\
-    assign = [[0, 0, 1], [1, 1, 0]]\n\
-    start = [7, 1, 15]\n";
-
-const LATE: &[u8] = b"bundle = 1\n\
-    words = [0x3802C1, 0x4000C24C1]\n\
-    registers = 3\n\
-    relation = [[0, 0], [1, 1], [2, 2]]\n\
-    bound = 1\n\
-    assign = [[0, 0, 1], [1, 1, 2]]\n\
-    start = [7, 1, 15]\n";
-
-const SHORT_START: &[u8] = b"bundle = 1\n\
-    words = [0x3802C1, 0x4000C24C1]\n\
-    registers = 3\n\
-    relation = [[0, 0], [1, 1], [2, 2]]\n\
-    bound = 2\n\
-    assign = [[0, 0, 1], [1, 1, 2]]\n\
-    start = [7]\n";
-
 #[test]
-fn rows(rt: HostRuntime) -> Result<(), Fail> {
-    let rows: [(&[u8], u8, &[u8]); 4] = [
-        (SAME, 0, b"same 1\n"),
-        (ELEMENT, 1, b"differs step 1\ndifference element b.r1\n"),
-        (LATE, 1, b"differs step 1\ndifference late\n"),
-        (SHORT_START, 4, b"refused t key - cause 90\n"),
+fn bundle_same_element_late_short_start(rt: HostRuntime) -> Result<(), Fail> {
+    let same = "[[0, 0, 1], [1, 1, 2]]";
+    let rows: [(u32, &str, &str, u8, &[u8]); 4] = [
+        (2, same, "[7, 1, 15]", 0, b"same 1\n"),
+        (
+            2,
+            "[[0, 0, 1], [1, 1, 0]]",
+            "[7, 1, 15]",
+            1,
+            b"differs step 1\ndifference element b.r1\n",
+        ),
+        (
+            1,
+            same,
+            "[7, 1, 15]",
+            1,
+            b"differs step 1\ndifference late\n",
+        ),
+        (2, same, "[7]", 4, b"refused t key - cause 90\n"),
     ];
-    for (contents, status, report) in rows {
+    for (bound, assign, start, status, report) in rows {
+        let bundle = format!(in rt.alloc();
+            "bundle = 1\nwords = [0x3802C1, 0x4000C24C1]\nregisters = 3\nrelation = [[0, 0], [1, 1], [2, 2]]\nbound = {bound}\nassign = {assign}\nstart = {start}\n"
+        )?;
         let mut out = MemorySink::new(rt.alloc(), 4096, &[])?;
-        assert_eq!(rt; compared(&rt, contents, &mut out)?, status);
+        assert_eq!(rt; compared(&rt, bundle.as_bytes(), &mut out)?, status);
         assert_eq!(rt; out.bytes(), report);
     }
     Ok(())

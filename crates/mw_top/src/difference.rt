@@ -12,9 +12,9 @@ pub enum Difference {
     Late,
     /// The event of this number, from 0, is another, or only one side has it.
     Event(u32),
-    /// The stack pointer isn't the number of the boundary reached.
+    /// The stack pointer isn't that of the boundary reached.
     StackPointer,
-    /// The element of this number isn't the value of its line's right side.
+    /// The first line that fails, by the number of its board element: 0 to 15 are the registers, 19 the microprogram counter.
     Element(u32),
     /// The memory words at this address differ.
     Memory(u32),

@@ -1,5 +1,5 @@
 use Rattle.std.proofs.Common.{sym, ◌∙◌, arith, ◌≡◌, ◌≢◌, ◌<◌, ◌≤◌, length, not, Bool, true, false, refl, min, ap, Some}
-use Rattle.mw_top.proofs.Unlike.{alike, unlike, ended, shorter}
+use Rattle.mw_top.proofs.Unlike.{alike, unlike, shorter}
 use Rattle.mw_top.proofs.difference.first_unlike.Goals as goal
 
 -- what a test that was turned over says
