@@ -1,5 +1,5 @@
 // A board, and its control store.
-ghost use Rattle.std.specs.Prelude.{◌≡◌, ℕ, ◌<◌, ◌≤◌, ◌^◌, ◌%◌, IfSome, IsSome, ◌↔◌, List};
+ghost use Rattle.std.specs.Prelude.{◌≡◌, ℕ, ◌<◌, ◌≤◌, List};
 ghost use Rattle.mw_cycle.specs.Board.{BoardParts, IsBoard, word_at};
 
 use mw_base::Width;

@@ -1,5 +1,5 @@
 // The arithmetic part as a trait: whatever answers as the whole word does may stand in a board.
-ghost use Rattle.std.specs.Prelude.{◌≡◌, ℕ, ◌<◌, ◌≤◌, ◌^◌, ◌%◌};
+ghost use Rattle.std.specs.Prelude.{◌≡◌, ◌<◌, ◌^◌, ◌%◌};
 ghost use Rattle.mw_alu.specs.WholeWord.{alu_of, shift_of};
 
 use mw_alu::{AluOut, Pins, ShiftOut, alu, shift};

@@ -1,5 +1,5 @@
 // The outside of a run: the interrupt line, the undefined bits and the input words.
-ghost use Rattle.std.specs.Prelude.{◌≡◌, ℕ, ◌<◌, ◌≤◌, ◌^◌, List, length, slice_index_or};
+ghost use Rattle.std.specs.Prelude.{◌≡◌, ◌<◌, slice_index_or};
 ghost use Rattle.mw_cycle.specs.Environment.{Environment, given_at};
 
 use crate::state::CycleIn;

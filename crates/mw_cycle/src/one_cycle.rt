@@ -1,11 +1,9 @@
 // One cycle.
-ghost use Rattle.std.specs.Prelude.{◌≡◌, ℕ, ◌<◌, ◌≤◌, ◌^◌, ◌%◌, ◌-◌, slice_index, length};
-ghost use Rattle.mw_alu.specs.WholeWord.{alu_of, shift_of};
-ghost use Rattle.mw_base.specs.Words.{bit_of};
+ghost use Rattle.std.specs.Prelude.{◌≡◌, ◌<◌, ◌^◌, ◌%◌, ◌-◌};
 ghost use Rattle.mw_seq.specs.declared.sequencer.TheConstants.{DEPTH};
 ghost use Rattle.mw_seq.specs.Sequencer.{IsSequencer, step_of};
-ghost use Rattle.mw_cycle.specs.Board.{IsBoard, word_at};
-ghost use Rattle.mw_cycle.specs.Microword.{IsMicroword, points_of};
+ghost use Rattle.mw_cycle.specs.Board.{IsBoard};
+ghost use Rattle.mw_cycle.specs.Microword.{IsMicroword};
 ghost use Rattle.mw_cycle.specs.State.{Fits};
 ghost use Rattle.mw_cycle.specs.Cycle.{d_of, early_bit, operands_of, answer_of, carry_net, overflow_net, bit_value, pass_of, direct_address, next_address, pins_of, writes_of, edge, event_of, state_after, nets_of};
 

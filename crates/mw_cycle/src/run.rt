@@ -1,5 +1,5 @@
 // Runs of cycles.
-ghost use Rattle.std.specs.Prelude.{◌≡◌, ℕ, ◌+◌, ◌<◌, ◌≤◌, ◌^◌, OnOk, IfOk, IfSome, length, [], Some, None, true, false};
+ghost use Rattle.std.specs.Prelude.{◌≡◌, ◌+◌, ◌<◌, ◌≤◌, ◌^◌, OnOk, IfOk, IfSome, length, [], Some, None, true, false};
 ghost use Rattle.mw_cycle.specs.Environment.{IsEnvironment, at_start};
 ghost use Rattle.mw_cycle.specs.State.{Fits};
 ghost use Rattle.mw_cycle.specs.Run.{BoardRun, clock_after, longer_run, run_of};

@@ -1,9 +1,7 @@
 // What a board keeps from cycle to cycle, what a cycle is given, and what it makes.
-ghost use Rattle.std.specs.Prelude.{◌≡◌, IfOk, List, ℕ};
 
-use mw_base::{Event, NoMemory};
+use mw_base::Event;
 use mw_seq::Seq;
-use std::alloc::Global;
 use std::marker::Model;
 
 /// The state of a board at the start of a cycle.

@@ -1,5 +1,5 @@
 // The state of the sequencer, and one step of it.
-ghost use Rattle.std.specs.Prelude.{◌≡◌, ℕ, ◌+◌, ◌-◌, ◌<◌, ◌≤◌, ◌^◌, ◌==◌, slice_index};
+ghost use Rattle.std.specs.Prelude.{◌≡◌, ◌+◌, ◌-◌, ◌<◌, ◌^◌, ◌==◌};
 ghost use Rattle.mw_seq.specs.declared.sequencer.TheConstants.{DEPTH};
 ghost use Rattle.mw_seq.specs.Sequencer.{IsSequencer, is_full, top, pushed, stack_after, counter_after, address, next_of, step_of};
 

@@ -6,7 +6,7 @@ use Rattle.mw_top.specs.declared.request.Command.{Command}
 use Rattle.mw_top.specs.declared.request.Command.TheVariants.{Compare}
 use Rattle.mw_top.specs.declared.status.Status.{Status}
 use Rattle.mw_top.specs.declared.status.Status.TheVariants.{Done, Differs, Unknown, Usage, Refused, ReadFault, WriteFault, NoMemory}
-use Rattle.mw_top.specs.Answer.{AreRead, AreTold, IsAnswer, IsRefusal, IsReport, IsWorked, IsRefused, is_worked}
+use Rattle.mw_top.specs.Answer.{AreRead, AreTold, IsAnswer, IsRefusal, IsWorked, IsRefused, is_worked}
 use Rattle.mw_top.specs.Ending.{IsAccepted, IsEnd, NoneRose, Took}
 use Rattle.mw_top.specs.Request.{RequestData, request_of}
 

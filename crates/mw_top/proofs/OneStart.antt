@@ -1,5 +1,5 @@
 -- A bundle has one start: everything in it is given.
-use Rattle.std.proofs.Common.{◌≡◌, ◌≢◌, ℕ, zero, suc, ◌+◌, ◌-◌, ◌<◌, ◌≤◌, List, [], ◌∷◌, length, map, get_or, replicate, All, Contains, Bool, true, false, ◌==◌, ◌⊎◌, inl, inr, refl, ap, ap₂, sym, ◌∙◌, arith, lit<, lit≤, nat_lt, le-ltb}
+use Rattle.std.proofs.Common.{◌≡◌, ◌≢◌, ℕ, suc, ◌+◌, ◌-◌, ◌<◌, ◌≤◌, List, [], ◌∷◌, length, map, get_or, replicate, All, Contains, false, ◌==◌, ◌⊎◌, inl, inr, refl, ap, sym, ◌∙◌, arith, lit<, lit≤, nat_lt, le-ltb}
 use Rattle.std.proofs.lemmas.Bool.Decides.{nat_tests}
 use Rattle.mw_cycle.specs.Environment.{Environment}
 use Rattle.std.proofs.lemmas.Bool.{cases_order}
@@ -10,9 +10,9 @@ use Rattle.mw_cycle.specs.Boundary.{Boundary}
 use Rattle.mw_seq.specs.Sequencer.{Sequencer}
 use Rattle.mw_top.specs.declared.parts.Link.{Link}
 use Rattle.mw_top.specs.Bundle.{BundleData, IsBundle}
-use Rattle.mw_top.specs.BundleJob.{IsBundleStart, boundary_of, counter_line, link_line, lines_of, no_environment, start_with}
+use Rattle.mw_top.specs.BundleJob.{IsBundleStart, counter_line, link_line, lines_of, start_with}
 use Rattle.mw_top.specs.Machine.{MachineState}
-use Rattle.mw_top.specs.Relation.{Line, Pair, element}
+use Rattle.mw_top.specs.Relation.{Line, element}
 use Rattle.mw_top.specs.Differs.{Start}
 use Rattle.mw_top.proofs.Starts.{board_with, register_element, unmapped}
 

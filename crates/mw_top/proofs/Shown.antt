@@ -1,5 +1,5 @@
 -- What a start shows, from its run and its step.
-use Rattle.std.proofs.Common.{◌≡◌, ℕ, List, [], ◌∷◌, Bool, true, false, ◌==◌, map, Option, Some, None, refl, ap, sym, ◌∙◌, cond, ◌||◌}
+use Rattle.std.proofs.Common.{◌≡◌, [], ◌∷◌, Bool, true, false, ◌==◌, Option, Some, None, refl, ap, sym, ◌∙◌, cond, ◌||◌}
 use Rattle.std.specs.Option.{option_or}
 use Rattle.mw_cycle.specs.Run.{BoardRun}
 use Rattle.mw_cycle.specs.Boundary.{Boundary, is_named, first_segment}

@@ -1,10 +1,10 @@
 -- The registers of a start, link by link.
-use Rattle.std.proofs.Common.{◌≡◌, ◌≢◌, ℕ, ◌+◌, ◌<◌, ◌≤◌, zero, suc, List, [], ◌∷◌, length, get_or, set, All, AllPairs, refl, ap, sym, ◌∙◌, arith, subst, below_more, get_or-set_same, get_or-set_other, replicate, lit<, lit≤, map, cond, ◌==◌, ◌-◌, Bool, true, false, lt-ltb}
+use Rattle.std.proofs.Common.{◌≡◌, ◌≢◌, ℕ, ◌+◌, ◌<◌, zero, suc, List, [], ◌∷◌, length, get_or, set, All, AllPairs, refl, sym, ◌∙◌, arith, below_more, get_or-set_same, get_or-set_other, replicate, lit<, lit≤, map, cond, ◌==◌, ◌-◌, Bool, true, false, lt-ltb}
 use Rattle.std.proofs.lemmas.Bool.Decides.{nat_tests}
 use Rattle.std.proofs.lemmas.List.{length-replicate, get_or-replicate}
 use Rattle.std.proofs.lemmas.List.Elements.{All-nil, All-cons, All-head, All-tail, All-map}
 use Rattle.mw_top.specs.Relation.{Line, element}
-use Rattle.mw_cycle.specs.State.{BoardState, Fits}
+use Rattle.mw_cycle.specs.State.{BoardState}
 use Rattle.mw_top.specs.Bundle.{BundleData, IsBundle}
 use Rattle.mw_top.specs.BundleJob.{IsBundleStart, start_with, counter_line, link_line}
 use Rattle.mw_top.specs.declared.parts.Link.{Link}

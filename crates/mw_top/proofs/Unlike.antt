@@ -1,8 +1,8 @@
 -- Where two lists are unlike.
-use Rattle.std.proofs.Common.{◌≡◌, ℕ, ◌+◌, ◌<◌, ◌≤◌, List, [], ◌∷◌, length, drop, get_or, drop-cons, Bool, true, false, cond, Option, Some, None, refl, ap, ap₂, sym, ◌∙◌, add-one, arith, min, inl, inr, length-drop, ◌≢◌}
+use Rattle.std.proofs.Common.{◌≡◌, ℕ, ◌+◌, ◌<◌, ◌≤◌, List, [], ◌∷◌, length, drop, get_or, drop-cons, Bool, true, false, Some, refl, ap, ap₂, sym, ◌∙◌, add-one, arith, min, inl, inr, length-drop, ◌≢◌}
 use Rattle.std.proofs.lemmas.Bool.{cases_lt}
 use Rattle.std.proofs.lemmas.List.{drop_all}
-use Rattle.mw_top.specs.Differs.{unlike_from, first_unlike}
+use Rattle.mw_top.specs.Differs.{unlike_from}
 
 -- the rest of a list from one of its places on
 rest_from : {A : Type 0} (xs : List A) (n : ℕ) (x : A) → n < length xs → x ≡ get_or xs n x → drop n xs ≡ x ∷ drop (n + 1) xs

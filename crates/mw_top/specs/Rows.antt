@@ -1,5 +1,5 @@
 -- Worked rows, as values on which the definitions compute.
-use Rattle.std.specs.Prelude.{ℕ, List, [], ◌∷◌, ◌++◌, replicate, Option}
+use Rattle.std.specs.Prelude.{ℕ, [], ◌∷◌, replicate, Option}
 use Rattle.mw_top.specs.declared.difference.Difference.{Difference}
 use Rattle.mw_top.specs.declared.parts.Assignment.{Assignment}
 use Rattle.mw_top.specs.declared.parts.Link.{Link}

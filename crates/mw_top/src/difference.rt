@@ -1,5 +1,5 @@
 // What a start shows.
-ghost use Rattle.std.specs.Prelude.{◌≡◌, ◌<◌, ◌≤◌, ◌^◌, ℕ, Option, Bool, length, IfSome};
+ghost use Rattle.std.specs.Prelude.{◌≡◌, ◌<◌, ◌≤◌, ◌^◌, Option, length, IfSome};
 ghost use Rattle.mw_top.specs.Differs.{first_unlike, event_difference, pointer_difference, memory_difference};
 
 use mw_base::Event;

@@ -1,5 +1,5 @@
 // Readers of the keys of a bundle, one for each.
-ghost use Rattle.std.specs.Prelude.{◌≡◌, ◌<◌, IfOk};
+ghost use Rattle.std.specs.Prelude.{◌≡◌, ◌<◌};
 ghost use Rattle.mw_top.specs.Bundle.{is_plain, word_in, register_in, assignment_in, link_in};
 ghost use Rattle.mw_top.specs.Bundle.{is_linked, links_each_once, version_of, words_of, bound_of};
 ghost use Rattle.mw_top.specs.Bundle.{registers_of, assignments_of, relation_of, start_of};

@@ -1,5 +1,5 @@
 // The described machine.
-ghost use Rattle.std.specs.Prelude.{◌≡◌, ℕ, ◌<◌, ◌^◌, List, All, length, slice_index, Bool};
+ghost use Rattle.std.specs.Prelude.{◌≡◌, ℕ, ◌<◌, List, All, length, slice_index, Bool};
 ghost use Rattle.std.specs.List.{fold};
 ghost use Rattle.mw_top.specs.Bundle.{IsAssignment};
 ghost use Rattle.mw_top.specs.Machine.{assigned, bundle_step};

@@ -1,7 +1,5 @@
 // The texts of reports.
 ghost use Rattle.std.specs.Prelude.{◌≡◌, ◌++◌, [], map, slice_index_or, OnOk};
-ghost use Rattle.mw_base.specs.Causes.{number_of};
-ghost use Rattle.mw_base.specs.Numbers.{decimal};
 ghost use Rattle.mw_top.specs.Report.{line, usage_line, fault_line, place_of, refusal_line, element_names, difference_text, compare_report};
 
 use crate::difference::Difference;

@@ -1,7 +1,6 @@
 // The rows of bundles, computed on the definitions: each contract is its row.
 ghost use Rattle.std.specs.Prelude.{◌≡◌, Some, None};
-ghost use Rattle.mw_top.specs.BundleJob.{IsBundleStart, start_with};
-ghost use Rattle.mw_top.specs.Rows.{bundle_same, bundle_element, bundle_late, first_pair, shown_by_row};
+ghost use Rattle.mw_top.specs.Rows.{bundle_same, bundle_element, bundle_late, shown_by_row};
 ghost use Rattle.mw_top.specs.declared.difference.Difference.TheVariants.{Late, Element};
 
 /// Row bundle-same: no difference.

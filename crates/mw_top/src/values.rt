@@ -1,5 +1,5 @@
 // Readers of the values of a document.
-ghost use Rattle.std.specs.Prelude.{◌≡◌, ◌≤◌, IfOk, Result};
+ghost use Rattle.std.specs.Prelude.{◌≤◌, IfOk, Result};
 ghost use Rattle.mw_top.specs.Reading.{Gives, Reads, present, in_range, number_in, value_at, each_of, list_of};
 ghost use Rattle.mw_base.specs.declared.cause.Cause.{Cause};
 ghost use Rattle.toml.specs.Data.{Data, as_array};

@@ -1,6 +1,6 @@
 use Rattle.std.proofs.Common.{◌∙◌, ap, List, []}
 use Rattle.mw_top.specs.declared.parts.Assignment.{Assignment}
-use Rattle.mw_top.specs.Machine.{Stepped, MachineState, bundle_step}
+use Rattle.mw_top.specs.Machine.{MachineState, bundle_step}
 use Rattle.mw_top.specs.BundleJob.{boundary_of}
 use Rattle.mw_top.specs.Differs.{difference_at}
 use Rattle.mw_top.proofs.compare.difference_after.Goals as goal

@@ -1,4 +1,4 @@
-use Rattle.std.proofs.Common.{sym, ◌∙◌, arith, ◌≡◌, ◌≢◌, ◌<◌, ◌≤◌, length, not, Bool, true, false, refl, min, ap, Some}
+use Rattle.std.proofs.Common.{sym, ◌∙◌, arith, ◌≡◌, ◌≢◌, ◌<◌, length, not, Bool, true, false, refl, min, ap, Some}
 use Rattle.mw_top.proofs.Unlike.{alike, unlike, shorter}
 use Rattle.mw_top.proofs.difference.first_unlike.Goals as goal
 

@@ -1,4 +1,4 @@
-use Rattle.std.proofs.Common.{◌≡◌, ℕ, drop}
+use Rattle.std.proofs.Common.{◌≡◌, drop}
 use Rattle.mw_top.specs.Differs.{first_unlike, unlike_from}
 use Rattle.mw_top.proofs.difference.first_unlike.Given as goal
 

@@ -1,4 +1,4 @@
-use Rattle.std.proofs.Common.{◌≡◌, ℕ, ◌<◌, drop, length, get_or}
+use Rattle.std.proofs.Common.{◌≡◌, ℕ, ◌<◌, drop, get_or}
 use Rattle.std.specs.List.{fold}
 use Rattle.mw_top.specs.Machine.{assigned}
 use Rattle.mw_top.proofs.machine.assign_each.Given as goal

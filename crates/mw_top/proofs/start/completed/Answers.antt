@@ -1,5 +1,4 @@
-use Rattle.std.proofs.Common.{ℕ, ◌≡◌, All, List, get_or, replicate, ap, sym, ◌∙◌}
-use Rattle.mw_top.specs.declared.parts.Link.{Link}
+use Rattle.std.proofs.Common.{◌≡◌, ◌∙◌}
 use Rattle.mw_top.proofs.Starts.{is_start}
 use Rattle.mw_top.proofs.start.completed.Goals as goal
 

@@ -1,6 +1,5 @@
 use Rattle.std.proofs.Common.{◌≡◌, ℕ, ◌<◌, ◌∙◌, ap, sym, length, get_or, arith}
 use Rattle.std.proofs.lemmas.Grind.{common_steps}
-use Rattle.std.proofs.lemmas.List.Elements.{at_read}
 use Rattle.mw_top.specs.declared.parts.Link.{Link}
 use Rattle.mw_top.proofs.Starts.{at_any, linked_more, free_more}
 use Rattle.mw_top.proofs.start.linked_registers.Goals as goal
