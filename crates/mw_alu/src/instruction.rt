@@ -1,7 +1,7 @@
 // The nine-bit instruction: sources in bits 2 to 0, function in bits 5 to 3, destination in bits 8 to 6.
 ghost use Rattle.std.specs.Prelude.{◌≡◌, ◌<◌, ℕ};
 ghost use Rattle.mw_alu.specs.Instruction.{source_of, function_of, destination_of};
-ghost use Rattle.mw_alu.specs.WholeWord.{r_of, s_of, is_sum, y_of};
+ghost use Rattle.mw_alu.specs.WholeWord.{r_of, s_of, is_sum, y_of, writes_b, writes_q};
 
 /// The operands R and S, by code from 0 (Data Book, ALU source operands). Z stands for zero.
 #[derive(Clone, Copy, Debug, PartialEq, Eq)]
@@ -157,7 +157,24 @@ impl Destination {
         }
     }
 
-    /// The outputs Y, from A and F.
+    /// Whether B is written.
+    pub fn writes_b(self) -> bool
+        ensures { result ≡ writes_b self }
+    {
+        !matches!(self, Destination::Qreg | Destination::Nop)
+    }
+
+    /// Whether Q is written.
+    pub fn writes_q(self) -> bool
+        ensures { result ≡ writes_q self }
+    {
+        matches!(
+            self,
+            Destination::Qreg | Destination::Ramqd | Destination::Ramqu
+        )
+    }
+
+    /// The outputs Y, from A and F. It is less than each number that A and F are less than.
     pub fn y(self, a: u32, f: u32) -> u32
         ensures exact { result ≡ y_of self a f }
         ensures below { (n : ℕ) → a < n → f < n → result < n }
