@@ -1,7 +1,7 @@
 // What the edge writes into B and Q.
 ghost use Rattle.std.specs.Prelude.{◌≡◌, ◌<◌, ◌≤◌, ◌^◌, ◌-◌, ◌+◌, ◌*◌, ◌/◌};
 ghost use Rattle.mw_base.specs.Words.{num};
-ghost use Rattle.mw_alu.specs.WholeWord.{down, up, writes_b, b_of, writes_q, q_of, shift_of};
+ghost use Rattle.mw_alu.specs.WholeWord.{down, up, b_of, q_of, shift_of};
 
 use crate::instruction::Destination;
 use crate::size::size;
