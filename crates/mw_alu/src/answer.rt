@@ -1,7 +1,7 @@
 // One instruction on one word.
 ghost use Rattle.std.specs.Prelude.{◌≡◌, ◌<◌, ◌≤◌, ◌^◌, ◌-◌, ◌+◌};
 ghost use Rattle.mw_base.specs.Words.{complement};
-ghost use Rattle.mw_alu.specs.WholeWord.{r_of, s_of, is_sum, addend_r, addend_s, total, f_of, carry_out, carry_into_top, carry_of, overflow_of, y_of, alu_of};
+ghost use Rattle.mw_alu.specs.WholeWord.{addend_r, addend_s, total, f_of, carry_out, carry_into_top, carry_of, overflow_of, alu_of};
 
 use crate::instruction::{Destination, Function, Source};
 use crate::size::{half, size};
@@ -33,40 +33,6 @@ fn complemented(width: Width, word: u32) -> u32
     ensures below { result < 2 ^ width }
 {
     mask(width) - word
-}
-
-fn operand_r(source: Source, width: Width, a: u32, d: u32) -> u32
-    requires a_in { a < 2 ^ width }
-    requires d_in { d < 2 ^ width }
-    ensures exact { result ≡ r_of source a d }
-    ensures below { result < 2 ^ width }
-{
-    match source {
-        Source::Aq | Source::Ab => a,
-        Source::Zq | Source::Zb | Source::Za => 0,
-        Source::Da | Source::Dq | Source::Dz => d,
-    }
-}
-
-fn operand_s(source: Source, width: Width, a: u32, b: u32, q: u32) -> u32
-    requires a_in { a < 2 ^ width }
-    requires b_in { b < 2 ^ width }
-    requires q_in { q < 2 ^ width }
-    ensures exact { result ≡ s_of source a b q }
-    ensures below { result < 2 ^ width }
-{
-    match source {
-        Source::Aq | Source::Zq | Source::Dq => q,
-        Source::Ab | Source::Zb => b,
-        Source::Za | Source::Da => a,
-        Source::Dz => 0,
-    }
-}
-
-fn is_sum(function: Function) -> bool
-    ensures { result ≡ is_sum function }
-{
-    matches!(function, Function::Add | Function::Subr | Function::Subs)
 }
 
 /// What is added for R.
@@ -147,7 +113,7 @@ fn carry(function: Function, width: Width, r: u32, s: u32, cin: bool) -> bool
     requires s_in { s < 2 ^ width }
     ensures { result ≡ carry_of function width r s cin }
 {
-    is_sum(function) & carries_out(function, width, r, s, cin)
+    function.is_sum() & carries_out(function, width, r, s, cin)
 }
 
 #[tactic(auto, unfolding(crate::specs::WholeWord::overflow_of))]
@@ -158,16 +124,7 @@ fn overflow(function: Function, width: Width, r: u32, s: u32, cin: bool) -> bool
 {
     let into = carries_into_top(function, width, r, s, cin);
     let out = carries_out(function, width, r, s, cin);
-    is_sum(function) & (into != out)
-}
-
-fn outputs_y(destination: Destination, a: u32, f: u32) -> u32
-    ensures { result ≡ y_of destination a f }
-{
-    match destination {
-        Destination::Rama => a,
-        _ => f,
-    }
+    function.is_sum() & (into != out)
 }
 
 /// The answers to one instruction: R and S are chosen, and F, the flags and Y follow.
@@ -184,15 +141,15 @@ pub fn alu(width: Width, ins: u16, a: u32, b: u32, q: u32, d: u32, cin: bool) ->
 {
     let source = Source::of(ins);
     let function = Function::of(ins);
-    let r = operand_r(source, width, a, d);
-    let s = operand_s(source, width, a, b, q);
+    let r = source.r(a, d);
+    let s = source.s(a, b, q);
     let f = word_f(function, width, r, s, cin);
     AluOut {
         f,
-        y: outputs_y(Destination::of(ins), a, f),
+        y: Destination::of(ins).y(a, f),
         carry: carry(function, width, r, s, cin),
         overflow: overflow(function, width, r, s, cin),
-        defined: is_sum(function),
+        defined: function.is_sum(),
         zero: f == 0,
         sign: bit(f, width.bits() - 1),
     }

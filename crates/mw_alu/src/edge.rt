@@ -1,7 +1,7 @@
 // What the edge writes into B and Q.
 ghost use Rattle.std.specs.Prelude.{◌≡◌, ◌<◌, ◌≤◌, ◌^◌, ◌-◌, ◌+◌, ◌*◌, ◌/◌};
 ghost use Rattle.mw_base.specs.Words.{num};
-ghost use Rattle.mw_alu.specs.WholeWord.{down, up, writes_b, b_of, writes_q, q_of, shift_of};
+ghost use Rattle.mw_alu.specs.WholeWord.{down, up, b_of, q_of, shift_of};
 
 use crate::instruction::Destination;
 use crate::size::size;
@@ -50,21 +50,6 @@ fn shifted_up(width: Width, word: u32, low: bool) -> u32
     (2 * u64::from(word) % size(width)) as u32 + u32::from(low)
 }
 
-fn is_b_written(destination: Destination) -> bool
-    ensures { result ≡ writes_b destination }
-{
-    !matches!(destination, Destination::Qreg | Destination::Nop)
-}
-
-fn is_q_written(destination: Destination) -> bool
-    ensures { result ≡ writes_q destination }
-{
-    matches!(
-        destination,
-        Destination::Qreg | Destination::Ramqd | Destination::Ramqu
-    )
-}
-
 fn taken_by_b(destination: Destination, width: Width, f: u32, pins: Pins) -> u32
     requires { f < 2 ^ width }
     ensures exact { result ≡ b_of destination width f pins }
@@ -104,9 +89,9 @@ pub fn shift(width: Width, ins: u16, f: u32, q: u32, pins: Pins) -> ShiftOut
 {
     let destination = Destination::of(ins);
     ShiftOut {
-        write_b: is_b_written(destination),
+        write_b: destination.writes_b(),
         b: taken_by_b(destination, width, f, pins),
-        write_q: is_q_written(destination),
+        write_q: destination.writes_q(),
         q: taken_by_q(destination, width, f, q, pins),
     }
 }

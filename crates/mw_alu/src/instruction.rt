@@ -1,6 +1,7 @@
 // The nine-bit instruction: sources in bits 2 to 0, function in bits 5 to 3, destination in bits 8 to 6.
-ghost use Rattle.std.specs.Prelude.{◌≡◌, ◌<◌};
+ghost use Rattle.std.specs.Prelude.{◌≡◌, ◌<◌, ℕ};
 ghost use Rattle.mw_alu.specs.Instruction.{source_of, function_of, destination_of};
+ghost use Rattle.mw_alu.specs.WholeWord.{r_of, s_of, is_sum, y_of, writes_b, writes_q};
 
 /// The operands R and S, by code from 0 (Data Book, ALU source operands). Z stands for zero.
 #[derive(Clone, Copy, Debug, PartialEq, Eq)]
@@ -83,6 +84,31 @@ impl Source {
             _ => Source::Dz,
         }
     }
+
+    /// The operand R, from A and D. It is less than each number that A and D are less than.
+    pub fn r(self, a: u32, d: u32) -> u32
+        ensures exact { result ≡ r_of self a d }
+        ensures below { (n : ℕ) → a < n → d < n → result < n }
+    {
+        match self {
+            Source::Aq | Source::Ab => a,
+            Source::Zq | Source::Zb | Source::Za => 0,
+            Source::Da | Source::Dq | Source::Dz => d,
+        }
+    }
+
+    /// The operand S, from A, B and Q. It is less than each number that A, B and Q are less than.
+    pub fn s(self, a: u32, b: u32, q: u32) -> u32
+        ensures exact { result ≡ s_of self a b q }
+        ensures below { (n : ℕ) → a < n → b < n → q < n → result < n }
+    {
+        match self {
+            Source::Aq | Source::Zq | Source::Dq => q,
+            Source::Ab | Source::Zb => b,
+            Source::Za | Source::Da => a,
+            Source::Dz => 0,
+        }
+    }
 }
 
 impl Function {
@@ -103,6 +129,13 @@ impl Function {
             _ => Function::Exnor,
         }
     }
+
+    /// Whether the function is a sum.
+    pub fn is_sum(self) -> bool
+        ensures { result ≡ is_sum self }
+    {
+        matches!(self, Function::Add | Function::Subr | Function::Subs)
+    }
 }
 
 impl Destination {
@@ -121,6 +154,34 @@ impl Destination {
             5 => Destination::Ramd,
             6 => Destination::Ramqu,
             _ => Destination::Ramu,
+        }
+    }
+
+    /// Whether B is written.
+    pub fn writes_b(self) -> bool
+        ensures { result ≡ writes_b self }
+    {
+        !matches!(self, Destination::Qreg | Destination::Nop)
+    }
+
+    /// Whether Q is written.
+    pub fn writes_q(self) -> bool
+        ensures { result ≡ writes_q self }
+    {
+        matches!(
+            self,
+            Destination::Qreg | Destination::Ramqd | Destination::Ramqu
+        )
+    }
+
+    /// The outputs Y, from A and F. It is less than each number that A and F are less than.
+    pub fn y(self, a: u32, f: u32) -> u32
+        ensures exact { result ≡ y_of self a f }
+        ensures below { (n : ℕ) → a < n → f < n → result < n }
+    {
+        match self {
+            Destination::Rama => a,
+            _ => f,
         }
     }
 }

@@ -14,6 +14,7 @@ use Rattle.mw_slice.proofs.Words.{bit_of-nibble, of_bits-nibble}
 use Rattle.mw_slice.proofs.Bits.{bit_of-f}
 use Rattle.mw_slice.proofs.Sum.{carry, bits_carry}
 
+-- R is a word of the width
 pub r_of-below : (source : Source) (w a d : ℕ) → a < 2 ^ w → d < 2 ^ w → r_of source a d < 2 ^ w
 r_of-below Aq w a d in_a in_d = in_a
 r_of-below Ab w a d in_a in_d = in_a
@@ -24,6 +25,7 @@ r_of-below Da w a d in_a in_d = in_d
 r_of-below Dq w a d in_a in_d = in_d
 r_of-below Dz w a d in_a in_d = in_d
 
+-- S is a word of the width
 pub s_of-below : (source : Source) (w a b q : ℕ) → a < 2 ^ w → b < 2 ^ w → q < 2 ^ w → s_of source a b q < 2 ^ w
 s_of-below Aq w a b q in_a in_b in_q = in_q
 s_of-below Ab w a b q in_a in_b in_q = in_b

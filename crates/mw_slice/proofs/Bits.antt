@@ -21,6 +21,7 @@ bit_of-low x w i below =
     let same : x % 2 ^ w / 2 ^ i % 2 ≡ x / 2 ^ i % 2 = ap (λ (k : ℕ). x % 2 ^ k / 2 ^ i % 2) parts ∙ ap (λ (n : ℕ). n % 2) (field ∙ odd) ∙ omega arith in
     ap (λ (n : ℕ). n == 1) same
 
+-- of two bits as numbers the greater is 1 where one of them is
 max_test : (u v : ℕ) → u < 2 → v < 2 → (max u v == 1) ≡ (u == 1 || v == 1)
 max_test zero zero p q = refl
 max_test zero (suc zero) p q = refl
@@ -29,6 +30,7 @@ max_test (suc zero) (suc zero) p q = refl
 max_test u (suc (suc v)) p q = absurd (omega arith)
 max_test (suc (suc u)) v p q = absurd (omega arith)
 
+-- of two bits as numbers the lesser is 1 where both of them are
 min_test : (u v : ℕ) → u < 2 → v < 2 → (min u v == 1) ≡ (u == 1 && v == 1)
 min_test zero zero p q = refl
 min_test zero (suc zero) p q = refl
@@ -37,6 +39,7 @@ min_test (suc zero) (suc zero) p q = refl
 min_test u (suc (suc v)) p q = absurd (omega arith)
 min_test (suc (suc u)) v p q = absurd (omega arith)
 
+-- the sum of two bits as numbers is odd where they differ
 odd_test : (u v : ℕ) → u < 2 → v < 2 → ((u + v) % 2 == 1) ≡ differ (u == 1) (v == 1)
 odd_test zero zero p q = refl
 odd_test zero (suc zero) p q = refl
@@ -45,18 +48,23 @@ odd_test (suc zero) (suc zero) p q = refl
 odd_test u (suc (suc v)) p q = absurd (omega arith)
 odd_test (suc (suc u)) v p q = absurd (omega arith)
 
+-- a bit as a number is below 2
 odd_below : (x i : ℕ) → x / 2 ^ i % 2 < 2
 odd_below x i = mod_below (x / 2 ^ i) 2 (omega arith)
 
+-- a bit of an or is the or of the bits
 bit_of-or : (r s i : ℕ) → bit_of (bit_or r s) i ≡ (bit_of r i || bit_of s i)
 bit_of-or r s i = ap (λ (n : ℕ). n == 1) (bit_at_or r s i) ∙ max_test (r / 2 ^ i % 2) (s / 2 ^ i % 2) (odd_below r i) (odd_below s i)
 
+-- a bit of an and is the and of the bits
 bit_of-and : (r s i : ℕ) → bit_of (bit_and r s) i ≡ (bit_of r i && bit_of s i)
 bit_of-and r s i = ap (λ (n : ℕ). n == 1) (bit_at_and r s i) ∙ min_test (r / 2 ^ i % 2) (s / 2 ^ i % 2) (odd_below r i) (odd_below s i)
 
+-- a bit of an exclusive or is 1 where the bits differ
 bit_of-xor : (r s i : ℕ) → bit_of (bit_xor r s) i ≡ differ (bit_of r i) (bit_of s i)
 bit_of-xor r s i = ap (λ (n : ℕ). n == 1) (bit_at_xor r s i) ∙ odd_test (r / 2 ^ i % 2) (s / 2 ^ i % 2) (odd_below r i) (odd_below s i)
 
+-- of two numbers whose sum is odd one is odd and the other is not
 turned_test : (t a d : ℕ) → a + 1 + d ≡ 2 * t → (d % 2 == 1) ≡ not (a % 2 == 1)
 turned_test t a d whole = grind (arith, nat_tests)
 

@@ -41,10 +41,12 @@ carry_at-suc r s c j =
     let under = pow_pos j in
     rw (low-suc r j, low-suc s j, double) (carry_step (2 ^ j) (r % 2 ^ j) (s % 2 ^ j) (bit_of r j) (bit_of s j) c (mod_below r (2 ^ j) under) (mod_below s (2 ^ j) under))
 
+-- a bit as a number is below 2
 pub num_small : (c : Bool) → num c < 2
 num_small true = omega arith
 num_small false = omega arith
 
+-- either a number is at most another, or it is above it
 by_leb : {P : Type 0} (m t : ℕ) → (nat_le m t ≡ true → m ≤ t → P) → (nat_le m t ≡ false → t < m → P) → P
 by_leb m t f g = elim (leb_tells m t) [ inl h ↦ f h.0 h.1 | inr h ↦ g h.0 h.1 ]
 
@@ -63,6 +65,7 @@ sum_parts m a b x y c p h k =
     let twice : t < 2 * m = omega arith in
     rw whole (over m (a + b) t p twice)
 
+-- a sum of two numbers and a carry is odd where an odd number of the three are
 parity : (a b : ℕ) (k : Bool) → ((a + b + num k) % 2 == 1) ≡ differ (differ (a % 2 == 1) (b % 2 == 1)) k
 parity a b true = grind (arith, nat_tests)
 parity a b false = grind (arith, nat_tests)

@@ -36,14 +36,17 @@ pub joined_next : (nibbles : ℕ → ℕ) (k : ℕ) → joined nibbles (k + 1) �
 unfolding joined
 joined_next nibbles k = ap (joined nibbles) (add-one k)
 
+-- one more slice on the line
 pub wired_and_next : (lines : ℕ → Bool) (k : ℕ) → wired_and lines (k + 1) ≡ (wired_and lines k && lines k)
 unfolding wired_and
 wired_and_next lines k = ap (wired_and lines) (add-one k)
 
+-- no slices make 0
 pub joined_none : (nibbles : ℕ → ℕ) → joined nibbles 0 ≡ 0
 unfolding joined
 joined_none nibbles = refl
 
+-- a line without slices is high
 pub wired_and_none : (lines : ℕ → Bool) → wired_and lines 0 ≡ true
 unfolding wired_and
 wired_and_none lines = refl
@@ -58,6 +61,7 @@ joined-same left right zero same = refl
 joined-same left right (suc n) same =
     ap₂ (λ (high low : ℕ). high * 2 ^ (4 * n) + low) (same n (omega arith)) (joined-same left right n (λ k below. same k (omega arith)))
 
+-- the same lines make the same line
 pub wired_and-same : (left right : ℕ → Bool) (n : ℕ) → ((k : ℕ) → k < n → left k ≡ right k) → wired_and left n ≡ wired_and right n
 unfolding wired_and
 wired_and-same left right zero same = refl
@@ -85,6 +89,7 @@ line-eight lines (suc (suc (suc (suc (suc (suc zero)))))) below = refl
 line-eight lines (suc (suc (suc (suc (suc (suc (suc zero))))))) below = refl
 line-eight lines (suc (suc (suc (suc (suc (suc (suc (suc k)))))))) below = absurd (omega arith)
 
+-- answers with the same parts are the same
 answer_of-parts : {f f' y y' : ℕ} {none none' : Bool} {top top' : SliceOut} (sum : Bool) → f ≡ f' → y ≡ y' → none ≡ none' → top ≡ top'
     → (let out : AluOut = record { f = f; y = y; carry = top.carry; overflow = top.overflow; defined = sum; zero = none; sign = top.sign } in out)
     ≡ (let out : AluOut = record { f = f'; y = y'; carry = top'.carry; overflow = top'.overflow; defined = sum; zero = none'; sign = top'.sign } in out)

@@ -7,12 +7,14 @@ use Rattle.mw_slice.specs.Lookahead.{looked, carry_to, carry_out_of}
 pub record Carry (g p at : ℕ → Bool) : Type 0 where
   pub on : (k : ℕ) → k < 4 → at (k + 1) ≡ (g k || p k && at k)
 
+-- two steps of the ripple are the second formula
 two : (g0 g1 p0 p1 c : Bool) → (g1 || p1 && g0 || p1 && p0 && c) ≡ (g1 || p1 && (g0 || p0 && c))
 two g0 true p0 p1 c = refl
 two g0 false p0 false c = refl
 two true false p0 true c = refl
 two false false p0 true c = refl
 
+-- three steps of the ripple are the third formula
 three : (g0 g1 g2 p0 p1 p2 c : Bool) → (g2 || p2 && g1 || p2 && p1 && g0 || p2 && p1 && p0 && c) ≡ (g2 || p2 && (g1 || p1 && (g0 || p0 && c)))
 three g0 g1 true p0 p1 p2 c = refl
 three g0 g1 false p0 p1 false c = refl
@@ -21,6 +23,7 @@ three g0 false false p0 false true c = refl
 three true false false p0 true true c = refl
 three false false false p0 true true c = refl
 
+-- four steps of the ripple are the formula of the carry out
 four : (g0 g1 g2 g3 p0 p1 p2 p3 c : Bool) →
     (g3 || p3 && g2 || p3 && p2 && g1 || p3 && p2 && p1 && g0 || p3 && p2 && p1 && p0 && c) ≡ (g3 || p3 && (g2 || p2 && (g1 || p1 && (g0 || p0 && c))))
 four g0 g1 g2 true p0 p1 p2 p3 c = refl

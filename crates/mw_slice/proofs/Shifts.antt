@@ -30,10 +30,12 @@ half_above x k =
     let turned : 1 + k ≡ k + 1 = omega arith in
     shr-shr x 1 k ∙ ap (λ (n : ℕ). x / 2 ^ n) turned ∙ sym (shr-shr x k 1)
 
+-- a bit as a number is at most 1
 num_most : (b : Bool) → num b ≤ 1
 num_most true = omega arith
 num_most false = omega arith
 
+-- a bit of a word as a number
 bit_as_number : (x i : ℕ) → num (bit_of x i) ≡ x / 2 ^ i % 2
 bit_as_number x i = num_below (x / 2 ^ i % 2) (mod_below (x / 2 ^ i) 2 (omega arith))
 
@@ -111,6 +113,7 @@ up-nibble w x k n low whole below = up_place x k low ∙ sym (up_whole w x k low
 
 -- ---- what the edge writes
 
+-- a down shift of a word is one of its width
 down_width : (w x : ℕ) (high : Bool) → 1 ≤ w → x < 2 ^ w → down w x high < 2 ^ w
 down_width w x high some below =
     let next : w ≡ w - 1 + 1 = omega arith in
@@ -120,6 +123,7 @@ down_width w x high some below =
       | inr clear ↦ rw clear (omega arith)
     ]
 
+-- what B takes is a word of the width
 b_of_width : (destination : Destination) (w f : ℕ) (pins : Pins) → 1 ≤ w → f < 2 ^ w → b_of destination w f pins < 2 ^ w
 b_of_width Qreg w f pins some below = pow_pos w
 b_of_width Nop w f pins some below = pow_pos w
@@ -130,6 +134,7 @@ b_of_width Ramd w f pins some below = down_width w f pins.ram_high some below
 b_of_width Ramqu w f pins some below = up_below w f (num pins.ram_low) some (num_most pins.ram_low)
 b_of_width Ramu w f pins some below = up_below w f (num pins.ram_low) some (num_most pins.ram_low)
 
+-- what Q takes is a word of the width
 q_of_width : (destination : Destination) (w f q : ℕ) (pins : Pins) → 1 ≤ w → f < 2 ^ w → q < 2 ^ w → q_of destination w f q pins < 2 ^ w
 q_of_width Qreg w f q pins some f_in q_in = f_in
 q_of_width Ramqd w f q pins some f_in q_in = down_width w q pins.q_high some q_in

@@ -18,6 +18,7 @@ use Rattle.mw_slice.proofs.Looked.{Carry, carry_to-looked, carry_out-looked}
 use Rattle.mw_slice.proofs.Words.{bit_of-nibble}
 use Rattle.mw_slice.proofs.Bits.{bit_of-complement}
 
+-- the four bits of 0 are 0
 pub nibble-zero : (k : ℕ) → 0 ≡ nibble k 0
 nibble-zero k =
     let none : 0 ≡ 0 * 2 ^ (4 * k) + 0 = omega arith in
@@ -45,10 +46,12 @@ s_of-nibble Da k a b q = refl
 s_of-nibble Dq k a b q = refl
 s_of-nibble Dz k a b q = nibble-zero k
 
+-- the addend's bit for R is a bit of what is added for R
 r_bit-addend : (function : Function) (w r i : ℕ) → i < w → r < 2 ^ w → r_bit function (bit_of r i) ≡ bit_of (addend_r function w r) i
 r_bit-addend Subr w r i below word = sym (bit_of-complement w r i below word)
 r_bit-addend _ w r i below word = refl
 
+-- the addend's bit for S is a bit of what is added for S
 s_bit-addend : (function : Function) (w s i : ℕ) → i < w → s < 2 ^ w → s_bit function (bit_of s i) ≡ bit_of (addend_s function w s) i
 s_bit-addend Subs w s i below word = sym (bit_of-complement w s i below word)
 s_bit-addend _ w s i below word = refl

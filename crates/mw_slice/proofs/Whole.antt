@@ -20,17 +20,21 @@ use Rattle.mw_slice.proofs.Words.{bit_of-nibble, joined-nibbles, wired_and-zeros
 use Rattle.mw_slice.proofs.Sum.{r_of-nibble, s_of-nibble, carry, IsBoard, carry_into_slice-whole}
 use Rattle.mw_slice.proofs.Answer.{r_of-below, s_of-below, carry_out-whole, carry_into_top-whole, slice_f-whole}
 
+-- a complement is a word of the width
 complement_below : (w x : ℕ) → complement w x < 2 ^ w
 complement_below w x = omega (arith, pow_pos w)
 
+-- what is added for R is a word of the width
 addend_r_below : (function : Function) (w r : ℕ) → r < 2 ^ w → addend_r function w r < 2 ^ w
 addend_r_below Subr w r below = complement_below w r
 addend_r_below _ w r below = below
 
+-- what is added for S is a word of the width
 addend_s_below : (function : Function) (w s : ℕ) → s < 2 ^ w → addend_s function w s < 2 ^ w
 addend_s_below Subs w s below = complement_below w s
 addend_s_below _ w s below = below
 
+-- F is a word of the width
 f_of_below : (function : Function) (w r s : ℕ) (c : Bool) → r < 2 ^ w → s < 2 ^ w → f_of function w r s c < 2 ^ w
 unfolding f_of
 f_of_below Or w r s c in_r in_s = or_lt w r s in_r in_s
@@ -42,18 +46,22 @@ f_of_below Add w r s c in_r in_s = mod_below (total Add w r s c) (2 ^ w) (pow_po
 f_of_below Subr w r s c in_r in_s = mod_below (total Subr w r s c) (2 ^ w) (pow_pos w)
 f_of_below Subs w r s c in_r in_s = mod_below (total Subs w r s c) (2 ^ w) (pow_pos w)
 
+-- Y is a word of the width
 y_of_below : (destination : Destination) (w a f : ℕ) → a < 2 ^ w → f < 2 ^ w → y_of destination a f < 2 ^ w
 y_of_below Rama w a f in_a in_f = in_a
 y_of_below _ w a f in_a in_f = in_f
 
+-- the four bits of Y that a slice has are the Y of its four bits
 y_of-nibble : (destination : Destination) (k a f four : ℕ) → four ≡ nibble k f → y_of destination (nibble k a) four ≡ nibble k (y_of destination a f)
 y_of-nibble Rama k a f four same = refl
 y_of-nibble _ k a f four same = same
 
+-- bits that agree where t is true agree under t
 where_true : (t x y : Bool) → (t ≡ true → x ≡ y) → (t && x) ≡ (t && y)
 where_true true x y same = same refl
 where_true false x y same = refl
 
+-- answers with the same parts are the same
 same_answer : (f f' y y' : ℕ) (out out' over over' sum none none' sign sign' : Bool) → f ≡ f' → y ≡ y' → out ≡ out' → over ≡ over' → none ≡ none' → sign ≡ sign'
     → (let answer : AluOut = record { f = f; y = y; carry = out; overflow = over; defined = sum; zero = none; sign = sign } in answer)
     ≡ (let answer : AluOut = record { f = f'; y = y'; carry = out'; overflow = over'; defined = sum; zero = none'; sign = sign' } in answer)

@@ -9,6 +9,7 @@ use Rattle.mw_slice.specs.Slice.{of_bits}
 use Rattle.mw_slice.specs.Board.{nibble, joined, wired_and}
 use Rattle.mw_slice.proofs.Carries.{num_below}
 
+-- the low four bits of a number are those of its remainder by 16
 low_bit : (y j : ℕ) → j < 4 → y % 16 / 2 ^ j % 2 ≡ y / 2 ^ j % 2
 low_bit y zero below = omega arith
 low_bit y (suc zero) below = omega arith
@@ -45,6 +46,7 @@ joined-low nibbles x (suc n) same =
 pub joined-nibbles : (nibbles : ℕ → ℕ) (x n : ℕ) → x < 2 ^ (4 * n) → ((k : ℕ) → k < n → nibbles k ≡ nibble k x) → joined nibbles n ≡ x
 joined-nibbles nibbles x n below same = joined-low nibbles x n same ∙ mod-eq_of_lt below
 
+-- a word is 0 where its high part and its low part are
 high_zero : (high low m : ℕ) → 0 < m → (high * m + low == 0) ≡ (low == 0 && high == 0)
 high_zero zero low m some = grind (arith, nat_tests)
 high_zero (suc high) low m some =

@@ -1,4 +1,4 @@
--- One Am2901 of four bits, which is a slice of a board's word: logic on single bits, and no sum (AMD Am2900 Family Data Book, Am2901).
+-- One Am2901 of four bits, which is a slice of a board's word: logic on single bits, which adds no two words (AMD Am2900 Family Data Book, Am2901).
 use Rattle.std.specs.Prelude.{ℕ, ◌+◌, ◌*◌, List, Bool, not, ◌&&◌, ◌||◌, ◌==◌, if◌then◌else◌, slice_set}
 use Rattle.mw_base.specs.Words.{num, bit_of, differ}
 use Rattle.mw_alu.specs.declared.instruction.Function.{Function}

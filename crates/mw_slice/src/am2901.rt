@@ -1,14 +1,13 @@
 // One slice of four bits.
 ghost use Rattle.std.specs.Prelude.{◌≡◌, ◌<◌, ℕ, slice_index};
-ghost use Rattle.mw_alu.specs.WholeWord.{r_of, s_of, is_sum, y_of};
+ghost use Rattle.mw_alu.specs.WholeWord.{writes_b, b_of, writes_q, q_of};
 ghost use Rattle.mw_alu.specs.Instruction.{destination_of};
 ghost use Rattle.mw_slice.specs.Lookahead.{line};
 ghost use Rattle.mw_slice.specs.Slice.{r_bit, s_bit, generates, propagates, over_bits, f_bit, of_bits, slice_f, slice_of, regs_after, q_after};
 
 use crate::am2902::{Look, carry_out, lookahead};
-use crate::edge::{is_b_written, is_q_written, taken_by_b, taken_by_q};
-use mw_alu::{Destination, Function, Pins, Source};
-use mw_base::bit;
+use mw_alu::{Destination, Function, Pins, ShiftOut, Source, shift};
+use mw_base::{Width, bit};
 
 /// What a slice answers to one instruction, before the edge. In the functions that are no sums the real parts leave G,
 /// P, carry and overflow undefined: here they are false.
@@ -41,41 +40,6 @@ pub struct Slice {
     pub q: u8,
     ghost regs_in: { (i : ℕ) → slice_index regs i < 16 },
     ghost q_in: { q < 16 },
-}
-
-fn operand_r(source: Source, a: u8, d: u8) -> u8
-    requires a_in { a < 16 }
-    requires d_in { d < 16 }
-    ensures exact { result ≡ r_of source a d }
-    ensures below { result < 16 }
-{
-    match source {
-        Source::Aq | Source::Ab => a,
-        Source::Zq | Source::Zb | Source::Za => 0,
-        Source::Da | Source::Dq | Source::Dz => d,
-    }
-}
-
-fn operand_s(source: Source, a: u8, b: u8, q: u8) -> u8
-    requires a_in { a < 16 }
-    requires b_in { b < 16 }
-    requires q_in { q < 16 }
-    ensures exact { result ≡ s_of source a b q }
-    ensures below { result < 16 }
-{
-    match source {
-        Source::Aq | Source::Zq | Source::Dq => q,
-        Source::Ab | Source::Zb => b,
-        Source::Za | Source::Da => a,
-        Source::Dz => 0,
-    }
-}
-
-/// Whether a function is a sum.
-pub fn is_sum(function: Function) -> bool
-    ensures { result ≡ is_sum function }
-{
-    matches!(function, Function::Add | Function::Subr | Function::Subs)
 }
 
 /// The bit of what is added for R.
@@ -172,15 +136,6 @@ fn word_f(function: Function, r: u8, s: u8, carries: Look, cin: bool) -> u8
     ])
 }
 
-fn outputs_y(destination: Destination, a: u8, f: u8) -> u8
-    ensures { result ≡ y_of destination a f }
-{
-    match destination {
-        Destination::Rama => a,
-        _ => f,
-    }
-}
-
 /// The answers of a slice to one instruction.
 #[tactic(auto, unfolding(crate::specs::Slice::slice_of))]
 pub fn answer(ins: u16, a: u8, b: u8, q: u8, d: u8, cin: bool) -> SliceOut
@@ -194,15 +149,16 @@ pub fn answer(ins: u16, a: u8, b: u8, q: u8, d: u8, cin: bool) -> SliceOut
     ensures y_below { result.y < 16 }
 {
     let (source, function) = (Source::of(ins), Function::of(ins));
-    let r = operand_r(source, a, d);
-    let s = operand_s(source, a, b, q);
+    let (a, b) = (u32::from(a), u32::from(b));
+    let r = source.r(a, u32::from(d)) as u8;
+    let s = source.s(a, b, u32::from(q)) as u8;
     let carries = inner_carries(function, r, s, cin);
     let f = word_f(function, r, s, carries, cin);
-    let sum = is_sum(function);
+    let sum = function.is_sum();
     let carry = carry_out(carries, cin);
     SliceOut {
         f,
-        y: outputs_y(Destination::of(ins), a, f),
+        y: Destination::of(ins).y(a, u32::from(f)) as u8,
         g: sum & carries.g,
         p: sum & carries.p,
         carry: sum & carry,
@@ -212,30 +168,24 @@ pub fn answer(ins: u16, a: u8, b: u8, q: u8, d: u8, cin: bool) -> SliceOut
     }
 }
 
+/// What the edge writes into the B and Q of a slice, from F, Q and the pins.
+#[tactic(auto, unfolding(mw_alu::specs::WholeWord::shift_of))]
+pub fn edge(ins: u16, f: u8, q: u8, pins: Pins) -> ShiftOut
+    requires ins_in { ins < 512 }
+    requires f_in { f < 16 }
+    requires q_in { q < 16 }
+    ensures write_b { result.write_b ≡ writes_b (destination_of ins) }
+    ensures b { result.b ≡ b_of (destination_of ins) 4 f pins }
+    ensures write_q { result.write_q ≡ writes_q (destination_of ins) }
+    ensures q { result.q ≡ q_of (destination_of ins) 4 f q pins }
+    ensures b_below { result.b < 16 }
+    ensures q_below { result.q < 16 }
+{
+    let width = Width::new(4).unwrap();
+    shift(width, ins, u32::from(f), u32::from(q), pins)
+}
+
 impl Slice {
-    /// What the edge writes at the address B.
-    fn write_b(&mut self, destination: Destination, b: u8, f: u8, pins: Pins)
-        requires b_in { b < 16 }
-        requires f_in { f < 16 }
-        ensures regs { self.new.regs ≡ regs_after destination self.old.regs b f pins }
-        ensures q { self.new.q ≡ self.old.q }
-    {
-        if is_b_written(destination) {
-            self.regs[usize::from(b)] = taken_by_b(destination, f, pins);
-        }
-    }
-
-    /// What the edge writes into Q.
-    fn write_q(&mut self, destination: Destination, f: u8, pins: Pins)
-        requires { f < 16 }
-        ensures regs { self.new.regs ≡ self.old.regs }
-        ensures q { self.new.q ≡ q_after destination self.old.q f pins }
-    {
-        if is_q_written(destination) {
-            self.q = taken_by_q(destination, f, self.q, pins);
-        }
-    }
-
     /// One cycle: the answers to an instruction over the registers at two addresses, Q, D and the carry in, and what
     /// the edge then writes, at the address B and into Q.
     pub fn step(&mut self, ins: u16, a: u8, b: u8, d: u8, cin: bool, pins: Pins) -> SliceOut
@@ -249,9 +199,13 @@ impl Slice {
     {
         let (at_a, at_b) = (self.regs[usize::from(a)], self.regs[usize::from(b)]);
         let out = answer(ins, at_a, at_b, self.q, d, cin);
-        let destination = Destination::of(ins);
-        self.write_b(destination, b, out.f, pins);
-        self.write_q(destination, out.f, pins);
+        let edge = edge(ins, out.f, self.q, pins);
+        if edge.write_b {
+            self.regs[usize::from(b)] = edge.b as u8;
+        }
+        if edge.write_q {
+            self.q = edge.q as u8;
+        }
         out
     }
 }

@@ -5,9 +5,8 @@ ghost use Rattle.mw_slice.specs.Lookahead.{line};
 ghost use Rattle.mw_alu.specs.WholeWord.{alu_of, shift_of};
 ghost use Rattle.mw_slice.specs.Board.{nibble, joined, wired_and, answers_of, sliced_of, high_pin, low_pin, pins_at, edges_of, sliced_shift_of};
 
-use crate::am2901::{SliceOut, answer, is_sum};
+use crate::am2901::{SliceOut, answer, edge};
 use crate::am2902::lookahead;
-use crate::edge::{is_b_written, is_q_written, taken_by_b, taken_by_q};
 use mw_alu::{AluOut, Destination, Function, Pins, ShiftOut};
 use mw_base::{Width, bit};
 
@@ -137,7 +136,7 @@ impl Board {
             y,
             carry: top.carry,
             overflow: top.overflow,
-            defined: is_sum(Function::of(self.ins)),
+            defined: Function::of(self.ins).is_sum(),
             zero,
             sign: top.sign,
         }
@@ -192,14 +191,14 @@ fn edges(slices: u8, ins: u16, f: u32, q: u32, pins: Pins) -> ShiftOut
     let (mut next_b, mut next_q) = (0, 0);
     for k in 0..slices {
         let ends = slice_pins(slices, k, f, q, pins);
-        let (four_f, four_q) = (nibble(f, k), nibble(q, k));
-        next_b = joined(next_b, k, taken_by_b(destination, four_f, ends));
-        next_q = joined(next_q, k, taken_by_q(destination, four_f, four_q, ends));
+        let four = edge(ins, nibble(f, k), nibble(q, k), ends);
+        next_b = joined(next_b, k, four.b as u8);
+        next_q = joined(next_q, k, four.q as u8);
     }
     ShiftOut {
-        write_b: is_b_written(destination),
+        write_b: destination.writes_b(),
         b: next_b,
-        write_q: is_q_written(destination),
+        write_q: destination.writes_q(),
         q: next_q,
     }
 }

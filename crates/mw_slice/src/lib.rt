@@ -4,7 +4,6 @@
 mod am2901;
 mod am2902;
 mod board;
-mod edge;
 mod law;
 
 pub use am2901::{Slice, SliceOut};
