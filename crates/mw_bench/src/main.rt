@@ -2,6 +2,10 @@
 //! standard output.
 #![tactic(auto)]
 
+ghost use Rattle.std.specs.Prelude.{◌≡◌};
+ghost use Rattle.std.specs.Process.{exit_status};
+ghost use Rattle.mw_top.specs.Status.{number_of};
+
 use mw_base::NoMemory;
 use mw_outside::{FolderShelf, ScreenSink};
 use mw_top::{Status, bench};
@@ -24,6 +28,13 @@ fn words<R: Env + AllocGlobal>(rt: &R) -> Result<Vec<String>, NoMemory> {
     }
 }
 
+/// The code that the process ends with.
+fn exit_code(status: Status) -> ExitCode
+    ensures { exit_status result ≡ number_of status }
+{
+    ExitCode::from(status.number())
+}
+
 fn main(rt: HostRuntime) -> ExitCode {
     let status = match words(&rt) {
         Ok(words) => {
@@ -33,5 +44,5 @@ fn main(rt: HostRuntime) -> ExitCode {
         }
         Err(NoMemory) => Status::NoMemory,
     };
-    ExitCode::from(status.number())
+    exit_code(status)
 }

@@ -1,6 +1,5 @@
 -- What of a board a cycle needs.
 use Rattle.std.specs.Prelude.{◌≡◌, ℕ, ◌%◌, ◌≤◌, List, slice_index_or}
-use Rattle.mw_seq.specs.declared.sequencer.TheConstants.{DEPTH}
 
 -- the width of its words, the bits of a memory address, and the microword past the last assembled one
 pub record BoardParts : Type 0 where
@@ -19,7 +18,7 @@ pub record IsBoard (board : BoardParts) : Type 0 where
 
 -- how many words the sequencer's stack has
 abbrev pub depth_of : BoardParts → ℕ
-depth_of board = DEPTH
+depth_of board = 5
 
 -- the microword at a control address: the fill word past the last assembled one
 abbrev pub word_at : BoardParts → List ℕ → ℕ → ℕ

@@ -2,7 +2,6 @@
 use Rattle.std.specs.Prelude.{◌≡◌, ℕ, List, [], ◌∷◌, length, Option, Some, None, Result, Ok, Err, Bool, true, false, IfSome, Contains, nat_lt, if◌then◌else◌}
 use Rattle.mw_base.specs.declared.cause.Cause.{Cause}
 use Rattle.mw_base.specs.declared.cause.Cause.TheVariants.{FileTooLong}
-use Rattle.mw_outside.specs.declared.read.TheConstants.{MOST_BYTES}
 use Rattle.mw_outside.specs.Causes.{Rose}
 use Rattle.mw_outside.specs.Contents.{TookFront}
 use Rattle.mw_top.specs.declared.status.Status.{Status}
@@ -16,9 +15,10 @@ use Rattle.mw_top.specs.Bundle.{BundleData, read_bundle_of}
 use Rattle.mw_top.specs.BundleJob.{job_of, IsBundleStart}
 use Rattle.mw_top.specs.Differs.{Start, difference_of}
 
--- the bundle that a file's contents are, or the first cause of their refusal: they are too long, no TOML, or no bundle
+-- the bundle that a file's contents are, or the first cause of their refusal: they are over 1,048,576 bytes, no TOML, or no
+-- bundle
 unfoldable pub bundle_in : List ℕ → Result BundleData Cause
-bundle_in contents = if nat_lt MOST_BYTES (length contents) then Err FileTooLong else read_bundle_of contents
+bundle_in contents = if nat_lt 1048576 (length contents) then Err FileTooLong else read_bundle_of contents
 
 -- the status of a comparison
 abbrev pub compare_status : Option Difference → Status

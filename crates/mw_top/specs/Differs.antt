@@ -11,7 +11,7 @@ use Rattle.mw_top.specs.declared.difference.Difference.TheVariants as difference
 use Rattle.mw_top.specs.Machine.{MachineState, Stepped}
 use Rattle.mw_top.specs.Relation.{Line, Job, Pair, line_holds}
 
--- a boundary, a pair in relation there, and an environment
+-- a boundary, a pair of states and an environment; what a pair has to be there is said by InRelation
 pub record Start : Type 0 where
   pub boundary : Boundary Line
   pub pair : Pair
