@@ -8,6 +8,8 @@ mod microword;
 mod one_cycle;
 mod run;
 mod state;
+#[cfg(test)]
+mod tests;
 
 pub use board::{Board, Store};
 pub use datapath::{Datapath, Whole};

@@ -1,6 +1,7 @@
 // The trusted edge: a folder of files and standard output. No contract tells what they hold.
-ghost use Rattle.std.specs.Prelude.{◌≡◌, ◌≤◌, ◌↔◌, None, Some, IsNone, IsErr, IfOk, OnOk, OnErr, length};
-ghost use Rattle.mw_outside.specs.Causes.{one_more};
+ghost use Rattle.std.specs.Prelude.{◌≡◌, ◌≤◌, ◌<◌, ◌↔◌, None, Some, IsNone, IsErr, IfOk, IfSome, OnOk, OnErr, length, take, []};
+ghost use Rattle.mw_outside.specs.Causes.{Rose, one_more};
+ghost use Rattle.mw_outside.specs.Contents.{Gives, with_more};
 
 use crate::shelf::{Failed, Shelf};
 use crate::sink::Sink;
@@ -61,7 +62,16 @@ impl<R: Files> Shelf for FolderShelf<'_, R> {
 
     ghost faults = { λ shelf _. shelf };
 
-    fn fetch(&mut self, name: &str, at: u64, into: &mut [u8]) -> Result<usize, Failed> {
+    fn fetch(&mut self, name: &str, at: u64, into: &mut [u8]) -> Result<usize, Failed>
+        ensures bound { IfOk result (λ n. n ≤ length into.old) }
+        ensures bytes { IfOk result (λ n. IfSome None (λ bytes. Gives bytes at n into.old into.new)) }
+        ensures later { self.old ≤ self.new }
+        ensures cause { OnErr result (Rose self.old self.new) }
+
+        // Beyond what every shelf promises: what it counts.
+        ensures ok { OnOk result (self.new ≡ self.old) }
+        ensures err { OnErr result (self.new ≡ one_more self.old) }
+    {
         counted(&mut self.faults, bytes_at(self.rt, name, at, into).ok())
     }
 }
@@ -96,7 +106,18 @@ impl<R: Print> Sink for ScreenSink<'_, R> {
 
     ghost faults = { λ sink. sink };
 
-    fn put(&mut self, piece: &[u8]) -> Result<usize, Failed> {
+    fn put(&mut self, piece: &[u8]) -> Result<usize, Failed>
+        requires { 0 < length piece.now }
+        ensures count { IfOk result (λ n. (1 ≤ n) × (n ≤ length piece.now)) }
+        ensures bytes { IfOk result (λ n. None ≡ with_more None (take n piece.now)) }
+        ensures failed { OnErr result (None ≡ with_more None []) }
+        ensures later { self.old ≤ self.new }
+        ensures cause { OnErr result (Rose self.old self.new) }
+
+        // Beyond what every sink promises: what it counts.
+        ensures ok { OnOk result (self.new ≡ self.old) }
+        ensures err { OnErr result (self.new ≡ one_more self.old) }
+    {
         match self.rt.write_some(piece) {
             Ok(count) if count > 0 => counted(&mut self.faults, Some(count)),
             _ => counted(&mut self.faults, None),

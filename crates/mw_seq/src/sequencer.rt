@@ -51,7 +51,7 @@ fn counted(counter: CounterMove, d: u16, r: u16) -> u16
 impl Seq {
     /// Whether each word of the stack is on it.
     pub fn full(&self) -> bool
-        ensures { result ≡ is_full DEPTH self.now }
+        ensures { result ≡ is_full 5 self.now }
     {
         self.sp == DEPTH
     }
@@ -115,8 +115,8 @@ impl Seq {
         requires d_in { d < 2 ^ 12 }
         ensures next { result ≡ next_of ins pass d noise self.old }
         ensures below { result < 2 ^ 12 }
-        ensures exact { self.new ≡ step_of DEPTH ins pass d ci rld noise self.old }
-        ensures fits { IsSequencer DEPTH self.new }
+        ensures exact { self.new ≡ step_of 5 ins pass d ci rld noise self.old }
+        ensures fits { IsSequencer 5 self.new }
     {
         let effect = Instruction::of(ins).effect(pass, self.r == 0);
         let next = self.address(effect.next, d, noise);
