@@ -8,4 +8,6 @@ pub use instruction::{AddressFrom, CounterMove, Effect, Instruction, StackMove};
 pub use sequencer::{DEPTH, Seq};
 
 #[cfg(test)]
+mod instruction_cases;
+#[cfg(test)]
 mod tests;
