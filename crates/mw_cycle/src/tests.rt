@@ -1,6 +1,5 @@
-ghost use Rattle.std.specs.Prelude.{◌≡◌, ◌<◌, length, slice_index, replicate, IfOk};
+ghost use Rattle.std.specs.Prelude.{◌≡◌, IfOk};
 ghost use Rattle.mw_cycle.specs.State.{Fits};
-ghost use Rattle.mw_cycle.specs.Board.{BoardParts};
 
 use super::*;
 use mw_base::{NoMemory, Width};

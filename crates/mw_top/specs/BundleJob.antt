@@ -3,7 +3,6 @@ use Rattle.std.specs.Prelude.{◌≡◌, ◌≢◌, ℕ, ◌<◌, List, [], ◌�
 use Rattle.mw_cycle.specs.Board.{BoardParts}
 use Rattle.mw_cycle.specs.Boundary.{Boundary}
 use Rattle.mw_cycle.specs.Environment.{Environment}
-use Rattle.mw_top.specs.declared.compare.TheConstants.{COUNTER}
 use Rattle.mw_top.specs.declared.parts.Link.{Link}
 use Rattle.mw_top.specs.Bundle.{BundleData, IsBundle}
 use Rattle.mw_top.specs.Machine.{bundle_step}
@@ -14,9 +13,9 @@ use Rattle.mw_top.specs.Differs.{Start}
 abbrev pub board_of : BundleData → BoardParts
 board_of bundle = record { width = 4; address = 4; fill = slice_index bundle.words 0 }
 
--- the microprogram counter is 1
+-- the microprogram counter, element 19, is 1
 abbrev pub counter_line : Line
-counter_line = record { left = COUNTER; right = λ _. 1 }
+counter_line = record { left = 19; right = λ _. 1 }
 
 -- a board register equals a described register
 abbrev pub link_line : Link → Line
