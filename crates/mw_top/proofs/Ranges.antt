@@ -11,8 +11,7 @@ use Rattle.toml.specs.Data.{Data, Items, no_items, item, Members, as_integer, as
 use Rattle.mw_top.specs.declared.parts.Assignment.{Assignment}
 use Rattle.mw_top.specs.declared.parts.Link.{Link}
 use Rattle.mw_top.specs.Reading.{◌>>=◌, present, only_if, value_at, in_range, number_in, count_of, each_of, list_of}
-use Rattle.mw_cycle.specs.Microword.{points_of}
-use Rattle.mw_top.specs.Bundle.{is_plain, word_in, register_in, assignment_from, assignment_in, link_from, link_in, is_linked, links_each_once, BundleData, IsBundle, words_of, bound_of, registers_of, assignments_of, relation_of, start_of, IsAssignment, IsLink}
+use Rattle.mw_top.specs.Bundle.{word_in, register_in, assignment_from, assignment_in, link_from, link_in, is_linked, links_each_once, BundleData, IsBundle, words_of, bound_of, registers_of, assignments_of, relation_of, start_of, IsAssignment, IsLink}
 use Rattle.std.specs.Prelude.{codes}
 
 -- a result that is a value
@@ -83,10 +82,7 @@ list_of_ok P reader each least most value xs e =
 -- a microword has 35 bits
 word_in_ok : (value : Data) (word : ℕ) → word_in value ≡ Ok word → word < 2 ^ 35
 unfolding word_in
-word_in_ok value word e =
-    let a = bind_ok (number_in 0 (2 ^ 35 - 1) value) (λ w. only_if (is_plain (points_of w)) w) word e in
-    let t = only_if_ok (is_plain (points_of a.0)) a.0 word a.2 in
-    rw (← t.1) (omega (arith, number_in_ok 0 (2 ^ 35 - 1) value a.0 a.1))
+word_in_ok value word e = omega (arith, number_in_ok 0 (2 ^ 35 - 1) value word e)
 
 -- a register is one of so many
 register_in_ok : (registers : ℕ) (value : Data) (register : ℕ) → register_in registers value ≡ Ok register → register < registers

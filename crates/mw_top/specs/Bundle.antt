@@ -4,8 +4,6 @@ use Rattle.std.specs.List.{list_any}
 use Rattle.toml.specs.Data.{Data, Items, no_items, item, Members, no_members, member, same_key, as_array}
 use Rattle.mw_base.specs.declared.cause.Cause.{Cause}
 use Rattle.mw_base.specs.declared.cause.Cause.TheVariants.{NotBundle}
-use Rattle.mw_cycle.specs.declared.microword.Microword.{Microword}
-use Rattle.mw_cycle.specs.Microword.{points_of}
 use Rattle.mw_top.specs.Document.{document_of, document_or_refusal}
 use Rattle.mw_top.specs.Reading.{◌>>=◌, present, only_if, value_at, number_in, list_of}
 use Rattle.mw_top.specs.declared.parts.Assignment.{Assignment}
@@ -30,15 +28,9 @@ abbrev pub has_bundle_keys_only : Members → Bool
 has_bundle_keys_only no_members = true
 has_bundle_keys_only (member key value rest) = list_any (same_key key) bundle_keys && has_bundle_keys_only rest
 
--- The Am2901 adds A and B into B (source 1, function 0, destination 3), and the Am2910 jumps or goes on (CJP 3, CONT 14).
-abbrev pub is_plain : Microword → Bool
-is_plain m = (m.instruction == 1 + 0 * 8 + 3 * 64) && ((m.sequencer == 3) || (m.sequencer == 14))
-
--- a microword of 35 bits, and a plain one
+-- a microword of 35 bits
 unfoldable pub word_in : Data → Result ℕ Cause
-word_in value = do
-  word ← number_in 0 (2 ^ 35 - 1) value
-  only_if (is_plain (points_of word)) word
+word_in value = number_in 0 (2 ^ 35 - 1) value
 
 -- the number of one of so many described registers, of which there are at most 16
 unfoldable pub register_in : ℕ → Data → Result ℕ Cause

@@ -1,6 +1,6 @@
 // Readers of the keys of a bundle, one for each.
 ghost use Rattle.std.specs.Prelude.{◌≡◌, ◌<◌};
-ghost use Rattle.mw_top.specs.Bundle.{is_plain, word_in, register_in, assignment_in, link_in};
+ghost use Rattle.mw_top.specs.Bundle.{word_in, register_in, assignment_in, link_in};
 ghost use Rattle.mw_top.specs.Bundle.{is_linked, links_each_once, version_of, words_of, bound_of};
 ghost use Rattle.mw_top.specs.Bundle.{registers_of, assignments_of, relation_of, start_of};
 ghost use Rattle.mw_top.specs.Reading.{Gives, number_in};
@@ -9,33 +9,18 @@ ghost use Rattle.toml.specs.View.{view, table_view};
 use crate::parts::{Assignment, Link};
 use crate::refusal::BundleRefusal;
 use crate::values::{NO_BUNDLE, items, list, number, value_at};
-use mw_cycle::Microword;
 use std::alloc::Global;
 use toml::{Table, Value};
 
 /// The greatest microword, of 35 bits.
 const LAST_WORD: u64 = 0x7_FFFF_FFFF;
 
-/// The Am2901's instruction that adds A and B into B: source 1, function 0, destination 3.
-const ADD_INTO_B: u16 = 0o301;
-
-/// Whether the microword adds two registers into one, and jumps or goes on.
-fn is_plain(word: &Microword) -> bool
-    ensures { result ≡ is_plain word.now }
-{
-    word.instruction == ADD_INTO_B && (word.sequencer == 3 || word.sequencer == 14)
-}
-
 /// A microword.
 #[tactic(auto, unfolding(crate::specs::Bundle::word_in))]
 fn word(value: &Value) -> Result<u64, BundleRefusal>
     ensures { Gives (λ word. word) result (word_in (view value.now)) }
 {
-    let word = number(value, 0, LAST_WORD)?;
-    if !is_plain(&Microword::decoded(u128::from(word))) {
-        return Err(NO_BUNDLE);
-    }
-    Ok(word)
+    number(value, 0, LAST_WORD)
 }
 
 /// A number of 4 bits.
