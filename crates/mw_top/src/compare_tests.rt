@@ -1,16 +1,17 @@
-use super::bundle_cases::CASES;
 use super::*;
 use mw_outside::{MemoryShelf, MemorySink};
+use std::alloc::Global;
+use std::process::Abort;
 use std::test::Fail;
 
 /// What `compare t` ends with and prints, where t has these contents.
-fn compared(rt: &HostRuntime, contents: &[u8], out: &mut MemorySink) -> Result<u8, Fail> {
-    let mut shelf = MemoryShelf::new(rt.alloc(), 4096, &[])?;
-    shelf.set(rt.alloc(), "t", contents)?;
-    let mut words = Vec::new(rt.alloc());
-    words.push(String::from_str(rt.alloc(), "compare")?)?;
-    words.push(String::from_str(rt.alloc(), "t")?)?;
-    Ok(bench(rt.alloc(), &words, &mut shelf, out).number())
+fn compared(alloc: Global, contents: &[u8], out: &mut MemorySink) -> Result<u8, Fail> {
+    let mut shelf = MemoryShelf::new(alloc, 4096, &[])?;
+    shelf.set(alloc, "t", contents)?;
+    let mut words = Vec::new(alloc);
+    words.push(String::from_str(alloc, "compare")?)?;
+    words.push(String::from_str(alloc, "t")?)?;
+    Ok(bench(alloc, &words, &mut shelf, out).number())
 }
 
 #[test]
@@ -39,19 +40,69 @@ fn bundle_same_element_late_short_start(rt: HostRuntime) -> Result<(), Fail> {
             "bundle = 1\nwords = [0x3802C1, 0x4000C24C1]\nregisters = 3\nrelation = [[0, 0], [1, 1], [2, 2]]\nbound = {bound}\nassign = {assign}\nstart = {start}\n"
         )?;
         let mut out = MemorySink::new(rt.alloc(), 4096, &[])?;
-        assert_eq!(rt; compared(&rt, bundle.as_bytes(), &mut out)?, status);
+        assert_eq!(rt; compared(rt.alloc(), bundle.as_bytes(), &mut out)?, status);
         assert_eq!(rt; out.bytes(), report);
     }
     Ok(())
 }
 
+/// A bundle and the report on it; the status follows from the report.
+fn is_reported(rt: &impl Abort, alloc: Global, contents: &[u8], report: &[u8]) -> Result<(), Fail> {
+    let mut out = MemorySink::new(alloc, 4096, &[])?;
+    let status = compared(alloc, contents, &mut out)?;
+    assert_eq!(rt; out.bytes(), report);
+    assert_eq!(rt; status, u8::from(report != b"same 1\n".as_slice()));
+    Ok(())
+}
+
+/// SUBR with a carry in: `b.r0` takes `b.r0` - `b.r1`, where the machine adds; then a jump to 0.
+fn subr(alloc: Global, start: &str) -> Result<String, Fail> {
+    Ok(format!(in alloc;
+        "bundle = 1\nwords = [0x4000E02C9]\nbound = 1\nregisters = 2\nassign = [[0, 0, 1]]\nrelation = [[0, 0], [1, 1]]\nstart = {start}\n"
+    )?)
+}
+
+#[test]
+fn bundle_subr_same(rt: HostRuntime) -> Result<(), Fail> {
+    let bundle = subr(rt.alloc(), "[1, 0]")?;
+    is_reported(&rt, rt.alloc(), bundle.as_bytes(), b"same 1\n")
+}
+
+#[test]
+fn bundle_subr_differs(rt: HostRuntime) -> Result<(), Fail> {
+    let bundle = subr(rt.alloc(), "[1, 1]")?;
+    is_reported(
+        &rt,
+        rt.alloc(),
+        bundle.as_bytes(),
+        b"differs step 1\ndifference element b.r0\n",
+    )
+}
+
+#[test]
+fn bundle_push_sp(rt: HostRuntime) -> Result<(), Fail> {
+    let bundle =
+        b"bundle = 1\nwords = [0x100041, 0x4000C0040]\nbound = 2\nregisters = 1\nassign = []\nrelation = [[0, 0]]\nstart = [3]\n";
+    is_reported(
+        &rt,
+        rt.alloc(),
+        bundle,
+        b"differs step 1\ndifference element b.sp\n",
+    )
+}
+
 #[test]
 fn table_of_bundles(rt: HostRuntime) -> Result<(), Fail> {
-    for (contents, report) in CASES {
-        let mut out = MemorySink::new(rt.alloc(), 4096, &[])?;
-        let status = compared(&rt, contents, &mut out)?;
-        assert_eq!(rt; out.bytes(), report);
-        assert_eq!(rt; status, u8::from(report != b"same 1\n".as_slice()));
+    for &(contents, report) in &bundle_cases::CASES {
+        is_reported(&rt, rt.alloc(), contents, report)?;
+    }
+    Ok(())
+}
+
+#[test]
+fn table_of_instructions(rt: HostRuntime) -> Result<(), Fail> {
+    for &(contents, report) in &instruction_bundles::CASES {
+        is_reported(&rt, rt.alloc(), contents, report)?;
     }
     Ok(())
 }

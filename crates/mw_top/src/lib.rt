@@ -35,6 +35,8 @@ mod call_tests;
 #[cfg(test)]
 mod compare_tests;
 #[cfg(test)]
+mod instruction_bundles;
+#[cfg(test)]
 mod row_tests;
 #[cfg(test)]
 mod tests;

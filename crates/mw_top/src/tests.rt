@@ -105,7 +105,6 @@ fn keys(rt: HostRuntime) -> Result<(), Fail> {
         ("bundle", "bundle = 2", 90),
         ("words", "words = []", 90),
         ("words", "words = [-1]", 90),
-        ("words", "words = [0x7FFFBFEC1]", 0),
         ("words", "words = [0x8003802C1]", 90),
         ("bound", "bound = 0", 90),
         ("bound", "bound = 1", 0),
@@ -137,12 +136,15 @@ fn keys(rt: HostRuntime) -> Result<(), Fail> {
         ("start", "start = [7, 1, 15, 0]", 90),
         ("start", "start = [7, 1, 16]", 90),
         ("start", "start = [7, 1, -1]", 90),
-        // The fields of a microword that are not free.
-        ("words", "words = [0x3802C0]", 90),
-        ("words", "words = [0x3802C9]", 90),
-        ("words", "words = [0x380281]", 90),
-        ("words", "words = [0x3402C1]", 90),
+        // Each field of a microword is free: another source, function, destination and sequencer code.
+        ("words", "words = [0x3802C0]", 0),
+        ("words", "words = [0x3802C9]", 0),
+        ("words", "words = [0x380281]", 0),
+        ("words", "words = [0x3402C1]", 0),
         ("words", "words = [0x0C02C1]", 0),
+        ("words", "words = [0]", 0),
+        ("words", "words = [0x7FFFFFFFF]", 0),
+        ("words", "words = [0x800000000]", 90),
         // Keys too many, and texts that are no TOML.
         ("bound", "bound = 2\nmore = 1", 90),
         ("start", "start = [7, 1, 15]\n[more]", 90),
