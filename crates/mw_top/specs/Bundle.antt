@@ -1,5 +1,5 @@
 -- What a bundle is: a document of seven keys, all required, and no other key.
-use Rattle.std.specs.Prelude.{◌≡◌, ◌≢◌, ℕ, ◌+◌, ◌*◌, ◌-◌, ◌^◌, ◌<◌, ◌≤◌, List, [], ◌∷◌, codes, length, All, AllPairs, Result, Ok, Err, Bool, true, not, nat_lt, ◌==◌, ◌&&◌, ◌||◌}
+use Rattle.std.specs.Prelude.{◌≡◌, ◌≢◌, ℕ, ◌-◌, ◌^◌, ◌<◌, ◌≤◌, List, [], ◌∷◌, codes, length, All, AllPairs, Result, Ok, Err, Bool, true, not, nat_lt, ◌==◌, ◌&&◌}
 use Rattle.std.specs.List.{list_any}
 use Rattle.toml.specs.Data.{Data, Items, no_items, item, Members, no_members, member, same_key, as_array}
 use Rattle.mw_base.specs.declared.cause.Cause.{Cause}
