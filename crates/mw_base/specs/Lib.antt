@@ -1,4 +1,5 @@
 pub mod Causes
 pub mod Literals
+pub mod Names
 pub mod Numbers
 pub mod Words

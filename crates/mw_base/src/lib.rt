@@ -16,7 +16,7 @@ pub use event::Event;
 pub use items::Items;
 pub use literal::number;
 pub use memory::NoMemory;
-pub use name::Name;
+pub use name::{Name, is_letter, is_name, is_name_byte};
 pub use printed::{append_decimal, append_hex};
 pub use width::{Width, bit, mask};
 

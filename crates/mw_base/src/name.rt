@@ -1,5 +1,6 @@
 // Names, and other short runs of bytes that a value keeps.
 ghost use Rattle.std.specs.Prelude.{◌≡◌, ℕ, List, IfOk};
+ghost use Rattle.mw_base.specs.Names.{is_letter, is_name_byte, are_name_bytes, is_spelled_as_name, is_name};
 
 use crate::memory::NoMemory;
 use std::alloc::Global;
@@ -40,4 +41,44 @@ impl Name {
     {
         &self.bytes
     }
+}
+
+/// Whether the byte is a letter or `_`.
+pub fn is_letter(c: u8) -> bool
+    ensures { result ≡ is_letter c }
+{
+    match c {
+        b'a'..=b'z' | b'A'..=b'Z' | b'_' => true,
+        _ => false,
+    }
+}
+
+/// Whether the byte is a letter, `_` or a digit.
+pub fn is_name_byte(c: u8) -> bool
+    ensures { result ≡ is_name_byte c }
+{
+    is_letter(c) || (b'0' <= c && c <= b'9')
+}
+
+fn are_name_bytes(text: &[u8]) -> bool
+    ensures { result ≡ are_name_bytes text.now }
+{
+    text.iter().all(|c| is_name_byte(*c))
+}
+
+fn is_spelled_as_name(text: &[u8]) -> bool
+    ensures { result ≡ is_spelled_as_name text.now }
+{
+    match text {
+        [] => false,
+        [first, rest @ ..] => is_letter(*first) && are_name_bytes(rest),
+    }
+}
+
+/// Whether the text is a name: a letter or `_`, then letters, `_` and digits, of at most 64 bytes in all.
+#[tactic(auto, unfolding(crate::specs::Names::is_name))]
+pub fn is_name(text: &[u8]) -> bool
+    ensures { result ≡ is_name text.now }
+{
+    is_spelled_as_name(text) && text.len() <= 64
 }

@@ -102,3 +102,17 @@ fn names_and_lists(rt: HostRuntime) -> Result<(), Fail> {
     assert_eq!(rt; list.into_vec().as_slice(), [3, 1, 2].as_slice());
     Ok(())
 }
+
+#[test]
+fn which_texts_are_names(rt: HostRuntime) -> Result<(), Fail> {
+    for text in ["a", "Z", "_", "r0", "upper_CASE_9", "__"] {
+        assert!(rt; is_name(text.as_bytes()), "{text}");
+    }
+    for text in ["", "0a", "9", "a-b", "a b", " a", "a.b", "é", "a:"] {
+        assert!(rt; !is_name(text.as_bytes()), "{text}");
+    }
+    let longest = "abcdefghijklmnopqrstuvwxyzabcdefghijklmnopqrstuvwxyzabcdefghijkl";
+    let longer = "abcdefghijklmnopqrstuvwxyzabcdefghijklmnopqrstuvwxyzabcdefghijklm";
+    assert!(rt; is_name(longest.as_bytes()) && !is_name(longer.as_bytes()));
+    Ok(())
+}
