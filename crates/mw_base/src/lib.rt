@@ -9,6 +9,7 @@ mod literal;
 mod memory;
 mod name;
 mod printed;
+mod refused;
 mod width;
 
 pub use cause::Cause;
@@ -18,6 +19,7 @@ pub use literal::number;
 pub use memory::NoMemory;
 pub use name::{Name, is_letter, is_name, is_name_byte};
 pub use printed::{append_decimal, append_hex};
+pub use refused::Refused;
 pub use width::{Width, bit, mask};
 
 #[cfg(test)]

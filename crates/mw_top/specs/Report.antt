@@ -19,11 +19,10 @@ usage_line = line (codes "usage: mw_bench COMMAND FILES [--nodes N] [--paths P] 
 abbrev pub fault_line : List ℕ → List ℕ
 fault_line file = line (codes "fault read " ++ file)
 
--- where a file is refused: a file that is too long at line 0 column 0, and a TOML file at its key, - for the whole of it
+-- where a file is refused: a file that is too long at line 0 column 0, and a bundle as a whole, at the key -
 abbrev pub place_of : Cause → List ℕ
 place_of FileTooLong = codes " line 0 column 0 cause "
-place_of NotToml = codes " key - cause "
-place_of NotBundle = codes " key - cause "
+place_of other = codes " key - cause "
 
 -- a file that is refused
 abbrev pub refusal_line : List ℕ → Cause → List ℕ

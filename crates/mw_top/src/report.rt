@@ -39,7 +39,8 @@ fn place_of(cause: Cause) -> &'static [u8]
 {
     match cause {
         Cause::FileTooLong => b" line 0 column 0 cause ",
-        Cause::NotToml | Cause::NotBundle => b" key - cause ",
+        // A bundle is refused only as a whole.
+        _ => b" key - cause ",
     }
 }
 
