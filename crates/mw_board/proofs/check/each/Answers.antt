@@ -1,0 +1,24 @@
+use Rattle.std.proofs.Common.{◌≡◌, refl, ap, ◌∙◌, sym, arith}
+use Rattle.std.proofs.lemmas.Result.{err_from_is_err_and}
+use Rattle.mw_board.specs.Check.{each_from}
+use Rattle.mw_board.specs.Following.{place_of}
+use Rattle.mw_board.proofs.Each.{each_fails, each_goes_on, each_done}
+use Rattle.mw_board.proofs.check.each.Goals as goal
+
+pub returns-in_err-in_list : goal.returns-in_err-in_list
+returns-in_err-in_list g c = λ test follows.
+    let p = err_from_is_err_and c.from_residual.result c.from_residual.ensures.1 in
+    let answers = ap (place_of c.args.list c.loop-n.n) (sym (follows _ _ c.rule.ensures)) ∙ sym c.in_list.ensures ∙ c.in_err-in_list.was in
+    rw (p.1, p.2) (each_fails (λ n entry. place_of c.args.list n (test entry)) c.in_err-in_list.field-0.0 c.args.entries.now c.loop-n.n c.index-entries-n.result _ c.loop-n-test.true c.index-entries-n.is answers (c.loop-n.invariant.1 test follows))
+
+pub loop-n-preserved : goal.loop-n-preserved
+loop-n-preserved g c = (
+  c.loop-n.invariant.0,
+  λ test follows.
+      let answers = ap (place_of c.args.list c.loop-n.n) (sym (follows _ _ c.rule.ensures)) ∙ sym c.in_list.ensures ∙ c.in_ok-in_list.was in
+      each_goes_on (λ n entry. place_of c.args.list n (test entry)) c.args.entries.now c.loop-n.n c.index-entries-n.result _ c.loop-n-test.true c.index-entries-n.is answers (c.loop-n.invariant.1 test follows),
+)
+
+pub returns : goal.returns
+returns g c = λ test follows.
+    each_done (λ n entry. place_of c.args.list n (test entry)) c.args.entries.now c.loop-n.n _ c.loop-n-test.false (c.loop-n.invariant.1 test follows)

@@ -1,0 +1,5 @@
+pub mod Check
+pub mod Depth
+pub mod Following
+pub mod Rules
+pub mod Store

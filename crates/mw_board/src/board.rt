@@ -1,0 +1,69 @@
+// A board, which keeps the rules.
+ghost use Rattle.std.specs.Prelude.{◌≡◌, IfOk, OnErr, IfErr, Ok, Err};
+ghost use Rattle.mw_board.specs.Check.{check_of};
+ghost use Rattle.mw_board.specs.Depth.{depth_of};
+
+use crate::check::check_parts;
+use crate::fault::PartFault;
+use crate::parts::BoardParts;
+use std::marker::Model;
+
+/// A board whose parts keep the rules of boards, seen as its parts.
+#[derive(Debug, Drop)]
+pub struct Board {
+    parts: BoardParts,
+}
+
+impl Model for Board {
+    ghost use Rattle.std.specs.Prelude.{◌≡◌, Ok};
+    ghost use Rattle.mw_board.specs.declared.parts.BoardParts.{BoardParts};
+    ghost use Rattle.mw_board.specs.Check.{check_of};
+
+    ghost Value = { BoardParts };
+
+    ghost view = { λ board. board.parts };
+
+    ghost invariant = { λ board. check_of board.parts ≡ Ok tt };
+}
+
+impl Board {
+    /// The board of these parts, whose fields stand in byte order of their names.
+    ///
+    /// # Errors
+    ///
+    /// The first rule that the parts break, in the order of a board file's keys: cause 10 to 14, 24 or 31. The parts are dropped then.
+    pub fn new(parts: BoardParts) -> Result<Board, PartFault>
+        ensures ok { IfOk result (λ board. (board ≡ parts) × (check_of parts ≡ Ok tt)) }
+        ensures err { IfErr result (λ fault. check_of parts ≡ Err fault) }
+    {
+        check_parts(&parts)?;
+        Ok(Board { parts })
+    }
+
+    /// Whether these parts are a board.
+    ///
+    /// # Errors
+    ///
+    /// As `Board::new`.
+    pub fn check(parts: &BoardParts) -> Result<(), PartFault>
+        ensures { result ≡ check_of parts.now }
+    {
+        check_parts(parts)
+    }
+
+    /// Its parts.
+    pub fn parts(&self) -> &BoardParts
+        ensures exact { result.now ≡ self.now }
+        ensures valid { check_of self.now ≡ Ok tt }
+    {
+        &self.parts
+    }
+
+    /// How many words the sequencer's stack has.
+    #[tactic(auto, unfolding(crate::specs::Depth::depth_of))]
+    pub fn depth(&self) -> u8
+        ensures { result ≡ depth_of self.now }
+    {
+        5
+    }
+}

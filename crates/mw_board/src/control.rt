@@ -1,0 +1,54 @@
+// Control points.
+
+/// What drives a control point.
+#[derive(Clone, Copy, Debug, PartialEq, Eq)]
+pub enum Control {
+    /// The field with this number.
+    Field(u8),
+    /// This constant.
+    Fixed(u32),
+}
+
+/// What drives each control point of a board. A point that takes a number has as many bits as is said here; a point that chooses has the
+/// number of an entry of its list.
+#[derive(Clone, Copy, Debug, PartialEq, Eq)]
+pub struct Points {
+    /// The Am2901's source, 3 bits.
+    pub alu_source: Control,
+    /// The Am2901's function, 3 bits.
+    pub alu_function: Control,
+    /// The Am2901's destination, 3 bits.
+    pub alu_destination: Control,
+    /// The register that A reads, 4 bits.
+    pub a_address: Control,
+    /// The register that B reads, and that the edge writes, 4 bits.
+    pub b_address: Control,
+    /// The Am2910's instruction, 4 bits.
+    pub sequencer: Control,
+    /// The branch address, 12 bits.
+    pub branch: Control,
+    /// The test passes whatever its bit is.
+    pub test_disable: Control,
+    /// The test reads the opposite of its bit.
+    pub polarity: Control,
+    /// The carry into the microprogram counter.
+    pub ci: Control,
+    /// The register/counter is loaded from the direct address.
+    pub rld: Control,
+    /// The address register takes the low bits of Y.
+    pub mar_load: Control,
+    /// The instruction register takes Y.
+    pub ir_load: Control,
+    /// Y is written to memory at the address register.
+    pub memory_write: Control,
+    /// Y is put out.
+    pub out: Control,
+    /// Chooses the carry in.
+    pub carry_in: Control,
+    /// Chooses the source of D.
+    pub d: Control,
+    /// Chooses the bit that the test reads.
+    pub condition: Control,
+    /// Chooses the bits at the ends of both shifts.
+    pub link: Control,
+}
