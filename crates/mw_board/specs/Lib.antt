@@ -1,5 +1,6 @@
 pub mod Check
 pub mod Depth
 pub mod Following
+pub mod Order
 pub mod Rules
 pub mod Store

@@ -1,7 +1,8 @@
 // A board, which keeps the rules.
-ghost use Rattle.std.specs.Prelude.{◌≡◌, IfOk, OnErr, IfErr, Ok, Err};
+ghost use Rattle.std.specs.Prelude.{◌≡◌, IfOk, IfErr, Ok, Err};
 ghost use Rattle.mw_board.specs.Check.{check_of};
 ghost use Rattle.mw_board.specs.Depth.{depth_of};
+ghost use Rattle.mw_board.specs.Order.{AreInOrder};
 
 use crate::check::check_parts;
 use crate::fault::PartFault;
@@ -18,21 +19,23 @@ impl Model for Board {
     ghost use Rattle.std.specs.Prelude.{◌≡◌, Ok};
     ghost use Rattle.mw_board.specs.declared.parts.BoardParts.{BoardParts};
     ghost use Rattle.mw_board.specs.Check.{check_of};
+    ghost use Rattle.mw_board.specs.Order.{AreInOrder};
 
     ghost Value = { BoardParts };
 
     ghost view = { λ board. board.parts };
 
-    ghost invariant = { λ board. check_of board.parts ≡ Ok tt };
+    ghost invariant = { λ board. (check_of board.parts ≡ Ok tt) × AreInOrder board.parts.fields };
 }
 
 impl Board {
-    /// The board of these parts, whose fields stand in byte order of their names.
+    /// The board of these parts, whose fields stand in byte order of their names, no name twice.
     ///
     /// # Errors
     ///
     /// The first rule that the parts break, in the order of a board file's keys: cause 10 to 14, 24 or 31. The parts are dropped then.
     pub fn new(parts: BoardParts) -> Result<Board, PartFault>
+        requires order { AreInOrder parts.fields }
         ensures ok { IfOk result (λ board. (board ≡ parts) × (check_of parts ≡ Ok tt)) }
         ensures err { IfErr result (λ fault. check_of parts ≡ Err fault) }
     {
@@ -40,12 +43,13 @@ impl Board {
         Ok(Board { parts })
     }
 
-    /// Whether these parts are a board.
+    /// Whether these parts, whose fields stand in byte order of their names, no name twice, are a board.
     ///
     /// # Errors
     ///
     /// As `Board::new`.
     pub fn check(parts: &BoardParts) -> Result<(), PartFault>
+        requires order { AreInOrder parts.now.fields }
         ensures { result ≡ check_of parts.now }
     {
         check_parts(parts)
@@ -55,6 +59,7 @@ impl Board {
     pub fn parts(&self) -> &BoardParts
         ensures exact { result.now ≡ self.now }
         ensures valid { check_of self.now ≡ Ok tt }
+        ensures order { AreInOrder self.now.fields }
     {
         &self.parts
     }
