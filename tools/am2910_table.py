@@ -2,7 +2,7 @@
 """Prints what an Am2910 answers to each of its instructions, as the constant of a test.
 
 The Data Book's table is stated here anew, by mnemonic: for each instruction, where the test fails and where it passes,
-the source of the next address, the move of the stack, and the effect on the counter.
+the source of the next address, the move of the stack, and the effect on the counter R. bundle_table.py takes it from here.
 
 PC is 0x200, R is 0 or 7, D is 0x123, an empty stack reads 0xABC, the carry into PC is 1, and of the stack's words
 0x101 to 0x105, from the bottom, none, two or five are on it.
@@ -16,37 +16,42 @@ DEPTH = 5
 PC, D, EMPTY = 0x200, 0x123, 0xABC
 WORDS = [0x101, 0x102, 0x103, 0x104, 0x105]
 
-# Code, mnemonic, where the test fails, where it passes: next address, stack, counter.
-TABLE = [
-    ("JZ", "0 CLEAR HOLD", "0 CLEAR HOLD"),
-    ("CJS", "PC HOLD HOLD", "D PUSH HOLD"),
-    ("JMAP", "D HOLD HOLD", "D HOLD HOLD"),
-    ("CJP", "PC HOLD HOLD", "D HOLD HOLD"),
-    ("PUSH", "PC PUSH HOLD", "PC PUSH LOAD"),
-    ("JSRP", "R PUSH HOLD", "D PUSH HOLD"),
-    ("CJV", "PC HOLD HOLD", "D HOLD HOLD"),
-    ("JRP", "R HOLD HOLD", "D HOLD HOLD"),
-    ("RFCT", None, None),
-    ("RPCT", None, None),
-    ("CRTN", "PC HOLD HOLD", "F POP HOLD"),
-    ("CJPP", "PC HOLD HOLD", "D POP HOLD"),
-    ("LDCT", "PC HOLD LOAD", "PC HOLD LOAD"),
-    ("LOOP", "F HOLD HOLD", "PC POP HOLD"),
-    ("CONT", "PC HOLD HOLD", "PC HOLD HOLD"),
-    ("TWB", None, None),
-]
-# The three that look at the counter: where R is not 0, and where it is.
-COUNTING = {
-    "RFCT": (("F HOLD DEC", "F HOLD DEC"), ("PC POP HOLD", "PC POP HOLD")),
-    "RPCT": (("D HOLD DEC", "D HOLD DEC"), ("PC HOLD HOLD", "PC HOLD HOLD")),
-    "TWB": (("F HOLD DEC", "PC POP DEC"), ("D POP HOLD", "PC POP HOLD")),
+# By code from 0: mnemonic, where the test fails, where it passes; each is next address, stack, counter. D is what stands at
+# the direct input: the map in JMAP, the vector in CJV, else the branch address.
+TABLE = {
+    "JZ": ("0 CLEAR HOLD", "0 CLEAR HOLD"),
+    "CJS": ("PC HOLD HOLD", "D PUSH HOLD"),
+    "JMAP": ("D HOLD HOLD", "D HOLD HOLD"),
+    "CJP": ("PC HOLD HOLD", "D HOLD HOLD"),
+    "PUSH": ("PC PUSH HOLD", "PC PUSH LOAD"),
+    "JSRP": ("R PUSH HOLD", "D PUSH HOLD"),
+    "CJV": ("PC HOLD HOLD", "D HOLD HOLD"),
+    "JRP": ("R HOLD HOLD", "D HOLD HOLD"),
+    "RFCT": ("F HOLD DEC", "F HOLD DEC"),
+    "RPCT": ("D HOLD DEC", "D HOLD DEC"),
+    "CRTN": ("PC HOLD HOLD", "F POP HOLD"),
+    "CJPP": ("PC HOLD HOLD", "D POP HOLD"),
+    "LDCT": ("PC HOLD LOAD", "PC HOLD LOAD"),
+    "LOOP": ("F HOLD HOLD", "PC POP HOLD"),
+    "CONT": ("PC HOLD HOLD", "PC HOLD HOLD"),
+    "TWB": ("F HOLD DEC", "PC POP DEC"),
+}
+# The three that look at R, where it is 0.
+COUNTED_OUT = {
+    "RFCT": ("PC POP HOLD", "PC POP HOLD"),
+    "RPCT": ("PC HOLD HOLD", "PC HOLD HOLD"),
+    "TWB": ("D POP HOLD", "PC POP HOLD"),
 }
 
 
-def row(name, fails, passes, passed, r, count):
-    if name in COUNTING:
-        fails, passes = COUNTING[name][0 if r else 1]
-    source, stack, counter = (passes if passed else fails).split()
+def effect(name, passed, r):
+    """Next address, stack and counter."""
+    table = COUNTED_OUT if r == 0 and name in COUNTED_OUT else TABLE
+    return table[name][passed].split()
+
+
+def row(name, passed, r, count):
+    source, stack, counter = effect(name, passed, r)
     top = WORDS[count - 1] if count else EMPTY
     following = {"0": 0, "PC": PC, "D": D, "R": r, "F": top}[source]
     place = DEPTH
@@ -62,11 +67,16 @@ def row(name, fails, passes, passed, r, count):
     return following, r, count, place
 
 
-rows = [row(*entry, passed, r, count)
-        for entry in TABLE for passed in (False, True) for r in (0, 7) for count in (0, 2, 5)]
-print("// What each instruction answers, printed by tools/am2910_table.py: the next address, R, how many words are on the")
-print("// stack, and the place at which PC was pushed.")
-print(f"pub const ROWS: [(u16, u16, u8, usize); {len(rows)}] = [")
-for following, r, count, place in rows:
-    print(f"    (0x{following:03X}, 0x{r:03X}, {count}, {place}),")
-print("];")
+def print_rows():
+    rows = [row(name, passed, r, count)
+            for name in TABLE for passed in (False, True) for r in (0, 7) for count in (0, 2, 5)]
+    print("// What each instruction answers, printed by tools/am2910_table.py: the next address, R, how many words are on the")
+    print("// stack, and the place at which PC was pushed.")
+    print(f"pub const ROWS: [(u16, u16, u8, usize); {len(rows)}] = [")
+    for following, r, count, place in rows:
+        print(f"    (0x{following:03X}, 0x{r:03X}, {count}, {place}),")
+    print("];")
+
+
+if __name__ == "__main__":
+    print_rows()

@@ -1,14 +1,17 @@
 #!/usr/bin/env python3
 """Prints a table of bundles that the tests of `compare` read, as a constant: each bundle's lines and its report.
 
-It states the Am2901, the Am2910 and the comparison anew, from the Data Book's tables; it uses nothing of the crates.
+It states the Am2901 and the comparison anew, from the Data Book's tables, as am2910_table.py does the Am2910; it uses
+nothing of the crates.
 
     bundle_table.py bundles         bounds, branches, relations and assignments, all with words that add
     bundle_table.py instructions    every source, function, destination and sequencer code
-    bundle_table.py report FILE..   no table, but the reports of these bundles
+    bundle_table.py report FILE..   no table, but the reports of these bundles; it refuses no file that is none
 """
 import sys
 import tomllib
+
+from am2910_table import DEPTH, TABLE, effect
 
 # R and S. D is 0 in a bundle.
 SOURCES = ["A Q", "A B", "0 Q", "0 B", "0 A", "D A", "D Q", "D 0"]
@@ -37,38 +40,11 @@ DESTINATIONS = {
     "RAMU": "2F -",
 }
 
-# Where the test fails, and where it passes: next address, stack, counter.
-SEQUENCER = {
-    "JZ": ("0 CLEAR HOLD", "0 CLEAR HOLD"),
-    "CJS": ("PC HOLD HOLD", "D PUSH HOLD"),
-    "JMAP": ("MAP HOLD HOLD", "MAP HOLD HOLD"),
-    "CJP": ("PC HOLD HOLD", "D HOLD HOLD"),
-    "PUSH": ("PC PUSH HOLD", "PC PUSH LOAD"),
-    "JSRP": ("R PUSH HOLD", "D PUSH HOLD"),
-    "CJV": ("PC HOLD HOLD", "VECTOR HOLD HOLD"),
-    "JRP": ("R HOLD HOLD", "D HOLD HOLD"),
-    "RFCT": ("F HOLD DEC", "F HOLD DEC"),
-    "RPCT": ("D HOLD DEC", "D HOLD DEC"),
-    "CRTN": ("PC HOLD HOLD", "F POP HOLD"),
-    "CJPP": ("PC HOLD HOLD", "D POP HOLD"),
-    "LDCT": ("PC HOLD LOAD", "PC HOLD LOAD"),
-    "LOOP": ("F HOLD HOLD", "PC POP HOLD"),
-    "CONT": ("PC HOLD HOLD", "PC HOLD HOLD"),
-    "TWB": ("F HOLD DEC", "PC POP DEC"),
-}
-# The three that count, where R is 0.
-COUNTED_OUT = {
-    "RFCT": ("PC POP HOLD", "PC POP HOLD"),
-    "RPCT": ("PC HOLD HOLD", "PC HOLD HOLD"),
-    "TWB": ("D POP HOLD", "PC POP HOLD"),
-}
-DEPTH = 5
-
 
 def word(source, function, destination, a=0, b=0, cin=0, sequencer="CONT", branch=0, off=0):
     """A microword in a bundle's layout."""
     return (SOURCES.index(source) | list(FUNCTIONS).index(function) << 3 | list(DESTINATIONS).index(destination) << 6
-            | a << 9 | b << 13 | cin << 17 | list(SEQUENCER).index(sequencer) << 18 | branch << 22 | off << 34)
+            | a << 9 | b << 13 | cin << 17 | list(TABLE).index(sequencer) << 18 | branch << 22 | off << 34)
 
 
 class Board:
@@ -90,14 +66,14 @@ class Board:
         to_b, to_q = list(DESTINATIONS.values())[w >> 6 & 7].split()
         self.registers[b] = results.get(to_b, self.registers[b])
         self.q = results.get(to_q, self.q)
-        self.sequence(list(SEQUENCER)[w >> 18 & 15], w >> 22 & 4095, w >> 34 & 1)
+        self.sequence(list(TABLE)[w >> 18 & 15], w >> 22 & 4095, w >> 34 & 1)
 
-    def sequence(self, name, d, passed):
-        # The test's condition is 0, so it passes where it is off. Map and vector are 0, and so is F of an empty stack.
-        effects = COUNTED_OUT if name in COUNTED_OUT and self.r == 0 else SEQUENCER
-        source, move, counter = effects[name][passed].split()
+    def sequence(self, name, branch, passed):
+        # The bit that the test reads is 0, so it passes where it is off. Map and vector are 0, and so is F of an empty stack.
+        d = 0 if name in ("JMAP", "CJV") else branch
+        source, move, counter = effect(name, passed, self.r)
         top = self.stack[-1] if self.stack else 0
-        self.at = {"0": 0, "PC": self.pc, "D": d, "R": self.r, "F": top, "MAP": 0, "VECTOR": 0}[source]
+        self.at = {"0": 0, "PC": self.pc, "D": d, "R": self.r, "F": top}[source]
         if move == "PUSH":
             # A push on a full stack writes over its top.
             self.stack = self.stack[:DEPTH - 1] + [self.pc]
@@ -148,40 +124,38 @@ def add(a, b, cin, sequencer, branch=0, off=0):
 
 
 def jump(a, b, cin, target):
-    return add(a, b, cin, CJP, target, 1)
+    return add(a, b, cin, "CJP", target, 1)
 
-
-CJP, CONT = "CJP", "CONT"
 
 BUNDLES = [
     # bounds: a loop of one, two and three words at its bound, one below it and far above it
     bundle([jump(1, 0, 0, 0)], 1, [3, 4], [[0, 0, 1]], [[0, 0], [1, 1]]),
     bundle([jump(1, 0, 0, 0)], 500, [3, 4], [[0, 0, 1]], [[0, 0], [1, 1]]),
-    bundle([add(1, 0, 0, CONT), jump(1, 0, 0, 0)], 1, [3, 4], [], [[0, 0], [1, 1]]),
-    bundle([add(1, 0, 0, CONT), add(1, 0, 0, CONT), jump(1, 0, 0, 0)], 2, [1, 2], [], [[0, 0]]),
-    bundle([add(1, 0, 0, CONT), add(1, 0, 0, CONT), jump(1, 0, 0, 0)], 3, [1, 2], [[0, 0, 1], [0, 0, 1], [0, 0, 1]], [[0, 0], [1, 1]]),
+    bundle([add(1, 0, 0, "CONT"), jump(1, 0, 0, 0)], 1, [3, 4], [], [[0, 0], [1, 1]]),
+    bundle([add(1, 0, 0, "CONT"), add(1, 0, 0, "CONT"), jump(1, 0, 0, 0)], 2, [1, 2], [], [[0, 0]]),
+    bundle([add(1, 0, 0, "CONT"), add(1, 0, 0, "CONT"), jump(1, 0, 0, 0)], 3, [1, 2], [[0, 0, 1], [0, 0, 1], [0, 0, 1]], [[0, 0], [1, 1]]),
     # a branch to the boundary at once, and a test that fails goes on
     bundle([jump(0, 0, 0, 0)], 1, [5], [[0, 0, 0]], [[0, 0]]),
-    bundle([add(0, 0, 0, CJP, 0, 0), jump(1, 1, 0, 0)], 2, [5, 1], [[0, 0, 0], [1, 1, 1]], [[0, 0], [1, 1]]),
-    bundle([add(0, 0, 0, CJP, 0, 0)], 1, [5], [[0, 0, 0]], [[0, 0]]),
-    bundle([add(0, 0, 0, CJP, 7, 0), jump(0, 0, 0, 0)], 2, [1], [[0, 0, 0], [0, 0, 0]], [[0, 0]]),
+    bundle([add(0, 0, 0, "CJP", 0, 0), jump(1, 1, 0, 0)], 2, [5, 1], [[0, 0, 0], [1, 1, 1]], [[0, 0], [1, 1]]),
+    bundle([add(0, 0, 0, "CJP", 0, 0)], 1, [5], [[0, 0, 0]], [[0, 0]]),
+    bundle([add(0, 0, 0, "CJP", 7, 0), jump(0, 0, 0, 0)], 2, [1], [[0, 0, 0], [0, 0, 0]], [[0, 0]]),
     # the carry in
     bundle([jump(0, 0, 1, 0)], 1, [3], [[0, 0, 0]], [[0, 0]]),
     bundle([jump(0, 0, 1, 0)], 1, [15, 1], [[0, 0, 0], [0, 0, 1]], [[0, 0]]),
     bundle([jump(3, 0, 1, 0)], 1, [15, 1], [[0, 0, 1]], [[0, 0]]),
     # past the assembled words stands the first word again
     bundle([jump(1, 0, 0, 9)], 2, [1, 2], [], [[0, 0], [1, 1]]),
-    bundle([add(1, 0, 0, CONT)], 4, [1, 2], [], [[0, 0], [1, 1]]),
-    bundle([add(1, 0, 0, CONT), jump(1, 0, 0, 4095)], 3, [1, 2], [[0, 0, 1], [0, 0, 1], [0, 0, 1]], [[0, 0], [1, 1]]),
-    # the counter wraps from 4095 to 0
-    bundle([add(1, 0, 0, CONT), jump(1, 0, 0, 4094)], 4, [1, 2], [[0, 0, 1], [0, 0, 1], [0, 0, 1], [0, 0, 1]], [[0, 0], [1, 1]]),
-    bundle([add(1, 0, 0, CONT), jump(1, 0, 0, 4094)], 3, [1, 2], [[0, 0, 1], [0, 0, 1], [0, 0, 1], [0, 0, 1]], [[0, 0], [1, 1]]),
+    bundle([add(1, 0, 0, "CONT")], 4, [1, 2], [], [[0, 0], [1, 1]]),
+    bundle([add(1, 0, 0, "CONT"), jump(1, 0, 0, 4095)], 3, [1, 2], [[0, 0, 1], [0, 0, 1], [0, 0, 1]], [[0, 0], [1, 1]]),
+    # PC wraps from 4095 to 0
+    bundle([add(1, 0, 0, "CONT"), jump(1, 0, 0, 4094)], 4, [1, 2], [[0, 0, 1], [0, 0, 1], [0, 0, 1], [0, 0, 1]], [[0, 0], [1, 1]]),
+    bundle([add(1, 0, 0, "CONT"), jump(1, 0, 0, 4094)], 3, [1, 2], [[0, 0, 1], [0, 0, 1], [0, 0, 1], [0, 0, 1]], [[0, 0], [1, 1]]),
     # all sixteen registers
     bundle([jump(15, 15, 0, 0)], 1, list(range(16)), [[15, 15, 15]], [[r, r] for r in range(16)]),
     bundle([jump(15, 14, 0, 0)], 1, list(range(16)), [[14, 14, 15]], [[r, 15 - r] for r in range(16)]),
-    bundle([add(15 - r, r, 0, CONT) for r in range(15)] + [jump(0, 15, 0, 0)], 16, list(range(16)),
+    bundle([add(15 - r, r, 0, "CONT") for r in range(15)] + [jump(0, 15, 0, 0)], 16, list(range(16)),
            [[r, r, 15 - r] for r in range(16)], [[r, r] for r in range(16)]),
-    bundle([add(0, 1, 0, CONT), add(1, 2, 0, CONT), jump(2, 0, 1, 0)], 3, [1, 2, 3, 1],
+    bundle([add(0, 1, 0, "CONT"), add(1, 2, 0, "CONT"), jump(2, 0, 1, 0)], 3, [1, 2, 3, 1],
            [[1, 1, 0], [2, 2, 1], [0, 0, 2], [0, 0, 3]], [[0, 0], [1, 1], [2, 2]]),
     # one described register stands on several lines
     bundle([jump(1, 0, 0, 0)], 1, [2], [[0, 0, 0]], [[0, 0], [1, 0]]),
@@ -193,13 +167,13 @@ BUNDLES = [
     bundle([jump(1, 0, 0, 0)], 1, [1, 1, 1], [], [[5, 2], [0, 0], [1, 1]]),
     bundle([jump(1, 0, 0, 0)], 1, [1, 1], [], [[10, 0], [11, 1]]),
     bundle([jump(12, 13, 1, 0)], 1, [1, 9], [[0, 0, 1]], [[13, 0], [12, 1]]),
-    # no line but the counter's
+    # no line but PC's
     bundle([jump(1, 0, 0, 0)], 1, [1], [], []),
     # assignments act in order: a later one reads what an earlier one wrote
-    bundle([add(1, 0, 0, CONT), jump(0, 1, 0, 0)], 2, [3, 4], [[0, 0, 1], [1, 1, 0]], [[0, 0], [1, 1]]),
-    bundle([add(1, 0, 0, CONT), jump(0, 1, 0, 0)], 2, [3, 4], [[1, 1, 0], [0, 0, 1]], [[0, 0], [1, 1]]),
-    bundle([add(1, 0, 0, CONT), jump(2, 0, 0, 0)], 2, [3, 4, 6], [[0, 1, 0], [0, 2, 0]], [[0, 0], [1, 1], [2, 2]]),
-    bundle([add(1, 0, 0, CONT), jump(2, 0, 0, 0)], 2, [3, 4, 6], [[0, 1, 1], [0, 2, 0]], [[0, 0], [1, 1], [2, 2]]),
+    bundle([add(1, 0, 0, "CONT"), jump(0, 1, 0, 0)], 2, [3, 4], [[0, 0, 1], [1, 1, 0]], [[0, 0], [1, 1]]),
+    bundle([add(1, 0, 0, "CONT"), jump(0, 1, 0, 0)], 2, [3, 4], [[1, 1, 0], [0, 0, 1]], [[0, 0], [1, 1]]),
+    bundle([add(1, 0, 0, "CONT"), jump(2, 0, 0, 0)], 2, [3, 4, 6], [[0, 1, 0], [0, 2, 0]], [[0, 0], [1, 1], [2, 2]]),
+    bundle([add(1, 0, 0, "CONT"), jump(2, 0, 0, 0)], 2, [3, 4, 6], [[0, 1, 1], [0, 2, 0]], [[0, 0], [1, 1], [2, 2]]),
 ]
 
 
@@ -244,8 +218,8 @@ def counted(instructions, lack=0):
 
 
 def stepped(name, passed, r=4, after=("CRTN", 0, 1), lack=0):
-    """Words 0 and 1 push addresses 1 and 2, and load R. Word 2 has the instruction: F is its own address, PC is 3, R is 4
-    unless something else is said, and D is 5. Words 3 to 5 go where the stack says, and so at last to address 0, where it
+    """Words 0 and 1 push addresses 1 and 2, and word 0 loads R. Word 2 has the instruction: F is its own address, PC is 3,
+    R is 4 unless something else is said, and D is 5. Words 3 to 5 go where the stack says, and so at last to address 0, where it
     is empty; or word 3 goes another way."""
     back = ("CRTN", 0, 1)
     return counted([("PUSH", r, 1), ("PUSH", 0, 0), (name, 5, passed), after, back, back], lack)
@@ -262,7 +236,7 @@ INSTRUCTIONS = [
     *(computed(to_destination(d), SHIFTED) for d in NAMES),
     *(computed(to_destination(d), SHIFTED, to_destination(e)) for e, d in zip(NAMES, NAMES[1:] + NAMES[:1])),
     # every instruction of the sequencer, where the test fails and passes; RPCT counts 2 down before the stack is empty
-    *(stepped(name, passed, r=2 if name == "RPCT" else 4) for name in SEQUENCER for passed in (0, 1)),
+    *(stepped(name, passed, r=2 if name == "RPCT" else 4) for name in TABLE for passed in (0, 1)),
     # those that count, where R is 0
     *(stepped(name, passed, r=0) for name, passed in (("RFCT", 0), ("RPCT", 0), ("TWB", 0), ("TWB", 1))),
     # one cycle too few

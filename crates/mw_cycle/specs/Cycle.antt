@@ -115,11 +115,13 @@ edge board m answer pass s given =
     }
 
 -- 7. A cycle that reads the input takes the offered word; another that puts out shows Y; the rest show nothing.
+abbrev pub event_from : DFrom → Bool → ℕ → CycleIn → Option Event
+event_from sources.Input out y given = Some (Taken given.input)
+event_from _ out y given = if out then Some (Out y) else None
+
+-- what a microword shows of its cycle
 abbrev pub event_of : Microword → ℕ → CycleIn → Option Event
-event_of m y given = elim m.d as (λ _. Option Event) [
-  | sources.Input ↦ Some (Taken given.input)
-  | _ ↦ if m.out then Some (Out y) else None
-]
+event_of m y given = event_from m.d m.out y given
 
 -- the state after a cycle
 unfoldable pub state_after : BoardParts → List ℕ → BoardState → CycleIn → BoardState

@@ -14,6 +14,12 @@ use crate::state::{CycleIn, Nets, State};
 use mw_alu::{AluOut, Pins, ShiftOut};
 use mw_base::{Event, bit};
 
+/// The code of JMAP, whose direct address is the map.
+const JMAP: u8 = 2;
+
+/// The code of CJV, whose direct address is the vector.
+const CJV: u8 = 6;
+
 /// What the Am2901 reads in a cycle.
 #[derive(Clone, Copy, Debug)]
 pub struct Operands {
@@ -44,6 +50,7 @@ fn direct_data(board: &Board, from: DFrom, state: &State, given: CycleIn) -> u32
     }
 }
 
+/// A bit that stands before F is made; the bits of F are false here.
 fn early_bit(board: &Board, chosen: Bit, state: &State, given: CycleIn) -> bool
     ensures { result ≡ early_bit board.now chosen state.now given }
 {
@@ -77,6 +84,7 @@ fn read_operands(board: &Board, word: &Microword, state: &State, given: CycleIn)
     }
 }
 
+/// The carry out, or bit 12 of the noise where it is undefined.
 fn carry_net(answer: &AluOut, given: CycleIn) -> bool
     ensures { result ≡ carry_net answer.now given }
 {
@@ -87,6 +95,7 @@ fn carry_net(answer: &AluOut, given: CycleIn) -> bool
     }
 }
 
+/// The overflow, or bit 13 of the noise where it is undefined.
 fn overflow_net(answer: &AluOut, given: CycleIn) -> bool
     ensures { result ≡ overflow_net answer.now given }
 {
@@ -97,6 +106,7 @@ fn overflow_net(answer: &AluOut, given: CycleIn) -> bool
     }
 }
 
+/// Any bit, once F is made.
 fn bit_value(board: &Board, chosen: Bit, answer: &AluOut, state: &State, given: CycleIn) -> bool
     ensures { result ≡ bit_value board.now chosen answer.now state.now given }
 {
@@ -111,6 +121,7 @@ fn bit_value(board: &Board, chosen: Bit, answer: &AluOut, state: &State, given: 
     }
 }
 
+/// Whether the test is disabled, or its bit, turned over where polarity is 1, holds.
 #[tactic(auto, unfolding(crate::specs::Cycle::pass_of))]
 fn passes(board: &Board, word: &Microword, answer: &AluOut, state: &State, given: CycleIn) -> bool
     ensures { result ≡ pass_of board.now word.now answer.now state.now given }
@@ -119,19 +130,21 @@ fn passes(board: &Board, word: &Microword, answer: &AluOut, state: &State, given
     word.test_disable | (word.polarity != condition)
 }
 
+/// The address at the Am2910's D. The map and the vector of this board are 0.
 #[tactic(auto, unfolding(crate::specs::Cycle::direct_address))]
 fn direct_address(word: &Microword) -> u16
     requires { IsMicroword word.now }
     ensures exact { result ≡ direct_address word.now }
     ensures below { result < 2 ^ 12 }
 {
-    if word.sequencer == 2 || word.sequencer == 6 {
+    if word.sequencer == JMAP || word.sequencer == CJV {
         0
     } else {
         word.branch
     }
 }
 
+/// The pins of both shifts: a chosen bit stands at both ends.
 #[tactic(auto, unfolding(crate::specs::Cycle::pins_of))]
 fn pins(board: &Board, word: &Microword, answer: &AluOut, state: &State, given: CycleIn) -> Pins
     ensures { result ≡ pins_of board.now word.now answer.now state.now given }
@@ -146,6 +159,7 @@ fn pins(board: &Board, word: &Microword, answer: &AluOut, state: &State, given: 
     }
 }
 
+/// What the outside sees: an input that is taken hides an output.
 fn event(word: &Microword, y: u32, given: CycleIn) -> Option<Event>
     ensures { result ≡ event_of word.now y given }
 {

@@ -17,7 +17,7 @@ fn small_board() -> Board
     Board::new(width, 4, 0)
 }
 
-/// A state of the small board with 0 everywhere but in the counter.
+/// A state of the small board with 0 everywhere but in PC.
 fn rest(alloc: Global) -> Result<State, NoMemory>
     ensures { IfOk result (λ s. Fits (record { width = 4; address = 4; fill = 0 }) s) }
 {
@@ -56,7 +56,7 @@ fn undefined_nets(rt: HostRuntime) -> Result<(), Fail> {
     Ok(())
 }
 
-/// With ample memory a segment is found: the second word is a boundary, one cycle on.
+/// With ample memory a segment is found: address 1 is a boundary, one cycle on.
 #[test]
 fn segment(rt: HostRuntime) -> Result<(), Fail> {
     let board = small_board();

@@ -30,11 +30,11 @@ pub record IsSequencer (depth : ℕ) (s : Sequencer) : Type 0 where
 abbrev pub is_full : ℕ → Sequencer → Bool
 is_full depth s = s.sp == depth
 
--- F, the top of the stack; of an empty stack the low 12 bits of the noise word, which the Data Book leaves open
+-- F, the top of the stack; of an empty stack the low 12 bits of the noise word, by this profile's rule
 unfoldable pub top : Sequencer → ℕ → ℕ
 top s noise = if s.sp == 0 then noise % 2 ^ 12 else slice_index s.stack (s.sp - 1)
 
--- a push writes PC as it was; onto a full stack it overwrites the top and leaves the pointer, which the Data Book leaves open
+-- a push writes PC as it was; onto a full stack it overwrites the top and leaves the pointer, by this profile's rule
 unfoldable pub pushed : ℕ → Sequencer → Sequencer
 pushed depth s =
     if nat_lt s.sp depth then record s { stack = slice_set s.stack s.sp s.pc; sp = s.sp + 1 }

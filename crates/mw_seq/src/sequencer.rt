@@ -35,6 +35,7 @@ impl Model for Seq {
     ghost inverse = { λ s. record { pc = s.pc; r = s.r; stack = s.stack; sp = s.sp } };
 }
 
+/// What R holds after a move of it.
 fn counted(counter: CounterMove, d: u16, r: u16) -> u16
     requires d_in { d < 2 ^ 12 }
     requires r_in { r < 2 ^ 12 }
@@ -56,6 +57,7 @@ impl Seq {
         self.sp == DEPTH
     }
 
+    /// F: the top word of the stack, or the noise where there is none.
     #[tactic(auto, unfolding(crate::specs::Sequencer::top))]
     fn top(&self, noise: u16) -> u16
         ensures exact { result ≡ top self.now noise }
@@ -68,6 +70,7 @@ impl Seq {
         }
     }
 
+    /// Pushes PC; on a full stack it overwrites the top.
     #[tactic(auto, unfolding(crate::specs::Sequencer::pushed))]
     fn push(&mut self)
         ensures { self.new ≡ pushed DEPTH self.old }

@@ -10,7 +10,7 @@ use Rattle.mw_cycle.specs.Boundary.{Boundary}
 use Rattle.mw_seq.specs.Sequencer.{Sequencer}
 use Rattle.mw_top.specs.declared.parts.Link.{Link}
 use Rattle.mw_top.specs.Bundle.{BundleData, IsBundle}
-use Rattle.mw_top.specs.BundleJob.{IsBundleStart, counter_line, link_line, lines_of, start_with}
+use Rattle.mw_top.specs.BundleJob.{IsBundleStart, pc_line, link_line, lines_of, start_with}
 use Rattle.mw_top.specs.Machine.{MachineState}
 use Rattle.mw_top.specs.Relation.{Line, element}
 use Rattle.mw_top.specs.Differs.{Start}
@@ -24,13 +24,13 @@ apart a b (inr order) same = omega arith
 -- no line has an element past the registers, but for the microprogram counter
 beyond : (bundle : BundleData) → IsBundle bundle → (e : ℕ) → 16 ≤ e → 19 ≢ e → All (λ (line : Line). line.left ≢ e) (lines_of bundle)
 beyond bundle is e past other =
-    All-cons (λ (line : Line). line.left ≢ e) counter_line (map link_line bundle.relation) other
+    All-cons (λ (line : Line). line.left ≢ e) pc_line (map link_line bundle.relation) other
     (All-map (λ (line : Line). line.left ≢ e) link_line bundle.relation (λ k d within same. absurd (omega (arith, (is.links_fit k d within).board_below, same))))
 
 -- no line has a register that no link names
 unlinked : (bundle : BundleData) (e : ℕ) → e < 16 → All (λ (link : Link). link.board ≢ e) bundle.relation → All (λ (line : Line). line.left ≢ e) (lines_of bundle)
 unlinked bundle e register none =
-    All-cons (λ (line : Line). line.left ≢ e) counter_line (map link_line bundle.relation) (λ same. absurd (omega (arith, same)))
+    All-cons (λ (line : Line). line.left ≢ e) pc_line (map link_line bundle.relation) (λ same. absurd (omega (arith, same)))
     (All-map (λ (line : Line). line.left ≢ e) link_line bundle.relation none)
 
 -- a register is named by a link, or by none
@@ -53,7 +53,7 @@ zeros n xs size zero_each =
 -- the registers of a start: what a link names, and 0
 register_of : (bundle : BundleData) (start : Start) (e : ℕ) → IsBundleStart bundle start → e < 16 → (link : Link) → Contains bundle.relation link → link.board ≡ e → get_or start.pair.board.regs e 0 ≡ get_or bundle.start link.machine 0
 register_of bundle start e is register link among names =
-    let lines = All-tail (λ (line : Line). element start.pair.board line.left ≡ line.right start.pair.machine) counter_line (map link_line bundle.relation) is.related.lines in
+    let lines = All-tail (λ (line : Line). element start.pair.board line.left ≡ line.right start.pair.machine) pc_line (map link_line bundle.relation) is.related.lines in
     let links = unmapped (λ (line : Line). element start.pair.board line.left ≡ line.right start.pair.machine) link_line bundle.relation lines in
     let holds = All-contains (λ (l : Link). element start.pair.board l.board ≡ get_or start.pair.machine.registers l.machine 0) bundle.relation link links among in
     sym (register_element start.pair.board e register) ∙ ap (element start.pair.board) (sym names) ∙ holds ∙ ap (λ (rs : List ℕ). get_or rs link.machine 0) is.registers
@@ -118,7 +118,7 @@ machine_made p = record { registers = p.0; memory = p.1 }
 sequencer_is : (bundle : BundleData) (start : Start) → IsBundle bundle → IsBundleStart bundle start → start.pair.board.seq ≡ (board_with []).seq
 unfolding sequencer_made
 sequencer_is bundle start valid is =
-    let pc : start.pair.board.seq.pc ≡ 1 = All-head (λ (line : Line). element start.pair.board line.left ≡ line.right start.pair.machine) counter_line (map link_line bundle.relation) is.related.lines in
+    let pc : start.pair.board.seq.pc ≡ 1 = All-head (λ (line : Line). element start.pair.board line.left ≡ line.right start.pair.machine) pc_line (map link_line bundle.relation) is.related.lines in
     let r : start.pair.board.seq.r ≡ 0 = is.free 20 (lit< tt) (beyond bundle valid 20 (lit≤ tt) (λ e. cc)) in
     let stack = stack_is bundle start valid is in
     ap sequencer_made (rw (pc, r, stack, is.related.sp) refl)

@@ -6,7 +6,7 @@ use Rattle.std.proofs.lemmas.List.Elements.{All-nil, All-cons, All-head, All-tai
 use Rattle.mw_top.specs.Relation.{Line, element}
 use Rattle.mw_cycle.specs.State.{BoardState}
 use Rattle.mw_top.specs.Bundle.{BundleData, IsBundle}
-use Rattle.mw_top.specs.BundleJob.{IsBundleStart, start_with, counter_line, link_line}
+use Rattle.mw_top.specs.BundleJob.{IsBundleStart, start_with, pc_line, link_line}
 use Rattle.mw_top.specs.declared.parts.Link.{Link}
 
 -- an item of a list, whatever would stand past its end
@@ -113,13 +113,13 @@ is_start bundle regs is sixteen below linked free = record {
     at = refl;
     sp = refl;
     memory = refl;
-    lines = All-cons (Holds bundle regs) counter_line (map link_line bundle.relation) refl
+    lines = All-cons (Holds bundle regs) pc_line (map link_line bundle.relation) refl
         (All-map (Holds bundle regs) link_line bundle.relation (λ k d h. register_element (board_with regs) (get_or bundle.relation k d).board (is.links_fit k d h).board_below ∙ linked k d h));
   };
   registers = refl;
   free = λ e few none.
-      free_element regs e (All-head (λ (line : Line). line.left ≢ e) counter_line (map link_line bundle.relation) none)
-      (free e (unmapped (λ (line : Line). line.left ≢ e) link_line bundle.relation (All-tail (λ (line : Line). line.left ≢ e) counter_line (map link_line bundle.relation) none)));
+      free_element regs e (All-head (λ (line : Line). line.left ≢ e) pc_line (map link_line bundle.relation) none)
+      (free e (unmapped (λ (line : Line). line.left ≢ e) link_line bundle.relation (All-tail (λ (line : Line). line.left ≢ e) pc_line (map link_line bundle.relation) none)));
   memory = λ a. zero_at 16 a;
   env = refl;
 }

@@ -9,8 +9,8 @@ use Rattle.mw_top.specs.Reading.{◌>>=◌, present, only_if, value_at, number_i
 use Rattle.mw_top.specs.declared.parts.Assignment.{Assignment}
 use Rattle.mw_top.specs.declared.parts.Link.{Link}
 
--- one start of a board and of a described machine: the microwords of the board, the bound of its steps, and of the machine the number of
--- registers, the assignments, the relation to the board and the values at the start
+-- one start of a board and of a described machine: the microwords of the board, the bound of its segment, and of the machine
+-- the number of registers, the assignments, the relation to the board and the values at the start
 pub record BundleData : Type 0 where
   pub words : List ℕ
   pub bound : ℕ
@@ -90,7 +90,7 @@ words_of document = do
   value ← value_at (codes "words") document
   list_of word_in 1 16 value
 
--- bound: 1 to 500, how many cycles a step of the board may take
+-- bound: how many cycles the board's segment may take, 1 to 500
 unfoldable pub bound_of : Members → Result ℕ Cause
 bound_of document = do
   value ← value_at (codes "bound") document

@@ -13,9 +13,9 @@ use Rattle.mw_top.specs.Differs.{Start}
 abbrev pub board_of : BundleData → BoardParts
 board_of bundle = record { width = 4; address = 4; fill = slice_index bundle.words 0 }
 
--- the microprogram counter, element 19, is 1
-abbrev pub counter_line : Line
-counter_line = record { left = 19; right = λ _. 1 }
+-- PC, element 19, is 1
+abbrev pub pc_line : Line
+pc_line = record { left = 19; right = λ _. 1 }
 
 -- a board register equals a described register
 abbrev pub link_line : Link → Line
@@ -23,7 +23,7 @@ link_line link = record { left = link.board; right = λ m. slice_index m.registe
 
 -- the lines of a bundle
 abbrev pub lines_of : BundleData → List Line
-lines_of bundle = counter_line ∷ map link_line bundle.relation
+lines_of bundle = pc_line ∷ map link_line bundle.relation
 
 -- its one boundary: address 0, with an empty stack
 abbrev pub boundary_of : BundleData → Boundary Line

@@ -10,4 +10,4 @@ pub mod Report
 pub mod Answer
 pub mod Status
 pub mod Ending
-pub mod Rows
+pub mod Examples

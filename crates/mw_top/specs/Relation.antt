@@ -5,8 +5,7 @@ use Rattle.mw_cycle.specs.State.{BoardState, Fits}
 use Rattle.mw_cycle.specs.Boundary.{Boundary}
 use Rattle.mw_top.specs.Machine.{MachineState, DescribedStep, IsMachineState}
 
--- The elements of a board by number: the registers are 0 to 15, then Q, mar, ir, the microprogram counter, the
--- register/counter, and the stack's words from 21 on.
+-- The elements of a board by number: the registers are 0 to 15, then Q, mar, ir, PC, R, and the stack's words from 21 on.
 abbrev pub element : BoardState → ℕ → ℕ
 element s e =
     if nat_lt e 16 then slice_index s.regs e

@@ -63,7 +63,7 @@ impl Bundle {
         self.words.as_slice()
     }
 
-    /// How many cycles a step of the board may take, 1 to 500.
+    /// How many cycles the board's segment may take, 1 to 500.
     pub fn bound(&self) -> u32
         ensures exact { result ≡ self.now.bound }
         ensures least { 1 ≤ result }
@@ -138,7 +138,7 @@ fn bundle_from(alloc: Global, table: &Table) -> Result<Bundle, BundleRefusal>
     if !has_bundle_keys_only(table) {
         return Err(NO_BUNDLE);
     }
-    keys::version(table)?;
+    keys::check_version(table)?;
     let words = keys::words(alloc, table)?;
     let bound = keys::bound(table)?;
     let registers = keys::registers(table)?;

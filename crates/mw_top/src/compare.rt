@@ -16,8 +16,8 @@ use mw_base::{NoMemory, Width};
 use mw_cycle::{Board, Env, Run, State, Store, Whole, run_to_boundary};
 use std::alloc::Global;
 
-/// The number of the microprogram counter among the board's elements.
-const COUNTER: u32 = 19;
+/// The number of PC among the board's elements.
+const PC_ELEMENT: u32 = 19;
 
 /// The small board that bundles stand for.
 fn small_board(bundle: &Bundle) -> Board
@@ -57,7 +57,7 @@ fn line_difference(bundle: &Bundle, board: &State, machine: &MacState) -> Option
     ensures { result ≡ line_difference (lines_of bundle.now) board.now machine.now }
 {
     if board.seq.pc != 1 {
-        return Some(Difference::Element(COUNTER));
+        return Some(Difference::Element(PC_ELEMENT));
     }
     link_difference(bundle.relation(), board, machine)
 }
@@ -140,7 +140,7 @@ fn shown(
 pub fn compare_bundle(alloc: Global, bundle: &Bundle) -> Result<Option<Difference>, NoMemory>
     ensures { IfOk result (λ shown. (start : Start) × IsBundleStart bundle.now start × (shown ≡ difference_of (job_of bundle.now) start)) }
 {
-    // What holds of every bundle is known by its accessors.
+    // A call for the proof: its clause `valid` says what holds of every bundle.
     let _ = bundle.registers();
     let (board, machine) = completed(alloc, bundle)?;
     shown(alloc, bundle, board, machine)

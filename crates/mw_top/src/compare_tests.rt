@@ -15,7 +15,7 @@ fn compared(alloc: Global, contents: &[u8], out: &mut MemorySink) -> Result<u8, 
 }
 
 #[test]
-fn bundle_same_element_late_short_start(rt: HostRuntime) -> Result<(), Fail> {
+fn worked_examples(rt: HostRuntime) -> Result<(), Fail> {
     let same = "[[0, 0, 1], [1, 1, 2]]";
     let rows: [(u32, &str, &str, u8, &[u8]); 4] = [
         (2, same, "[7, 1, 15]", 0, b"same 1\n"),
@@ -46,8 +46,13 @@ fn bundle_same_element_late_short_start(rt: HostRuntime) -> Result<(), Fail> {
     Ok(())
 }
 
-/// A bundle and the report on it; the status follows from the report.
-fn is_reported(rt: &impl Abort, alloc: Global, contents: &[u8], report: &[u8]) -> Result<(), Fail> {
+/// Checks the report on a bundle, and the status, which follows from the report.
+fn check_report(
+    rt: &impl Abort,
+    alloc: Global,
+    contents: &[u8],
+    report: &[u8],
+) -> Result<(), Fail> {
     let mut out = MemorySink::new(alloc, 4096, &[])?;
     let status = compared(alloc, contents, &mut out)?;
     assert_eq!(rt; out.bytes(), report);
@@ -65,13 +70,13 @@ fn subr(alloc: Global, start: &str) -> Result<String, Fail> {
 #[test]
 fn bundle_subr_same(rt: HostRuntime) -> Result<(), Fail> {
     let bundle = subr(rt.alloc(), "[1, 0]")?;
-    is_reported(&rt, rt.alloc(), bundle.as_bytes(), b"same 1\n")
+    check_report(&rt, rt.alloc(), bundle.as_bytes(), b"same 1\n")
 }
 
 #[test]
 fn bundle_subr_differs(rt: HostRuntime) -> Result<(), Fail> {
     let bundle = subr(rt.alloc(), "[1, 1]")?;
-    is_reported(
+    check_report(
         &rt,
         rt.alloc(),
         bundle.as_bytes(),
@@ -83,7 +88,7 @@ fn bundle_subr_differs(rt: HostRuntime) -> Result<(), Fail> {
 fn bundle_push_sp(rt: HostRuntime) -> Result<(), Fail> {
     let bundle =
         b"bundle = 1\nwords = [0x100041, 0x4000C0040]\nbound = 2\nregisters = 1\nassign = []\nrelation = [[0, 0]]\nstart = [3]\n";
-    is_reported(
+    check_report(
         &rt,
         rt.alloc(),
         bundle,
@@ -94,7 +99,7 @@ fn bundle_push_sp(rt: HostRuntime) -> Result<(), Fail> {
 #[test]
 fn table_of_bundles(rt: HostRuntime) -> Result<(), Fail> {
     for &(contents, report) in &bundle_cases::CASES {
-        is_reported(&rt, rt.alloc(), contents, report)?;
+        check_report(&rt, rt.alloc(), contents, report)?;
     }
     Ok(())
 }
@@ -102,7 +107,7 @@ fn table_of_bundles(rt: HostRuntime) -> Result<(), Fail> {
 #[test]
 fn table_of_instructions(rt: HostRuntime) -> Result<(), Fail> {
     for &(contents, report) in &instruction_bundles::CASES {
-        is_reported(&rt, rt.alloc(), contents, report)?;
+        check_report(&rt, rt.alloc(), contents, report)?;
     }
     Ok(())
 }

@@ -94,13 +94,14 @@ fn links_each_once(links: &[Link]) -> bool
     }
 }
 
-/// The number of the form of bundles, which is 1.
+/// Checks that the number of the form of bundles is 1.
 #[tactic(auto, unfolding(crate::specs::Bundle::version_of))]
-pub(crate) fn version(table: &Table) -> Result<u64, BundleRefusal>
-    ensures { Gives (λ n. n) result (version_of (table_view table.now)) }
+pub(crate) fn check_version(table: &Table) -> Result<(), BundleRefusal>
+    ensures { Gives (λ _. 1) result (version_of (table_view table.now)) }
 {
     let value = value_at(table, "bundle")?;
-    number(value, 1, 1)
+    number(value, 1, 1)?;
+    Ok(())
 }
 
 /// The microwords.
@@ -112,7 +113,7 @@ pub(crate) fn words(alloc: Global, table: &Table) -> Result<Vec<u64>, BundleRefu
     list(alloc, value, 1, 16, word)
 }
 
-/// How many cycles a step of the board may take.
+/// How many cycles the board's segment may take, 1 to 500.
 #[tactic(auto, unfolding(crate::specs::Bundle::bound_of))]
 pub(crate) fn bound(table: &Table) -> Result<u32, BundleRefusal>
     ensures { Gives (λ bound. bound) result (bound_of (table_view table.now)) }

@@ -35,8 +35,8 @@ mod call_tests;
 #[cfg(test)]
 mod compare_tests;
 #[cfg(test)]
-mod instruction_bundles;
+mod computed_examples;
 #[cfg(test)]
-mod row_tests;
+mod instruction_bundles;
 #[cfg(test)]
 mod tests;

@@ -1,4 +1,4 @@
--- Worked rows, as values on which the definitions compute.
+-- Three of the bundles of examples/bundle, as values on which the definitions compute.
 use Rattle.std.specs.Prelude.{ℕ, [], ◌∷◌, replicate, Option}
 use Rattle.mw_top.specs.declared.difference.Difference.{Difference}
 use Rattle.mw_top.specs.declared.parts.Assignment.{Assignment}
@@ -16,8 +16,8 @@ sum_into x y z = record { target = x; left = y; right = z }
 abbrev pub link : ℕ → ℕ → Link
 link b m = record { board = b; machine = m }
 
--- Three described registers, of which the first two are summed up; the board adds A = 1 into B = 0, and then A = 2 into B = 1,
--- and jumps to its boundary.
+-- same.toml: three described registers, of which the first two are summed up; the board adds A = 1 into B = 0, and then A = 2
+-- into B = 1, and jumps to its boundary
 abbrev pub bundle_same : BundleData
 bundle_same = record {
   words = 0x3802C1 ∷ 0x4000C24C1 ∷ [];
@@ -28,11 +28,11 @@ bundle_same = record {
   start = 7 ∷ 1 ∷ 15 ∷ [];
 }
 
--- another second sum
+-- element.toml: another second sum
 abbrev pub bundle_element : BundleData
 bundle_element = record bundle_same { assignments = sum_into 0 0 1 ∷ sum_into 1 1 0 ∷ [] }
 
--- a bound of one cycle less
+-- late.toml: a bound of one cycle less
 abbrev pub bundle_late : BundleData
 bundle_late = record bundle_same { bound = 1 }
 
@@ -51,6 +51,6 @@ first_pair = record {
   machine = record { registers = 7 ∷ 1 ∷ 15 ∷ []; memory = replicate 16 0 };
 }
 
--- what a row's start shows
-abbrev pub shown_by_row : BundleData → Option Difference
-shown_by_row bundle = difference_of (job_of bundle) (start_with bundle first_pair)
+-- what the start of such a bundle shows
+abbrev pub shown_by_example : BundleData → Option Difference
+shown_by_example bundle = difference_of (job_of bundle) (start_with bundle first_pair)

@@ -2,7 +2,7 @@ use Rattle.std.proofs.Common.{refl}
 use Rattle.mw_cycle.proofs.OnLiterals.{cycle_on_literals}
 use Rattle.mw_top.specs.Machine.{bundle_step}
 use Rattle.mw_top.specs.Differs.{difference_at, step_of, difference_of}
-use Rattle.mw_top.proofs.row_tests.same_shows_nothing.Goals as goal
+use Rattle.mw_top.proofs.computed_examples.element_shows_a_register.Goals as goal
 
 pub returns : goal.returns
 unfolding cycle_on_literals bundle_step difference_at step_of difference_of
