@@ -1,3 +1,4 @@
 pub mod Causes
+pub mod Literals
 pub mod Numbers
 pub mod Words

@@ -1,15 +1,22 @@
-//! What every crate of the bench shares: widths, bits of a word, the causes of refusal, events and printed numbers.
+//! What every crate of the bench shares: widths, bits of a word, names, lists, the causes of refusal, events and numbers as
+//! texts spell and reports print them.
 #![tactic(auto)]
 
 mod cause;
 mod event;
+mod items;
+mod literal;
 mod memory;
+mod name;
 mod printed;
 mod width;
 
 pub use cause::Cause;
 pub use event::Event;
+pub use items::Items;
+pub use literal::number;
 pub use memory::NoMemory;
+pub use name::Name;
 pub use printed::{append_decimal, append_hex};
 pub use width::{Width, bit, mask};
 

@@ -43,6 +43,62 @@ fn printed_numbers(rt: HostRuntime) -> Result<(), Fail> {
 
 #[test]
 fn cause_numbers(rt: HostRuntime) {
-    let numbers = [Cause::FileTooLong, Cause::NotToml, Cause::NotBundle].map(Cause::number);
-    assert_eq!(rt; numbers, [5, 20, 90]);
+    let numbers = [
+        Cause::BadByte,
+        Cause::FileTooLong,
+        Cause::FieldOutside,
+        Cause::TooMany,
+        Cause::NotToml,
+        Cause::BadValue,
+        Cause::Twice,
+        Cause::BadLine,
+        Cause::TooDeep,
+        Cause::NotFree,
+        Cause::BadSyntax,
+        Cause::NothingToUndo,
+        Cause::NotBundle,
+    ]
+    .map(Cause::number);
+    assert_eq!(rt; numbers, [1, 5, 10, 14, 20, 24, 31, 36, 42, 56, 60, 72, 90]);
+}
+
+#[test]
+fn spelled_numbers(rt: HostRuntime) {
+    for (text, value) in [
+        ("0", 0),
+        ("007", 7),
+        ("4095", 4095),
+        ("0o17", 15),
+        ("0x3802c1", 0x38_02C1),
+        ("0xFfF", 4095),
+        ("0b101", 5),
+        ("340282366920938463463374607431768211455", u128::MAX),
+        ("0xFFFFFFFFFFFFFFFFFFFFFFFFFFFFFFFF", u128::MAX),
+    ] {
+        assert_eq!(rt; number(text.as_bytes()), Ok(value), "{text}");
+    }
+    for text in [
+        "", "0x", "0o", "0b", "0X1", "0o8", "0b2", "12a", "+1", "-1", "1_000", " 1", "0xg", "x1",
+    ] {
+        assert_eq!(rt; number(text.as_bytes()), Err(Cause::BadNumber), "{text}");
+    }
+    for text in [
+        "340282366920938463463374607431768211456",
+        "0x100000000000000000000000000000000",
+        "999999999999999999999999999999999999999999999",
+    ] {
+        assert_eq!(rt; number(text.as_bytes()), Err(Cause::TooWide), "{text}");
+    }
+}
+
+#[test]
+fn names_and_lists(rt: HostRuntime) -> Result<(), Fail> {
+    let name = Name::new(rt.alloc(), b"link").ok().ok_or("memory")?;
+    assert_eq!(rt; name.as_slice(), b"link".as_slice());
+    let bytes = Vec::from_slice(rt.alloc(), b"carry")?;
+    assert_eq!(rt; Name::from_vec(bytes).as_slice(), b"carry".as_slice());
+    let list = Items::from_vec(Vec::from_slice(rt.alloc(), &[3, 1, 2])?);
+    assert_eq!(rt; list.as_slice(), [3, 1, 2].as_slice());
+    assert_eq!(rt; list.into_vec().as_slice(), [3, 1, 2].as_slice());
+    Ok(())
 }
