@@ -1,6 +1,9 @@
 pub mod Causes
+pub mod Lines
 pub mod Literals
 pub mod Names
 pub mod Numbers
+pub mod Pieces
 pub mod Reading
+pub mod Tokens
 pub mod Words

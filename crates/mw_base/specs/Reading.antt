@@ -1,7 +1,7 @@
 -- What readers give: a value, or the first fault of what they read.
 use Rattle.std.specs.Prelude.{◌≡◌, Result, Ok, Err}
-use Rattle.mw_base.specs.declared.refused.Refused.{Refused}
-use Rattle.mw_base.specs.declared.refused.Refused.TheVariants.{At, NoMemory}
+use Rattle.mw_base.specs.declared.refusal.Refused.{Refused}
+use Rattle.mw_base.specs.declared.refusal.Refused.TheVariants.{At, NoMemory}
 
 -- reads on with what was read, or stays with the fault
 infixl 10 ◌>>=◌

@@ -1,5 +1,5 @@
-//! What every crate of the bench shares: widths, bits of a word, names, lists, the causes of refusal, events and numbers as
-//! texts spell and reports print them.
+//! What every crate of the bench shares: widths, bits of a word, names, lists, the causes of refusal, events, the tokens of
+//! texts, and numbers as texts spell and reports print them.
 #![tactic(auto)]
 
 mod cause;
@@ -8,8 +8,11 @@ mod items;
 mod literal;
 mod memory;
 mod name;
+mod piece;
 mod printed;
-mod refused;
+mod refusal;
+mod scan;
+mod token;
 mod width;
 
 pub use cause::Cause;
@@ -17,10 +20,14 @@ pub use event::Event;
 pub use items::Items;
 pub use literal::number;
 pub use memory::NoMemory;
-pub use name::{Name, is_letter, is_name, is_name_byte};
+pub use name::{Name, is_name};
 pub use printed::{append_decimal, append_hex};
-pub use refused::Refused;
+pub use refusal::{Refusal, Refused, TextFault};
+pub use scan::tokens;
+pub use token::{Kind, Token};
 pub use width::{Width, bit, mask};
 
 #[cfg(test)]
 mod tests;
+#[cfg(test)]
+mod token_tests;

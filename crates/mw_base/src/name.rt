@@ -1,6 +1,6 @@
 // Names, and other short runs of bytes that a value keeps.
 ghost use Rattle.std.specs.Prelude.{◌≡◌, ℕ, List, IfOk};
-ghost use Rattle.mw_base.specs.Names.{is_letter, is_name_byte, are_name_bytes, is_spelled_as_name, is_name};
+ghost use Rattle.mw_base.specs.Names.{is_name_start, is_word_byte, are_word_bytes, is_spelled_as_name, is_name};
 
 use crate::memory::NoMemory;
 use std::alloc::Global;
@@ -43,27 +43,24 @@ impl Name {
     }
 }
 
-/// Whether the byte is a letter or `_`.
-pub fn is_letter(c: u8) -> bool
-    ensures { result ≡ is_letter c }
+/// Whether a name can begin with the byte: a letter or `_`.
+pub(crate) fn is_name_start(c: u8) -> bool
+    ensures { result ≡ is_name_start c }
 {
-    match c {
-        b'a'..=b'z' | b'A'..=b'Z' | b'_' => true,
-        _ => false,
-    }
+    c.is_ascii_alphabetic() | (c == b'_')
 }
 
-/// Whether the byte is a letter, `_` or a digit.
-pub fn is_name_byte(c: u8) -> bool
-    ensures { result ≡ is_name_byte c }
+/// Whether names and numbers are made of the byte: a letter, `_` or a digit.
+pub(crate) fn is_word_byte(c: u8) -> bool
+    ensures { result ≡ is_word_byte c }
 {
-    is_letter(c) || (b'0' <= c && c <= b'9')
+    is_name_start(c) | c.is_ascii_digit()
 }
 
-fn are_name_bytes(text: &[u8]) -> bool
-    ensures { result ≡ are_name_bytes text.now }
+fn are_word_bytes(text: &[u8]) -> bool
+    ensures { result ≡ are_word_bytes text.now }
 {
-    text.iter().all(|c| is_name_byte(*c))
+    text.iter().all(|c| is_word_byte(*c))
 }
 
 fn is_spelled_as_name(text: &[u8]) -> bool
@@ -71,7 +68,7 @@ fn is_spelled_as_name(text: &[u8]) -> bool
 {
     match text {
         [] => false,
-        [first, rest @ ..] => is_letter(*first) && are_name_bytes(rest),
+        [first, rest @ ..] => is_name_start(*first) && are_word_bytes(rest),
     }
 }
 

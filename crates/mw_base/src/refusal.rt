@@ -1,7 +1,8 @@
 // Why a reader gives nothing.
 ghost use Rattle.std.specs.Prelude.{◌≡◌};
-ghost use Rattle.mw_base.specs.declared.refused.Refused.TheVariants.{NoMemory as memory};
+ghost use Rattle.mw_base.specs.declared.refusal.Refused.TheVariants.{NoMemory as memory};
 
+use crate::cause::Cause;
 use crate::memory::NoMemory;
 use std::alloc::{AllocError, AllocFailed};
 
@@ -37,3 +38,17 @@ impl<F, T: Drop> From<AllocFailed<T>> for Refused<F> {
         Refused::NoMemory
     }
 }
+
+/// The first fault of a text.
+#[derive(Clone, Copy, Debug, PartialEq, Eq)]
+pub struct TextFault {
+    /// The line, from 1; 0 where the whole text is refused.
+    pub line: u32,
+    /// The column, from 1, in bytes; 0 where the whole text is refused.
+    pub column: u32,
+    /// Why it is refused.
+    pub cause: Cause,
+}
+
+/// Why a text was not read.
+pub type Refusal = Refused<TextFault>;
