@@ -18,3 +18,8 @@ Fails (At fault) read = read ≡ Err fault
 abbrev pub Gives : {X Y F : Type 0} → (X → Y) → Result X (Refused F) → Result Y F → Type 0
 Gives view (Ok x) read = read ≡ Ok (view x)
 Gives view (Err e) read = Fails e read
+
+-- a refusal is this fault, unless memory ran out
+abbrev pub Refuses : {F : Type 0} → Refused F → F → Type 0
+Refuses NoMemory fault = Unit {0}
+Refuses (At first) fault = first ≡ fault

@@ -1,7 +1,5 @@
 -- The rules of boards in the order of a board file's keys, and within a key by the order of causes. Each stands with its key's number.
 use Rattle.std.specs.Prelude.{ℕ, ◌+◌, min, List, [], ◌∷◌, ◌++◌, length, Result, Ok, Err}
-use Rattle.mw_board.specs.declared.bit.Bit.{Bit}
-use Rattle.mw_board.specs.declared.bit.Load.{Load}
 use Rattle.mw_board.specs.declared.control.Control.{Control}
 use Rattle.mw_board.specs.declared.fault.PartFault.{PartFault}
 use Rattle.mw_board.specs.declared.field.NamedField.{NamedField}

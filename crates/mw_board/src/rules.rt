@@ -1,5 +1,5 @@
 // The rules of a board's parts, one for each key of a board file. They take values as a file may have them.
-ghost use Rattle.std.specs.Prelude.{◌≡◌, ◌^◌, ◌==◌, nat_lt, nat_le, slice_get};
+ghost use Rattle.std.specs.Prelude.{◌≡◌, ◌+◌, ◌^◌, ◌<◌, ◌≤◌, ◌==◌, length, nat_lt, nat_le, slice_get, OnOk, IsTrue};
 ghost use Rattle.std.specs.List.{list_any};
 ghost use Rattle.std.specs.Str.{bytes_eq};
 ghost use Rattle.mw_board.specs.Rules.{ask, all_of, width_rule, microword_rule, address_rule, word_rule};
@@ -17,7 +17,8 @@ use mw_base::{Cause, is_name};
 
 /// The cause, where the test doesn't hold.
 fn ask(test: bool, cause: Cause) -> Result<(), Cause>
-    ensures { result ≡ ask test cause }
+    ensures exact { result ≡ ask test cause }
+    ensures kept { OnOk result (IsTrue test) }
 {
     if test { Ok(()) } else { Err(cause) }
 }
@@ -25,7 +26,8 @@ fn ask(test: bool, cause: Cause) -> Result<(), Cause>
 /// Cause 12 where the width isn't a multiple of 4 from 4 to 32.
 #[tactic(auto, unfolding(crate::specs::Rules::width_rule))]
 pub fn width_rule(width: u64) -> Result<(), Cause>
-    ensures { result ≡ width_rule width }
+    ensures exact { result ≡ width_rule width }
+    ensures kept { OnOk result (width ≤ 32) }
 {
     ask(4 <= width && width <= 32 && width % 4 == 0, Cause::BadWidth)
 }
@@ -33,7 +35,8 @@ pub fn width_rule(width: u64) -> Result<(), Cause>
 /// Cause 12 where a microword doesn't have 1 to 128 bits.
 #[tactic(auto, unfolding(crate::specs::Rules::microword_rule))]
 pub fn microword_rule(microword: u64) -> Result<(), Cause>
-    ensures { result ≡ microword_rule microword }
+    ensures exact { result ≡ microword_rule microword }
+    ensures kept { OnOk result (microword ≤ 128) }
 {
     ask(1 <= microword && microword <= 128, Cause::BadWidth)
 }
@@ -41,7 +44,8 @@ pub fn microword_rule(microword: u64) -> Result<(), Cause>
 /// Cause 12 where a memory address doesn't have 1 to 16 bits, or has more than the width.
 #[tactic(auto, unfolding(crate::specs::Rules::address_rule))]
 pub fn address_rule(width: u8, address: u64) -> Result<(), Cause>
-    ensures { result ≡ address_rule width address }
+    ensures exact { result ≡ address_rule width address }
+    ensures kept { OnOk result (address ≤ 16) }
 {
     ask(
         1 <= address && address <= u64::from(width) && address <= 16,
@@ -67,7 +71,8 @@ fn has_bits(number: u128, bits: u8) -> bool
 /// Cause 24 where the vector isn't below 4,096.
 #[tactic(auto, unfolding(crate::specs::Rules::vector_rule))]
 pub fn vector_rule(vector: u64) -> Result<(), Cause>
-    ensures { result ≡ vector_rule vector }
+    ensures exact { result ≡ vector_rule vector }
+    ensures kept { OnOk result (vector < 4096) }
 {
     ask(vector < 4096, Cause::BadValue)
 }
@@ -91,7 +96,8 @@ pub fn name_rule(name: &[u8]) -> Result<(), Cause>
 /// Cause 12 where a field doesn't have 1 to 32 bits, then cause 10 where it passes the end of the microword.
 #[tactic(auto, unfolding(crate::specs::Rules::field_rule))]
 pub fn field_rule(microword: u8, low: u64, width: u64) -> Result<(), Cause>
-    ensures { result ≡ field_rule microword low width }
+    ensures exact { result ≡ field_rule microword low width }
+    ensures kept { OnOk result (low + width ≤ microword) }
 {
     ask(1 <= width && width <= 32, Cause::BadWidth)?;
     let microword = u64::from(microword);
@@ -289,7 +295,8 @@ pub fn d_source_rule(
 /// Cause 13 where the map sees more than 8 bits, or bits that the instruction register doesn't have.
 #[tactic(auto, unfolding(crate::specs::Rules::map_bits_rule))]
 pub fn map_bits_rule(width: u8, low: u64, bits: u64) -> Result<(), Cause>
-    ensures { result ≡ map_bits_rule width low bits }
+    ensures exact { result ≡ map_bits_rule width low bits }
+    ensures kept { OnOk result (low + bits ≤ width) }
 {
     let width = u64::from(width);
     ask(
@@ -301,7 +308,8 @@ pub fn map_bits_rule(width: u8, low: u64, bits: u64) -> Result<(), Cause>
 /// Cause 24 where an entry of the map isn't below 4,096.
 #[tactic(auto, unfolding(crate::specs::Rules::map_entry_rule))]
 pub fn map_entry_rule(entry: u64) -> Result<(), Cause>
-    ensures { result ≡ map_entry_rule entry }
+    ensures exact { result ≡ map_entry_rule entry }
+    ensures kept { OnOk result (entry < 4096) }
 {
     ask(entry < 4096, Cause::BadValue)
 }

@@ -1,4 +1,4 @@
-use Rattle.std.proofs.Common.{◌≡◌, ◌∙◌, sym}
+use Rattle.std.proofs.Common.{◌∙◌, sym}
 use Rattle.std.proofs.lemmas.Result.{err_from_is_err_and}
 use Rattle.mw_board.proofs.Each.{flipflop_fails, flipflop_goes_on, flipflops_done}
 use Rattle.mw_board.proofs.check.check_each_flipflop.Goals as goal

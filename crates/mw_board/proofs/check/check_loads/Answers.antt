@@ -1,8 +1,5 @@
 use Rattle.std.proofs.iter.Serving.{serving}
-use Rattle.std.proofs.Common.{ap, refl}
-use Rattle.mw_board.specs.declared.check.List.TheVariants.{Loads}
-use Rattle.mw_board.specs.Following.{place_of}
-use Rattle.mw_board.specs.Check.{list_check}
+use Rattle.std.proofs.Common.{refl}
 use Rattle.mw_board.specs.Rules.{load_rule}
 use Rattle.mw_board.proofs.check.check_loads.Goals as goal
 

@@ -1,6 +1,5 @@
-use Rattle.std.proofs.Common.{◌≡◌, refl, ap, ◌∙◌, sym, arith}
+use Rattle.std.proofs.Common.{ap, ◌∙◌, sym}
 use Rattle.std.proofs.lemmas.Result.{err_from_is_err_and}
-use Rattle.mw_board.specs.Check.{each_from}
 use Rattle.mw_board.specs.Following.{place_of}
 use Rattle.mw_board.proofs.Each.{each_fails, each_goes_on, each_done}
 use Rattle.mw_board.proofs.check.each.Goals as goal

@@ -1,7 +1,6 @@
 use Rattle.std.proofs.Common.{◌≡◌, ◌∙◌, nat_lt, false, sym, arith}
 use Rattle.std.specs.Prelude.{◌==◌}
 use Rattle.std.proofs.lemmas.Bool.Decides.{nat_tests}
-use Rattle.mw_board.specs.Rules.{map_size}
 use Rattle.mw_board.proofs.Powers.{differs_from_more_bits}
 use Rattle.mw_board.proofs.rules.is_whole_map.Goals as goal
 

@@ -1,0 +1,12 @@
+pub mod Board
+pub mod Control
+pub mod Document
+pub mod Entries
+pub mod Fields
+pub mod FlipFlops
+pub mod Lists
+pub mod Map
+pub mod Sizes
+pub mod Unknown
+pub mod Values
+pub mod Views

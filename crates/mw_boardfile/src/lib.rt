@@ -1,0 +1,20 @@
+//! Board files: TOML documents that spell a board.
+#![tactic(auto)]
+
+mod document;
+mod entries;
+mod fault;
+mod fields;
+mod flipflops;
+mod lists;
+mod map;
+mod paths;
+mod points;
+mod reader;
+mod select;
+mod sizes;
+mod unknown;
+mod values;
+
+pub use fault::{BoardRefusal, Fault, KeyFault};
+pub use reader::read_board;

@@ -1,0 +1,237 @@
+// select.LIST.
+ghost use Rattle.std.specs.Prelude.{◌≡◌, ◌∷◌, [], codes, None, IfOk, Result};
+ghost use Rattle.toml.specs.Data.{Data};
+ghost use Rattle.toml.specs.View.{view, table_view};
+ghost use Rattle.mw_base.specs.declared.cause.Cause.{Cause};
+ghost use Rattle.mw_base.specs.Reading.{Gives};
+ghost use Rattle.mw_boardfile.specs.Board.{zero_alone, zero_list, given_list, list_or_zero, bits_of, sources_of, lists_of};
+ghost use Rattle.mw_boardfile.specs.Entries.{bit_in, carry_in_in, d_source_in};
+ghost use Rattle.mw_boardfile.specs.Views.{given, members, data_of, Reads};
+
+use crate::entries::{bit, carry_in, d_source};
+use crate::fault::{BoardRefusal, Fault};
+use crate::lists::{chosen_list, whole};
+use crate::paths::{below, under_list, under_whole};
+use crate::values::{list, member, member_of, table_or_none};
+use mw_base::{Cause, Items, NoMemory, Refused};
+use mw_board::{Bit, Control, DFrom, DSource, NamedField, Points, chosen_rule, list_rule};
+use std::alloc::Global;
+use toml::{Table, Value};
+
+/// The rules of a list that isn't there, and so has one entry.
+#[tactic(auto, unfolding(crate::specs::Board::zero_alone))]
+fn zero_alone(fields: &[NamedField], control: Control) -> Result<(), Fault>
+    ensures { result ≡ zero_alone fields.now control }
+{
+    whole(chosen_rule(control, 1))?;
+    whole(list_rule(fields, control, 1))
+}
+
+/// A list of one entry.
+fn alone<T: Drop>(alloc: Global, entry: T) -> Result<Items<T>, NoMemory>
+    ensures { IfOk result (λ items. items ≡ entry ∷ []) }
+{
+    let mut entries = Vec::new(alloc);
+    entries.push(entry)?;
+    Ok(Items::from_vec(entries))
+}
+
+/// A list that isn't there, and so has one entry.
+#[tactic(auto, unfolding(crate::specs::Board::zero_list))]
+fn zero_list<T: Drop>(
+    alloc: Global,
+    fields: &[NamedField],
+    control: Control,
+    zero: T,
+) -> Result<Items<T>, Refused<Fault>>
+    ensures { Gives (λ items. items) result (zero_list zero fields.now control) }
+{
+    match zero_alone(fields, control) {
+        Ok(()) => Ok(alone(alloc, zero)?),
+        Err(fault) => Err(Refused::At(fault)),
+    }
+}
+
+/// A list that is there.
+fn given_list<T: Drop, F: Fn(&Value) -> Result<T, Cause>>(
+    alloc: Global,
+    fields: &[NamedField],
+    control: Control,
+    value: &Value,
+    read: &F,
+) -> Result<Items<T>, Refused<Fault>>
+    requires { F.IsAlwaysCallable read.now }
+    // What is so of every reader that the closure follows.
+    ensures { (reader : Data → Result T Cause) → Reads (F.post read.now) reader
+        → Gives (λ items. items) result (given_list reader fields.now control (view value.now)) }
+{
+    match list(value) {
+        Ok(values) => chosen_list(alloc, values, fields, control, read),
+        Err(cause) => Err(Refused::At(Fault::whole(cause))),
+    }
+}
+
+/// A list of the board, which has the one entry zero where it isn't there.
+fn list_or_zero<T: Drop, F: Fn(&Value) -> Result<T, Cause>>(
+    alloc: Global,
+    fields: &[NamedField],
+    control: Control,
+    value: Option<&Value>,
+    zero: T,
+    read: &F,
+) -> Result<Items<T>, Refused<Fault>>
+    requires { F.IsAlwaysCallable read.now }
+    // What is so of every reader that the closure follows.
+    ensures { (reader : Data → Result T Cause) → Reads (F.post read.now) reader
+        → Gives (λ items. items) result (list_or_zero reader zero fields.now control (given value.entry)) }
+{
+    match value {
+        Some(value) => given_list(alloc, fields, control, value, read),
+        None => zero_list(alloc, fields, control, zero),
+    }
+}
+
+/// select.carry_in.
+fn carry_ins(
+    alloc: Global,
+    width: u8,
+    fields: &[NamedField],
+    flipflops: &[Value],
+    control: Control,
+    select: Option<&Table>,
+) -> Result<Items<Bit>, BoardRefusal>
+    ensures { Gives (λ bits. bits) result
+        (bits_of (carry_in_in width (data_of flipflops.now)) fields.now control (members select.entry) (codes "carry_in")) }
+{
+    let value = member_of(select, "carry_in");
+    let bits = list_or_zero(
+        alloc,
+        fields,
+        control,
+        value,
+        Bit::Zero,
+        &|value| { carry_in(width, flipflops, value) },
+    );
+    under_list(alloc, b"select.carry_in", bits)
+}
+
+/// select.LIST, of a condition or a link.
+fn bits(
+    alloc: Global,
+    width: u8,
+    fields: &[NamedField],
+    flipflops: &[Value],
+    control: Control,
+    select: Option<&Table>,
+    name: &str,
+) -> Result<Items<Bit>, BoardRefusal>
+    ensures { Gives (λ bits. bits) result
+        (bits_of (bit_in width (data_of flipflops.now)) fields.now control (members select.entry) name.now) }
+{
+    let value = member_of(select, name);
+    let key = below(alloc, b"select", name.as_bytes())?;
+    let bits = list_or_zero(
+        alloc,
+        fields,
+        control,
+        value,
+        Bit::Zero,
+        &|value| { bit(width, flipflops, value) },
+    );
+    under_list(alloc, &key, bits)
+}
+
+/// select.d.
+fn sources(
+    alloc: Global,
+    width: u8,
+    fields: &[NamedField],
+    flipflops: &[Value],
+    control: Control,
+    select: Option<&Table>,
+) -> Result<Items<DSource>, BoardRefusal>
+    ensures { Gives (λ sources. sources) result
+        (sources_of (d_source_in width fields.now (data_of flipflops.now)) fields.now control (members select.entry)) }
+{
+    let value = member_of(select, "d");
+    let zero = DSource {
+        from: DFrom::Zero,
+        mask: None,
+    };
+    let sources = list_or_zero(
+        alloc,
+        fields,
+        control,
+        value,
+        zero,
+        &|value| { d_source(width, fields, flipflops, value) },
+    );
+    under_list(alloc, b"select.d", sources)
+}
+
+/// The lists from which control points choose.
+#[derive(Drop)]
+pub(crate) struct BoardLists {
+    /// What the carry in can be.
+    pub(crate) carry_in: Items<Bit>,
+    /// What the test can read.
+    pub(crate) condition: Items<Bit>,
+    /// What can be at the ends of the registers' shift.
+    pub(crate) ram_link: Items<Bit>,
+    /// What can be at the ends of Q's shift.
+    pub(crate) q_link: Items<Bit>,
+    /// What D can be.
+    pub(crate) d: Items<DSource>,
+}
+
+/// select: each list.
+#[tactic(auto, unfolding(crate::specs::Board::lists_of))]
+pub(crate) fn lists(
+    alloc: Global,
+    width: u8,
+    fields: &[NamedField],
+    flipflops: &[Value],
+    control: Points,
+    document: &Table,
+) -> Result<BoardLists, BoardRefusal>
+    ensures { Gives (λ lists. lists) result
+        (lists_of width fields.now (data_of flipflops.now) control (table_view document.now)) }
+{
+    let select = under_whole(alloc, b"select", table_or_none(member(document, "select")))?;
+    let carry_in = carry_ins(alloc, width, fields, flipflops, control.carry_in, select)?;
+    let condition = bits(
+        alloc,
+        width,
+        fields,
+        flipflops,
+        control.condition,
+        select,
+        "condition",
+    )?;
+    let ram_link = bits(
+        alloc,
+        width,
+        fields,
+        flipflops,
+        control.link,
+        select,
+        "ram_link",
+    )?;
+    let q_link = bits(
+        alloc,
+        width,
+        fields,
+        flipflops,
+        control.link,
+        select,
+        "q_link",
+    )?;
+    let d = sources(alloc, width, fields, flipflops, control.d, select)?;
+    Ok(BoardLists {
+        carry_in,
+        condition,
+        ram_link,
+        q_link,
+        d,
+    })
+}

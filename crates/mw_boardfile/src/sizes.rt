@@ -1,0 +1,150 @@
+// version, width, microword, address, fill, unset and vector.
+ghost use Rattle.std.specs.Prelude.{◌≡◌, ◌<◌, ◌≤◌};
+ghost use Rattle.toml.specs.View.{view, table_view};
+ghost use Rattle.mw_base.specs.Reading.{Gives};
+ghost use Rattle.mw_boardfile.specs.Board.{sizes_of};
+ghost use Rattle.mw_boardfile.specs.Sizes.{version_in, width_in, microword_in, address_in};
+ghost use Rattle.mw_boardfile.specs.Sizes.{word_in, fill_in, unset_in, vector_in};
+ghost use Rattle.mw_boardfile.specs.Views.{given};
+
+use crate::fault::BoardRefusal;
+use crate::paths::under_whole;
+use crate::values::{member, natural, number_text, required};
+use mw_base::Cause;
+use mw_board::{address_rule, microword_rule, vector_rule, width_rule, word_rule};
+use std::alloc::Global;
+use toml::{Table, Value};
+
+/// What stands before the fields.
+#[derive(Clone, Copy)]
+pub(crate) struct BoardSizes {
+    /// How many bits a register and a memory word have.
+    pub(crate) width: u8,
+    /// How many bits a microword has.
+    pub(crate) microword: u8,
+    /// How many bits a memory address has.
+    pub(crate) address: u8,
+    /// The microword past the last assembled one.
+    pub(crate) fill: u128,
+    /// The bits that a line doesn't set.
+    pub(crate) unset: u128,
+    /// The address that the vector gives.
+    pub(crate) vector: u16,
+}
+
+/// version to vector.
+#[tactic(auto, unfolding(crate::specs::Board::sizes_of))]
+pub(crate) fn sizes(alloc: Global, document: &Table) -> Result<BoardSizes, BoardRefusal>
+    ensures { Gives (λ sizes. sizes) result (sizes_of (table_view document.now)) }
+{
+    under_whole(alloc, b"version", version(member(document, "version")))?;
+    let width = under_whole(alloc, b"width", width(member(document, "width")))?;
+    let microword = under_whole(
+        alloc,
+        b"microword",
+        microword(member(document, "microword")),
+    )?;
+    let address = under_whole(
+        alloc,
+        b"address",
+        address(width, member(document, "address")),
+    )?;
+    let fill = under_whole(alloc, b"fill", fill(microword, member(document, "fill")))?;
+    let unset = under_whole(alloc, b"unset", unset(microword, member(document, "unset")))?;
+    let vector = under_whole(alloc, b"vector", vector(member(document, "vector")))?;
+    Ok(BoardSizes {
+        width,
+        microword,
+        address,
+        fill,
+        unset,
+        vector,
+    })
+}
+
+/// version: 1.
+#[tactic(auto, unfolding(crate::specs::Sizes::version_in))]
+fn version(value: Option<&Value>) -> Result<u64, Cause>
+    ensures { result ≡ version_in (given value.entry) }
+{
+    let version = natural(required(value)?)?;
+    if version == 1 {
+        Ok(version)
+    } else {
+        Err(Cause::BadValue)
+    }
+}
+
+/// width: 4 to 32 bits, a multiple of 4.
+#[tactic(auto, unfolding(crate::specs::Sizes::width_in))]
+fn width(value: Option<&Value>) -> Result<u8, Cause>
+    ensures { result ≡ width_in (given value.entry) }
+{
+    let width = natural(required(value)?)?;
+    width_rule(width)?;
+    Ok(width as u8)
+}
+
+/// microword: 1 to 128 bits.
+#[tactic(auto, unfolding(crate::specs::Sizes::microword_in))]
+fn microword(value: Option<&Value>) -> Result<u8, Cause>
+    ensures { result ≡ microword_in (given value.entry) }
+{
+    let microword = natural(required(value)?)?;
+    microword_rule(microword)?;
+    Ok(microword as u8)
+}
+
+/// address: 1 to 16 bits, and no more than the width.
+#[tactic(auto, unfolding(crate::specs::Sizes::address_in))]
+fn address(width: u8, value: Option<&Value>) -> Result<u8, Cause>
+    ensures { result ≡ address_in width (given value.entry) }
+{
+    let address = natural(required(value)?)?;
+    address_rule(width, address)?;
+    Ok(address as u8)
+}
+
+/// A microword, as a text.
+#[tactic(auto, unfolding(crate::specs::Sizes::word_in))]
+fn word(microword: u8, value: &Value) -> Result<u128, Cause>
+    ensures { result ≡ word_in microword (view value.now) }
+{
+    let word = number_text(value)?;
+    word_rule(microword, word)?;
+    Ok(word)
+}
+
+/// fill: a microword.
+#[tactic(auto, unfolding(crate::specs::Sizes::fill_in))]
+fn fill(microword: u8, value: Option<&Value>) -> Result<u128, Cause>
+    ensures { result ≡ fill_in microword (given value.entry) }
+{
+    word(microword, required(value)?)
+}
+
+/// unset: a microword; 0 where it isn't there.
+#[tactic(auto, unfolding(crate::specs::Sizes::unset_in))]
+fn unset(microword: u8, value: Option<&Value>) -> Result<u128, Cause>
+    ensures { result ≡ unset_in microword (given value.entry) }
+{
+    match value {
+        Some(value) => word(microword, value),
+        None => Ok(0),
+    }
+}
+
+/// vector: a control address; 0 where it isn't there.
+#[tactic(auto, unfolding(crate::specs::Sizes::vector_in))]
+fn vector(value: Option<&Value>) -> Result<u16, Cause>
+    ensures { result ≡ vector_in (given value.entry) }
+{
+    match value {
+        Some(value) => {
+            let vector = natural(value)?;
+            vector_rule(vector)?;
+            Ok(vector as u16)
+        }
+        None => Ok(0),
+    }
+}
