@@ -18,3 +18,10 @@ mod values;
 
 pub use fault::{BoardRefusal, Fault, KeyFault};
 pub use reader::read_board;
+
+#[cfg(test)]
+mod board_cases;
+#[cfg(test)]
+mod fault_cases;
+#[cfg(test)]
+mod tests;
