@@ -26,3 +26,6 @@ pub use rules::{
     width_rule, word_rule,
 };
 pub use store::Store;
+
+#[cfg(test)]
+mod tests;
