@@ -47,7 +47,7 @@ const FAULTS: [(u8, Cause, u16, u16); 36] = [
 ];
 
 /// One field, a of 4 bits, from this place.
-#[tactic(auto, unfolding(std::specs::List::Sorted::IsStrictlySortedBy))]
+#[tactic(auto, unfolding(core::specs::List::Sorted::IsStrictlySortedBy))]
 fn field_at(alloc: Global, low: u8) -> Result<Items<NamedField>, NoMemory>
     ensures { IfOk result (λ fields. AreInOrder fields) }
 {
