@@ -2,8 +2,8 @@
 use Rattle.std.specs.Prelude.{◌≡◌, ℕ, Result}
 use Rattle.std.specs.Borrow.{Bor}
 use Rattle.mw_base.specs.declared.cause.Cause.{Cause}
-use Rattle.mw_board.specs.declared.check.List.{List}
-use Rattle.mw_board.specs.declared.check.List.TheVariants.{Key, Loads}
+use Rattle.mw_board.specs.declared.check.ListKey.{ListKey}
+use Rattle.mw_board.specs.declared.check.ListKey.TheVariants.{Key, Loads}
 use Rattle.mw_board.specs.Rules.{Verdict}
 use Rattle.mw_board.specs.Check.{Checked, placed, number_16}
 
@@ -12,6 +12,6 @@ abbrev pub Follows : {T : Type 0} → (Bor T → Result (Unit {0}) Cause → Typ
 Follows {T} returns rule = (value : Bor T) (result : Result (Unit {0}) Cause) → returns value result → result ≡ rule value.now
 
 -- the place of an entry of a list
-abbrev pub place_of : List → ℕ → Verdict → Checked
+abbrev pub place_of : ListKey → ℕ → Verdict → Checked
 place_of (Key row) n verdict = placed row (number_16 n) 0 verdict
 place_of (Loads flipflop) n verdict = placed 11 flipflop (number_16 n) verdict

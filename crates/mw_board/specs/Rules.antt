@@ -100,7 +100,7 @@ flipflop_name_rule earlier name = all_of (
 
 -- ---- control points
 
--- the width of the field with this number
+-- the width of a field; 0 where there is none
 abbrev pub width_of : Option NamedField → ℕ
 width_of (Some f) = f.field.width
 width_of None = 0

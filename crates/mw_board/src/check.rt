@@ -19,7 +19,7 @@ use mw_base::Cause;
 
 /// A list of a board.
 #[derive(Clone, Copy)]
-pub(crate) enum List {
+pub(crate) enum ListKey {
     /// That of this key.
     Key(u8),
     /// The loads of this flip-flop.
@@ -54,18 +54,18 @@ fn number_16(n: usize) -> u16
 }
 
 /// The rule of an entry of a list, or of a whole list, whose number is then 0.
-fn in_list(list: List, n: usize, verdict: Result<(), Cause>) -> Result<(), PartFault>
+fn placed_in(list: ListKey, n: usize, verdict: Result<(), Cause>) -> Result<(), PartFault>
     ensures { result ≡ place_of list n verdict }
 {
     match list {
-        List::Key(row) => placed(row, number_16(n), 0, verdict),
-        List::Loads(flipflop) => placed(11, flipflop, number_16(n), verdict),
+        ListKey::Key(row) => placed(row, number_16(n), 0, verdict),
+        ListKey::Loads(flipflop) => placed(11, flipflop, number_16(n), verdict),
     }
 }
 
 /// One rule on each entry.
 fn each<T, F: Fn(&T) -> Result<(), Cause>>(
-    list: List,
+    list: ListKey,
     entries: &[T],
     rule: F,
 ) -> Result<(), PartFault>
@@ -75,7 +75,7 @@ fn each<T, F: Fn(&T) -> Result<(), Cause>>(
         → result ≡ each_from (λ n entry. place_of list n (test entry)) 0 entries.now }
 {
     for (n, entry) in entries.iter().enumerate() {
-        in_list(list, n, rule(entry))?;
+        placed_in(list, n, rule(entry))?;
     }
     Ok(())
 }
@@ -83,7 +83,7 @@ fn each<T, F: Fn(&T) -> Result<(), Cause>>(
 /// A list from which a control chooses.
 #[tactic(auto, unfolding(crate::specs::Check::list_check))]
 fn chosen_list<T, F: Fn(&T) -> Result<(), Cause>>(
-    list: List,
+    list: ListKey,
     fields: &[NamedField],
     control: Control,
     entries: &[T],
@@ -94,9 +94,9 @@ fn chosen_list<T, F: Fn(&T) -> Result<(), Cause>>(
     ensures { (test : T → Verdict) → Follows (F.post rule) test
         → result ≡ list_check (place_of list) fields.now control test entries.now }
 {
-    in_list(list, 0, rules::chosen_rule(control, entries.len()))?;
+    placed_in(list, 0, rules::chosen_rule(control, entries.len()))?;
     each(list, entries, rule)?;
-    in_list(list, 0, rules::list_rule(fields, control, entries.len()))
+    placed_in(list, 0, rules::list_rule(fields, control, entries.len()))
 }
 
 /// A list of bits, after the key's number.
@@ -110,7 +110,7 @@ fn check_bits(
 ) -> Result<(), PartFault>
     ensures { result ≡ list_check (in_list row) fields.now control (bit_rule width flipflops) bits.now }
 {
-    chosen_list(List::Key(row), fields, control, bits, |bit| {
+    chosen_list(ListKey::Key(row), fields, control, bits, |bit| {
         rules::bit_rule(width, flipflops, *bit)
     })
 }
@@ -125,7 +125,7 @@ fn check_carry_ins(
 ) -> Result<(), PartFault>
     ensures { result ≡ list_check (in_list 31) fields.now control (carry_in_rule width flipflops) bits.now }
 {
-    chosen_list(List::Key(31), fields, control, bits, |bit| {
+    chosen_list(ListKey::Key(31), fields, control, bits, |bit| {
         rules::carry_in_rule(width, flipflops, *bit)
     })
 }
@@ -141,7 +141,7 @@ fn check_sources(
     ensures { result ≡ list_check (in_list 35) fields.now control
         (d_source_rule width (length fields.now) flipflops) sources.now }
 {
-    chosen_list(List::Key(35), fields, control, sources, |source| {
+    chosen_list(ListKey::Key(35), fields, control, sources, |source| {
         rules::d_source_rule(width, fields.len(), flipflops, *source)
     })
 }
@@ -157,16 +157,20 @@ fn check_loads(
 ) -> Result<(), PartFault>
     ensures { result ≡ list_check (in_load i) fields.now control (load_rule width flipflops) loads.now }
 {
-    chosen_list(List::Loads(number_16(i)), fields, control, loads, |load| {
-        rules::load_rule(width, flipflops, *load)
-    })
+    chosen_list(
+        ListKey::Loads(number_16(i)),
+        fields,
+        control,
+        loads,
+        |load| { rules::load_rule(width, flipflops, *load) },
+    )
 }
 
 /// The entries of the map.
 fn check_entries(entries: &[u16]) -> Result<(), PartFault>
     ensures { result ≡ each_from (λ n entry. in_list 38 n (map_entry_rule entry)) 0 entries.now }
 {
-    each(List::Key(38), entries, |entry| {
+    each(ListKey::Key(38), entries, |entry| {
         rules::map_entry_rule(u64::from(*entry))
     })
 }
@@ -190,9 +194,9 @@ fn check_field(microword: u8, n: usize, named: &NamedField) -> Result<(), PartFa
     ensures { result ≡ field_check microword n named.now }
 {
     let field = &named.field;
-    in_list(List::Key(7), n, rules::name_rule(named.name.as_slice()))?;
-    in_list(
-        List::Key(7),
+    placed_in(ListKey::Key(7), n, rules::name_rule(named.name.as_slice()))?;
+    placed_in(
+        ListKey::Key(7),
         n,
         rules::field_rule(microword, u64::from(field.low), u64::from(field.width)),
     )

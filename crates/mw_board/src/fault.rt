@@ -10,8 +10,9 @@ pub struct PartFault {
     /// `unset`, `vector`, `fields`, `flipflop`, a flip-flop's `name`, `control` and `load` (9 to 11), the control points (12 to 30),
     /// the lists `carry_in`, `condition`, `ram_link`, `q_link` and `d` (31 to 35), `map.low`, `map.bits` and `map.entries`.
     pub row: u8,
-    /// The number of the field, of the flip-flop, or of the list's entry; 0 where there is none.
+    /// The number of the field, of the flip-flop, or of the list's entry; 0 also for a whole list, and where there is none. 65,535 stands
+    /// for each greater number.
     pub index: u16,
-    /// The number of a flip-flop's load; 0 where there is none.
+    /// The number of a flip-flop's load, likewise.
     pub entry: u16,
 }

@@ -6,7 +6,7 @@ use mw_base::{Cause, Items, Name, NoMemory};
 use std::alloc::Global;
 use std::test::Fail;
 
-/// Every control point fixed at 0.
+/// Every control point at its default: 0, and 1 for `ci`.
 const POINTS: Points = Points {
     alu_source: Control::Fixed(0),
     alu_function: Control::Fixed(0),

@@ -19,7 +19,7 @@ use Rattle.mw_boardfile.specs.Entries.{bit_spelled, bit_in, carry_in_in, masked,
 use Rattle.mw_boardfile.specs.Fields.{fields_of}
 use Rattle.mw_boardfile.specs.FlipFlops.{tables_in, each_flipflop}
 use Rattle.mw_boardfile.specs.Lists.{first_place}
-use Rattle.mw_boardfile.specs.Map.{low_in, bits_in, entries_in}
+use Rattle.mw_boardfile.specs.Map.{natural_or_zero, bits_in, entries_in}
 use Rattle.mw_boardfile.specs.Sizes.{version_in, width_in, microword_in, address_in, fill_in, unset_in, vector_in}
 use Rattle.mw_boardfile.specs.Values.{below, under, whole, kind, table_or_none}
 use Rattle.mw_boardfile.specs.Board.{list_or_zero, bits_of, sources_of, sizes_of, lists_of, map_of, parts_of}
@@ -162,7 +162,7 @@ map_ok : (width : ℕ) (document : Members) (map : BoardMap) → map_of width do
 unfolding map_of
 map_ok width document map e =
     step (under (codes "map") (whole (table_or_none (get_member (codes "map") document)))) _ map e (λ table e17 s17.
-    step (under (codes "map.low") (whole (low_in (get_member (codes "low") table)))) _ map s17 (λ low e18 s18.
+    step (under (codes "map.low") (whole (natural_or_zero (get_member (codes "low") table)))) _ map s17 (λ low e18 s18.
     step (under (codes "map.bits") (whole (bits_in width low (get_member (codes "bits") table)))) _ map s18 (λ bits e19 s19.
     step (under (codes "map.entries") (entries_in bits (get_member (codes "entries") table))) _ map s19 (λ entries e20 s20.
     subst (MapKeeps width) (ok_is {F = KeyFault} (record { low = low; bits = bits; entries = entries }) map s20) (record {

@@ -11,7 +11,7 @@ use Rattle.mw_board.specs.declared.parts.BoardParts.{BoardParts}
 use Rattle.mw_board.specs.Rules.{control_rule, point_rule}
 use Rattle.mw_board.specs.Check.{points_check}
 use Rattle.mw_boardfile.specs.declared.fault.KeyFault.{KeyFault}
-use Rattle.mw_boardfile.specs.Control.{control_of, control_in, point_in, chooser_in, point_of, chooser_of, numbers_of, flags_of, choosers_of, points_of}
+use Rattle.mw_boardfile.specs.Control.{named_or_constant, control_in, point_in, chooser_in, point_of, chooser_of, numbers_of, flags_of, choosers_of, points_of}
 use Rattle.mw_boardfile.specs.declared.points.Numbers.{Numbers}
 use Rattle.mw_boardfile.specs.declared.points.Flags.{Flags}
 use Rattle.mw_boardfile.specs.declared.points.Choosers.{Choosers}
@@ -22,7 +22,7 @@ use Rattle.mw_boardfile.proofs.AcceptedSizes.{rule_after}
 pub control_ok : (fields : List NamedField) (value : Data) (control : Control) → control_in fields value ≡ Ok control → control_rule fields control ≡ Ok tt
 unfolding control_in
 control_ok fields value control e =
-    step (control_of fields (as_str value) (as_integer value)) _ control e (λ read a e2. rule_after (control_rule fields) read control e2)
+    step (named_or_constant fields (as_str value) (as_integer value)) _ control e (λ read a e2. rule_after (control_rule fields) read control e2)
 
 point_in_ok : (bits default : ℕ) (fields : List NamedField) (given : Option Data) (control : Control) → point_rule bits fields (Fixed default) ≡ Ok tt
     → point_in bits default fields given ≡ Ok control → point_rule bits fields control ≡ Ok tt

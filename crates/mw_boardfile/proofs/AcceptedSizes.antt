@@ -10,7 +10,7 @@ use Rattle.mw_board.specs.Rules.{width_rule, microword_rule, address_rule, word_
 use Rattle.mw_board.specs.Check.{sizes_check}
 use Rattle.mw_boardfile.specs.Sizes.{width_in, microword_in, address_in, word_in, fill_in, unset_in, vector_in}
 use Rattle.mw_boardfile.specs.Values.{natural, required, number_text}
-use Rattle.mw_boardfile.specs.Map.{low_in, bits_in, entry_in}
+use Rattle.mw_boardfile.specs.Map.{natural_or_zero, bits_in, entry_in}
 use Rattle.mw_boardfile.proofs.Steps.{ok_is, step}
 
 -- a value whose rule was asked
@@ -69,7 +69,7 @@ sizes_hold p a b c d e f = rw (a, b, c, d, e, f) refl
 
 pub bits_ok : (width low : ℕ) (given : Option Data) (bits : ℕ) → bits_in width low given ≡ Ok bits → map_bits_rule width low bits ≡ Ok tt
 unfolding bits_in
-bits_ok width low given bits e = step (low_in given) _ bits e (λ read b e3. rule_after (map_bits_rule width low) read bits e3)
+bits_ok width low given bits e = step (natural_or_zero given) _ bits e (λ read b e3. rule_after (map_bits_rule width low) read bits e3)
 
 pub entry_ok : (value : Data) (entry : ℕ) → entry_in value ≡ Ok entry → map_entry_rule entry ≡ Ok tt
 unfolding entry_in

@@ -23,7 +23,7 @@ use Rattle.mw_boardfile.specs.Entries.{bit_in, carry_in_in, d_source_in}
 use Rattle.mw_boardfile.specs.Fields.{fields_of}
 use Rattle.mw_boardfile.specs.FlipFlops.{tables_in, each_flipflop}
 use Rattle.mw_boardfile.specs.Lists.{chosen_list}
-use Rattle.mw_boardfile.specs.Map.{low_in, bits_in, entries_in}
+use Rattle.mw_boardfile.specs.Map.{natural_or_zero, bits_in, entries_in}
 use Rattle.mw_boardfile.specs.Sizes.{version_in, width_in, microword_in, address_in, fill_in, unset_in, vector_in}
 use Rattle.mw_boardfile.specs.Unknown.{unknown_key, known_or_fault}
 use Rattle.mw_boardfile.specs.Values.{below, under, whole, list, table_or_none}
@@ -88,7 +88,7 @@ lists_of width fields flipflops control document = do
 unfoldable pub map_of : ℕ → Members → Result BoardMap KeyFault
 map_of width document = do
   map ← under (codes "map") (whole (table_or_none (get_member (codes "map") document)))
-  low ← under (codes "map.low") (whole (low_in (get_member (codes "low") map)))
+  low ← under (codes "map.low") (whole (natural_or_zero (get_member (codes "low") map)))
   bits ← under (codes "map.bits") (whole (bits_in width low (get_member (codes "bits") map)))
   entries ← under (codes "map.entries") (entries_in bits (get_member (codes "entries") map))
   Ok (record { low = low; bits = bits; entries = entries })

@@ -30,15 +30,15 @@ control_field fields name = do
   Ok (Field n)
 
 -- a text or an integer
-abbrev pub control_of : List NamedField → Option (List ℕ) → Option ℤ → Result Control Cause
-control_of fields (Some name) integer = control_field fields name
-control_of fields None (Some integer) = constant integer
-control_of fields None None = Err WrongKind
+abbrev pub named_or_constant : List NamedField → Option (List ℕ) → Option ℤ → Result Control Cause
+named_or_constant fields (Some name) integer = control_field fields name
+named_or_constant fields None (Some integer) = constant integer
+named_or_constant fields None None = Err WrongKind
 
 -- a field's name, or a constant
 unfoldable pub control_in : List NamedField → Data → Result Control Cause
 control_in fields value = do
-  control ← control_of fields (as_str value) (as_integer value)
+  control ← named_or_constant fields (as_str value) (as_integer value)
   right ← control_rule fields control
   Ok control
 

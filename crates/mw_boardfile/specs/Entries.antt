@@ -23,7 +23,7 @@ use Rattle.mw_boardfile.specs.Values.{kind}
 abbrev pub after : List ℕ → List ℕ → Option (List ℕ)
 after prefix text = if bytes_eq (take (length prefix) text) prefix then Some (drop (length prefix) text) else None
 
--- one reader where there is something, and another where there isn't
+-- what the reader gives of what is there; where nothing is, the other answer
 abbrev pub if_some : {A B : Type 0} → Option A → (A → Result B Cause) → Result B Cause → Result B Cause
 if_some (Some x) reader other = reader x
 if_some None reader other = other

@@ -9,15 +9,15 @@ use Rattle.mw_boardfile.specs.declared.fault.Fault.{Fault}
 use Rattle.mw_boardfile.specs.Lists.{none_refused, each_of}
 use Rattle.mw_boardfile.specs.Values.{whole, natural, list_or_none}
 
--- map.low: 0 where it isn't there
-abbrev pub low_in : Option Data → Result ℕ Cause
-low_in None = Ok 0
-low_in (Some value) = natural value
+-- map.low and map.bits: 0 where it isn't there
+abbrev pub natural_or_zero : Option Data → Result ℕ Cause
+natural_or_zero None = Ok 0
+natural_or_zero (Some value) = natural value
 
 -- map.bits: 0 where it isn't there
 unfoldable pub bits_in : ℕ → ℕ → Option Data → Result ℕ Cause
 bits_in width low given = do
-  bits ← low_in given
+  bits ← natural_or_zero given
   fits ← map_bits_rule width low bits
   Ok bits
 

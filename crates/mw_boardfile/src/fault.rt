@@ -17,11 +17,11 @@ pub type BoardRefusal = Refused<KeyFault>;
 
 /// The first fault of the value under a key.
 #[derive(Clone, Copy, Debug, PartialEq, Eq)]
-pub struct Fault {
+pub(crate) struct Fault {
     /// Why it is refused.
-    pub cause: Cause,
+    pub(crate) cause: Cause,
     /// The number of the entry that is refused; none where it is the value as a whole.
-    pub entry: Option<usize>,
+    pub(crate) entry: Option<usize>,
 }
 
 impl Fault {

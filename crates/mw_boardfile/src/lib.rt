@@ -16,7 +16,7 @@ mod sizes;
 mod unknown;
 mod values;
 
-pub use fault::{BoardRefusal, Fault, KeyFault};
+pub use fault::{BoardRefusal, KeyFault};
 pub use reader::read_board;
 
 #[cfg(test)]

@@ -4,7 +4,7 @@ ghost use Rattle.toml.specs.View.{view, table_view};
 ghost use Rattle.mw_boardfile.specs.Board.{map_of};
 ghost use Rattle.mw_base.specs.Reading.{Gives};
 ghost use Rattle.mw_base.specs.declared.cause.Cause.TheVariants.{WrongKind, BadValue};
-ghost use Rattle.mw_boardfile.specs.Map.{low_in, bits_in, entry_in, entry_faults, entries_in};
+ghost use Rattle.mw_boardfile.specs.Map.{natural_or_zero, bits_in, entry_in, entry_faults, entries_in};
 ghost use Rattle.mw_boardfile.specs.Lists.{none_refused, each_of};
 ghost use Rattle.mw_boardfile.specs.Views.{given, data_of};
 
@@ -17,9 +17,9 @@ use mw_board::{map_bits_rule, map_entries_rule, map_entry_rule};
 use std::alloc::Global;
 use toml::{Table, Value};
 
-/// map.low, 0 where it isn't there: cause 23 or 24.
-fn low(value: Option<&Value>) -> Result<u64, Cause>
-    ensures { result ≡ low_in (given value.entry) }
+/// map.low or map.bits, 0 where it isn't there: cause 23 or 24.
+fn natural_or_zero(value: Option<&Value>) -> Result<u64, Cause>
+    ensures { result ≡ natural_or_zero (given value.entry) }
 {
     match value {
         Some(value) => natural(value),
@@ -33,7 +33,7 @@ fn bits(width: u8, low_bit: u64, value: Option<&Value>) -> Result<u8, Cause>
     ensures exact { result ≡ bits_in width low_bit (given value.entry) }
     ensures within { IfOk result (λ bits. low_bit + bits ≤ width) }
 {
-    let bits = low(value)?;
+    let bits = natural_or_zero(value)?;
     map_bits_rule(width, low_bit, bits)?;
     Ok(bits as u8)
 }
@@ -104,7 +104,7 @@ pub(crate) fn map(alloc: Global, width: u8, document: &Table) -> Result<BoardMap
     ensures { Gives (λ map. map) result (map_of width (table_view document.now)) }
 {
     let table = under_whole(alloc, b"map", table_or_none(member(document, "map")))?;
-    let low = under_whole(alloc, b"map.low", low(member_of(table, "low")))?;
+    let low = under_whole(alloc, b"map.low", natural_or_zero(member_of(table, "low")))?;
     let bits = under_whole(
         alloc,
         b"map.bits",

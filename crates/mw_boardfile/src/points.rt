@@ -3,7 +3,7 @@ ghost use Rattle.std.specs.Prelude.{◌≡◌, ◌-◌, ◌^◌, min, option_cop
 ghost use Rattle.toml.specs.Data.{as_str, as_integer};
 ghost use Rattle.toml.specs.View.{view, table_view};
 ghost use Rattle.mw_base.specs.Reading.{Gives};
-ghost use Rattle.mw_boardfile.specs.Control.{constant, control_field, control_of, control_in, point_in};
+ghost use Rattle.mw_boardfile.specs.Control.{constant, control_field, named_or_constant, control_in, point_in};
 ghost use Rattle.mw_boardfile.specs.Control.{chooser_in, point_of, chooser_of};
 ghost use Rattle.mw_boardfile.specs.Control.{numbers_of, flags_of, choosers_of, points_of};
 ghost use Rattle.mw_boardfile.specs.Values.{Answers};
@@ -52,7 +52,7 @@ pub(crate) fn control(fields: &[NamedField], value: &Value) -> Result<Control, C
 }
 
 fn named_or_constant(fields: &[NamedField], value: &Value) -> Result<Control, Cause>
-    ensures { result ≡ control_of fields.now (as_str (view value.now)) (as_integer (view value.now)) }
+    ensures { result ≡ named_or_constant fields.now (as_str (view value.now)) (as_integer (view value.now)) }
 {
     match value.as_str() {
         Some(name) => control_field(fields, name.as_bytes()),

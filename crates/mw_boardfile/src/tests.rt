@@ -276,9 +276,5 @@ fn bits_and_sources(rt: HostRuntime) -> Result<(), Fail> {
         },
     ];
     assert_eq!(rt; board.parts().d.as_slice(), sources.as_slice());
-    assert_eq!(rt;
-        board.parts().flipflop.as_slice()[1].name.as_slice(),
-        b"y".as_slice()
-    );
     Ok(())
 }
