@@ -1,4 +1,4 @@
-// Names, and other short runs of bytes that a value keeps.
+// Names, and other bytes that a value keeps.
 ghost use Rattle.std.specs.Prelude.{◌≡◌, ℕ, List, IfOk};
 ghost use Rattle.mw_base.specs.Names.{is_name_start, is_word_byte, are_word_bytes, is_spelled_as_name, is_name};
 
@@ -6,7 +6,8 @@ use crate::memory::NoMemory;
 use std::alloc::Global;
 use std::marker::Model;
 
-/// A name, seen as its bytes.
+/// Bytes that a value keeps, as a name or the dotted path of a key, seen as those bytes. Nothing is asked of them: `is_name` says which may
+/// be a name.
 #[derive(Debug, Drop)]
 pub struct Name {
     bytes: Vec<u8>,
@@ -19,7 +20,11 @@ impl Model for Name {
 }
 
 impl Name {
-    /// A name of these bytes.
+    /// These bytes, copied.
+    ///
+    /// # Errors
+    ///
+    /// Memory ran out.
     pub fn new(alloc: Global, bytes: &[u8]) -> Result<Name, NoMemory>
         ensures { IfOk result (λ name. name ≡ bytes.now) }
     {
@@ -28,7 +33,7 @@ impl Name {
         })
     }
 
-    /// A name of the bytes of a vector. It takes no memory.
+    /// The bytes of a vector. It takes no memory.
     pub fn from_vec(bytes: Vec<u8>) -> Name
         ensures { result ≡ bytes.items }
     {

@@ -1,7 +1,7 @@
 // What makes a board file of lines by key no board, and the key and the cause of the refusal.
 
-/// Keys that go, lines that come in their place, and what is refused then: one fault each.
-pub const ONE_FAULT: [(&str, &str, &str); 181] = [
+/// Keys that go, lines that come in their place, and what is refused then: one fault each. The first third.
+pub const ONE_FAULT_1: [(&str, &str, &str); 61] = [
     // No TOML.
     ("fill", "fill = \"0", "- 20"),
     ("", "width = 8", "- 20"),
@@ -116,6 +116,10 @@ pub const ONE_FAULT: [(&str, &str, &str); 181] = [
     // No number.
     ("fill", "fill = ''", "fill 2"),
     ("fill", "fill = '0b2'", "fill 2"),
+];
+
+/// The second third.
+pub const ONE_FAULT_2: [(&str, &str, &str); 60] = [
     ("fill", "fill = '1 '", "fill 2"),
     ("fill", "fill = '-1'", "fill 2"),
     ("fill", "fill = '1_000'", "fill 2"),
@@ -290,6 +294,10 @@ pub const ONE_FAULT: [(&str, &str, &str); 181] = [
         "control.carry_in = 1",
         "select.carry_in 24",
     ),
+];
+
+/// The last third.
+pub const ONE_FAULT_3: [(&str, &str, &str); 60] = [
     ("control.d select.d", "control.d = 1", "select.d 24"),
     (
         "select.condition",

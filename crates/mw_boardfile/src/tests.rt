@@ -1,5 +1,5 @@
 use super::board_cases::{BOARDS, LINES};
-use super::fault_cases::{ONE_FAULT, TWO_FAULTS};
+use super::fault_cases::{ONE_FAULT_1, ONE_FAULT_2, ONE_FAULT_3, TWO_FAULTS};
 use super::*;
 use mw_base::{NoMemory, Refused, append_decimal};
 use mw_board::{Bit, Board, Control, DFrom, DSource, Points};
@@ -108,8 +108,26 @@ fn answer_with(alloc: Global, keys: &str, lines: &str) -> Result<Vec<u8>, Fail> 
 }
 
 #[test]
-fn one_fault(rt: HostRuntime) -> Result<(), Fail> {
-    for &(keys, lines, wanted) in &ONE_FAULT {
+fn one_fault_1(rt: HostRuntime) -> Result<(), Fail> {
+    for &(keys, lines, wanted) in &ONE_FAULT_1 {
+        let given = answer_with(rt.alloc(), keys, lines)?;
+        assert_eq!(rt; given.as_slice(), wanted.as_bytes(), "{lines} for {keys}");
+    }
+    Ok(())
+}
+
+#[test]
+fn one_fault_2(rt: HostRuntime) -> Result<(), Fail> {
+    for &(keys, lines, wanted) in &ONE_FAULT_2 {
+        let given = answer_with(rt.alloc(), keys, lines)?;
+        assert_eq!(rt; given.as_slice(), wanted.as_bytes(), "{lines} for {keys}");
+    }
+    Ok(())
+}
+
+#[test]
+fn one_fault_3(rt: HostRuntime) -> Result<(), Fail> {
+    for &(keys, lines, wanted) in &ONE_FAULT_3 {
         let given = answer_with(rt.alloc(), keys, lines)?;
         assert_eq!(rt; given.as_slice(), wanted.as_bytes(), "{lines} for {keys}");
     }
