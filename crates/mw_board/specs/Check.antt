@@ -49,15 +49,18 @@ list_check place fields control rule entries = all_of (
     ∷ [])
 
 -- version (0) is no part. The sizes, and the words: width, microword, address, fill, unset, vector
-unfoldable pub sizes_check : BoardParts → Checked
-sizes_check p = all_of (
+abbrev pub sizes_tests : BoardParts → List Checked
+sizes_tests p =
     at_key 1 (width_rule p.width)
     ∷ at_key 2 (microword_rule p.microword)
     ∷ at_key 3 (address_rule p.width p.address)
     ∷ at_key 4 (word_rule p.microword p.fill)
     ∷ at_key 5 (word_rule p.microword p.unset)
     ∷ at_key 6 (vector_rule p.vector)
-    ∷ [])
+    ∷ []
+
+unfoldable pub sizes_check : BoardParts → Checked
+sizes_check p = all_of (sizes_tests p)
 
 -- fields.NAME
 abbrev pub field_check : ℕ → ℕ → NamedField → Checked
@@ -89,8 +92,8 @@ unfoldable pub flipflops_check : BoardParts → Checked
 flipflops_check p = all_of (at_key 8 (flipflops_rule (length p.flipflop)) ∷ flipflops_from p [] 0 p.flipflop ∷ [])
 
 -- control.POINT, each with its bits; those that choose from a list have none
-unfoldable pub points_check : BoardParts → Checked
-points_check p = all_of (
+abbrev pub points_tests : BoardParts → List Checked
+points_tests p =
     at_key 12 (point_rule 3 p.fields p.control.alu_source)
     ∷ at_key 13 (point_rule 3 p.fields p.control.alu_function)
     ∷ at_key 14 (point_rule 3 p.fields p.control.alu_destination)
@@ -110,17 +113,23 @@ points_check p = all_of (
     ∷ at_key 28 (control_rule p.fields p.control.d)
     ∷ at_key 29 (control_rule p.fields p.control.condition)
     ∷ at_key 30 (control_rule p.fields p.control.link)
-    ∷ [])
+    ∷ []
+
+unfoldable pub points_check : BoardParts → Checked
+points_check p = all_of (points_tests p)
 
 -- select.LIST
-unfoldable pub lists_check : BoardParts → Checked
-lists_check p = all_of (
+abbrev pub lists_tests : BoardParts → List Checked
+lists_tests p =
     list_check (in_list 31) p.fields p.control.carry_in (carry_in_rule p.width (length p.flipflop)) p.carry_in
     ∷ list_check (in_list 32) p.fields p.control.condition (bit_rule p.width (length p.flipflop)) p.condition
     ∷ list_check (in_list 33) p.fields p.control.link (bit_rule p.width (length p.flipflop)) p.ram_link
     ∷ list_check (in_list 34) p.fields p.control.link (bit_rule p.width (length p.flipflop)) p.q_link
     ∷ list_check (in_list 35) p.fields p.control.d (d_source_rule p.width (length p.fields) (length p.flipflop)) p.d
-    ∷ [])
+    ∷ []
+
+unfoldable pub lists_check : BoardParts → Checked
+lists_check p = all_of (lists_tests p)
 
 -- map.low (36) has no rule of its own; map.bits, map.entries
 unfoldable pub map_check : BoardParts → Checked

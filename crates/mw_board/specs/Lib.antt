@@ -4,3 +4,4 @@ pub mod Following
 pub mod Order
 pub mod Rules
 pub mod Store
+pub mod Valid

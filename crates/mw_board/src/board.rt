@@ -3,10 +3,12 @@ ghost use Rattle.std.specs.Prelude.{◌≡◌, IfOk, IfErr, Ok, Err};
 ghost use Rattle.mw_board.specs.Check.{check_of};
 ghost use Rattle.mw_board.specs.Depth.{depth_of};
 ghost use Rattle.mw_board.specs.Order.{AreInOrder};
+ghost use Rattle.mw_board.specs.Valid.{IsBoard};
 
 use crate::check::check_parts;
 use crate::fault::PartFault;
 use crate::parts::BoardParts;
+use mw_base::Width;
 use std::marker::Model;
 
 /// A board whose parts keep the rules of boards, seen as its parts.
@@ -58,10 +60,19 @@ impl Board {
     /// Its parts.
     pub fn parts(&self) -> &BoardParts
         ensures exact { result.now ≡ self.now }
-        ensures valid { check_of self.now ≡ Ok tt }
+        ensures kept { check_of self.now ≡ Ok tt }
+        ensures valid { IsBoard self.now }
         ensures order { AreInOrder self.now.fields }
     {
         &self.parts
+    }
+
+    /// The width of a register and of a memory word: a multiple of 4, from 4 to 32.
+    pub fn width(&self) -> Width
+        ensures exact { result ≡ self.now.width }
+        ensures valid { IsBoard self.now }
+    {
+        Width::new(self.parts().width).unwrap()
     }
 
     /// How many words the sequencer's stack has.
