@@ -1,15 +1,15 @@
 -- A state that fits its board still fits it after the edge.
-use Rattle.std.proofs.Common.{◌≡◌, ℕ, ◌%◌, ◌^◌, ◌<◌, ◌≤◌, List, length, slice_index, slice_set, Bool, true, false, cond, arith}
+use Rattle.std.proofs.Common.{◌≡◌, ℕ, ◌%◌, ◌^◌, ◌<◌, List, length, slice_index, slice_set, Bool, true, false, cond, arith}
 use Rattle.std.proofs.lemmas.Grind.{common_steps}
 use Rattle.std.proofs.lemmas.Nat.{pow_pos}
-use Rattle.std.proofs.Math.Pow.{pow_mono}
 use Rattle.mw_alu.specs.declared.answer.AluOut.{AluOut}
 use Rattle.mw_seq.specs.Sequencer.{IsSequencer, step_of}
 use Rattle.mw_cycle.specs.declared.microword.Microword.{Microword}
 use Rattle.mw_cycle.specs.declared.state.CycleIn.{CycleIn}
-use Rattle.mw_cycle.specs.Board.{BoardParts, depth_of}
+use Rattle.mw_board.specs.declared.parts.BoardParts.{BoardParts}
+use Rattle.mw_board.specs.Depth.{depth_of}
 use Rattle.mw_cycle.specs.State.{BoardState, Fits}
-use Rattle.mw_cycle.specs.Cycle.{edge, direct_address, next_address, writes_of}
+use Rattle.mw_cycle.specs.Cycle.{edge, direct_address, next_address, writes_of, flips_after}
 
 -- a number that may change stays below a bound
 chosen_below : (b : Bool) (x y n : ℕ) → x < n → y < n → cond b x y < n
@@ -30,19 +30,19 @@ same_length false xs k v n h = h
 low_bits : (y k : ℕ) → y % 2 ^ k < 2 ^ k
 low_bits y k = let some = pow_pos k in omega arith
 
--- a short word is a word
-pub short_below : (x a w : ℕ) → a ≤ w → x < 2 ^ a → x < 2 ^ w
-short_below x a w h g = omega (arith, pow_mono h)
-
-pub edge_fits : (board : BoardParts) (m : Microword) (answer : AluOut) (pass : Bool) (s : BoardState) (given : CycleIn) → Fits board s → next_address m pass s given < 2 ^ 12 → IsSequencer (depth_of board) (step_of (depth_of board) m.sequencer pass (direct_address m) m.ci m.rld given.noise s.seq) → answer.y < 2 ^ board.width → (writes_of board m answer s given).b < 2 ^ board.width → (writes_of board m answer s given).q < 2 ^ board.width → Fits board (edge board m answer pass s given)
+pub edge_fits : (board : BoardParts) (m : Microword) (answer : AluOut) (pass : Bool) (s : BoardState) (given : CycleIn) → Fits board s → next_address board m pass s given < 2 ^ 12
+    → IsSequencer (depth_of board) (step_of (depth_of board) m.sequencer pass (direct_address board m s) m.ci m.rld given.noise s.seq) → answer.y < 2 ^ board.width
+    → (writes_of board m answer s given).b < 2 ^ board.width → (writes_of board m answer s given).q < 2 ^ board.width → flips_after board m answer s given < 2 ^ length board.flipflop
+    → Fits board (edge board m answer pass s given)
 unfolding edge
-edge_fits board m answer pass s given fits next seq y b q = record {
+edge_fits board m answer pass s given fits next seq y b q flips = record {
   at = next;
   sixteen = same_length _ _ _ _ _ fits.sixteen;
   regs = words_below _ _ _ _ _ fits.regs b;
   q = chosen_below _ _ _ _ q fits.q;
   mar = chosen_below _ _ _ _ (low_bits _ _) fits.mar;
   ir = chosen_below _ _ _ _ y fits.ir;
+  flips = flips;
   seq = seq;
   size = same_length _ _ _ _ _ fits.size;
   memory = words_below _ _ _ _ _ fits.memory y;

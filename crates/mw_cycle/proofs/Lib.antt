@@ -1,4 +1,5 @@
 pub mod Edge
-pub mod Segments
 pub mod OnLiterals
+pub mod Ranges
+pub mod Segments
 pub mod Times

@@ -1,6 +1,6 @@
 -- Segments of a run, cycle by cycle.
 use Rattle.std.proofs.Common.{◌≡◌, ℕ, suc, ◌+◌, ◌-◌, ◌<◌, ◌≤◌, List, Bool, true, false, cond, find, Some, None, option_map, refl, ap, sym, ◌∙◌, add-one, arith}
-use Rattle.mw_cycle.specs.Board.{BoardParts}
+use Rattle.mw_board.specs.declared.parts.BoardParts.{BoardParts}
 use Rattle.mw_cycle.specs.State.{BoardState}
 use Rattle.mw_cycle.specs.Environment.{Environment}
 use Rattle.mw_cycle.specs.Run.{BoardRun, longer_run, run_of}

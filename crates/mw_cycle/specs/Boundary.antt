@@ -1,7 +1,7 @@
 -- Where a run is compared: the boundaries that a relation names, and the times at which a run reaches them.
 use Rattle.std.specs.Prelude.{◌≡◌, ℕ, zero, suc, ◌+◌, ◌<◌, List, [], ◌∷◌, Bool, true, false, ◌==◌, ◌≤◌, Option, Some, None, find, option_map}
 use Rattle.std.specs.List.{list_any}
-use Rattle.mw_cycle.specs.Board.{BoardParts}
+use Rattle.mw_board.specs.declared.parts.BoardParts.{BoardParts}
 use Rattle.mw_cycle.specs.State.{BoardState}
 use Rattle.mw_cycle.specs.Environment.{Environment}
 use Rattle.mw_cycle.specs.Run.{BoardRun, run_of}

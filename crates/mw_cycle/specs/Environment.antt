@@ -1,6 +1,6 @@
 -- The outside of a run.
 use Rattle.std.specs.Prelude.{ℕ, ◌<◌, ◌^◌, List, Bool, false, drop, slice_index, slice_index_or}
-use Rattle.mw_cycle.specs.Board.{BoardParts}
+use Rattle.mw_board.specs.declared.parts.BoardParts.{BoardParts}
 use Rattle.mw_cycle.specs.declared.environment.Clock.{Clock}
 use Rattle.mw_cycle.specs.declared.state.CycleIn.{CycleIn}
 

@@ -1,4 +1,4 @@
-pub mod Board
+pub mod Control
 pub mod Microword
 pub mod State
 pub mod Environment

@@ -3,8 +3,8 @@ use Rattle.std.specs.Prelude.{ℕ, zero, suc, ◌+◌, List, [], ◌++◌, Optio
 use Rattle.std.specs.Option.{option_to_list}
 use Rattle.mw_base.specs.declared.event.Event.{Event}
 use Rattle.mw_base.specs.declared.event.Event.TheVariants.{Out, Taken}
+use Rattle.mw_board.specs.declared.parts.BoardParts.{BoardParts}
 use Rattle.mw_cycle.specs.declared.environment.Clock.{Clock}
-use Rattle.mw_cycle.specs.Board.{BoardParts}
 use Rattle.mw_cycle.specs.State.{BoardState}
 use Rattle.mw_cycle.specs.Environment.{Environment, at_start, given_at}
 use Rattle.mw_cycle.specs.Cycle.{state_after, nets_of}

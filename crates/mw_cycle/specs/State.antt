@@ -1,16 +1,18 @@
 -- The state of a board, and when it fits one.
-use Rattle.std.specs.Prelude.{◌≡◌, ℕ, ◌<◌, ◌^◌, List, length, slice_index}
+use Rattle.std.specs.Prelude.{◌≡◌, ℕ, ◌<◌, ◌^◌, List, length, replicate, slice_index}
 use Rattle.mw_seq.specs.Sequencer.{Sequencer, IsSequencer}
-use Rattle.mw_cycle.specs.Board.{BoardParts, depth_of}
+use Rattle.mw_board.specs.declared.parts.BoardParts.{BoardParts}
+use Rattle.mw_board.specs.Depth.{depth_of}
 
 -- the control address in the pipeline register, the Am2901's registers and Q, the memory address register, the instruction
--- register, the Am2910, and the memory image
+-- register, the flip-flops (flip-flop n is bit n), the Am2910, and the memory image
 pub record BoardState : Type 0 where
   pub at : ℕ
   pub regs : List ℕ
   pub q : ℕ
   pub mar : ℕ
   pub ir : ℕ
+  pub flips : ℕ
   pub seq : Sequencer
   pub memory : List ℕ
 
@@ -22,6 +24,20 @@ pub record Fits (board : BoardParts) (s : BoardState) : Type 0 where
   pub q : s.q < 2 ^ board.width
   pub mar : s.mar < 2 ^ board.address
   pub ir : s.ir < 2 ^ board.width
+  pub flips : s.flips < 2 ^ length board.flipflop
   pub seq : IsSequencer (depth_of board) s.seq
   pub size : length s.memory ≡ 2 ^ board.address
   pub memory : (i : ℕ) → slice_index s.memory i < 2 ^ board.width
+
+-- everything is 0
+unfoldable pub cleared : BoardParts → BoardState
+cleared board = record {
+  at = 0;
+  regs = replicate 16 0;
+  q = 0;
+  mar = 0;
+  ir = 0;
+  flips = 0;
+  seq = record { pc = 0; r = 0; stack = replicate (depth_of board) 0; sp = 0 };
+  memory = replicate (2 ^ board.address) 0;
+}

@@ -1,9 +1,11 @@
 //! One cycle of a board, and runs of cycles from boundary to boundary.
 #![tactic(auto)]
 
-mod board;
+mod bits;
+mod control;
 mod datapath;
 mod environment;
+mod flipflops;
 mod microword;
 mod one_cycle;
 mod run;
@@ -11,10 +13,9 @@ mod state;
 #[cfg(test)]
 mod tests;
 
-pub use board::{Board, Store};
 pub use datapath::{Datapath, Whole};
 pub use environment::{Clock, Env};
-pub use microword::{Bit, DFrom, Microword};
+pub use microword::Microword;
 pub use one_cycle::cycle;
 pub use run::{Run, run_to_boundary, segments_end_at_boundaries};
 pub use state::{CycleIn, Nets, State};

@@ -1,55 +1,17 @@
-// A microword's control points, decoded.
-ghost use Rattle.std.specs.Prelude.{◌≡◌, ◌<◌, ◌≤◌, ◌^◌};
-ghost use Rattle.mw_base.specs.Words.{bit_of, part};
-ghost use Rattle.mw_cycle.specs.Microword.{points_of, IsMicroword};
+// A microword, decoded.
+ghost use Rattle.std.specs.Prelude.{◌≡◌, ◌<◌};
+ghost use Rattle.mw_board.specs.Valid.{IsPoint};
+ghost use Rattle.mw_cycle.specs.Control.{value_at};
+ghost use Rattle.mw_cycle.specs.Microword.{instruction_of, points_of, IsMicroword};
 
-/// A bit that a condition, a carry in or a link may choose.
-#[derive(Clone, Copy, Debug, PartialEq, Eq)]
-pub enum Bit {
-    /// 0.
-    Zero,
-    /// 1.
-    One,
-    /// The carry out of the top bit.
-    Carry,
-    /// The overflow.
-    Overflow,
-    /// F is 0.
-    FZero,
-    /// The sign of F.
-    Sign,
-    /// The bottom bit of F.
-    FLow,
-    /// The top bit of F.
-    FHigh,
-    /// The bottom bit of Q before the edge.
-    QLow,
-    /// The top bit of Q before the edge.
-    QHigh,
-    /// The interrupt line.
-    Line,
-    /// The sequencer's stack is full.
-    Full,
-}
+use crate::control::{chosen, is_on, value_at};
+use mw_board::{Bit, Board, Control, DFrom, DSource};
 
-/// Where the direct data D comes from.
-#[derive(Clone, Copy, Debug, PartialEq, Eq)]
-pub enum DFrom {
-    /// 0.
-    Zero,
-    /// The memory word at `mar`.
-    Memory,
-    /// The instruction register.
-    Ir,
-    /// The address register.
-    Mar,
-    /// The offered input word, which is taken.
-    Input,
-}
-
-/// What one microword has at each control point of the board.
+/// A microword, and what it has at each control point of its board.
 #[derive(Clone, Copy, Debug)]
 pub struct Microword {
+    /// The microword itself.
+    pub word: u128,
     /// The Am2901's nine-bit instruction.
     pub instruction: u16,
     /// The register that A reads.
@@ -59,7 +21,7 @@ pub struct Microword {
     /// The bit at the carry in.
     pub carry_in: Bit,
     /// The source of D.
-    pub d: DFrom,
+    pub d: DSource,
     /// The bit that the test reads.
     pub condition: Bit,
     /// The test reads the opposite of its bit.
@@ -88,54 +50,83 @@ pub struct Microword {
     pub out: bool,
 }
 
-/// The run of `width` bits of a word, from bit `low` on.
-fn run_of_bits(word: u128, low: u8, width: u8) -> u16
-    requires low_in { low < 128 }
-    requires width_in { width ≤ 16 }
-    ensures exact { result ≡ part low width word }
-    ensures below { result < 2 ^ width }
+/// D is 0.
+const NO_SOURCE: DSource = DSource {
+    from: DFrom::Zero,
+    mask: None,
+};
+
+/// The Am2901's instruction: its source, its function and its destination, of three bits each.
+fn instruction(board: &Board, word: u128) -> u16
+    ensures exact { result ≡ instruction_of board.now word }
+    ensures below { result < 512 }
 {
-    ((word >> low) % (1 << width)) as u16
+    let control = &board.parts().control;
+    let source = value_at(board, word, control.alu_source);
+    let function = value_at(board, word, control.alu_function);
+    let destination = value_at(board, word, control.alu_destination);
+    (destination * 64 + function * 8 + source) as u16
 }
 
-fn has_bit(word: u128, place: u8) -> bool
-    requires { place < 128 }
-    ensures { result ≡ bit_of word place }
+/// What a control point of four bits is given.
+fn four_bits(board: &Board, word: u128, control: Control) -> u8
+    requires { IsPoint 4 board.now.fields control }
+    ensures exact { result ≡ value_at board.now.fields word control }
+    ensures below { result < 16 }
 {
-    (word >> place) & 1 == 1
+    value_at(board, word, control) as u8
+}
+
+/// The branch address.
+fn branch(board: &Board, word: u128) -> u16
+    ensures exact { result ≡ value_at board.now.fields word board.now.control.branch }
+    ensures below { result < 4096 }
+{
+    value_at(board, word, board.parts().control.branch) as u16
 }
 
 impl Microword {
-    /// The control points of a bundle's microword.
+    /// What the microword has at each control point of the board.
     #[tactic(auto, unfolding(crate::specs::Microword::points_of))]
-    pub fn decoded(word: u128) -> Microword
-        ensures exact { result ≡ points_of word }
-        ensures valid { IsMicroword result }
+    pub fn decoded(board: &Board, word: u128) -> Microword
+        ensures exact { result ≡ points_of board.now word }
+        ensures valid { IsMicroword board.now result }
     {
-        let carry_in = if has_bit(word, 17) {
-            Bit::One
-        } else {
-            Bit::Zero
-        };
+        let parts = board.parts();
+        let control = &parts.control;
+        let link = value_at(board, word, control.link);
         Microword {
-            instruction: run_of_bits(word, 0, 9),
-            a_address: run_of_bits(word, 9, 4) as u8,
-            b_address: run_of_bits(word, 13, 4) as u8,
-            carry_in,
-            d: DFrom::Zero,
-            condition: Bit::Zero,
-            polarity: false,
-            test_disable: has_bit(word, 34),
-            sequencer: run_of_bits(word, 18, 4) as u8,
-            branch: run_of_bits(word, 22, 12),
-            ci: true,
-            rld: false,
-            ram_link: Bit::Zero,
-            q_link: Bit::Zero,
-            mar_load: false,
-            ir_load: false,
-            memory_write: false,
-            out: false,
+            word,
+            instruction: instruction(board, word),
+            a_address: four_bits(board, word, control.a_address),
+            b_address: four_bits(board, word, control.b_address),
+            carry_in: chosen(
+                Bit::Zero,
+                parts.carry_in.as_slice(),
+                value_at(board, word, control.carry_in),
+            ),
+            d: chosen(
+                NO_SOURCE,
+                parts.d.as_slice(),
+                value_at(board, word, control.d),
+            ),
+            condition: chosen(
+                Bit::Zero,
+                parts.condition.as_slice(),
+                value_at(board, word, control.condition),
+            ),
+            polarity: is_on(board, word, control.polarity),
+            test_disable: is_on(board, word, control.test_disable),
+            sequencer: four_bits(board, word, control.sequencer),
+            branch: branch(board, word),
+            ci: is_on(board, word, control.ci),
+            rld: is_on(board, word, control.rld),
+            ram_link: chosen(Bit::Zero, parts.ram_link.as_slice(), link),
+            q_link: chosen(Bit::Zero, parts.q_link.as_slice(), link),
+            mar_load: is_on(board, word, control.mar_load),
+            ir_load: is_on(board, word, control.ir_load),
+            memory_write: is_on(board, word, control.memory_write),
+            out: is_on(board, word, control.out),
         }
     }
 }

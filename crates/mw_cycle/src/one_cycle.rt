@@ -1,20 +1,24 @@
 // One cycle.
-ghost use Rattle.std.specs.Prelude.{◌≡◌, ◌<◌, ◌^◌, ◌%◌, ◌-◌};
-ghost use Rattle.mw_seq.specs.declared.sequencer.TheConstants.{DEPTH};
+ghost use Rattle.std.specs.Prelude.{◌≡◌, ◌<◌, ◌≤◌, ◌^◌, ◌%◌, length};
 ghost use Rattle.mw_seq.specs.Sequencer.{IsSequencer, step_of};
-ghost use Rattle.mw_cycle.specs.Board.{IsBoard};
+ghost use Rattle.mw_board.specs.Depth.{depth_of};
+ghost use Rattle.mw_board.specs.Valid.{IsFrom, IsMask};
 ghost use Rattle.mw_cycle.specs.Microword.{IsMicroword};
 ghost use Rattle.mw_cycle.specs.State.{Fits};
-ghost use Rattle.mw_cycle.specs.Cycle.{d_of, early_bit, operands_of, answer_of, carry_net, overflow_net, bit_value, pass_of, direct_address, next_address, pins_of, writes_of, edge, event_of, state_after, nets_of};
+ghost use Rattle.mw_cycle.specs.Cycle.{from_source, masked, d_of, operands_of, answer_of, pass_of, map_of, direct_address, next_address};
+ghost use Rattle.mw_cycle.specs.Cycle.{pins_of, writes_of, flips_after, edge, event_of, state_after, nets_of};
 
-use crate::board::{Board, Store};
+use crate::bits::{bit_value, carry_net, early_bit, flip, overflow_net};
+use crate::control::{in_field, run_of_bits};
 use crate::datapath::Datapath;
-use crate::microword::{Bit, DFrom, Microword};
+use crate::flipflops::flips_after;
+use crate::microword::Microword;
 use crate::state::{CycleIn, Nets, State};
 use mw_alu::{AluOut, Pins, ShiftOut};
-use mw_base::{Event, bit};
+use mw_base::{Event, mask};
+use mw_board::{Board, DFrom, Store};
 
-/// The code of JMAP, whose direct address is the map.
+/// The code of JMAP, whose direct address is the map's.
 const JMAP: u8 = 2;
 
 /// The code of CJV, whose direct address is the vector.
@@ -33,12 +37,26 @@ pub struct Operands {
     pub cin: bool,
 }
 
-/// The direct data.
-fn direct_data(board: &Board, from: DFrom, state: &State, given: CycleIn) -> u32
-    requires valid { IsBoard board.now }
+/// What has settled before the edge.
+#[derive(Clone, Copy)]
+struct Settled {
+    /// The Am2901's answers.
+    answer: AluOut,
+    /// What it writes.
+    writes: ShiftOut,
+    /// What the flip-flops take.
+    flips: u16,
+    /// The test passes.
+    pass: bool,
+}
+
+/// A source of D, without its mask.
+#[tactic(auto, unfolding(crate::specs::Cycle::from_source))]
+fn from_source(board: &Board, word: u128, from: DFrom, state: &State, given: CycleIn) -> u32
+    requires there { IsFrom (length board.now.fields) (length board.now.flipflop) from }
     requires fits { Fits board.now state.now }
     requires input { given.input < 2 ^ board.now.width }
-    ensures exact { result ≡ d_of from state.now given }
+    ensures exact { result ≡ from_source board.now word from state.now given }
     ensures below { result < 2 ^ board.now.width }
 {
     match from {
@@ -47,106 +65,83 @@ fn direct_data(board: &Board, from: DFrom, state: &State, given: CycleIn) -> u32
         DFrom::Ir => state.ir,
         DFrom::Mar => state.mar,
         DFrom::Input => given.input,
+        DFrom::Field(number) => in_field(board, number, word) & mask(board.width()),
+        DFrom::Flip(number) => u32::from(flip(state, number)),
     }
 }
 
-/// A bit that stands before F is made; the bits of F are false here.
-fn early_bit(board: &Board, chosen: Bit, state: &State, given: CycleIn) -> bool
-    ensures { result ≡ early_bit board.now chosen state.now given }
+/// A source seen through its mask, where it has one.
+fn masked(mask: Option<u32>, d: u32) -> u32
+    ensures exact { result ≡ masked mask d }
+    ensures most { result ≤ d }
 {
-    match chosen {
-        Bit::One => true,
-        Bit::QLow => bit(state.q, 0),
-        Bit::QHigh => bit(state.q, board.width().bits() - 1),
-        Bit::Line => given.line,
-        Bit::Full => state.seq.full(),
-        _ => false,
+    match mask {
+        Some(mask) => d & mask,
+        None => d,
     }
 }
 
 /// What the Am2901 reads.
 #[tactic(auto, unfolding(crate::specs::Cycle::operands_of))]
 fn read_operands(board: &Board, word: &Microword, state: &State, given: CycleIn) -> Operands
-    requires valid { IsBoard board.now }
     requires fits { Fits board.now state.now }
-    requires word_in { IsMicroword word.now }
+    requires word_in { IsMicroword board.now word.now }
     requires input { given.input < 2 ^ board.now.width }
     ensures exact { result ≡ operands_of board.now word.now state.now given }
     ensures a_below { result.a < 2 ^ board.now.width }
     ensures b_below { result.b < 2 ^ board.now.width }
     ensures d_below { result.d < 2 ^ board.now.width }
 {
+    let source = from_source(board, word.word, word.d.from, state, given);
     Operands {
         a: state.regs[usize::from(word.a_address)],
         b: state.regs[usize::from(word.b_address)],
-        d: direct_data(board, word.d, state, given),
+        d: masked(word.d.mask, source),
         cin: early_bit(board, word.carry_in, state, given),
-    }
-}
-
-/// The carry out, or bit 12 of the noise where it is undefined.
-fn carry_net(answer: &AluOut, given: CycleIn) -> bool
-    ensures { result ≡ carry_net answer.now given }
-{
-    if answer.defined {
-        answer.carry
-    } else {
-        bit(u32::from(given.noise), 12)
-    }
-}
-
-/// The overflow, or bit 13 of the noise where it is undefined.
-fn overflow_net(answer: &AluOut, given: CycleIn) -> bool
-    ensures { result ≡ overflow_net answer.now given }
-{
-    if answer.defined {
-        answer.overflow
-    } else {
-        bit(u32::from(given.noise), 13)
-    }
-}
-
-/// Any bit, once F is made.
-fn bit_value(board: &Board, chosen: Bit, answer: &AluOut, state: &State, given: CycleIn) -> bool
-    ensures { result ≡ bit_value board.now chosen answer.now state.now given }
-{
-    match chosen {
-        Bit::Carry => carry_net(answer, given),
-        Bit::Overflow => overflow_net(answer, given),
-        Bit::FZero => answer.zero,
-        Bit::Sign => answer.sign,
-        Bit::FLow => bit(answer.f, 0),
-        Bit::FHigh => bit(answer.f, board.width().bits() - 1),
-        _ => early_bit(board, chosen, state, given),
     }
 }
 
 /// Whether the test is disabled, or its bit, turned over where polarity is 1, holds.
 #[tactic(auto, unfolding(crate::specs::Cycle::pass_of))]
 fn passes(board: &Board, word: &Microword, answer: &AluOut, state: &State, given: CycleIn) -> bool
+    requires { IsMicroword board.now word.now }
     ensures { result ≡ pass_of board.now word.now answer.now state.now given }
 {
     let condition = bit_value(board, word.condition, answer, state, given);
     word.test_disable | (word.polarity != condition)
 }
 
-/// The address at the Am2910's D. The map and the vector of this board are 0.
-#[tactic(auto, unfolding(crate::specs::Cycle::direct_address))]
-fn direct_address(word: &Microword) -> u16
-    requires { IsMicroword word.now }
-    ensures exact { result ≡ direct_address word.now }
+/// What the map gives for the instruction register.
+fn mapped(board: &Board, state: &State) -> u16
+    ensures exact { result ≡ map_of board.now state.now }
     ensures below { result < 2 ^ 12 }
 {
-    if word.sequencer == JMAP || word.sequencer == CJV {
-        0
-    } else {
-        word.branch
+    let parts = board.parts();
+    let seen = run_of_bits(u128::from(state.ir), parts.map_low, parts.map_bits);
+    match parts.map_entries.as_slice().get(seen as usize) {
+        Some(entry) => *entry,
+        None => 0,
+    }
+}
+
+/// The address at the Am2910's D.
+#[tactic(auto, unfolding(crate::specs::Cycle::direct_address))]
+fn direct_address(board: &Board, word: &Microword, state: &State) -> u16
+    requires { IsMicroword board.now word.now }
+    ensures exact { result ≡ direct_address board.now word.now state.now }
+    ensures below { result < 2 ^ 12 }
+{
+    match word.sequencer {
+        JMAP => mapped(board, state),
+        CJV => board.parts().vector,
+        _ => word.branch,
     }
 }
 
 /// The pins of both shifts: a chosen bit stands at both ends.
 #[tactic(auto, unfolding(crate::specs::Cycle::pins_of))]
 fn pins(board: &Board, word: &Microword, answer: &AluOut, state: &State, given: CycleIn) -> Pins
+    requires { IsMicroword board.now word.now }
     ensures { result ≡ pins_of board.now word.now answer.now state.now given }
 {
     let ram = bit_value(board, word.ram_link, answer, state, given);
@@ -163,7 +158,7 @@ fn pins(board: &Board, word: &Microword, answer: &AluOut, state: &State, given: 
 fn event(word: &Microword, y: u32, given: CycleIn) -> Option<Event>
     ensures { result ≡ event_of word.now y given }
 {
-    match word.d {
+    match word.d.from {
         DFrom::Input => Some(Event::Taken(given.input)),
         _ => word.out.then_some(Event::Out(y)),
     }
@@ -180,7 +175,7 @@ fn writes<A: Datapath>(
     given: CycleIn,
 ) -> ShiftOut
     requires fits { Fits board.now state.now }
-    requires word_in { IsMicroword word.now }
+    requires word_in { IsMicroword board.now word.now }
     requires f_in { answer.now.f < 2 ^ board.now.width }
     ensures exact { result ≡ writes_of board.now word.now answer.now state.now given }
     ensures b_below { result.b < 2 ^ board.now.width }
@@ -190,29 +185,34 @@ fn writes<A: Datapath>(
     part.edge(board.width(), word.instruction, answer.f, state.q, pins)
 }
 
-/// The edge: all that is written is written from what was there before it.
-#[tactic(auto, unfolding(crate::specs::Cycle::edge, crate::specs::Cycle::next_address))]
+/// The edge: all that is written is written from what was there before it. Answers the next address.
+#[tactic(auto, unfolding(crate::specs::Cycle::edge, crate::specs::Cycle::next_address, mw_board::specs::Depth::depth_of))]
 fn take_edge(
     board: &Board,
     word: &Microword,
-    answer: &AluOut,
-    writes: &ShiftOut,
-    pass: bool,
+    settled: &Settled,
     state: &mut State,
     given: CycleIn,
 ) -> u16
     requires fits { Fits board.now state.old }
-    requires word_in { IsMicroword word.now }
-    requires written { writes.now ≡ writes_of board.now word.now answer.now state.old given }
-    ensures next { result ≡ next_address word.now pass state.old given }
+    requires word_in { IsMicroword board.now word.now }
+    requires written { settled.now.writes ≡ writes_of board.now word.now settled.now.answer state.old given }
+    requires taken { settled.now.flips ≡ flips_after board.now word.now settled.now.answer state.old given }
+    ensures next { result ≡ next_address board.now word.now settled.now.pass state.old given }
     ensures below { result < 2 ^ 12 }
-    ensures exact { state.new ≡ edge board.now word.now answer.now pass state.old given }
-    ensures sequencer { IsSequencer DEPTH (step_of DEPTH word.now.sequencer pass (direct_address word.now) word.now.ci word.now.rld given.noise state.old.seq) }
+    ensures exact { state.new ≡ edge board.now word.now settled.now.answer settled.now.pass state.old given }
+    ensures sequencer { IsSequencer (depth_of board.now) (step_of (depth_of board.now) word.now.sequencer settled.now.pass (direct_address board.now word.now state.old) word.now.ci word.now.rld given.noise state.old.seq) }
 {
-    let d = direct_address(word);
+    let Settled {
+        answer,
+        writes,
+        flips,
+        pass,
+    } = settled;
+    let d = direct_address(board, word, state);
     let next = state
         .seq
-        .step(word.sequencer, pass, d, word.ci, word.rld, given.noise);
+        .step(word.sequencer, *pass, d, word.ci, word.rld, given.noise);
     if word.memory_write {
         state.memory[state.mar as usize] = answer.y;
     }
@@ -223,16 +223,17 @@ fn take_edge(
         state.q = writes.q;
     }
     if word.mar_load {
-        state.mar = answer.y % (1 << board.address());
+        state.mar = answer.y & ((1 << board.parts().address) - 1);
     }
     if word.ir_load {
         state.ir = answer.y;
     }
+    state.flips = *flips;
     state.at = next;
     next
 }
 
-/// One cycle of a board whose state fits it: the state after it, and the values that it read and made.
+/// One cycle of a board whose state fits it: the state after it, and the values that it read and made. It takes no memory.
 #[tactic(auto, unfolding(crate::specs::Cycle::state_after, crate::specs::Cycle::nets_of, crate::specs::Cycle::answer_of))]
 pub fn cycle<A: Datapath>(
     part: &A,
@@ -243,12 +244,12 @@ pub fn cycle<A: Datapath>(
 ) -> Nets
     requires fits { Fits board.now state.old }
     requires input { given.input < 2 ^ board.now.width }
-    ensures nets { result ≡ nets_of board.now store.now state.old given }
-    ensures exact { state.new ≡ state_after board.now store.now state.old given }
+    ensures nets { result ≡ nets_of board.now store.now.words state.old given }
+    ensures exact { state.new ≡ state_after board.now store.now.words state.old given }
     ensures fits { Fits board.now state.new }
 {
     let code = store.word(board, state.at);
-    let word = Microword::decoded(code);
+    let word = Microword::decoded(board, code);
     let width = board.width();
     let Operands { a, b, d, cin } = read_operands(board, &word, state, given);
     let answer = part.answer(width, word.instruction, a, b, state.q, d, cin);
@@ -256,7 +257,14 @@ pub fn cycle<A: Datapath>(
     let overflow = overflow_net(&answer, given);
     let pass = passes(board, &word, &answer, state, given);
     let writes = writes(part, board, &word, &answer, state, given);
-    let next = take_edge(board, &word, &answer, &writes, pass, state, given);
+    let flips = flips_after(board, &word, &answer, state, given);
+    let settled = Settled {
+        answer,
+        writes,
+        flips,
+        pass,
+    };
+    let next = take_edge(board, &word, &settled, state, given);
     Nets {
         word: code,
         a,

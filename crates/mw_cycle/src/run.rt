@@ -5,12 +5,12 @@ ghost use Rattle.mw_cycle.specs.State.{Fits};
 ghost use Rattle.mw_cycle.specs.Run.{BoardRun, clock_after, longer_run, run_of};
 ghost use Rattle.mw_cycle.specs.Boundary.{SegmentsEndAtBoundaries, first_segment, is_named};
 
-use crate::board::{Board, Store};
 use crate::datapath::Datapath;
 use crate::environment::{Clock, Env};
 use crate::one_cycle::cycle;
 use crate::state::State;
 use mw_base::{Event, NoMemory};
+use mw_board::{Board, Store};
 use std::alloc::Global;
 use std::marker::Model;
 
@@ -78,7 +78,7 @@ impl Run {
         requires env_in { IsEnvironment board.now env.now }
         requires cycle { self.old.clock.cycle + 1 < 2 ^ 64 }
         requires taken { self.old.clock.taken ≤ self.old.clock.cycle }
-        ensures exact { OnOk result (self.new ≡ longer_run board.now store.now env.now self.old) }
+        ensures exact { OnOk result (self.new ≡ longer_run board.now store.now.words env.now self.old) }
         ensures fits { OnOk result (Fits board.now self.new.state) }
         ensures cycle { OnOk result (self.new.clock.cycle ≡ self.old.clock.cycle + 1) }
         ensures taken { OnOk result (self.new.clock.taken ≤ self.new.clock.cycle) }
@@ -112,9 +112,9 @@ impl Run {
     ) -> Result<bool, NoMemory>
         requires fits { Fits board.now self.old.state }
         requires env_in { IsEnvironment board.now env.now }
-        requires begun { self.old ≡ run_of board.now store.now env.now self.old.state 0 }
-        ensures reached { IfOk result (λ reached. reached ≡ true → first_segment board.now store.now env.now self.old.state addresses.now limit ≡ Some self.new) }
-        ensures late { IfOk result (λ reached. reached ≡ false → first_segment board.now store.now env.now self.old.state addresses.now limit ≡ None) }
+        requires begun { self.old ≡ run_of board.now store.now.words env.now self.old.state 0 }
+        ensures reached { IfOk result (λ reached. reached ≡ true → first_segment board.now store.now.words env.now self.old.state addresses.now limit ≡ Some self.new) }
+        ensures late { IfOk result (λ reached. reached ≡ false → first_segment board.now store.now.words env.now self.old.state addresses.now limit ≡ None) }
         ensures fits { OnOk result (Fits board.now self.new.state) }
         ensures events { OnOk result (length self.new.events ≤ limit) }
         ensures named { IfOk result (λ reached. reached ≡ true → is_named addresses.now self.new.state.at ≡ true) }
@@ -143,7 +143,7 @@ pub fn run_to_boundary<A: Datapath>(
 ) -> Result<Option<Run>, NoMemory>
     requires fits { Fits board.now start }
     requires env_in { IsEnvironment board.now env.now }
-    ensures exact { IfOk result (λ run. run ≡ first_segment board.now store.now env.now start addresses.now limit) }
+    ensures exact { IfOk result (λ run. run ≡ first_segment board.now store.now.words env.now start addresses.now limit) }
     ensures fits { IfOk result (λ run. IfSome run (λ r. Fits board.now r.state)) }
     ensures events { IfOk result (λ run. IfSome run (λ r. length r.events ≤ limit)) }
     ensures named { IfOk result (λ run. IfSome run (λ r. is_named addresses.now r.state.at ≡ true)) }

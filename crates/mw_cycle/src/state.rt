@@ -1,7 +1,12 @@
 // What a board keeps from cycle to cycle, what a cycle is given, and what it makes.
+ghost use Rattle.std.specs.Prelude.{◌≡◌, ℕ, ◌<◌, ◌≤◌, ◌^◌, ◌↔◌, IfOk, IsTrue, slice_index};
+ghost use Rattle.mw_base.specs.Words.{ones};
+ghost use Rattle.mw_cycle.specs.State.{Fits, cleared};
 
-use mw_base::Event;
+use mw_base::{Event, NoMemory, mask};
+use mw_board::Board;
 use mw_seq::Seq;
+use std::alloc::Global;
 use std::marker::Model;
 
 /// The state of a board at the start of a cycle.
@@ -17,6 +22,8 @@ pub struct State {
     pub mar: u32,
     /// The instruction register, a word.
     pub ir: u32,
+    /// The flip-flops: flip-flop n is bit n.
+    pub flips: u16,
     /// The Am2910.
     pub seq: Seq,
     /// The memory's words, by address.
@@ -28,7 +35,61 @@ impl Model for State {
 
     ghost Value = { BoardState };
 
-    ghost view = { λ s. record { at = s.at; regs = s.regs; q = s.q; mar = s.mar; ir = s.ir; seq = s.seq; memory = s.memory.items } };
+    ghost view = { λ s. record { at = s.at; regs = s.regs; q = s.q; mar = s.mar; ir = s.ir; flips = s.flips; seq = s.seq; memory = s.memory.items } };
+}
+
+/// Whether each of the words is at most this one.
+fn are_at_most(words: &[u32], most: u32) -> bool
+    ensures { IsTrue result ↔ ((i : ℕ) → slice_index words.now i ≤ most) }
+{
+    words.iter().all(|word| *word <= most)
+}
+
+impl State {
+    ghost use Rattle.mw_cycle.specs.State.{Fits, cleared};
+
+    /// The state of a board in which everything is 0.
+    ///
+    /// # Errors
+    ///
+    /// Memory ran out.
+    #[tactic(auto, unfolding(crate::specs::State::cleared))]
+    pub fn new(alloc: Global, board: &Board) -> Result<State, NoMemory>
+        ensures exact { IfOk result (λ state. state ≡ cleared board.now) }
+        ensures fits { IfOk result (λ state. Fits board.now state) }
+    {
+        Ok(State {
+            at: 0,
+            regs: [0; 16],
+            q: 0,
+            mar: 0,
+            ir: 0,
+            flips: 0,
+            seq: Seq {
+                pc: 0,
+                r: 0,
+                stack: [0; 5],
+                sp: 0,
+            },
+            memory: vec![in alloc; 0; 1 << board.parts().address]?,
+        })
+    }
+
+    /// Whether the state fits a board: each part is in its range, and the memory has each of its words.
+    pub fn fits(&self, board: &Board) -> bool
+        ensures { IsTrue result ↔ Fits board.now self.now }
+    {
+        let parts = board.parts();
+        let most = mask(board.width());
+        self.at < 4096
+            && are_at_most(&self.regs, most)
+            && self.q <= most
+            && u64::from(self.mar) < 1 << parts.address
+            && self.ir <= most
+            && u32::from(self.flips) < 1 << parts.flipflop.as_slice().len()
+            && self.memory.len() == 1 << parts.address
+            && are_at_most(&self.memory, most)
+    }
 }
 
 /// What the outside has for one cycle.
