@@ -1,6 +1,6 @@
 // The bits of a cycle that a carry in, a condition, a link or a flip-flop may choose.
 ghost use Rattle.std.specs.Prelude.{◌≡◌, ◌<◌, length};
-ghost use Rattle.mw_base.specs.Words.{bit_of};
+ghost use Rattle.mw_base.specs.Words.{bit_of, num};
 ghost use Rattle.mw_board.specs.Valid.{IsBit};
 ghost use Rattle.mw_cycle.specs.Cycle.{early_bit, carry_net, overflow_net, bit_value};
 
@@ -8,6 +8,13 @@ use crate::state::{CycleIn, State};
 use mw_alu::AluOut;
 use mw_base::bit;
 use mw_board::{Bit, Board};
+
+/// A bit as the number 0 or 1.
+pub(crate) fn number_of(bit: bool) -> u16
+    ensures { result ≡ num bit }
+{
+    u16::from(bit)
+}
 
 /// The value of a flip-flop.
 pub(crate) fn flip(state: &State, number: u8) -> bool
@@ -18,15 +25,16 @@ pub(crate) fn flip(state: &State, number: u8) -> bool
 }
 
 /// A bit that stands before F is made; the bits of F are false here.
-#[tactic(auto, unfolding(crate::specs::Cycle::early_bit))]
+#[tactic(auto, unfolding(crate::specs::Cycle::early_bit, mw_board::specs::Depth::depth_of))]
 pub(crate) fn early_bit(board: &Board, chosen: Bit, state: &State, given: CycleIn) -> bool
     requires { IsBit board.now.width (length board.now.flipflop) chosen }
     ensures { result ≡ early_bit board.now chosen state.now given }
 {
+    let top = board.width().bits() - 1;
     match chosen {
         Bit::One => true,
         Bit::QLow => bit(state.q, 0),
-        Bit::QHigh => bit(state.q, board.width().bits() - 1),
+        Bit::QHigh => bit(state.q, top),
         Bit::Line => given.line,
         Bit::Full => state.seq.full(),
         Bit::Ir(number) => bit(state.ir, number),

@@ -1,11 +1,21 @@
 // What a microword has in its fields and at a board's control points.
-ghost use Rattle.std.specs.Prelude.{◌≡◌, ℕ, ◌<◌, ◌≤◌, ◌^◌, slice_get};
+ghost use Rattle.std.specs.Prelude.{◌≡◌, ℕ, ◌<◌, ◌≤◌, ◌^◌, ◌%◌, slice_get};
 ghost use Rattle.mw_base.specs.Words.{part};
 ghost use Rattle.mw_board.specs.Rules.{width_of};
 ghost use Rattle.mw_board.specs.Valid.{IsPoint};
 ghost use Rattle.mw_cycle.specs.Control.{in_field, value_at, is_on, chosen};
 
 use mw_board::{Board, Control};
+
+/// The low bits of a number, so many of them.
+#[tactic(auto, using(std::proofs::lemmas::Nat::and_mask, std::proofs::lemmas::Nat::one_shl))]
+pub(crate) fn low_bits(number: u128, bits: u8) -> u32
+    requires { bits ≤ 32 }
+    ensures exact { result ≡ number % 2 ^ bits }
+    ensures below { result < 2 ^ bits }
+{
+    (number & ((1 << bits) - 1)) as u32
+}
 
 /// The run of `width` bits of a word, from bit `low` on.
 pub(crate) fn run_of_bits(word: u128, low: u8, width: u8) -> u32
@@ -14,7 +24,7 @@ pub(crate) fn run_of_bits(word: u128, low: u8, width: u8) -> u32
     ensures exact { result ≡ part low width word }
     ensures below { result < 2 ^ width }
 {
-    ((word >> low) & ((1 << width) - 1)) as u32
+    low_bits(word >> low, width)
 }
 
 /// What a microword has in the field with this number, 0 where there is none.
@@ -37,6 +47,16 @@ pub(crate) fn value_at(board: &Board, word: u128, control: Control) -> u32
         Control::Field(number) => in_field(board, number, word),
         Control::Fixed(value) => value,
     }
+}
+
+/// What a control point of so many bits is given.
+pub(crate) fn point<const BITS: u8>(board: &Board, word: u128, control: Control) -> u16
+    requires few { BITS ≤ 12 }
+    requires point { IsPoint BITS board.now.fields control }
+    ensures exact { result ≡ value_at board.now.fields word control }
+    ensures below { result < 2 ^ BITS }
+{
+    value_at(board, word, control) as u16
 }
 
 /// Whether a control point of one bit is on.

@@ -4,7 +4,7 @@ ghost use Rattle.mw_base.specs.Words.{bit_of};
 ghost use Rattle.mw_board.specs.Valid.{IsFlipFlop, IsLoad};
 ghost use Rattle.mw_cycle.specs.Cycle.{loaded, flip_of, flips_after};
 
-use crate::bits::{bit_value, carry_net, flip};
+use crate::bits::{bit_value, carry_net, flip, number_of};
 use crate::control::{chosen, value_at};
 use crate::microword::Microword;
 use crate::state::{CycleIn, State};
@@ -66,7 +66,7 @@ pub(crate) fn flips_after(
     for (n, flipflop) in flipflops.iter().enumerate() {
         let number = n as u8;
         let takes = taken(board, word, number, flipflop, answer, state, given);
-        flips += u16::from(takes) << number;
+        flips += number_of(takes) << number;
     }
     flips
 }

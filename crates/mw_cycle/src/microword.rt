@@ -4,7 +4,7 @@ ghost use Rattle.mw_board.specs.Valid.{IsPoint};
 ghost use Rattle.mw_cycle.specs.Control.{value_at};
 ghost use Rattle.mw_cycle.specs.Microword.{instruction_of, points_of, IsMicroword};
 
-use crate::control::{chosen, is_on, value_at};
+use crate::control::{chosen, is_on, point, value_at};
 use mw_board::{Bit, Board, Control, DFrom, DSource};
 
 /// A microword, and what it has at each control point of its board.
@@ -62,27 +62,19 @@ fn instruction(board: &Board, word: u128) -> u16
     ensures below { result < 512 }
 {
     let control = &board.parts().control;
-    let source = value_at(board, word, control.alu_source);
-    let function = value_at(board, word, control.alu_function);
-    let destination = value_at(board, word, control.alu_destination);
-    (destination * 64 + function * 8 + source) as u16
+    let source = point::<3>(board, word, control.alu_source);
+    let function = point::<3>(board, word, control.alu_function);
+    let destination = point::<3>(board, word, control.alu_destination);
+    destination * 64 + function * 8 + source
 }
 
-/// What a control point of four bits is given.
+/// The number of a register or of an instruction of the Am2910.
 fn four_bits(board: &Board, word: u128, control: Control) -> u8
     requires { IsPoint 4 board.now.fields control }
     ensures exact { result ≡ value_at board.now.fields word control }
     ensures below { result < 16 }
 {
-    value_at(board, word, control) as u8
-}
-
-/// The branch address.
-fn branch(board: &Board, word: u128) -> u16
-    ensures exact { result ≡ value_at board.now.fields word board.now.control.branch }
-    ensures below { result < 4096 }
-{
-    value_at(board, word, board.parts().control.branch) as u16
+    point::<4>(board, word, control) as u8
 }
 
 impl Microword {
@@ -118,7 +110,7 @@ impl Microword {
             polarity: is_on(board, word, control.polarity),
             test_disable: is_on(board, word, control.test_disable),
             sequencer: four_bits(board, word, control.sequencer),
-            branch: branch(board, word),
+            branch: point::<12>(board, word, control.branch),
             ci: is_on(board, word, control.ci),
             rld: is_on(board, word, control.rld),
             ram_link: chosen(Bit::Zero, parts.ram_link.as_slice(), link),

@@ -8,14 +8,14 @@ ghost use Rattle.mw_cycle.specs.State.{Fits};
 ghost use Rattle.mw_cycle.specs.Cycle.{from_source, masked, d_of, operands_of, answer_of, pass_of, map_of, direct_address, next_address};
 ghost use Rattle.mw_cycle.specs.Cycle.{pins_of, writes_of, flips_after, edge, event_of, state_after, nets_of};
 
-use crate::bits::{bit_value, carry_net, early_bit, flip, overflow_net};
-use crate::control::{in_field, run_of_bits};
+use crate::bits::{bit_value, carry_net, early_bit, flip, number_of, overflow_net};
+use crate::control::{in_field, low_bits, run_of_bits};
 use crate::datapath::Datapath;
 use crate::flipflops::flips_after;
 use crate::microword::Microword;
 use crate::state::{CycleIn, Nets, State};
 use mw_alu::{AluOut, Pins, ShiftOut};
-use mw_base::{Event, mask};
+use mw_base::Event;
 use mw_board::{Board, DFrom, Store};
 
 /// The code of JMAP, whose direct address is the map's.
@@ -59,14 +59,15 @@ fn from_source(board: &Board, word: u128, from: DFrom, state: &State, given: Cyc
     ensures exact { result ≡ from_source board.now word from state.now given }
     ensures below { result < 2 ^ board.now.width }
 {
+    let width = board.width().bits();
     match from {
         DFrom::Zero => 0,
         DFrom::Memory => state.memory[state.mar as usize],
         DFrom::Ir => state.ir,
         DFrom::Mar => state.mar,
         DFrom::Input => given.input,
-        DFrom::Field(number) => in_field(board, number, word) & mask(board.width()),
-        DFrom::Flip(number) => u32::from(flip(state, number)),
+        DFrom::Field(number) => low_bits(u128::from(in_field(board, number, word)), width),
+        DFrom::Flip(number) => u32::from(number_of(flip(state, number))),
     }
 }
 
@@ -223,7 +224,7 @@ fn take_edge(
         state.q = writes.q;
     }
     if word.mar_load {
-        state.mar = answer.y & ((1 << board.parts().address) - 1);
+        state.mar = low_bits(u128::from(answer.y), board.parts().address);
     }
     if word.ir_load {
         state.ir = answer.y;

@@ -1,7 +1,6 @@
 // What a board keeps from cycle to cycle, what a cycle is given, and what it makes.
-ghost use Rattle.std.specs.Prelude.{◌≡◌, ℕ, ◌<◌, ◌≤◌, ◌^◌, ◌↔◌, IfOk, IsTrue, slice_index};
-ghost use Rattle.mw_base.specs.Words.{ones};
-ghost use Rattle.mw_cycle.specs.State.{Fits, cleared};
+ghost use Rattle.std.specs.Prelude.{◌≡◌, ◌↔◌, IfOk, IsTrue, nat_le};
+ghost use Rattle.std.specs.List.{list_all};
 
 use mw_base::{Event, NoMemory, mask};
 use mw_board::Board;
@@ -40,7 +39,7 @@ impl Model for State {
 
 /// Whether each of the words is at most this one.
 fn are_at_most(words: &[u32], most: u32) -> bool
-    ensures { IsTrue result ↔ ((i : ℕ) → slice_index words.now i ≤ most) }
+    ensures { result ≡ list_all (λ word. nat_le word most) words.now }
 {
     words.iter().all(|word| *word <= most)
 }
@@ -53,7 +52,7 @@ impl State {
     /// # Errors
     ///
     /// Memory ran out.
-    #[tactic(auto, unfolding(crate::specs::State::cleared))]
+    #[tactic(auto, unfolding(crate::specs::State::cleared, mw_board::specs::Depth::depth_of))]
     pub fn new(alloc: Global, board: &Board) -> Result<State, NoMemory>
         ensures exact { IfOk result (λ state. state ≡ cleared board.now) }
         ensures fits { IfOk result (λ state. Fits board.now state) }

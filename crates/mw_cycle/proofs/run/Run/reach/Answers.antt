@@ -11,7 +11,7 @@ cycles-init g c =
     let untaken : c.args.self.now.clock.taken ≡ 0 = ap (λ (r : BoardRun). r.clock.taken) c.requires.begun in
     record {
       so_far = c.requires.begun;
-      rest = find_first (λ (n : ℕ). is_named c.args.addresses.now (at c.args.board.now c.args.store.now c.args.env.now c.args.self.now.state n)) c.args.limit;
+      rest = find_first (λ (n : ℕ). is_named c.args.addresses.now (at c.args.board.now c.args.store.now.words c.args.env.now c.args.self.now.state n)) c.args.limit;
       fits = c.requires.fits;
       cycle = none;
       taken = omega arith;
