@@ -48,3 +48,8 @@ abbrev pub SegmentsEndAtBoundaries : Type 0
 SegmentsEndAtBoundaries = (addresses : List ℕ) (at : ℕ → ℕ) (limit : ℕ)
     → ((n : ℕ) → first_boundary addresses at limit ≡ Some n → IsNextBoundary addresses at 0 n × (n ≤ limit))
     × (first_boundary addresses at limit ≡ None → (e : ℕ) → 0 < e → e ≤ limit → is_named addresses (at e) ≡ false)
+
+-- Boundaries go on: from boundary k of a run, at cycle c, boundary j of what is left of it is boundary k + j of the whole.
+abbrev pub BoundariesGoOn : Type 0
+BoundariesGoOn = (addresses : List ℕ) (at : ℕ → ℕ) (k c j d : ℕ)
+    → IsBoundary addresses at k c → IsBoundary addresses (λ n. at (c + n)) j d → IsBoundary addresses at (k + j) (c + d)

@@ -1,12 +1,12 @@
 -- Runs of a board.
-use Rattle.std.specs.Prelude.{ℕ, zero, suc, ◌+◌, List, [], ◌++◌, Option, Some, None}
+use Rattle.std.specs.Prelude.{◌≡◌, ℕ, zero, suc, ◌+◌, List, [], ◌++◌, Option, Some, None}
 use Rattle.std.specs.Option.{option_to_list}
 use Rattle.mw_base.specs.declared.event.Event.{Event}
 use Rattle.mw_base.specs.declared.event.Event.TheVariants.{Out, Taken}
 use Rattle.mw_board.specs.declared.parts.BoardParts.{BoardParts}
 use Rattle.mw_cycle.specs.declared.environment.Clock.{Clock}
 use Rattle.mw_cycle.specs.State.{BoardState}
-use Rattle.mw_cycle.specs.Environment.{Environment, at_start, given_at}
+use Rattle.mw_cycle.specs.Environment.{Environment, at_start, given_at, rest_at}
 use Rattle.mw_cycle.specs.Cycle.{state_after, nets_of}
 
 -- the state that a run has reached, its events in the order of their cycles, and its place in the environment
@@ -36,3 +36,24 @@ longer_run board store env run =
 unfoldable pub run_of : BoardParts → List ℕ → Environment → BoardState → ℕ → BoardRun
 run_of board store env start zero = record { state = start; events = []; clock = at_start }
 run_of board store env start (suc n) = longer_run board store env (run_of board store env start n)
+
+-- ---- the law of suffixes
+
+-- the place of a run that goes on from one place by another
+abbrev pub further : Clock → Clock → Clock
+further place by = record { cycle = place.cycle + by.cycle; taken = place.taken + by.taken }
+
+-- a run, and then another that begins where it ended
+abbrev pub then_run : BoardRun → BoardRun → BoardRun
+then_run first second = record {
+  state = second.state;
+  events = first.events ++ second.events;
+  clock = further first.clock second.clock;
+}
+
+-- A run of n + m cycles is a run of n, and then of m from the state that it reached, over what is left of the environment at the place
+-- that it reached.
+abbrev pub RunsGoOn : Type 0
+RunsGoOn = (board : BoardParts) (store : List ℕ) (env : Environment) (start : BoardState) (n m : ℕ)
+    → let first = run_of board store env start n in
+    run_of board store env start (n + m) ≡ then_run first (run_of board store (rest_at env first.clock) first.state m)

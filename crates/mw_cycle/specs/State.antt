@@ -1,5 +1,6 @@
 -- The state of a board, and when it fits one.
-use Rattle.std.specs.Prelude.{◌≡◌, ℕ, ◌<◌, ◌^◌, List, length, replicate, slice_index}
+use Rattle.std.specs.Prelude.{◌≡◌, ℕ, ◌<◌, ◌^◌, List, length, replicate, slice_index, Bool, nat_lt, ◌==◌, ◌&&◌}
+use Rattle.std.specs.List.{list_all}
 use Rattle.mw_seq.specs.Sequencer.{Sequencer, IsSequencer}
 use Rattle.mw_board.specs.declared.parts.BoardParts.{BoardParts}
 use Rattle.mw_board.specs.Depth.{depth_of}
@@ -28,6 +29,22 @@ pub record Fits (board : BoardParts) (s : BoardState) : Type 0 where
   pub seq : IsSequencer (depth_of board) s.seq
   pub size : length s.memory ≡ 2 ^ board.address
   pub memory : (i : ℕ) → slice_index s.memory i < 2 ^ board.width
+
+-- the registers are in range: there are always sixteen
+unfoldable pub are_registers_in_range : BoardParts → BoardState → Bool
+are_registers_in_range board s =
+    list_all (λ word. nat_lt word (2 ^ board.width)) s.regs
+    && nat_lt s.q (2 ^ board.width)
+    && nat_lt s.ir (2 ^ board.width)
+    && nat_lt s.flips (2 ^ length board.flipflop)
+
+-- the addresses and the memory are in range
+unfoldable pub is_memory_in_range : BoardParts → BoardState → Bool
+is_memory_in_range board s =
+    nat_lt s.at (2 ^ 12)
+    && nat_lt s.mar (2 ^ board.address)
+    && (length s.memory == 2 ^ board.address)
+    && list_all (λ word. nat_lt word (2 ^ board.width)) s.memory
 
 -- everything is 0
 unfoldable pub cleared : BoardParts → BoardState

@@ -17,5 +17,5 @@ pub use datapath::{Datapath, Whole};
 pub use environment::{Clock, Env};
 pub use microword::Microword;
 pub use one_cycle::cycle;
-pub use run::{Run, run_to_boundary, segments_end_at_boundaries};
+pub use run::{Run, boundaries_go_on, run_to_boundary, runs_go_on, segments_end_at_boundaries};
 pub use state::{CycleIn, Nets, State};

@@ -1,8 +1,8 @@
 // What a board keeps from cycle to cycle, what a cycle is given, and what it makes.
-ghost use Rattle.std.specs.Prelude.{◌≡◌, ◌↔◌, IfOk, IsTrue, nat_le};
+ghost use Rattle.std.specs.Prelude.{◌≡◌, ◌≤◌, ◌^◌, ◌==◌, ◌↔◌, IfOk, IsTrue, length, nat_lt};
 ghost use Rattle.std.specs.List.{list_all};
 
-use mw_base::{Event, NoMemory, mask};
+use mw_base::{Event, NoMemory};
 use mw_board::Board;
 use mw_seq::Seq;
 use std::alloc::Global;
@@ -37,25 +37,38 @@ impl Model for State {
     ghost view = { λ s. record { at = s.at; regs = s.regs; q = s.q; mar = s.mar; ir = s.ir; flips = s.flips; seq = s.seq; memory = s.memory.items } };
 }
 
-/// Whether each of the words is at most this one.
-fn are_at_most(words: &[u32], most: u32) -> bool
-    ensures { result ≡ list_all (λ word. nat_le word most) words.now }
+/// Whether a number has no more than so many bits.
+#[tactic(auto, using(std::proofs::lemmas::Nat::one_shl))]
+fn has_bits(number: u32, bits: u8) -> bool
+    requires { bits ≤ 32 }
+    ensures { result ≡ nat_lt number (2 ^ bits) }
 {
-    words.iter().all(|word| *word <= most)
+    u64::from(number) < 1 << bits
+}
+
+/// Whether a count is 2 to the power of bits.
+#[tactic(auto, using(std::proofs::lemmas::Nat::one_shl))]
+fn is_power_of_two(count: usize, bits: u8) -> bool
+    requires { bits ≤ 32 }
+    ensures { result ≡ (count == 2 ^ bits) }
+{
+    count == 1 << bits
+}
+
+/// Whether each of the words has no more than so many bits.
+fn have_bits(words: &[u32], bits: u8) -> bool
+    requires { bits ≤ 32 }
+    ensures { result ≡ list_all (λ word. nat_lt word (2 ^ bits)) words.now }
+{
+    words.iter().all(|word| has_bits(*word, bits))
 }
 
 impl State {
-    ghost use Rattle.mw_cycle.specs.State.{Fits, cleared};
+    ghost use Rattle.mw_cycle.specs.State.{Fits, are_registers_in_range, is_memory_in_range, cleared};
 
-    /// The state of a board in which everything is 0.
-    ///
-    /// # Errors
-    ///
-    /// Memory ran out.
     #[tactic(auto, unfolding(crate::specs::State::cleared, mw_board::specs::Depth::depth_of))]
-    pub fn new(alloc: Global, board: &Board) -> Result<State, NoMemory>
-        ensures exact { IfOk result (λ state. state ≡ cleared board.now) }
-        ensures fits { IfOk result (λ state. Fits board.now state) }
+    fn cleared(alloc: Global, board: &Board) -> Result<State, NoMemory>
+        ensures { IfOk result (λ state. state ≡ cleared board.now) }
     {
         Ok(State {
             at: 0,
@@ -74,20 +87,53 @@ impl State {
         })
     }
 
+    /// The state of a board in which everything is 0.
+    ///
+    /// # Errors
+    ///
+    /// Memory ran out.
+    pub fn new(alloc: Global, board: &Board) -> Result<State, NoMemory>
+        ensures exact { IfOk result (λ state. state ≡ cleared board.now) }
+        ensures fits { IfOk result (λ state. Fits board.now state) }
+    {
+        Ok(State::cleared(alloc, board)?)
+    }
+
+    /// Whether each register is in its range.
+    #[tactic(auto, unfolding(crate::specs::State::are_registers_in_range))]
+    fn are_registers_in_range(&self, board: &Board) -> bool
+        ensures exact { result ≡ are_registers_in_range board.now self.now }
+        ensures sixteen { length self.now.regs ≡ 16 }
+    {
+        let width = board.width().bits();
+        let flipflops = board.parts().flipflop.as_slice().len() as u8;
+        have_bits(&self.regs, width)
+            & has_bits(self.q, width)
+            & has_bits(self.ir, width)
+            & has_bits(u32::from(self.flips), flipflops)
+    }
+
+    /// Whether the addresses are in their ranges, and the memory has each of its words.
+    #[tactic(auto, unfolding(crate::specs::State::is_memory_in_range))]
+    fn is_memory_in_range(&self, board: &Board) -> bool
+        ensures { result ≡ is_memory_in_range board.now self.now }
+    {
+        let width = board.width().bits();
+        let address = board.parts().address;
+        has_bits(u32::from(self.at), 12)
+            & has_bits(self.mar, address)
+            & is_power_of_two(self.memory.len(), address)
+            & have_bits(&self.memory, width)
+    }
+
     /// Whether the state fits a board: each part is in its range, and the memory has each of its words.
+    #[tactic(auto, unfolding(mw_board::specs::Depth::depth_of))]
     pub fn fits(&self, board: &Board) -> bool
         ensures { IsTrue result ↔ Fits board.now self.now }
     {
-        let parts = board.parts();
-        let most = mask(board.width());
-        self.at < 4096
-            && are_at_most(&self.regs, most)
-            && self.q <= most
-            && u64::from(self.mar) < 1 << parts.address
-            && self.ir <= most
-            && u32::from(self.flips) < 1 << parts.flipflop.as_slice().len()
-            && self.memory.len() == 1 << parts.address
-            && are_at_most(&self.memory, most)
+        // The sequencer is in its ranges whatever it holds, as this call says.
+        let _full = self.seq.full();
+        self.are_registers_in_range(board) & self.is_memory_in_range(board)
     }
 }
 

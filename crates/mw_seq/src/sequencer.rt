@@ -52,7 +52,8 @@ fn counted(counter: CounterMove, d: u16, r: u16) -> u16
 impl Seq {
     /// Whether each word of the stack is on it.
     pub fn full(&self) -> bool
-        ensures { result ≡ is_full 5 self.now }
+        ensures exact { result ≡ is_full 5 self.now }
+        ensures valid { IsSequencer 5 self.now }
     {
         self.sp == DEPTH
     }

@@ -1,0 +1,108 @@
+-- States that fit a board: the cleared one, and those that the tests of each part find.
+use Rattle.std.proofs.Common.{◌≡◌, ℕ, ◌+◌, ◌-◌, ◌*◌, ◌%◌, ◌^◌, ◌<◌, ◌≤◌, List, length, get_or, slice_index, replicate, Bool, true, false, ◌&&◌, nat_le, nat_lt, ◌==◌, inl, inr, refl, sym, arith}
+use Rattle.std.specs.List.{All, list_all}
+use Rattle.std.proofs.lemmas.Bool.{cases_lt, eqb-true, eq-eqb, ltb-true, lt-ltb}
+use Rattle.std.proofs.lemmas.List.{get_or-replicate, get_or_past}
+use Rattle.std.proofs.lemmas.List.Sums.{AllPass-from_list_all, list_all-from_AllPass}
+use Rattle.std.proofs.lemmas.Nat.{pow_pos}
+use Rattle.std.proofs.lemmas.Grind.{common_steps, get_or_default_zero}
+use Rattle.mw_seq.specs.Sequencer.{IsSequencer}
+use Rattle.mw_board.specs.declared.parts.BoardParts.{BoardParts}
+use Rattle.mw_board.specs.Depth.{depth_of}
+use Rattle.mw_cycle.specs.State.{BoardState, Fits, are_registers_in_range, is_memory_in_range, cleared}
+
+-- of a list of nothing but 0 each number is 0, also past its end
+all_zero : (n i : ℕ) → slice_index (replicate n 0) i ≡ 0
+all_zero n i = elim (cases_lt i n) [
+  | inl within ↦ get_or-replicate n i 0 0 within
+  | inr past ↦ get_or_past (replicate n 0) i 0 (grind (arith, common_steps))
+]
+
+-- so each is below every power of two
+zero_below : (n i w : ℕ) → slice_index (replicate n 0) i < 2 ^ w
+zero_below n i w = let some = pow_pos w in rw (all_zero n i) (omega arith)
+
+-- the cleared state
+pub cleared_fits : (board : BoardParts) → Fits board (cleared board)
+unfolding cleared depth_of
+cleared_fits board =
+    let word = pow_pos board.width in
+    let address = pow_pos board.address in
+    let flips = pow_pos (length board.flipflop) in
+    record {
+      at = omega arith;
+      sixteen = refl;
+      regs = λ i. zero_below 16 i board.width;
+      q = omega arith;
+      mar = omega arith;
+      ir = omega arith;
+      flips = omega arith;
+      seq = record { pc = omega arith; r = omega arith; words = λ i. zero_below 5 i 12; size = refl; sp = omega arith };
+      size = grind (arith, common_steps);
+      memory = λ i. zero_below (2 ^ board.address) i board.width;
+    }
+
+-- words that pass the test are words
+words_are : (w : ℕ) (words : List ℕ) → list_all (λ word. nat_lt word (2 ^ w)) words ≡ true → (i : ℕ) → slice_index words i < 2 ^ w
+words_are w words e i =
+    let some = pow_pos w in
+    elim (cases_lt i (length words)) [
+      | inl within ↦ ltb-true (get_or words i 0) (2 ^ w) (AllPass-from_list_all (λ word. nat_lt word (2 ^ w)) words e i 0 within)
+      | inr past ↦ rw (get_or_past words i 0 past) (omega arith)
+    ]
+
+-- and words pass it
+words_pass : (w : ℕ) (words : List ℕ) → ((i : ℕ) → slice_index words i < 2 ^ w) → list_all (λ word. nat_lt word (2 ^ w)) words ≡ true
+words_pass w words below =
+    list_all-from_AllPass (λ word. nat_lt word (2 ^ w)) words (λ i d within. rw (get_or_default_zero words i d within) (lt-ltb (get_or words i 0) (2 ^ w) (below i)))
+
+-- two tests that hold
+both : (a b : Bool) → (a && b) ≡ true → (a ≡ true) × (b ≡ true)
+both true b e = (refl, e)
+both false b e = absurd cc
+
+-- a state in range fits
+pub in_range_fits : (board : BoardParts) (s : BoardState) → IsSequencer (depth_of board) s.seq → length s.regs ≡ 16 → (are_registers_in_range board s && is_memory_in_range board s) ≡ true → Fits board s
+unfolding are_registers_in_range is_memory_in_range
+in_range_fits board s seq sixteen e =
+    let words = λ (xs : List ℕ). list_all (λ word. nat_lt word (2 ^ board.width)) xs in
+    let at_in = nat_lt s.at (2 ^ 12) in
+    let q_in = nat_lt s.q (2 ^ board.width) in
+    let mar_in = nat_lt s.mar (2 ^ board.address) in
+    let ir_in = nat_lt s.ir (2 ^ board.width) in
+    let flips_in = nat_lt s.flips (2 ^ length board.flipflop) in
+    let size_is = length s.memory == 2 ^ board.address in
+    let all = both (words s.regs && q_in && ir_in && flips_in) (at_in && mar_in && size_is && words s.memory) e in
+    let flips = both (words s.regs && q_in && ir_in) flips_in all.0 in
+    let ir = both (words s.regs && q_in) ir_in flips.0 in
+    let q = both (words s.regs) q_in ir.0 in
+    let memory = both (at_in && mar_in && size_is) (words s.memory) all.1 in
+    let size = both (at_in && mar_in) size_is memory.0 in
+    let mar = both at_in mar_in size.0 in
+    record {
+      at = ltb-true s.at (2 ^ 12) mar.0;
+      sixteen = sixteen;
+      regs = words_are board.width s.regs q.0;
+      q = ltb-true s.q (2 ^ board.width) q.1;
+      mar = ltb-true s.mar (2 ^ board.address) mar.1;
+      ir = ltb-true s.ir (2 ^ board.width) ir.1;
+      flips = ltb-true s.flips (2 ^ length board.flipflop) flips.1;
+      seq = seq;
+      size = eqb-true (length s.memory) (2 ^ board.address) size.1;
+      memory = words_are board.width s.memory memory.1;
+    }
+
+-- and one that fits is in range
+pub fits_in_range : (board : BoardParts) (s : BoardState) → Fits board s → (are_registers_in_range board s && is_memory_in_range board s) ≡ true
+unfolding are_registers_in_range is_memory_in_range
+fits_in_range board s fits =
+    rw (
+      words_pass board.width s.regs fits.regs,
+      lt-ltb s.q (2 ^ board.width) fits.q,
+      lt-ltb s.ir (2 ^ board.width) fits.ir,
+      lt-ltb s.flips (2 ^ length board.flipflop) fits.flips,
+      lt-ltb s.at (2 ^ 12) fits.at,
+      lt-ltb s.mar (2 ^ board.address) fits.mar,
+      eq-eqb (length s.memory) (2 ^ board.address) fits.size,
+      words_pass board.width s.memory fits.memory,
+    ) refl
