@@ -1,0 +1,6 @@
+//! Microprograms: their text in the fields of a board, the microwords and labels that it spells, and their listing.
+#![tactic(auto)]
+
+mod assembled;
+
+pub use assembled::{Assembled, Label};
