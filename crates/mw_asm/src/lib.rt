@@ -2,5 +2,11 @@
 #![tactic(auto)]
 
 mod assembled;
+mod bits;
+mod first_pass;
+mod items;
+mod names;
+mod part;
+mod statement;
 
 pub use assembled::{Assembled, Label};
