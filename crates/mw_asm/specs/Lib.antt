@@ -1,4 +1,5 @@
 pub mod Bits
+pub mod Examples
 pub mod FirstPass
 pub mod ItemBits
 pub mod Items

@@ -32,17 +32,17 @@ part_of text token = part_of_kind token.kind (spelled text token)
 -- a token that has to be a name
 abbrev pub name_token : Token → Part → Result Token TextFault
 name_token token Name = Ok token
-name_token token other = Err (fault_on token BadLine)
+name_token token part = Err (fault_on token BadLine)
 
 -- one that has to be "="
 abbrev pub equals_token : Token → Part → Result (Unit {0}) TextFault
 equals_token token Equals = Ok tt
-equals_token token other = Err (fault_on token BadLine)
+equals_token token part = Err (fault_on token BadLine)
 
 -- one that has to be a number
 abbrev pub number_token : Token → Part → Result ℕ TextFault
 number_token token (Number value) = Ok value
-number_token token other = Err (fault_on token BadLine)
+number_token token part = Err (fault_on token BadLine)
 
 -- token n of a line, from 0; a line that ends before it is at fault there
 abbrev pub or_end : Line → Option Token → Result Token TextFault

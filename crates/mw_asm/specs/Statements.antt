@@ -86,7 +86,7 @@ abbrev pub leaves_keyword : Part → Bool
 leaves_keyword parts.Equals = false
 leaves_keyword parts.Colon = false
 leaves_keyword parts.Comma = false
-leaves_keyword other = true
+leaves_keyword part = true
 
 -- the keyword with which a line begins; not before "=", ":", "," or the line's end
 abbrev pub keyword_in : List ℕ → List Token → Option Keyword
@@ -95,11 +95,11 @@ keyword_in text other = None
 
 abbrev pub is_name : Part → Bool
 is_name parts.Name = true
-is_name other = false
+is_name part = false
 
 abbrev pub is_colon : Part → Bool
 is_colon parts.Colon = true
-is_colon other = false
+is_colon part = false
 
 -- the line begins with NAME:
 abbrev pub is_labelled : List ℕ → List Token → Bool

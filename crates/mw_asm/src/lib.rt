@@ -3,6 +3,7 @@
 
 mod assembled;
 mod bits;
+mod computed_examples;
 mod first_pass;
 mod items;
 mod names;
