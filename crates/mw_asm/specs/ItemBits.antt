@@ -1,5 +1,5 @@
 -- The bits that items set.
-use Rattle.std.specs.Prelude.{ℕ, ◌^◌, List, [], ◌∷◌, if◌then◌else◌, nat_lt, option_map, Option, Some, None, Result, Ok, Err}
+use Rattle.std.specs.Prelude.{ℕ, ◌+◌, ◌^◌, ◌≤◌, List, [], ◌∷◌, if◌then◌else◌, nat_lt, option_map, Option, Some, None, Result, Ok, Err}
 use Rattle.std.specs.List.{find}
 use Rattle.std.specs.Str.{bytes_eq}
 use Rattle.mw_base.specs.declared.cause.Cause.TheVariants.{UnknownName, FieldConflict, ValueTooWide}
@@ -62,3 +62,9 @@ bits_of fields text names scope before (item ∷ rest) = do
   bits ← item_bits fields text names scope item.name item.value
   both ← beside item.name before bits
   bits_of fields text names scope both rest
+
+-- a field that stands in a microword of at most 128 bits
+pub record FitsWord (field : Field) : Type 0 where
+  pub some : 1 ≤ field.width
+  pub wide : field.width ≤ 32
+  pub within : field.low + field.width ≤ 128

@@ -38,6 +38,11 @@ ended (awaits.Equals item) = Some item
 ended (awaits.Comma item) = Some item
 ended other = None
 
+-- some items before those that are read
+abbrev pub with_front : List Item → Result (List Item) TextFault → Result (List Item) TextFault
+with_front front (Ok items) = Ok (front ++ items)
+with_front front (Err fault) = Err fault
+
 -- the items that this token ends, and what can follow it
 abbrev pub passed : Awaits → Token → Part → Result (List Item × Awaits) TextFault
 passed before token Comma = do
@@ -54,9 +59,13 @@ items_from text line before [] = do
   Ok (item ∷ [])
 items_from text line before (token ∷ rest) = do
   first ← passed before token (part_of text token)
-  others ← items_from text line first.1 rest
-  Ok (first.0 ++ others)
+  with_front first.0 (items_from text line first.1 rest)
 
 -- the items of a line from token n on; there are one or more
 abbrev pub items_of : List ℕ → Line → ℕ → Result (List Item) TextFault
 items_of text line n = items_from text line awaits.Name (drop n line.tokens)
+
+-- the items of a line from token n on, where the tokens from there on are these; without them none
+abbrev pub optional_items : List ℕ → Line → ℕ → List Token → Result (List Item) TextFault
+optional_items text line n [] = Ok []
+optional_items text line n (token ∷ rest) = items_of text line n

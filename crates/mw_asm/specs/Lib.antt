@@ -8,3 +8,4 @@ pub mod Microprogram
 pub mod Names
 pub mod Parts
 pub mod Statements
+pub mod Views

@@ -11,7 +11,7 @@ use Rattle.mw_asm.specs.declared.statement.Keyword.{Keyword}
 use Rattle.mw_asm.specs.declared.statement.Keyword.TheVariants as keywords
 use Rattle.mw_asm.specs.declared.statement.Statement.{Statement}
 use Rattle.mw_asm.specs.declared.statement.Statement.TheVariants.{Equ, Def, Org, Word}
-use Rattle.mw_asm.specs.Items.{items_of}
+use Rattle.mw_asm.specs.Items.{items_of, optional_items}
 use Rattle.mw_asm.specs.Lines.{Line}
 use Rattle.mw_asm.specs.Parts.{spelled, part_of, name_token, equals_token, number_token, token_of, end_of}
 
@@ -58,11 +58,6 @@ org_of text line = do
   token ← token_of line 1
   end ← end_at line 2
   Ok (Org token value)
-
--- ITEMS, or nothing
-abbrev pub optional_items : List ℕ → Line → ℕ → List Token → Result (List Item) TextFault
-optional_items text line n [] = Ok []
-optional_items text line n (token ∷ rest) = items_of text line n
 
 -- NAME: and then ITEMS or nothing
 unfoldable pub labelled_of : List ℕ → Line → Result Statement TextFault

@@ -5,9 +5,14 @@ mod assembled;
 mod bits;
 mod computed_examples;
 mod first_pass;
+mod item_bits;
 mod items;
+mod lines;
+mod microprogram;
 mod names;
 mod part;
+mod second_pass;
 mod statement;
 
+pub use microprogram::assemble;
 pub use assembled::{Assembled, Label};
