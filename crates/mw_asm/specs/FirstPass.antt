@@ -57,7 +57,7 @@ with_next token address known = if nat_lt address 4096 then Ok (record known { n
 unfoldable pub with_label : List ℕ → Token → Known → Result Known TextFault
 with_label text name known = do
   more ← with_meaning text name (meanings.Label known.next) known
-  Ok (record more { labels = known.labels ++ (record { name = spelled text name; address = known.next } ∷ []) })
+  Ok (record more { labels = more.labels ++ (record { name = spelled text name; address = more.next } ∷ []) })
 
 abbrev pub with_optional_label : List ℕ → Option Token → Known → Result Known TextFault
 with_optional_label text None known = Ok known

@@ -55,12 +55,17 @@ item_bits fields text names scope name None = alone_bits text names name
 unfoldable pub beside : Token → SetBits → SetBits → Result SetBits TextFault
 beside item before bits = if agree before bits then Ok (union before bits) else Err (fault_on item FieldConflict)
 
+-- the bits that an item sets beside those of the earlier items
+unfoldable pub with_item : List NamedField → List ℕ → Names → Scope → SetBits → Item → Result SetBits TextFault
+with_item fields text names scope before item = do
+  bits ← item_bits fields text names scope item.name item.value
+  beside item.name before bits
+
 -- the bits that items set beside those before them
 unfoldable pub bits_of : List NamedField → List ℕ → Names → Scope → SetBits → List Item → Result SetBits TextFault
 bits_of fields text names scope before [] = Ok before
 bits_of fields text names scope before (item ∷ rest) = do
-  bits ← item_bits fields text names scope item.name item.value
-  both ← beside item.name before bits
+  both ← with_item fields text names scope before item
   bits_of fields text names scope both rest
 
 -- a field that stands in a microword of at most 128 bits

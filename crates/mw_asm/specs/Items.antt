@@ -1,5 +1,5 @@
 -- Items, separated by commas: each is NAME or NAME = VALUE, and VALUE is a number or a name.
-use Rattle.std.specs.Prelude.{ℕ, List, [], ◌∷◌, ◌++◌, drop, Option, Some, None, Result, Ok, Err}
+use Rattle.std.specs.Prelude.{ℕ, List, [], ◌∷◌, ◌++◌, Option, Some, None, Result, Ok, Err}
 use Rattle.mw_base.specs.declared.cause.Cause.TheVariants.{BadLine}
 use Rattle.mw_base.specs.declared.refusal.TextFault.{TextFault}
 use Rattle.mw_base.specs.declared.token.Token.{Token}
@@ -61,11 +61,11 @@ items_from text line before (token ∷ rest) = do
   first ← passed before token (part_of text token)
   with_front first.0 (items_from text line first.1 rest)
 
--- the items of a line from token n on; there are one or more
-abbrev pub items_of : List ℕ → Line → ℕ → Result (List Item) TextFault
-items_of text line n = items_from text line awaits.Name (drop n line.tokens)
+-- the items that these tokens of a line are; there are one or more
+abbrev pub items_of : List ℕ → Line → List Token → Result (List Item) TextFault
+items_of text line tokens = items_from text line awaits.Name tokens
 
--- the items of a line from token n on, where the tokens from there on are these; without them none
-abbrev pub optional_items : List ℕ → Line → ℕ → List Token → Result (List Item) TextFault
-optional_items text line n [] = Ok []
-optional_items text line n (token ∷ rest) = items_of text line n
+-- the items that they are, or none where there are no tokens
+abbrev pub optional_items : List ℕ → Line → List Token → Result (List Item) TextFault
+optional_items text line [] = Ok []
+optional_items text line (token ∷ rest) = items_of text line (token ∷ rest)

@@ -48,7 +48,7 @@ unfoldable pub def_of : List ℕ → Line → Result Statement TextFault
 def_of text line = do
   name ← name_at text line 1
   equals ← equals_at text line 2
-  items ← items_of text line 3
+  items ← items_of text line (drop 3 line.tokens)
   Ok (Def name items)
 
 -- org NUMBER
@@ -63,13 +63,13 @@ org_of text line = do
 unfoldable pub labelled_of : List ℕ → Line → Result Statement TextFault
 labelled_of text line = do
   name ← token_of line 0
-  items ← optional_items text line 2 (drop 2 line.tokens)
+  items ← optional_items text line (drop 2 line.tokens)
   Ok (Word (Some name) items)
 
 -- ITEMS, or nothing
 unfoldable pub unlabelled_of : List ℕ → Line → Result Statement TextFault
 unlabelled_of text line = do
-  items ← optional_items text line 0 line.tokens
+  items ← optional_items text line line.tokens
   Ok (Word None items)
 
 -- the keyword of these bytes

@@ -1,7 +1,7 @@
 // The bits that items set.
 ghost use Rattle.std.specs.Prelude.{◌≡◌, ◌+◌, ◌≤◌, IfSome};
 ghost use Rattle.mw_asm.specs.Bits.{no_bits};
-ghost use Rattle.mw_asm.specs.ItemBits.{FitsWord, field_named, value_of, field_set, valued_bits, alone_bits, item_bits, beside, bits_of};
+ghost use Rattle.mw_asm.specs.ItemBits.{FitsWord, field_named, value_of, field_set, valued_bits, alone_bits, item_bits, beside, with_item, bits_of};
 ghost use Rattle.mw_asm.specs.Views.{names_seen};
 
 use crate::bits::{SetBits, power};
@@ -10,21 +10,25 @@ use crate::lines::fault_on;
 use crate::names::{Names, Scope, bits_named, number_named};
 use crate::part::spelled;
 use mw_base::{Cause, Kind, TextFault, Token};
-use mw_board::{Board, Field};
+use mw_board::{Board, Field, NamedField};
 
 /// The field of this name.
 #[tactic(auto, unfolding(crate::specs::ItemBits::field_named))]
-fn field_named(board: &Board, name: &[u8]) -> Option<Field>
-    ensures exact { result ≡ field_named board.now.fields name.now }
-    ensures fits { IfSome result (λ field. FitsWord field) }
+fn field_named(fields: &[NamedField], name: &[u8]) -> Option<Field>
+    ensures { result ≡ field_named fields.now name.now }
 {
-    board
-        .parts()
-        .fields
-        .as_slice()
+    fields
         .iter()
         .find(|f| f.name.as_slice() == name)
         .map(|f| f.field)
+}
+
+/// The field of this name of a board.
+fn field_of_board(board: &Board, name: &[u8]) -> Option<Field>
+    ensures exact { result ≡ field_named board.now.fields name.now }
+    ensures fits { IfSome result (λ field. FitsWord field) }
+{
+    field_named(board.parts().fields.as_slice(), name)
 }
 
 /// A value: a number, or the name of one. Cause 30.
@@ -67,7 +71,7 @@ fn valued_bits(
     ensures { result ≡ valued_bits board.now.fields text.now (names_seen names.now) scope name token }
 {
     let unknown = fault_on(name, Cause::UnknownName);
-    let field = or_fault(field_named(board, spelled(text, name)), unknown)?;
+    let field = or_fault(field_of_board(board, spelled(text, name)), unknown)?;
     let value = value_of(text, names, scope, token)?;
     field_set(field, token, value)
 }
@@ -111,6 +115,22 @@ fn beside(item: Token, before: SetBits, bits: SetBits) -> Result<SetBits, TextFa
     }
 }
 
+/// The bits that an item sets beside those of the earlier items: cause 30, then 33, then 32.
+#[tactic(auto, unfolding(crate::specs::ItemBits::with_item))]
+fn with_item(
+    board: &Board,
+    text: &[u8],
+    names: &Names,
+    scope: Scope,
+    before: SetBits,
+    item: Item,
+) -> Result<SetBits, TextFault>
+    ensures { result ≡ with_item board.now.fields text.now (names_seen names.now) scope before item }
+{
+    let bits = item_bits(board, text, names, scope, item)?;
+    beside(item.name, before, bits)
+}
+
 /// The bits that items set: for each item in order cause 30, then 33, then 32.
 pub(crate) fn bits_of(
     board: &Board,
@@ -123,7 +143,10 @@ pub(crate) fn bits_of(
 {
     let mut bits = SetBits::none();
     for item in items {
-        bits = beside(item.name, bits, item_bits(board, text, names, scope, *item)?)?;
+        match with_item(board, text, names, scope, bits, *item) {
+            Ok(both) => bits = both,
+            Err(fault) => return Err(fault),
+        }
     }
     Ok(bits)
 }

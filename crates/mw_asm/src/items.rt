@@ -1,5 +1,5 @@
 // Lists of items.
-ghost use Rattle.std.specs.Prelude.{◌≡◌, ◌≤◌, List, ◌∷◌, IfOk, IfErr, length, drop};
+ghost use Rattle.std.specs.Prelude.{◌≡◌, List, ◌∷◌, IfOk, IfErr};
 ghost use Rattle.mw_base.specs.declared.token.Token.{Token};
 ghost use Rattle.mw_base.specs.Reading.{Fails, Gives};
 ghost use Rattle.mw_asm.specs.Items.{or_fault, alone, valued, follow, ended, passed, items_from, items_of, optional_items, with_front};
@@ -107,19 +107,18 @@ fn pass(items: &mut Vec<Item>, before: Awaits, token: Token, part: Part) -> Resu
     }
 }
 
-/// The items of a line from token n on; there are one or more.
+/// The items that these tokens of a line are; there are one or more. Cause 36.
 pub(crate) fn items_of(
     alloc: Global,
     text: &[u8],
     line: Line,
-    n: usize,
+    tokens: &[Token],
 ) -> Result<Items<Item>, Refusal>
-    requires { n ≤ length line.tokens.now }
-    ensures { Gives (λ items. items) result (items_of text.now (line_seen line.entry) n) }
+    ensures { Gives (λ items. items) result (items_of text.now (line_seen line.entry) tokens.now) }
 {
     let mut items = Vec::new(alloc);
     let mut awaits = Awaits::Name;
-    for token in &line.tokens[n..] {
+    for token in tokens {
         match pass(&mut items, awaits, *token, part_of(text, *token)) {
             Ok(next) => awaits = next,
             Err(refusal) => return Err(refusal),
@@ -134,18 +133,17 @@ pub(crate) fn items_of(
     }
 }
 
-/// The items of a line from token n on, or none where there is no such token.
+/// The items that these tokens of a line are, or none where there are no tokens. Cause 36.
 pub(crate) fn optional_items(
     alloc: Global,
     text: &[u8],
     line: Line,
-    n: usize,
+    tokens: &[Token],
 ) -> Result<Items<Item>, Refusal>
-    ensures { Gives (λ items. items) result (optional_items text.now (line_seen line.entry) n (drop n line.entry.tokens.now)) }
+    ensures { Gives (λ items. items) result (optional_items text.now (line_seen line.entry) tokens.now) }
 {
-    if n < line.tokens.len() {
-        items_of(alloc, text, line, n)
-    } else {
-        Ok(Items::from_vec(Vec::new(alloc)))
+    match tokens {
+        [] => Ok(Items::from_vec(Vec::new(alloc))),
+        _ => items_of(alloc, text, line, tokens),
     }
 }

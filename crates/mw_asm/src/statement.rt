@@ -1,5 +1,5 @@
 // What a line says.
-ghost use Rattle.std.specs.Prelude.{◌≡◌, slice_get};
+ghost use Rattle.std.specs.Prelude.{◌≡◌, drop};
 ghost use Rattle.mw_base.specs.Reading.{Gives};
 ghost use Rattle.mw_asm.specs.Parts.{token_of, end_of};
 ghost use Rattle.mw_asm.specs.Statements.{name_at, equals_at, number_at, end_at, equ_of, def_of, org_of, labelled_of, unlabelled_of, keyword_of, keyword_in, is_labelled, statement_after, statement_of};
@@ -40,6 +40,13 @@ fn token_of(line: Line, n: usize) -> Result<Token, TextFault>
         Some(token) => Ok(*token),
         None => Err(bad_end(line)),
     }
+}
+
+/// The tokens of a line from token n on.
+fn tokens_from<'a>(line: Line<'a>, n: usize) -> &'a [Token]
+    ensures { result.now ≡ drop n line.entry.tokens.now }
+{
+    &line.tokens[n.min(line.tokens.len())..]
 }
 
 /// Token n of a line, which has to be a name: cause 36.
@@ -95,7 +102,7 @@ fn def_of(alloc: Global, text: &[u8], line: Line) -> Result<Statement, Refusal>
 {
     let name = or_refused(name_at(text, line, 1))?;
     or_refused(equals_at(text, line, 2))?;
-    let items = items_of(alloc, text, line, 3)?;
+    let items = items_of(alloc, text, line, tokens_from(line, 3))?;
     Ok(Statement::Def(name, items))
 }
 
@@ -116,7 +123,7 @@ fn labelled_of(alloc: Global, text: &[u8], line: Line) -> Result<Statement, Refu
     ensures { Gives (λ s. s) result (labelled_of text.now (line_seen line.entry)) }
 {
     let name = or_refused(token_of(line, 0))?;
-    let items = optional_items(alloc, text, line, 2)?;
+    let items = optional_items(alloc, text, line, tokens_from(line, 2))?;
     Ok(Statement::Word(Some(name), items))
 }
 
@@ -125,7 +132,7 @@ fn labelled_of(alloc: Global, text: &[u8], line: Line) -> Result<Statement, Refu
 fn unlabelled_of(alloc: Global, text: &[u8], line: Line) -> Result<Statement, Refusal>
     ensures { Gives (λ s. s) result (unlabelled_of text.now (line_seen line.entry)) }
 {
-    let items = optional_items(alloc, text, line, 0)?;
+    let items = optional_items(alloc, text, line, line.tokens)?;
     Ok(Statement::Word(None, items))
 }
 

@@ -1,0 +1,5 @@
+pub mod BitSteps
+pub mod Fields
+pub mod ItemSteps
+pub mod Maps
+pub mod Shifts
