@@ -1,5 +1,5 @@
 -- The bits of items, an item at a time.
-use Rattle.std.proofs.Common.{◌≡◌, ℕ, ◌+◌, ◌<◌, ◌≤◌, List, ◌∷◌, Result, Ok, Err, refl, sym, ◌∙◌, add-one, drop, drop-cons, get_or, length}
+use Rattle.std.proofs.Common.{◌≡◌, ℕ, ◌+◌, ◌<◌, ◌≤◌, List, Result, Ok, Err, refl, sym, ◌∙◌, add-one, drop, drop-cons, get_or, length}
 use Rattle.std.proofs.lemmas.List.{drop_all}
 use Rattle.mw_base.specs.declared.refusal.TextFault.{TextFault}
 use Rattle.mw_board.specs.declared.field.NamedField.{NamedField}

@@ -1,15 +1,14 @@
 -- The fields of a board stand within a microword of at most 128 bits.
-use Rattle.std.proofs.Common.{◌≡◌, ℕ, ◌+◌, ◌<◌, ◌≤◌, List, [], ◌∷◌, Bool, true, false, cond, Option, Some, None, Result, Ok, Err, refl, arith, nat_le, ◌&&◌, IfSome, length}
+use Rattle.std.proofs.Common.{◌≡◌, ℕ, ◌+◌, ◌≤◌, List, [], ◌∷◌, Bool, true, false, cond, Some, Result, Ok, Err, refl, arith, nat_le, ◌&&◌, IfSome, length}
 use Rattle.std.specs.List.{find}
 use Rattle.std.specs.Option.{option_map}
 use Rattle.std.proofs.lemmas.Bool.Decides.{nat_tests}
 use Rattle.mw_base.specs.declared.cause.Cause.{Cause}
 use Rattle.mw_base.specs.declared.cause.Cause.TheVariants.{BadWidth, FieldOutside}
-use Rattle.mw_board.specs.declared.fault.PartFault.{PartFault}
 use Rattle.mw_board.specs.declared.field.Field.{Field}
 use Rattle.mw_board.specs.declared.field.NamedField.{NamedField}
 use Rattle.mw_board.specs.declared.parts.BoardParts.{BoardParts}
-use Rattle.mw_board.specs.Check.{Checked, placed, number_16, at_key, in_list, each_from, field_check, fields_check, sizes_check, flipflops_check, points_check, lists_check, map_check, check_of}
+use Rattle.mw_board.specs.Check.{placed, number_16, at_key, in_list, each_from, field_check, fields_check, sizes_check, flipflops_check, points_check, lists_check, map_check, check_of}
 use Rattle.mw_board.specs.Rules.{Verdict, ask, all_of, width_rule, microword_rule, address_rule, word_rule, vector_rule, fields_rule, name_rule, field_rule}
 use Rattle.mw_asm.specs.ItemBits.{FitsWord}
 

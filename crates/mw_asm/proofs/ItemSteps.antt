@@ -1,5 +1,5 @@
 -- One token of a list of items.
-use Rattle.std.proofs.Common.{◌≡◌, ℕ, List, [], ◌∷◌, ◌++◌, Option, Some, None, Result, Ok, Err, refl, sym, ◌∙◌, append_assoc, ◌<◌, ◌≤◌, drop, drop-cons, get_or, length}
+use Rattle.std.proofs.Common.{◌≡◌, ℕ, List, [], ◌∷◌, ◌++◌, Some, None, Result, Ok, Err, refl, sym, ◌∙◌, append_assoc, ◌<◌, ◌≤◌, drop, drop-cons, get_or, length}
 use Rattle.std.proofs.lemmas.List.{drop_all}
 use Rattle.mw_base.specs.declared.refusal.Refused.{Refused}
 use Rattle.mw_base.specs.declared.refusal.Refused.TheVariants.{At, NoMemory}

@@ -1,5 +1,5 @@
 -- The lines of a text, each with its tokens.
-use Rattle.std.specs.Prelude.{ℕ, ◌+◌, List, [], ◌∷◌, length, take, drop, ◌==◌}
+use Rattle.std.specs.Prelude.{ℕ, ◌+◌, List, [], ◌∷◌, length, take, drop, ◌==◌, ◌≤◌, All}
 use Rattle.std.specs.List.{prefix_len}
 use Rattle.mw_base.specs.declared.cause.Cause.{Cause}
 use Rattle.mw_base.specs.declared.cause.Cause.TheVariants.{BadLine}
@@ -25,6 +25,10 @@ line_with number line tokens = record { number = number; end = length (content l
 unfoldable pub lines_with : ℕ → List (List ℕ) → List Token → List Line
 lines_with number [] tokens = []
 lines_with number (line ∷ rest) tokens = line_with number line tokens ∷ lines_with (number + 1) rest (drop (count_in number tokens) tokens)
+
+-- lines of at most 4,096 bytes
+abbrev pub AreShort : List (List ℕ) → Type 0
+AreShort lines = All (λ line. length (content line) ≤ 4096) lines
 
 -- a fault at a token
 abbrev pub fault_on : Token → Cause → TextFault

@@ -1,10 +1,9 @@
 -- What a line says.
-use Rattle.std.specs.Prelude.{ℕ, List, [], ◌∷◌, drop, Bool, true, false, ◌&&◌, if◌then◌else◌, codes, Option, Some, None, Result, Ok, slice_get}
+use Rattle.std.specs.Prelude.{ℕ, List, ◌∷◌, drop, Bool, true, false, ◌&&◌, if◌then◌else◌, codes, Option, Some, None, Result, Ok, slice_get}
 use Rattle.std.specs.Str.{bytes_eq}
 use Rattle.mw_base.specs.declared.refusal.TextFault.{TextFault}
 use Rattle.mw_base.specs.declared.token.Token.{Token}
 use Rattle.mw_base.specs.Reading.{◌>>=◌}
-use Rattle.mw_asm.specs.declared.items.Item.{Item}
 use Rattle.mw_asm.specs.declared.part.Part.{Part}
 use Rattle.mw_asm.specs.declared.part.Part.TheVariants as parts
 use Rattle.mw_asm.specs.declared.statement.Keyword.{Keyword}

@@ -1,5 +1,4 @@
 -- How clauses see what the code keeps.
-use Rattle.std.specs.Prelude.{ℕ, List}
 use Rattle.std.specs.HashMap.{get_by}
 use Rattle.std.specs.Str.{bytes_eq}
 use Rattle.mw_asm.specs.declared.lines as code

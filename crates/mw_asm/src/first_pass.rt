@@ -3,14 +3,14 @@ ghost use Rattle.std.specs.Prelude.{◌≡◌, ◌+◌, ◌<◌, ◌≤◌, ◌^
 ghost use Rattle.mw_base.specs.Lines.{lines_of};
 ghost use Rattle.mw_base.specs.Reading.{Gives};
 ghost use Rattle.mw_asm.specs.FirstPass.{at_first, with_used, with_meaning, with_def, with_next, with_label, with_optional_label, with_word, with_optional_word, with_statement, with_line, first_pass};
-ghost use Rattle.mw_asm.specs.Lines.{lines_with};
+ghost use Rattle.mw_asm.specs.Lines.{lines_with, AreShort};
 ghost use Rattle.mw_asm.specs.Views.{line_seen, known_seen};
 
 use crate::assembled::Label;
 use crate::bits::SetBits;
 use crate::item_bits::bits_of;
 use crate::items::Item;
-use crate::lines::{Line, count_in, fault_on, line_with, or_refused};
+use crate::lines::{Line, fault_on, line_with, or_refused, past_line};
 use crate::names::{Meaning, Names, Scope};
 use crate::part::spelled;
 use crate::statement::{Statement, statement_of};
@@ -219,21 +219,21 @@ pub(crate) fn first_pass<'a>(
     text: &'a [u8],
     tokens: &[Token],
 ) -> Result<Known<'a>, Refusal>
-    requires { length text.now < 2 ^ 32 }
+    requires short { length text.now < 2 ^ 32 }
+    requires lines { AreShort (lines_of text.now) }
     ensures { Gives (λ known. known_seen known) result (first_pass board.now.fields text.now at_first (lines_with 1 (lines_of text.now) tokens.now)) }
 {
     let mut known = Known::new(alloc);
     let mut number = 0;
     let mut start = 0;
-    let mut next = 0;
+    let mut rest = tokens;
     while start < text.len() {
         let line = first_line(&text[start..]);
         number += 1;
-        let rest = &tokens[next..];
         match known.add_line(alloc, board, text, line_with(number, line, rest)) {
             Ok(()) => {
                 start += line.len();
-                next += count_in(number, rest);
+                rest = past_line(number, rest);
             }
             Err(refusal) => return Err(refusal),
         }

@@ -14,5 +14,5 @@ mod part;
 mod second_pass;
 mod statement;
 
-pub use microprogram::assemble;
 pub use assembled::{Assembled, Label};
+pub use microprogram::assemble;

@@ -1,5 +1,5 @@
 // The lines of a text, each with its tokens.
-ghost use Rattle.std.specs.Prelude.{◌≡◌, ◌+◌, ◌<◌, ◌^◌, IfOk, length};
+ghost use Rattle.std.specs.Prelude.{◌≡◌, ◌≤◌, length, drop};
 ghost use Rattle.mw_base.specs.Lines.{content};
 ghost use Rattle.mw_base.specs.Reading.{Gives};
 ghost use Rattle.mw_asm.specs.Lines.{count_in, line_with, fault_on, bad_end};
@@ -19,8 +19,9 @@ pub(crate) struct Line<'a> {
 }
 
 /// How many tokens at the front stand in the line of this number.
-pub(crate) fn count_in(number: u32, tokens: &[Token]) -> usize
-    ensures { result ≡ count_in number tokens.now }
+fn count_in(number: u32, tokens: &[Token]) -> usize
+    ensures exact { result ≡ count_in number tokens.now }
+    ensures within { result ≤ length tokens.now }
 {
     tokens
         .iter()
@@ -28,9 +29,16 @@ pub(crate) fn count_in(number: u32, tokens: &[Token]) -> usize
         .count()
 }
 
+/// The tokens after those of the line of this number.
+pub(crate) fn past_line(number: u32, tokens: &[Token]) -> &[Token]
+    ensures { result.now ≡ drop (count_in number tokens.now) tokens.now }
+{
+    &tokens[count_in(number, tokens)..]
+}
+
 /// The line of this number and these bytes, whose tokens are the first of these.
 pub(crate) fn line_with<'a>(number: u32, line: &[u8], tokens: &'a [Token]) -> Line<'a>
-    requires { length line.now + 1 < 2 ^ 32 }
+    requires { length (content line.now) ≤ 4096 }
     ensures { line_seen result ≡ line_with number line.now tokens.now }
 {
     Line {
