@@ -16,3 +16,6 @@ mod statement;
 
 pub use assembled::{Assembled, Label};
 pub use microprogram::assemble;
+
+#[cfg(test)]
+mod tests;
