@@ -23,7 +23,7 @@ pub use memory::NoMemory;
 pub use name::{Name, is_name};
 pub use printed::{append_decimal, append_hex};
 pub use refusal::{Refusal, Refused, TextFault};
-pub use scan::tokens;
+pub use scan::{content, first_line, tokens};
 pub use token::{Kind, Token};
 pub use width::{Width, bit, mask};
 

@@ -22,8 +22,8 @@ fn before_feed(text: &[u8]) -> usize
     text.iter().take_while(|c| **c != b'\n').count()
 }
 
-/// The first line of a text, with the line feed that ends it.
-fn first_line(text: &[u8]) -> &[u8]
+/// The first line of a text, with the line feed that ends it. The text has a byte or more.
+pub fn first_line(text: &[u8]) -> &[u8]
     requires { 1 ≤ length text.now }
     ensures first { lines_of text.now ≡ result.now ∷ lines_of (drop (length result.now) text.now) }
     ensures front { result.now ≡ take (length result.now) text.now }
@@ -38,8 +38,8 @@ fn first_line(text: &[u8]) -> &[u8]
     }
 }
 
-/// A line without its line feed and a carriage return just before that.
-fn content(line: &[u8]) -> &[u8]
+/// A line without the line feed at its end and a carriage return just before that.
+pub fn content(line: &[u8]) -> &[u8]
     ensures exact { result.now ≡ content line.now }
     ensures front { result.now ≡ take (length result.now) line.now }
     ensures within { length result.now ≤ length line.now }

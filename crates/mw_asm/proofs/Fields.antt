@@ -1,0 +1,71 @@
+-- The fields of a board stand within a microword of at most 128 bits.
+use Rattle.std.proofs.Common.{◌≡◌, ℕ, ◌+◌, ◌≤◌, List, [], ◌∷◌, Bool, true, false, cond, Some, Result, Ok, Err, refl, arith, nat_le, ◌&&◌, IfSome, length}
+use Rattle.std.specs.List.{find}
+use Rattle.std.specs.Option.{option_map}
+use Rattle.std.proofs.lemmas.Bool.Decides.{nat_tests}
+use Rattle.mw_base.specs.declared.cause.Cause.{Cause}
+use Rattle.mw_base.specs.declared.cause.Cause.TheVariants.{BadWidth, FieldOutside}
+use Rattle.mw_board.specs.declared.field.Field.{Field}
+use Rattle.mw_board.specs.declared.field.NamedField.{NamedField}
+use Rattle.mw_board.specs.declared.parts.BoardParts.{BoardParts}
+use Rattle.mw_board.specs.Check.{placed, number_16, at_key, in_list, each_from, field_check, fields_check, sizes_check, flipflops_check, points_check, lists_check, map_check, check_of}
+use Rattle.mw_board.specs.Rules.{Verdict, ask, all_of, width_rule, microword_rule, address_rule, word_rule, vector_rule, fields_rule, name_rule, field_rule}
+use Rattle.mw_asm.specs.ItemBits.{FitsWord}
+
+-- of answers that all hold, the first, and those after it
+first_holds : {F : Type 0} (first : Result (Unit {0}) F) (rest : List (Result (Unit {0}) F)) → all_of (first ∷ rest) ≡ Ok tt → (first ≡ Ok tt) × (all_of rest ≡ Ok tt)
+first_holds (Ok done) rest is = (refl, is)
+first_holds (Err fault) rest is = absurd cc
+
+-- a rule that holds at its place
+placed_holds : (row index entry : ℕ) (verdict : Verdict) → placed row index entry verdict ≡ Ok tt → verdict ≡ Ok tt
+placed_holds row index entry (Ok done) is = refl
+placed_holds row index entry (Err cause) is = absurd cc
+
+-- a test that was asked and holds
+asked : (test : Bool) (cause : Cause) → ask test cause ≡ Ok tt → test ≡ true
+asked true cause is = refl
+asked false cause is = absurd cc
+
+field_fits : (microword : ℕ) (field : Field) → microword ≤ 128 → field_rule microword field.low field.width ≡ Ok tt → FitsWord field
+unfolding field_rule
+field_fits microword field few is =
+    let width = first_holds (ask (nat_le 1 field.width && nat_le field.width 32) BadWidth) (ask (nat_le (field.low + field.width) microword) FieldOutside ∷ []) is in
+    let within = first_holds (ask (nat_le (field.low + field.width) microword) FieldOutside) [] width.1 in
+    let sizes : (nat_le 1 field.width && nat_le field.width 32) ≡ true = asked (nat_le 1 field.width && nat_le field.width 32) BadWidth width.0 in
+    let inside : nat_le (field.low + field.width) microword ≡ true = asked (nat_le (field.low + field.width) microword) FieldOutside within.0 in
+    record { some = grind (arith, nat_tests, sizes); wide = grind (arith, nat_tests, sizes); within = grind (arith, nat_tests, inside) }
+
+-- each of a list of fields
+each_fits : (microword n : ℕ) (fields : List NamedField) → microword ≤ 128 → each_from (field_check microword) n fields ≡ Ok tt → (test : NamedField → Bool) → IfSome (option_map (λ (f : NamedField). f.field) (find test fields)) (λ field. FitsWord field)
+unfolding each_from
+each_fits microword n [] few is test = tt
+each_fits microword n (f ∷ rest) few is test =
+    let here = first_holds (field_check microword n f) (each_from (field_check microword) (n + 1) rest ∷ []) is in
+    let later = first_holds (each_from (field_check microword) (n + 1) rest) [] here.1 in
+    let rules = first_holds (in_list 7 n (name_rule f.name)) (in_list 7 n (field_rule microword f.field.low f.field.width) ∷ []) here.0 in
+    let within = first_holds (in_list 7 n (field_rule microword f.field.low f.field.width)) [] rules.1 in
+    let fits = field_fits microword f.field few (placed_holds 7 (number_16 n) 0 (field_rule microword f.field.low f.field.width) within.0) in
+    elim (test f) as (λ b. IfSome (option_map (λ (g : NamedField). g.field) (cond b (Some f) (find test rest))) (λ field. FitsWord field))
+    [ true ↦ fits | false ↦ each_fits microword (n + 1) rest few later.0 test ]
+
+-- a microword of a board has at most 128 bits
+few_bits : (p : BoardParts) → sizes_check p ≡ Ok tt → p.microword ≤ 128
+unfolding sizes_check microword_rule
+few_bits p is =
+    let after = at_key 3 (address_rule p.width p.address) ∷ at_key 4 (word_rule p.microword p.fill) ∷ at_key 5 (word_rule p.microword p.unset) ∷ at_key 6 (vector_rule p.vector) ∷ [] in
+    let width = first_holds (at_key 1 (width_rule p.width)) (at_key 2 (microword_rule p.microword) ∷ after) is in
+    let microword = first_holds (at_key 2 (microword_rule p.microword)) after width.1 in
+    let bits : (nat_le 1 p.microword && nat_le p.microword 128) ≡ true = asked (nat_le 1 p.microword && nat_le p.microword 128) BadWidth (placed_holds 2 0 0 (microword_rule p.microword) microword.0) in
+    grind (arith, nat_tests, bits)
+
+-- a field of a board that a search finds
+pub found_fits : (p : BoardParts) (test : NamedField → Bool) → check_of p ≡ Ok tt → IfSome (option_map (λ (f : NamedField). f.field) (find test p.fields)) (λ field. FitsWord field)
+unfolding check_of fields_check
+found_fits p test is =
+    let sizes = first_holds (sizes_check p) (fields_check p ∷ flipflops_check p ∷ points_check p ∷ lists_check p ∷ map_check p ∷ []) is in
+    let fields = first_holds (fields_check p) (flipflops_check p ∷ points_check p ∷ lists_check p ∷ map_check p ∷ []) sizes.1 in
+    let few = few_bits p sizes.0 in
+    let count = first_holds (at_key 7 (fields_rule (length p.fields))) (each_from (field_check p.microword) 0 p.fields ∷ []) fields.0 in
+    let each = first_holds (each_from (field_check p.microword) 0 p.fields) [] count.1 in
+    each_fits p.microword 0 p.fields few each.0 test

@@ -1,0 +1,170 @@
+-- Each word to be made has a place in the store, which has at most 4,096 of them.
+use Rattle.std.proofs.Common.{◌≡◌, ℕ, ◌+◌, ◌-◌, ◌<◌, ◌≤◌, List, [], ◌∷◌, ◌++◌, Bool, true, false, Option, Some, None, Result, Ok, Err, refl, sym, ap, ◌∙◌, subst, arith, length, replicate, set, nat_lt, nat_le, length-append}
+use Rattle.std.specs.Prelude.{if◌then◌else◌, slice_index_or}
+use Rattle.std.specs.List.{All}
+use Rattle.std.proofs.lemmas.Bool.Decides.{nat_tests}
+use Rattle.std.proofs.lemmas.List.{length-set, length-replicate}
+use Rattle.std.proofs.lemmas.List.Elements.{All-nil, All-push, All-weaker}
+use Rattle.mw_base.specs.declared.refusal.TextFault.{TextFault}
+use Rattle.mw_base.specs.declared.cause.Cause.TheVariants.{ValueTooWide, StoreFull, Overlap}
+use Rattle.mw_base.specs.declared.token.Token.{Token}
+use Rattle.mw_base.specs.Reading.{◌>>=◌}
+use Rattle.mw_board.specs.declared.field.NamedField.{NamedField}
+use Rattle.mw_asm.specs.declared.first_pass.Word.{Word}
+use Rattle.mw_asm.specs.declared.items.Item.{Item}
+use Rattle.mw_asm.specs.declared.names.Meaning.{Meaning}
+use Rattle.mw_asm.specs.declared.names.Meaning.TheVariants as meanings
+use Rattle.mw_asm.specs.declared.names.Scope.TheVariants as scopes
+use Rattle.mw_asm.specs.declared.statement.Statement.{Statement}
+use Rattle.mw_asm.specs.declared.statement.Statement.TheVariants as statements
+use Rattle.mw_asm.specs.Bits.{no_bits}
+use Rattle.mw_asm.specs.FirstPass.{Known, at_first, with_used, with_meaning, with_def, with_next, with_label, with_optional_label, with_word, with_optional_word, with_statement, with_line, first_pass}
+use Rattle.mw_asm.specs.ItemBits.{bits_of}
+use Rattle.mw_asm.specs.Lines.{Line, fault_on}
+use Rattle.mw_asm.specs.Names.{new_name, with_name}
+use Rattle.mw_asm.specs.Parts.{spelled}
+use Rattle.mw_asm.specs.declared.bits.SetBits.{SetBits}
+use Rattle.mw_asm.specs.Statements.{statement_of}
+use Rattle.mw_asm.proofs.Steps.{bind_ok}
+
+-- the word has a place among so many
+abbrev pub HasPlace : List Bool → Word → Type 0
+HasPlace used word = word.address < length used
+
+-- the used addresses are at most 4,096, and each word has its place
+pub record Inside (used : List Bool) (words : List Word) : Type 0 where
+  pub few : length used ≤ 4096
+  pub each : All (HasPlace used) words
+
+-- with one address more the list is no shorter, has the address, and stays within 4,096
+record Longer (used more : List Bool) (address : ℕ) : Type 0 where
+  grows : length used ≤ length more
+  has : address < length more
+  few : length used ≤ 4096 → address < 4096 → length more ≤ 4096
+
+longer_by : (used : List Bool) (address : ℕ) (b : Bool) → nat_lt address (length used) ≡ b
+    → Longer used (if b then set used address true else used ++ replicate (address - length used) false ++ (true ∷ [])) address
+longer_by used address true is =
+    let same = length-set used address true in
+    let inside : address < length used = grind (arith, nat_tests, is) in
+    record { grows = omega (arith, same); has = omega (arith, same, inside); few = λ few low. omega (arith, same, few) }
+longer_by used address false is =
+    let past : length used ≤ address = grind (arith, nat_tests, is) in
+    let count : length (used ++ replicate (address - length used) false ++ (true ∷ [])) ≡ length used + (address - length used) + 1 = simp (length-append, length-replicate) in
+    record { grows = omega (arith, count, past); has = omega (arith, count, past); few = λ few low. omega (arith, count, past, low) }
+
+longer : (used : List Bool) (address : ℕ) → Longer used (with_used used address) address
+unfolding with_used
+longer used address = longer_by used address (nat_lt address (length used)) refl
+
+-- a word more
+pushed : (used : List Bool) (words : List Word) (word : Word) → Inside used words → word.address < 4096 → Inside (with_used used word.address) (words ++ word ∷ [])
+pushed used words word inside low =
+    let more = longer used word.address in
+    record {
+      few = more.few inside.few low;
+      each = All-push (HasPlace (with_used used word.address)) words word (All-weaker (HasPlace used) (HasPlace (with_used used word.address)) (λ w h. omega (arith, more.grows, h)) words inside.each) more.has;
+    }
+
+-- a value read
+abbrev ok_known : Known → Result Known TextFault
+ok_known known = Ok known
+
+abbrev AreInside : Known → Type 0
+AreInside known = Inside known.used known.words
+
+-- what doesn't touch words
+record Keeps (known next : Known) : Type 0 where
+  used : next.used ≡ known.used
+  words : next.words ≡ known.words
+
+kept : (known next : Known) → Keeps known next → AreInside known → AreInside next
+kept known next keeps inside = rw (keeps.used, keeps.words) inside
+
+known_is : (known next : Known) → ok_known known ≡ Ok next → known ≡ next
+known_is known next is = cc
+
+meaning_keeps : (text : List ℕ) (name : Token) (meaning : Meaning) (known next : Known) → with_meaning text name meaning known ≡ Ok next → Keeps known next
+unfolding with_meaning
+meaning_keeps text name meaning known next is =
+    let last = bind_ok (new_name text known.names name) (λ done. ok_known (record known { names = with_name known.names (spelled text name) meaning })) next is in
+    let e = known_is (record known { names = with_name known.names (spelled text name) meaning }) next last.2 in
+    record { used = ap (λ (k : Known). k.used) (sym e); words = ap (λ (k : Known). k.words) (sym e) }
+
+def_keeps : (fields : List NamedField) (text : List ℕ) (name : Token) (items : List Item) (known next : Known) → with_def fields text name items known ≡ Ok next → Keeps known next
+unfolding with_def
+def_keeps fields text name items known next is =
+    let later = λ (bits : SetBits). ok_known (record known { names = with_name known.names (spelled text name) (meanings.Bits bits) }) in
+    let first = bind_ok (new_name text known.names name) (λ done. bits_of fields text known.names scopes.Def no_bits items >>= later) next is in
+    let last = bind_ok (bits_of fields text known.names scopes.Def no_bits items) later next first.2 in
+    let e = known_is (record known { names = with_name known.names (spelled text name) (meanings.Bits last.0) }) next last.2 in
+    record { used = ap (λ (k : Known). k.used) (sym e); words = ap (λ (k : Known). k.words) (sym e) }
+
+-- of two answers, one a fault, the value is the other
+if_ok : (b : Bool) (known next : Known) (fault : TextFault) → (if b then ok_known known else Err fault) ≡ Ok next → (b ≡ true) × (known ≡ next)
+if_ok true known next fault is = (refl, known_is known next is)
+if_ok false known next fault is = absurd cc
+
+next_keeps : (token : Token) (address : ℕ) (known next : Known) → with_next token address known ≡ Ok next → Keeps known next
+unfolding with_next
+next_keeps token address known next is =
+    let e = if_ok (nat_lt address 4096) (record known { next = address }) next (fault_on token ValueTooWide) is in
+    record { used = ap (λ (k : Known). k.used) (sym e.1); words = ap (λ (k : Known). k.words) (sym e.1) }
+
+label_keeps : (text : List ℕ) (name : Token) (known next : Known) → with_label text name known ≡ Ok next → Keeps known next
+unfolding with_label
+label_keeps text name known next is =
+    let later = λ (more : Known). ok_known (record more { labels = more.labels ++ (record { name = spelled text name; address = more.next } ∷ []) }) in
+    let last = bind_ok (with_meaning text name (meanings.Label known.next) known) later next is in
+    let e = known_is (record last.0 { labels = last.0.labels ++ (record { name = spelled text name; address = last.0.next } ∷ []) }) next last.2 in
+    let keeps = meaning_keeps text name (meanings.Label known.next) known last.0 last.1 in
+    record { used = ap (λ (k : Known). k.used) (sym e) ∙ keeps.used; words = ap (λ (k : Known). k.words) (sym e) ∙ keeps.words }
+
+optional_label_keeps : (text : List ℕ) (name : Option Token) (known next : Known) → with_optional_label text name known ≡ Ok next → Keeps known next
+optional_label_keeps text None known next is =
+    let e = known_is known next is in record { used = ap (λ (k : Known). k.used) (sym e); words = ap (λ (k : Known). k.words) (sym e) }
+optional_label_keeps text (Some name) known next is = label_keeps text name known next is
+
+-- after two tests, of which each may give a fault
+after_tests : (full there : Bool) (known next : Known) (first second : TextFault) → (if full then Err first else (if there then Err second else ok_known known)) ≡ Ok next → (full ≡ false) × (known ≡ next)
+after_tests true there known next first second is = absurd cc
+after_tests false true known next first second is = absurd cc
+after_tests false false known next first second is = (refl, known_is known next is)
+
+word_inside : (first : Token) (items : List Item) (known next : Known) → with_word first items known ≡ Ok next → AreInside known → AreInside next
+unfolding with_word
+word_inside first items known next is inside =
+    let word : Word = record { address = known.next; items = items } in
+    let grown : Known = record known { next = known.next + 1; used = with_used known.used known.next; words = known.words ++ (word ∷ []) } in
+    let e = after_tests (nat_le 4096 known.next) (slice_index_or known.used known.next false) grown next (fault_on first StoreFull) (fault_on first Overlap) is in
+    let low : known.next < 4096 = grind (arith, nat_tests, e.0) in
+    subst AreInside e.1 (pushed known.used known.words word inside low)
+
+optional_word_inside : (items : List Item) (known next : Known) → with_optional_word items known ≡ Ok next → AreInside known → AreInside next
+optional_word_inside [] known next is inside = subst AreInside (known_is known next is) inside
+optional_word_inside (first ∷ rest) known next is inside = word_inside first.name (first ∷ rest) known next is inside
+
+statement_inside : (fields : List NamedField) (text : List ℕ) (known next : Known) (statement : Statement) → with_statement fields text known statement ≡ Ok next → AreInside known → AreInside next
+statement_inside fields text known next (statements.Equ name value) is inside = kept known next (meaning_keeps text name (meanings.Number value) known next is) inside
+statement_inside fields text known next (statements.Def name items) is inside = kept known next (def_keeps fields text name items known next is) inside
+statement_inside fields text known next (statements.Org token address) is inside = kept known next (next_keeps token address known next is) inside
+statement_inside fields text known next (statements.Word label items) is inside =
+    let two = bind_ok (with_optional_label text label known) (λ labelled. with_optional_word items labelled) next is in
+    optional_word_inside items two.0 next two.2 (kept known two.0 (optional_label_keeps text label known two.0 two.1) inside)
+
+line_inside : (fields : List NamedField) (text : List ℕ) (known next : Known) (line : Line) → with_line fields text known line ≡ Ok next → AreInside known → AreInside next
+unfolding with_line
+line_inside fields text known next line is inside =
+    let two = bind_ok (statement_of text line) (λ statement. with_statement fields text known statement) next is in
+    statement_inside fields text known next two.0 two.2 inside
+
+all_inside : (fields : List NamedField) (text : List ℕ) (known end : Known) (lines : List Line) → first_pass fields text known lines ≡ Ok end → AreInside known → AreInside end
+unfolding first_pass
+all_inside fields text known end [] is inside = subst AreInside (known_is known end is) inside
+all_inside fields text known end (line ∷ rest) is inside =
+    let two = bind_ok (with_line fields text known line) (λ next. first_pass fields text next rest) end is in
+    all_inside fields text two.0 end rest two.2 (line_inside fields text known two.0 line two.1 inside)
+
+-- after the first pass
+pub first_pass_inside : (fields : List NamedField) (text : List ℕ) (end : Known) (lines : List Line) → first_pass fields text at_first lines ≡ Ok end → Inside end.used end.words
+first_pass_inside fields text end lines is = all_inside fields text at_first end lines is (record { few = omega arith; each = All-nil (HasPlace []) })

@@ -1,0 +1,9 @@
+pub mod BitSteps
+pub mod Fields
+pub mod Inside
+pub mod ItemSteps
+pub mod LineSteps
+pub mod Maps
+pub mod Shifts
+pub mod Steps
+pub mod WordSteps

@@ -1,0 +1,16 @@
+use Rattle.std.proofs.Common.{◌≡◌, length, ap, ◌∙◌}
+use Rattle.std.proofs.lemmas.List.{length-map}
+use Rattle.mw_base.specs.Lines.{lines_of}
+use Rattle.mw_asm.specs.Views.{known_seen}
+use Rattle.mw_asm.proofs.Inside.{first_pass_inside}
+use Rattle.mw_asm.proofs.LineSteps.{all_short}
+use Rattle.mw_asm.proofs.microprogram.assemble.Goals as goal
+
+pub first_pass-requires-clause-lines : goal.first_pass-requires-clause-lines
+first_pass-requires-clause-lines c = all_short 1 0 (lines_of c.args.text.now) c.in_ok-tokens.tokens.items c.in_ok-tokens.ensures.exact
+
+pub second_pass-requires : goal.second_pass-requires
+second_pass-requires c =
+    let inside = first_pass_inside c.args.board.now.fields c.args.text.now (known_seen c.in_ok-known.known) _ c.in_ok-known.ensures in
+    let sized : length c.in_ok-store.store.items ≡ length c.in_ok-known.known.used.items = ap length c.in_ok-store.ensures ∙ simp (length-map, c.deref-2.ensures.value) in
+    rw (c.deref-3.ensures.value, sized) inside.each

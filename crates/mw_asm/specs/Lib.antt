@@ -1,0 +1,11 @@
+pub mod Bits
+pub mod Examples
+pub mod FirstPass
+pub mod ItemBits
+pub mod Items
+pub mod Lines
+pub mod Microprogram
+pub mod Names
+pub mod Parts
+pub mod Statements
+pub mod Views

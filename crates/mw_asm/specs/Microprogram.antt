@@ -1,0 +1,34 @@
+-- The microprogram that a text spells in the fields of a board.
+use Rattle.std.specs.Prelude.{ℕ, List, [], ◌∷◌, map, slice_set, Bool, Result, Ok}
+use Rattle.mw_base.specs.declared.refusal.TextFault.{TextFault}
+use Rattle.mw_base.specs.Lines.{lines_of}
+use Rattle.mw_base.specs.Reading.{◌>>=◌}
+use Rattle.mw_base.specs.Tokens.{tokens_of}
+use Rattle.mw_board.specs.declared.parts.BoardParts.{BoardParts}
+use Rattle.mw_asm.specs.declared.assembled.Assembled.{Assembled}
+use Rattle.mw_asm.specs.declared.first_pass.Word.{Word}
+use Rattle.mw_asm.specs.declared.names.Scope.TheVariants as scopes
+use Rattle.mw_asm.specs.Bits.{no_bits, word_of}
+use Rattle.mw_asm.specs.FirstPass.{at_first, first_pass}
+use Rattle.mw_asm.specs.ItemBits.{bits_of}
+use Rattle.mw_asm.specs.Lines.{lines_with}
+use Rattle.mw_asm.specs.Names.{Names}
+
+-- the second pass: the store with each word at its address, or the first fault of their items
+unfoldable pub second_pass : BoardParts → List ℕ → Names → List ℕ → List Word → Result (List ℕ) TextFault
+second_pass board text names store [] = Ok store
+second_pass board text names store (word ∷ rest) = do
+  bits ← bits_of board.fields text names scopes.Word no_bits word.items
+  second_pass board text names (slice_set store word.address (word_of board.unset bits)) rest
+
+-- a store of the fill word alone, as long as this list
+abbrev pub filled : ℕ → List Bool → List ℕ
+filled fill used = map (λ (word : Bool). fill) used
+
+-- the microprogram of a text, or its first fault: those of its bytes, then those of the first pass, then those of the second
+unfoldable pub store_of : BoardParts → List ℕ → Result Assembled TextFault
+store_of board text = do
+  tokens ← tokens_of text
+  known ← first_pass board.fields text at_first (lines_with 1 (lines_of text) tokens)
+  words ← second_pass board text known.names (filled board.fill known.used) known.words
+  Ok (record { store = record { words = words }; used = known.used; labels = known.labels })

@@ -1,0 +1,21 @@
+//! Microprograms: their text in the fields of a board, the microwords and labels that it spells, and their listing.
+#![tactic(auto)]
+
+mod assembled;
+mod bits;
+mod computed_examples;
+mod first_pass;
+mod item_bits;
+mod items;
+mod lines;
+mod microprogram;
+mod names;
+mod part;
+mod second_pass;
+mod statement;
+
+pub use assembled::{Assembled, Label};
+pub use microprogram::assemble;
+
+#[cfg(test)]
+mod tests;
