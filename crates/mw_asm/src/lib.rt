@@ -2,5 +2,7 @@
 #![tactic(auto)]
 
 mod assembled;
+mod listing;
 
 pub use assembled::{Assembled, Label};
+pub use listing::listing;
