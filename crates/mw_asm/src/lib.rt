@@ -2,7 +2,10 @@
 #![tactic(auto)]
 
 mod assembled;
-mod listing;
+mod listed;
 
 pub use assembled::{Assembled, Label};
-pub use listing::listing;
+pub use listed::listing;
+
+#[cfg(test)]
+mod listing_tests;

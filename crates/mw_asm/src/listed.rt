@@ -1,5 +1,5 @@
 // The listing of an assembled microprogram.
-ghost use Rattle.std.specs.Prelude.{◌≡◌, ℕ, ◌<◌, List, [], ◌∷◌, ◌++◌, IfOk, OnOk, length, slice_index_or};
+ghost use Rattle.std.specs.Prelude.{◌≡◌, ℕ, ◌<◌, List, [], ◌∷◌, ◌++◌, IfOk, OnOk, length, replicate, slice_index_or};
 ghost use Rattle.mw_asm.specs.Listing.{labels_at, names_of, line_of, listing_of};
 
 use crate::assembled::{Assembled, Label};
@@ -48,8 +48,7 @@ impl Names {
 
 /// No names, for each of so many addresses.
 fn no_names(alloc: Global, count: usize) -> Result<Vec<Names>, NoMemory>
-    ensures len { IfOk result (λ names. length names.items ≡ count) }
-    ensures each { IfOk result (λ names. (at : ℕ) → slice_index_or names.items at [] ≡ []) }
+    ensures { IfOk result (λ names. names.items ≡ replicate count []) }
 {
     let mut names = Vec::with_capacity(alloc, count)?;
     for _ in 0..count {
@@ -82,7 +81,7 @@ fn push_line(
     word: u128,
     names: &[u8],
 ) -> Result<(), NoMemory>
-    ensures { (labels : List Label) → names.now ≡ names_of labels → OnOk result (text.new.items ≡ text.old.items ++ line_of digits at word labels) }
+    ensures { OnOk result (text.new.items ≡ text.old.items ++ line_of digits at word names.now) }
 {
     append_padded(alloc, text, 3, at as u128)?;
     text.push(b' ')?;
@@ -99,7 +98,7 @@ fn push_line(
 /// # Errors
 ///
 /// Memory ran out.
-#[tactic(auto, unfolding(crate::specs::Listing::listing_of))]
+#[tactic(auto, unfolding(crate::specs::Listing::listing_of, crate::specs::Listing::addresses_of))]
 pub fn listing(alloc: Global, board: &Board, made: &Assembled) -> Result<Vec<u8>, NoMemory>
     ensures { IfOk result (λ text. text.items ≡ listing_of board.now made.now) }
 {
