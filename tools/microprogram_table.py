@@ -1,11 +1,11 @@
 #!/usr/bin/env python3
-"""Assembles microprograms, or says why they are refused, and prints the tables that the tests of `asm` read.
+"""Assembles microprograms, or says why they are refused, to see that the tables which the tests of `asm` read are right.
 
-It states the format of microprograms anew, from the manual's page on it, and uses nothing of the crates. Board files are
-taken as right.
+It states the format of microprograms anew, as the manual has it, and uses nothing of the crates. Board files are taken
+as right.
 
-    microprogram_table.py table NAME     one of the tables of microprogram_cases.py, as a constant
-    microprogram_table.py asm BOARD MICRO    no table, but the report of these files
+    microprogram_table.py check FILE..       the rows of these files' tables that have another report
+    microprogram_table.py asm BOARD MICRO    the report of these files
 """
 import re
 import sys
@@ -224,15 +224,38 @@ def report(board, text, name="m"):
         return f"refused {name} {refused}\n"
 
 
-def literal(text):
-    """A byte string over several lines, as rt fmt leaves it."""
-    shown = "".join(
-        {"\n": "\\n", "\t": "\\t", "\r": "\\r", "\\": "\\\\", '"': '\\"'}.get(chr(c), chr(c) if 32 <= c < 127 else f"\\x{c:02X}")
-        for c in text)
-    if len(shown) > 90 and "\\n" in shown[:-2]:
-        parts = re.findall(r".*?\\n|.+$", shown)
-        return 'b"' + "\\\n        ".join(part if not part.startswith(" ") else "\\x20" + part[1:] for part in parts) + '"'
-    return f'b"{shown}"'
+def unquoted(text):
+    """What a byte string of Rust's stands for."""
+    text = re.sub(r"\\\n\s*", "", text)
+    escapes = {"n": "\n", "t": "\t", "r": "\r", "\\": "\\", '"': '"'}
+    chars = re.sub(r"\\(x(..)|.)", lambda found: chr(int(found[2], 16)) if found[2] else escapes[found[1]], text)
+    return chars.encode("latin-1")
+
+
+def tables(path):
+    """The constants of a file, each with its byte strings."""
+    with open(path, encoding="utf-8") as file:
+        for name, kind, value in re.findall(r"pub const (\w+): ([^=]+?) = (.*?);\n(?=\n|$)", file.read(), re.S):
+            yield name, kind, [unquoted(text) for text in re.findall(r'\bb"((?:[^"\\]|\\.)*)"', value, re.S)]
+
+
+def unlike(paths):
+    """The rows of these files' tables whose report is another one than theirs, and how many rows there are."""
+    found, rows, boards = [], 0, {}
+    for path in paths:
+        for name, kind, texts in tables(path):
+            boards[name] = b"".join(texts)
+            size = kind.count("&[u8]")
+            if name == "BOARDS" or "(" not in kind:
+                continue
+            head = boards["SMALL"] if size == 2 else boards["BYTE" if name == "OTHER_FIELDS" else "KEYS"]
+            for at in range(0, len(texts), size):
+                rows += 1
+                board = head + (texts[at] if size == 3 else b"")
+                answer = report(board.decode(), texts[at + size - 2])
+                if answer.encode() != texts[at + size - 1]:
+                    found.append(f"{name} row {at // size + 1}: {answer}")
+    return found, rows
 
 
 def main():
@@ -240,12 +263,8 @@ def main():
         with open(sys.argv[2], encoding="utf-8") as board, open(sys.argv[3], "rb") as text:
             print(report(board.read(), text.read(), sys.argv[3]), end="")
         return
-    from microprogram_cases import BOARDS, TABLES
-    table = TABLES[sys.argv[2]]
-    print(f"pub const {sys.argv[2]}: [(&[u8], &[u8]); {len(table)}] = [")
-    for text, wanted in table:
-        print(f"    ({literal(text)}, {literal(wanted)}),")
-    print("];")
+    found, rows = unlike(sys.argv[2:])
+    print("\n".join(found + [f"{rows} rows, {len(found)} unlike"]))
 
 
 if __name__ == "__main__":
