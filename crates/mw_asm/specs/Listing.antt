@@ -16,13 +16,14 @@ labels_at at labels = filter (λ (label : Label). label.address == at) labels
 abbrev pub names_of : List Label → List ℕ
 names_of labels = flat_map (λ (label : Label). 32 ∷ label.name) labels
 
--- a line: an address in three digits, a space, a word in so many digits, what is shown of labels, and a line feed
-unfoldable pub line_of : ℕ → ℕ → ℕ → List ℕ → List ℕ
-line_of digits at word names = padded 3 at ++ 32 ∷ padded digits word ++ names ++ 10 ∷ []
+-- a line: an address in three digits, a space, a word in a digit for each four of its bits, rounded up, what is shown of labels, and a
+-- line feed
+unfoldable pub line_of : BoardParts → ℕ → ℕ → List ℕ → List ℕ
+line_of board at word names = padded 3 at ++ 32 ∷ padded (div_ceil board.microword 4) word ++ names ++ 10 ∷ []
 
--- the line of an address: the word there, in a digit for each four bits, rounded up, and its labels
+-- the line of an address: its word and its labels
 abbrev pub line_at : BoardParts → Assembled → ℕ → List ℕ
-line_at board made at = line_of (div_ceil board.microword 4) at (word_at board made.store.words at) (names_of (labels_at at made.labels))
+line_at board made at = line_of board at (word_at board made.store.words at) (names_of (labels_at at made.labels))
 
 -- the addresses where a line of the microprogram put a word, in rising order
 unfoldable pub addresses_of : List Bool → List ℕ

@@ -76,16 +76,16 @@ fn names_by_address(alloc: Global, count: usize, labels: &[Label]) -> Result<Vec
 fn push_line(
     alloc: Global,
     text: &mut Vec<u8>,
-    digits: u8,
+    board: &Board,
     at: usize,
     word: u128,
     names: &[u8],
 ) -> Result<(), NoMemory>
-    ensures { OnOk result (text.new.items ≡ text.old.items ++ line_of digits at word names.now) }
+    ensures { OnOk result (text.new.items ≡ text.old.items ++ line_of board.now at word names.now) }
 {
     append_padded(alloc, text, 3, at as u128)?;
     text.push(b' ')?;
-    append_padded(alloc, text, digits, word)?;
+    append_padded(alloc, text, board.parts().microword.div_ceil(4), word)?;
     text.extend_from_slice(names)?;
     text.push(b'\n')?;
     Ok(())
@@ -102,7 +102,6 @@ fn push_line(
 pub fn listing(alloc: Global, board: &Board, made: &Assembled) -> Result<Vec<u8>, NoMemory>
     ensures { IfOk result (λ text. text.items ≡ listing_of board.now made.now) }
 {
-    let digits = board.parts().microword.div_ceil(4);
     let used = made.used.as_slice();
     let words = made.store.words.as_slice();
     let names = names_by_address(alloc, used.len(), made.labels.as_slice())?;
@@ -110,7 +109,7 @@ pub fn listing(alloc: Global, board: &Board, made: &Assembled) -> Result<Vec<u8>
     for (at, is_used) in used.iter().enumerate() {
         if *is_used {
             let word = words.get(at).copied().unwrap_or(board.parts().fill);
-            push_line(alloc, &mut text, digits, at, word, names[at].as_slice())?;
+            push_line(alloc, &mut text, board, at, word, names[at].as_slice())?;
         }
     }
     Ok(text)

@@ -1,4 +1,4 @@
-use Rattle.std.proofs.Common.{◌≡◌, List, [], replicate}
+use Rattle.std.proofs.Common.{◌≡◌, [], replicate}
 use Rattle.mw_asm.proofs.listed.no_names.Given as goal
 
 abbrev pub invariant-loop : goal.invariant-loop
