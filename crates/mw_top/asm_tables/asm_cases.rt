@@ -47,14 +47,20 @@ pub const LISTINGS: [(&[u8], &[u8]); 44] = [
     (b"src=1\n", b"000 000000001\n"),
     (b"src=1\r\n\r\nsrc=2\r\n", b"000 000000001\n001 000000002\n"),
     (b"src=1 ; a note\nsrc=2;", b"000 000000001\n001 000000002\n"),
-    (b"src=1;\xFF\r\x00@ ;\nsrc=2\n", b"000 000000001\n001 000000002\n"),
+    (
+        b"src=1;\xFF\r\x00@ ;\nsrc=2\n",
+        b"000 000000001\n001 000000002\n",
+    ),
     (b";\r", b""),
     (b"\tL :\tsrc = 1 , fun=2\t", b"000 000000011 L\n"),
     (b"L:src=1,fun=2", b"000 000000011 L\n"),
     // Numbers.
     (b"src=0b101\nseq=0o17\n", b"000 000000005\n001 0003C0000\n"),
     (b"br=0xAbC\nbr=007\n", b"000 2AF000000\n001 001C00000\n"),
-    (b"src=0000000000000000000000000000000000000000007", b"000 000000007\n"),
+    (
+        b"src=0000000000000000000000000000000000000000007",
+        b"000 000000007\n",
+    ),
     (b"equ MOST = 340282366920938463463374607431768211455", b""),
     (
         b"src=7, fun=7, dst=7, a=15, b=15, cin=1, seq=15, br=4095, off=1",
@@ -64,7 +70,10 @@ pub const LISTINGS: [(&[u8], &[u8]); 44] = [
     (b"equ TOP = 4095\nbr=TOP", b"000 3FFC00000\n"),
     (b"br=TOP\nequ TOP = 1", b"000 000400000\n"),
     (b"CONT\ndef CONT = seq=14", b"000 000380000\n"),
-    (b"equ N = 3\ndef A = seq=N\ndef B = A, off=1\nB, br=5", b"000 4014C0000\n"),
+    (
+        b"equ N = 3\ndef A = seq=N\ndef B = A, off=1\nB, br=5",
+        b"000 4014C0000\n",
+    ),
     (b"def A = src=1, fun=2, dst=3\nA", b"000 0000000D1\n"),
     // A bit may be set twice, to the same.
     (b"src=3, src=3", b"000 000000003\n"),
@@ -81,17 +90,35 @@ pub const LISTINGS: [(&[u8], &[u8]); 44] = [
     (b"A:\nB: src=1\n", b"000 000000001 A B\n"),
     (b"src=1\nEND:\n", b"000 000000001\n"),
     (b"B: src=1\norg 0\nA:\n", b"000 000000001 B A\n"),
-    (b"l: src=1\nL: src=2, br=l", b"000 000000001 l\n001 000000002 L\n"),
-    (b"_: src=1\n_0a: src=2", b"000 000000001 _\n001 000000002 _0a\n"),
+    (
+        b"l: src=1\nL: src=2, br=l",
+        b"000 000000001 l\n001 000000002 L\n",
+    ),
+    (
+        b"_: src=1\n_0a: src=2",
+        b"000 000000001 _\n001 000000002 _0a\n",
+    ),
     (
         b"A123456789012345678901234567890123456789012345678901234567890123: src=1",
         b"000 000000001 A123456789012345678901234567890123456789012345678901234567890123\n",
     ),
-    (b"equ2: src=1\nDEF: src=1\norg_: src=1", b"000 000000001 equ2\n001 000000001 DEF\n002 000000001 org_\n"),
+    (
+        b"equ2: src=1\nDEF: src=1\norg_: src=1",
+        b"000 000000001 equ2\n001 000000001 DEF\n002 000000001 org_\n",
+    ),
     // Addresses.
-    (b"org 3\nsrc=1\norg 1\nsrc=2\n", b"001 000000002\n003 000000001\n"),
-    (b"org 0x10\nL:\norg 2\nM: src=1\nsrc=2, br=L", b"002 000000001 M\n003 004000002\n"),
-    (b"org 4095\nsrc=1\norg 0\nsrc=2\n", b"000 000000002\nFFF 000000001\n"),
+    (
+        b"org 3\nsrc=1\norg 1\nsrc=2\n",
+        b"001 000000002\n003 000000001\n",
+    ),
+    (
+        b"org 0x10\nL:\norg 2\nM: src=1\nsrc=2, br=L",
+        b"002 000000001 M\n003 004000002\n",
+    ),
+    (
+        b"org 4095\nsrc=1\norg 0\nsrc=2\n",
+        b"000 000000002\nFFF 000000001\n",
+    ),
     (b"org 4095\nsrc=1\nEND:\n", b"FFF 000000001\n"),
     (b"org 5\norg 4095\n", b""),
     (b"org 0xABC ; three digits\nsrc=1", b"ABC 000000001\n"),
@@ -109,12 +136,32 @@ pub const OTHER_FIELDS: [(&[u8], &[u8], &[u8]); 17] = [
     (b"", b"L:\norg 7\n", b""),
     (b"", b"a=1", b"refused m line 1 column 1 cause 30\n"),
     (b"fields.a = [0, 8]", b"a=0xA5\na=0", b"000 A5\n001 00\n"),
-    (b"fields.a = [0, 4]\nunset = \"0xF0\"", b"a=0\na=15", b"000 F0\n001 FF\n"),
-    (b"fields.a = [4, 4]\nunset = \"0xFF\"", b"a=0\norg 5\na=6", b"000 0F\n005 6F\n"),
-    (b"fields.a = [0, 1]\nunset = \"1\"", b"a=0, a=1", b"refused m line 1 column 6 cause 32\n"),
+    (
+        b"fields.a = [0, 4]\nunset = \"0xF0\"",
+        b"a=0\na=15",
+        b"000 F0\n001 FF\n",
+    ),
+    (
+        b"fields.a = [4, 4]\nunset = \"0xFF\"",
+        b"a=0\norg 5\na=6",
+        b"000 0F\n005 6F\n",
+    ),
+    (
+        b"fields.a = [0, 1]\nunset = \"1\"",
+        b"a=0, a=1",
+        b"refused m line 1 column 6 cause 32\n",
+    ),
     // Fields that overlap.
-    (b"fields.a = [0, 4]\nfields.b = [2, 4]", b"a=0b1100, b=0b0011", b"000 0C\n"),
-    (b"fields.a = [0, 4]\nfields.b = [2, 4]", b"a=0b1100, b=0b1011", b"000 2C\n"),
+    (
+        b"fields.a = [0, 4]\nfields.b = [2, 4]",
+        b"a=0b1100, b=0b0011",
+        b"000 0C\n",
+    ),
+    (
+        b"fields.a = [0, 4]\nfields.b = [2, 4]",
+        b"a=0b1100, b=0b1011",
+        b"000 2C\n",
+    ),
     (
         b"fields.a = [0, 4]\nfields.b = [2, 4]",
         b"a=0b1100, b=0b0010",
@@ -125,7 +172,11 @@ pub const OTHER_FIELDS: [(&[u8], &[u8], &[u8]); 17] = [
         b"def A = a=0b1100\nb=3, A\nb=1, A",
         b"refused m line 3 column 6 cause 32\n",
     ),
-    (b"fields.a = [0, 4]\nfields.whole = [0, 8]", b"a=1, whole=1\nwhole=0x31, a=1", b"000 01\n001 31\n"),
+    (
+        b"fields.a = [0, 4]\nfields.whole = [0, 8]",
+        b"a=1, whole=1\nwhole=0x31, a=1",
+        b"000 01\n001 31\n",
+    ),
     // Fields that are named as the words that begin lines.
     (
         b"fields.equ = [0, 2]\nfields.def = [2, 2]\nfields.org = [4, 4]",
@@ -139,9 +190,21 @@ pub const OTHER_FIELDS: [(&[u8], &[u8], &[u8]); 17] = [
     ),
     // Addresses in a narrow field.
     (b"fields.j = [0, 4]", b"org 15\nL: j=L", b"00F 0F L\n"),
-    (b"fields.j = [0, 4]", b"org 16\nL: j=L", b"refused m line 2 column 6 cause 33\n"),
-    (b"fields.j = [0, 4]", b"j=L\norg 16\nL:", b"refused m line 1 column 3 cause 33\n"),
-    (b"fields.j = [7, 1]", b"equ ON = 1\nj=ON\nj=ON, j=1", b"000 80\n001 80\n"),
+    (
+        b"fields.j = [0, 4]",
+        b"org 16\nL: j=L",
+        b"refused m line 2 column 6 cause 33\n",
+    ),
+    (
+        b"fields.j = [0, 4]",
+        b"j=L\norg 16\nL:",
+        b"refused m line 1 column 3 cause 33\n",
+    ),
+    (
+        b"fields.j = [7, 1]",
+        b"equ ON = 1\nj=ON\nj=ON, j=1",
+        b"000 80\n001 80\n",
+    ),
 ];
 
 /// The keys of a board but for its microword, fill word and fields.
@@ -149,13 +212,41 @@ pub const KEYS: &[u8] = b"version = 1\nwidth = 4\naddress = 4\n";
 
 /// The other keys of such a board, a microprogram, and the report.
 pub const OTHER_WIDTHS: [(&[u8], &[u8], &[u8]); 10] = [
-    (b"microword = 1\nfill = \"1\"\nfields.a = [0, 1]", b"a=1\norg 2\na=0", b"000 1\n002 0\n"),
-    (b"microword = 4\nfill = \"0\"\nfields.a = [3, 1]", b"a=1", b"000 8\n"),
-    (b"microword = 5\nfill = \"0\"\nfields.a = [3, 1]", b"a=1", b"000 08\n"),
-    (b"microword = 8\nfill = \"0\"\nfields.a = [3, 1]", b"a=1", b"000 08\n"),
-    (b"microword = 9\nfill = \"0\"\nfields.a = [3, 1]", b"a=1", b"000 008\n"),
-    (b"microword = 13\nfill = \"0\"\nfields.j = [0, 13]", b"org 4095\nj=END\nEND:", b"FFF 1000\n"),
-    (b"microword = 32\nfill = \"0\"\nfields.a = [0, 32]", b"a=4294967295", b"000 FFFFFFFF\n"),
+    (
+        b"microword = 1\nfill = \"1\"\nfields.a = [0, 1]",
+        b"a=1\norg 2\na=0",
+        b"000 1\n002 0\n",
+    ),
+    (
+        b"microword = 4\nfill = \"0\"\nfields.a = [3, 1]",
+        b"a=1",
+        b"000 8\n",
+    ),
+    (
+        b"microword = 5\nfill = \"0\"\nfields.a = [3, 1]",
+        b"a=1",
+        b"000 08\n",
+    ),
+    (
+        b"microword = 8\nfill = \"0\"\nfields.a = [3, 1]",
+        b"a=1",
+        b"000 08\n",
+    ),
+    (
+        b"microword = 9\nfill = \"0\"\nfields.a = [3, 1]",
+        b"a=1",
+        b"000 008\n",
+    ),
+    (
+        b"microword = 13\nfill = \"0\"\nfields.j = [0, 13]",
+        b"org 4095\nj=END\nEND:",
+        b"FFF 1000\n",
+    ),
+    (
+        b"microword = 32\nfill = \"0\"\nfields.a = [0, 32]",
+        b"a=4294967295",
+        b"000 FFFFFFFF\n",
+    ),
     (
         b"microword = 32\nfill = \"0\"\nfields.a = [0, 32]",
         b"a=4294967296",

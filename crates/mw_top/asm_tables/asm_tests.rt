@@ -2,6 +2,7 @@ use super::asm_cases::{
     ADDING, ADDING_LISTING, BYTE, KEYS, LISTINGS, OTHER_FIELDS, OTHER_WIDTHS, SMALL,
 };
 use super::asm_refusals::{BOARDS, LINES, NAMES, ORDER};
+use super::asm_vectors::VECTORS;
 use super::*;
 use mw_base::{append_decimal, append_hex};
 use mw_outside::{MemoryShelf, MemorySink};
@@ -33,71 +34,79 @@ fn asm(alloc: Global, shelf: &mut MemoryShelf, out: &mut MemorySink) -> Result<u
     Ok(bench(alloc, &words, shelf, out).number())
 }
 
-/// Sees that `asm b m` on these files prints a report, and has its status: 4 for a refusal, 0 for a listing.
-fn expect(
-    rt: &HostRuntime,
-    board: &[u8],
-    microprogram: &[u8],
-    report: &[u8],
-) -> Result<(), Fail> {
-    let mut shelf = shelf_of(rt.alloc(), board, microprogram, 4096, &[])?;
-    let mut out = MemorySink::new(rt.alloc(), 4096, &[])?;
-    let status = asm(rt.alloc(), &mut shelf, &mut out)?;
-    assert_eq!(rt; out.bytes(), report, "{microprogram:?}");
-    assert_eq!(rt; status, if report.starts_with(b"refused") { 4 } else { 0 });
-    Ok(())
+/// Whether `asm b m` on these files prints a report and ends with its status: 4 for a refusal, 0 for a listing.
+fn reports(alloc: Global, board: &[u8], microprogram: &[u8], report: &[u8]) -> Result<bool, Fail> {
+    let mut shelf = shelf_of(alloc, board, microprogram, 4096, &[])?;
+    let mut out = MemorySink::new(alloc, 4096, &[])?;
+    let status = asm(alloc, &mut shelf, &mut out)?;
+    let wanted = if report.starts_with(b"refused") { 4 } else { 0 };
+    Ok(status == wanted && out.bytes() == report)
 }
 
-/// As `expect`, for each row: a microprogram of the small board, and a report.
-fn expect_each(rt: &HostRuntime, rows: &[(&[u8], &[u8])]) -> Result<(), Fail> {
-    for &(microprogram, report) in rows {
-        expect(rt, SMALL, microprogram, report)?;
+/// The number of the first row, from 0, whose microprogram has another report on the small board.
+fn first_unlike(alloc: Global, rows: &[(&[u8], &[u8])]) -> Result<Option<usize>, Fail> {
+    for (row, &(microprogram, report)) in rows.iter().enumerate() {
+        if !reports(alloc, SMALL, microprogram, report)? {
+            return Ok(Some(row));
+        }
     }
-    Ok(())
+    Ok(None)
 }
 
-/// As `expect`, for each row: the last lines of a board, a microprogram, and a report.
-fn expect_each_board(
-    rt: &HostRuntime,
+/// The number of the first row, from 0, whose last lines of a board and microprogram have another report.
+fn first_unlike_board(
+    alloc: Global,
     first_lines: &[u8],
     rows: &[(&[u8], &[u8], &[u8])],
-) -> Result<(), Fail> {
-    for &(last_lines, microprogram, report) in rows {
-        let mut board = Vec::from_slice(rt.alloc(), first_lines)?;
+) -> Result<Option<usize>, Fail> {
+    for (row, &(last_lines, microprogram, report)) in rows.iter().enumerate() {
+        let mut board = Vec::from_slice(alloc, first_lines)?;
         board.extend_from_slice(last_lines)?;
-        expect(rt, &board, microprogram, report)?;
+        if !reports(alloc, &board, microprogram, report)? {
+            return Ok(Some(row));
+        }
     }
-    Ok(())
+    Ok(None)
 }
 
 #[test]
 fn asm_small(rt: HostRuntime) -> Result<(), Fail> {
-    expect(&rt, SMALL, ADDING, ADDING_LISTING)
+    assert!(rt; reports(rt.alloc(), SMALL, ADDING, ADDING_LISTING)?);
+    Ok(())
 }
 
 #[test]
 fn listings(rt: HostRuntime) -> Result<(), Fail> {
-    expect_each(&rt, &LISTINGS)
+    assert_eq!(rt; first_unlike(rt.alloc(), &LISTINGS)?, None);
+    Ok(())
 }
 
 #[test]
 fn other_boards(rt: HostRuntime) -> Result<(), Fail> {
-    expect_each_board(&rt, BYTE, &OTHER_FIELDS)?;
-    expect_each_board(&rt, KEYS, &OTHER_WIDTHS)
+    assert_eq!(rt; first_unlike_board(rt.alloc(), BYTE, &OTHER_FIELDS)?, None);
+    assert_eq!(rt; first_unlike_board(rt.alloc(), KEYS, &OTHER_WIDTHS)?, None);
+    Ok(())
+}
+
+#[test]
+fn random_microprograms(rt: HostRuntime) -> Result<(), Fail> {
+    assert_eq!(rt; first_unlike_board(rt.alloc(), KEYS, &VECTORS)?, None);
+    Ok(())
 }
 
 #[test]
 fn micro_refusals(rt: HostRuntime) -> Result<(), Fail> {
-    expect_each(&rt, &LINES)?;
-    expect_each(&rt, &NAMES)?;
-    expect_each(&rt, &ORDER)
+    assert_eq!(rt; first_unlike(rt.alloc(), &LINES)?, None);
+    assert_eq!(rt; first_unlike(rt.alloc(), &NAMES)?, None);
+    assert_eq!(rt; first_unlike(rt.alloc(), &ORDER)?, None);
+    Ok(())
 }
 
 #[test]
 fn board_refusals(rt: HostRuntime) -> Result<(), Fail> {
-    for &(board, report) in &BOARDS {
-        expect(&rt, board, b"", report)?;
-        expect(&rt, board, b"@", report)?;
+    for (row, &(board, report)) in BOARDS.iter().enumerate() {
+        assert!(rt; reports(rt.alloc(), board, b"", report)?, "row {row}");
+        assert!(rt; reports(rt.alloc(), board, b"@", report)?, "row {row}");
     }
     Ok(())
 }
@@ -106,10 +115,19 @@ fn board_refusals(rt: HostRuntime) -> Result<(), Fail> {
 fn long_files(rt: HostRuntime) -> Result<(), Fail> {
     let longest = vec![in rt.alloc(); b'\n'; 1_048_576]?;
     let longer = vec![in rt.alloc(); b'\n'; 1_048_577]?;
-    expect(&rt, SMALL, &longest, b"")?;
-    expect(&rt, SMALL, &longer, b"refused m line 0 column 0 cause 5\n")?;
-    expect(&rt, &longest, &longer, b"refused b key version cause 21\n")?;
-    expect(&rt, &longer, &longer, b"refused b line 0 column 0 cause 5\n")
+    let rows: [(&[u8], &[u8], &[u8]); 4] = [
+        (SMALL, &longest, b""),
+        (SMALL, &longer, b"refused m line 0 column 0 cause 5\n"),
+        (&longest, &longer, b"refused b key version cause 21\n"),
+        (&longer, &longer, b"refused b line 0 column 0 cause 5\n"),
+    ];
+    for (row, &(board, microprogram, report)) in rows.iter().enumerate() {
+        assert!(rt;
+            reports(rt.alloc(), board, microprogram, report)?,
+            "row {row}"
+        );
+    }
+    Ok(())
 }
 
 /// A text of lines: spaces up to a column, and what stands from there on.
@@ -137,7 +155,10 @@ fn long_lines(rt: HostRuntime) -> Result<(), Fail> {
     ];
     for &(column, rest, report) in &rows {
         let text = line_up_to(rt.alloc(), column, rest)?;
-        expect(&rt, SMALL, &text, report)?;
+        assert!(rt;
+            reports(rt.alloc(), SMALL, &text, report)?,
+            "column {column}"
+        );
     }
     Ok(())
 }
@@ -167,7 +188,11 @@ fn each_fetch_fails(rt: HostRuntime) -> Result<(), Fail> {
         } else {
             (0, ADDING_LISTING)
         };
-        assert_eq!(rt; asm(rt.alloc(), &mut shelf, &mut out)?, status, "fetch {number} fails");
+        assert_eq!(rt;
+            asm(rt.alloc(), &mut shelf, &mut out)?,
+            status,
+            "fetch {number} fails"
+        );
         assert_eq!(rt; out.bytes(), report, "fetch {number} fails");
     }
     Ok(())
@@ -190,8 +215,16 @@ fn each_byte_fails(rt: HostRuntime) -> Result<(), Fail> {
         let mut shelf = shelf_of(rt.alloc(), SMALL, ADDING, 4096, &[])?;
         let mut out = MemorySink::new(rt.alloc(), 1, &[number as u64])?;
         let status = if number <= length { 6 } else { 0 };
-        assert_eq!(rt; asm(rt.alloc(), &mut shelf, &mut out)?, status, "put {number} fails");
-        assert_eq!(rt; out.bytes(), &ADDING_LISTING[..number - 1], "put {number} fails");
+        assert_eq!(rt;
+            asm(rt.alloc(), &mut shelf, &mut out)?,
+            status,
+            "put {number} fails"
+        );
+        assert_eq!(rt;
+            out.bytes(),
+            &ADDING_LISTING[..number - 1],
+            "put {number} fails"
+        );
     }
     Ok(())
 }
@@ -256,8 +289,16 @@ fn whole_listing(alloc: Global) -> Result<Vec<u8>, Fail> {
 fn whole_stores(rt: HostRuntime) -> Result<(), Fail> {
     let mut text = whole_store(rt.alloc())?;
     let wanted = whole_listing(rt.alloc())?;
-    expect(&rt, WIDE, &text, &wanted)?;
-    // One word more has no address but one that is taken.
+    assert!(rt; reports(rt.alloc(), WIDE, &text, &wanted)?);
+    // The next address is taken.
     text.extend_from_slice(b"at=0")?;
-    expect(&rt, WIDE, &text, b"refused m line 8193 column 1 cause 35\n")
+    assert!(rt;
+        reports(
+            rt.alloc(),
+            WIDE,
+            &text,
+            b"refused m line 8193 column 1 cause 35\n"
+        )?
+    );
+    Ok(())
 }
