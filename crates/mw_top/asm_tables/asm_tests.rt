@@ -1,3 +1,5 @@
+ghost use Rattle.std.specs.Prelude.{◌<◌};
+
 use super::asm_cases::{
     ADDING, ADDING_LISTING, BYTE, KEYS, LISTINGS, OTHER_FIELDS, OTHER_WIDTHS, SMALL,
 };
