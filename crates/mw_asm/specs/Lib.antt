@@ -4,6 +4,7 @@ pub mod FirstPass
 pub mod ItemBits
 pub mod Items
 pub mod Lines
+pub mod Listing
 pub mod Microprogram
 pub mod Names
 pub mod Parts

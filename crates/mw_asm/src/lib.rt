@@ -8,6 +8,7 @@ mod first_pass;
 mod item_bits;
 mod items;
 mod lines;
+mod listed;
 mod microprogram;
 mod names;
 mod part;
@@ -15,7 +16,10 @@ mod second_pass;
 mod statement;
 
 pub use assembled::{Assembled, Label};
+pub use listed::listing;
 pub use microprogram::assemble;
 
+#[cfg(test)]
+mod listing_tests;
 #[cfg(test)]
 mod tests;

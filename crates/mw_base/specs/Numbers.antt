@@ -1,5 +1,5 @@
 -- Numbers as reports print them.
-use Rattle.std.specs.Prelude.{ℕ, ◌+◌, List, [], ◌∷◌, map, if◌then◌else◌, nat_lt, ◌==◌}
+use Rattle.std.specs.Prelude.{ℕ, zero, suc, ◌+◌, ◌/◌, ◌%◌, ◌++◌, List, [], ◌∷◌, map, if◌then◌else◌, nat_lt, ◌==◌}
 use Rattle.std.specs.Int.Digits.{digits_of}
 
 -- the letter or figure of a digit: '0' to '9', 'A' to 'F'
@@ -17,3 +17,8 @@ hex n = 48 ∷ 120 ∷ numeral 16 n
 -- the decimal digits
 abbrev pub decimal : ℕ → List ℕ
 decimal n = numeral 10 n
+
+-- the lowest hexadecimal digits of a number, this many of them, leading zeros too
+unfoldable pub padded : ℕ → ℕ → List ℕ
+padded zero n = []
+padded (suc count) n = padded count (n / 16) ++ glyph (n % 16) ∷ []

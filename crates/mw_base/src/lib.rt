@@ -21,7 +21,7 @@ pub use items::Items;
 pub use literal::number;
 pub use memory::NoMemory;
 pub use name::{Name, is_name};
-pub use printed::{append_decimal, append_hex};
+pub use printed::{append_decimal, append_hex, append_padded};
 pub use refusal::{Refusal, Refused, TextFault};
 pub use scan::{content, first_line, tokens};
 pub use token::{Kind, Token};

@@ -42,6 +42,20 @@ fn printed_numbers(rt: HostRuntime) -> Result<(), Fail> {
 }
 
 #[test]
+fn padded_numbers(rt: HostRuntime) -> Result<(), Fail> {
+    let mut text = Vec::new(rt.alloc());
+    for (digits, value) in [(3, 0xF), (3, 0xFFF), (3, 0xABCD), (0, 5), (32, u128::MAX)] {
+        append_padded(rt.alloc(), &mut text, digits, value)
+            .ok()
+            .ok_or("memory")?;
+        text.push(b' ')?;
+    }
+    let wanted = b"00F FFF BCD  FFFFFFFFFFFFFFFFFFFFFFFFFFFFFFFF ";
+    assert_eq!(rt; text.as_slice(), wanted.as_slice());
+    Ok(())
+}
+
+#[test]
 fn cause_numbers(rt: HostRuntime) {
     let numbers = [
         Cause::BadByte,
