@@ -2,12 +2,14 @@
 ghost use Rattle.std.specs.Prelude.{◌≡◌, IfOk};
 ghost use Rattle.mw_top.specs.Answer.{compare_status};
 ghost use Rattle.mw_top.specs.Report.{usage_line, fault_line, refusal_line, compare_report};
-ghost use Rattle.mw_top.specs.declared.status.Status.TheVariants.{Usage, ReadFault, Refused};
+ghost use Rattle.mw_top.specs.Stops.{IsStopped};
+ghost use Rattle.mw_top.specs.declared.status.Status.TheVariants.{Done, Usage, ReadFault, Refused};
 
 use crate::difference::Difference;
+use crate::fault::{FileFault, Stop};
 use crate::report::{append_comparison, append_fault, append_refusal, append_usage};
 use crate::status::Status;
-use mw_base::{Cause, NoMemory};
+use mw_base::NoMemory;
 use std::alloc::Global;
 
 /// A status, and the report that is to be written.
@@ -31,7 +33,7 @@ pub(crate) fn usage(alloc: Global) -> Result<Outcome, NoMemory>
 }
 
 /// The file can't be read.
-pub(crate) fn fault(alloc: Global, file: &str) -> Result<Outcome, NoMemory>
+fn fault(alloc: Global, file: &str) -> Result<Outcome, NoMemory>
     ensures status { IfOk result (λ outcome. outcome.status ≡ ReadFault) }
     ensures report { IfOk result (λ outcome. outcome.report.items ≡ fault_line file.now) }
 {
@@ -44,16 +46,38 @@ pub(crate) fn fault(alloc: Global, file: &str) -> Result<Outcome, NoMemory>
 }
 
 /// The file is refused.
-pub(crate) fn refused(alloc: Global, file: &str, cause: Cause) -> Result<Outcome, NoMemory>
+fn refused(alloc: Global, file: &str, fault: &FileFault) -> Result<Outcome, NoMemory>
     ensures status { IfOk result (λ outcome. outcome.status ≡ Refused) }
-    ensures report { IfOk result (λ outcome. outcome.report.items ≡ refusal_line file.now cause) }
+    ensures report { IfOk result (λ outcome. outcome.report.items ≡ refusal_line file.now fault.now) }
 {
     let mut report = Vec::new(alloc);
-    append_refusal(alloc, &mut report, file, cause)?;
+    append_refusal(alloc, &mut report, file, fault)?;
     Ok(Outcome {
         status: Status::Refused,
         report,
     })
+}
+
+/// The file stops the command.
+pub(crate) fn stopped(alloc: Global, file: &str, stop: Stop) -> Result<Outcome, NoMemory>
+    ensures { IfOk result (λ outcome. IsStopped file.now stop outcome.status outcome.report.items) }
+{
+    match stop {
+        Stop::ReadFault => fault(alloc, file),
+        Stop::Refused(fault) => refused(alloc, file, &fault),
+        Stop::NoMemory => Err(NoMemory),
+    }
+}
+
+/// The command has this output.
+pub(crate) fn done(report: Vec<u8>) -> Outcome
+    ensures status { result.status ≡ Done }
+    ensures report { result.report.items ≡ report.items }
+{
+    Outcome {
+        status: Status::Done,
+        report,
+    }
 }
 
 fn status_of(shown: Option<Difference>) -> Status
