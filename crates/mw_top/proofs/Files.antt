@@ -1,13 +1,16 @@
 -- The contents of the first files of a command.
-use Rattle.std.proofs.Common.{◌≡◌, ℕ, suc, ◌+◌, ◌<◌, ◌≤◌, List, [], ◌∷◌, ◌++◌, length, append_assoc, Bool, true, false, ◌&&◌, ◌==◌, if◌then◌else◌, Option, Some, None, refl, sym, ◌∙◌, ap, arith, suc-le-suc}
+use Rattle.std.proofs.Common.{◌≡◌, ℕ, suc, ◌+◌, ◌<◌, ◌≤◌, List, [], ◌∷◌, ◌++◌, length, append_assoc, Bool, true, false, ◌&&◌, ◌==◌, if◌then◌else◌, Option, Some, None, Ok, Err, refl, sym, ap, ap₂, arith, suc-le-suc}
 use Rattle.std.specs.Prelude.{Contains}
 use Rattle.std.specs.List.{list_all}
 use Rattle.std.proofs.lemmas.Bool.Decides.{nat_tests}
 use Rattle.std.proofs.lemmas.List.{append-nil}
 use Rattle.std.proofs.Math.Nat.{le_of_suc-le-suc}
+use Rattle.mw_board.specs.declared.parts.BoardParts.{BoardParts}
+use Rattle.mw_top.specs.declared.fault.FileFault.{FileFault}
 use Rattle.mw_top.specs.declared.request.Command.{Command}
+use Rattle.mw_top.specs.declared.request.Command.TheVariants.{Asm, Compare}
 use Rattle.mw_top.specs.Answer.{AreRead, AreTold}
-use Rattle.mw_top.specs.Files.{next_fault, AreAccepted, next_file}
+use Rattle.mw_top.specs.Files.{bundle_in, board_in, store_in, assembled_in, fault_of, next_fault, AreAccepted, next_file}
 use Rattle.mw_top.specs.Request.{RequestData, command_of, file_count, is_file_word, with_files, request_of}
 use Rattle.mw_top.specs.Stops.{IsRead}
 
@@ -40,6 +43,28 @@ accepted_at command earlier (bytes ∷ front) last rest accepted =
     let same : (earlier ++ bytes ∷ []) ++ front ≡ earlier ++ bytes ∷ front = simp append_assoc in
     rw (sym same) (accepted_at command (earlier ++ bytes ∷ []) front last rest accepted.1)
 
+-- ---- the files of each command
+
+-- a bundle that is refused
+pub bundle_refused : (earlier : List (List ℕ)) (bytes : List ℕ) (fault : FileFault) → bundle_in bytes ≡ Err fault → next_fault Compare earlier bytes ≡ Some fault
+unfolding next_fault
+bundle_refused earlier bytes fault is = ap fault_of is
+
+-- a board that is refused
+pub board_refused : (bytes : List ℕ) (fault : FileFault) → board_in bytes ≡ Err fault → next_fault Asm [] bytes ≡ Some fault
+unfolding next_fault
+board_refused bytes fault is = ap fault_of is
+
+-- a board that is accepted
+pub board_accepted : (board : List ℕ) (parts : BoardParts) → board_in board ≡ Ok parts → AreAccepted Asm [] (board ∷ [])
+unfolding next_fault
+board_accepted board parts is = (ap fault_of is, tt)
+
+-- a microprogram that is refused for the board before it
+pub microprogram_refused : (board : List ℕ) (parts : BoardParts) (bytes : List ℕ) (fault : FileFault) → board_in board ≡ Ok parts → store_in parts bytes ≡ Err fault → next_fault Asm (board ∷ []) bytes ≡ Some fault
+unfolding next_fault assembled_in
+microprogram_refused board parts bytes fault is refused = rw (is, refused) refl
+
 -- ---- told and read
 
 -- contents that are told are the first of those that were read, where there are no more of them
@@ -51,7 +76,7 @@ told_then_read told (file ∷ files) (bytes ∷ contents) [] are_told are_read f
 told_then_read told (file ∷ files) (bytes ∷ contents) (other ∷ others) are_told are_read few =
     let first = rw are_told.0 at are_read.0 in
     let more = told_then_read told files contents others are_told.1 are_read.1 (le_of_suc-le-suc few) in
-    (more.0, rw (first, more.1) refl)
+    (more.0, ap₂ (λ x xs. x ∷ xs) first more.1)
 
 -- contents that were read are the first of those that are told, where there are no more of them
 pub read_then_told : (told : List ℕ → Option (List ℕ)) (files contents others : List (List ℕ))
@@ -62,7 +87,7 @@ read_then_told told (file ∷ files) [] (other ∷ others) are_told are_read few
 read_then_told told (file ∷ files) (bytes ∷ contents) (other ∷ others) are_told are_read few =
     let first = rw are_told.0 at are_read.0 in
     let more = read_then_told told files contents others are_told.1 are_read.1 (le_of_suc-le-suc few) in
-    (more.0, rw (first, more.1) refl)
+    (more.0, ap₂ (λ x xs. x ∷ xs) (sym first) more.1)
 
 -- no more contents are told than there are files
 pub told_few : (told : List ℕ → Option (List ℕ)) (files contents : List (List ℕ)) → AreTold told files contents → length contents ≤ length files

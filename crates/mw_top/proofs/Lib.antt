@@ -7,5 +7,6 @@ pub mod Shown
 pub mod Names
 pub mod Files
 pub mod Outcomes
+pub mod Commands
 pub mod Ends
 pub mod OneStart

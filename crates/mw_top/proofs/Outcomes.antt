@@ -1,5 +1,5 @@
 -- From what the parts of a command give to what it ends with.
-use Rattle.std.proofs.Common.{◌≡◌, ℕ, zero, suc, ◌<◌, ◌≤◌, List, [], ◌∷◌, ◌++◌, length, nat_lt, true, false, Option, Some, None, Result, Ok, Err, IfOk, IfSome, refl, sym, ap, arith, ◌∙◌}
+use Rattle.std.proofs.Common.{◌≡◌, ℕ, zero, suc, ◌<◌, ◌≤◌, List, [], ◌∷◌, ◌++◌, length, nat_lt, true, false, Option, Some, None, Result, Ok, Err, IfOk, IfSome, refl, sym, ap, arith}
 use Rattle.std.proofs.lemmas.Bool.Decides.{nat_tests}
 use Rattle.mw_base.specs.declared.refusal.Refused.{Refused as Refusal}
 use Rattle.mw_base.specs.declared.refusal.Refused.TheVariants as refusals
@@ -14,9 +14,9 @@ use Rattle.mw_top.specs.declared.request.Command.{Command}
 use Rattle.mw_top.specs.declared.status.Status.{Status}
 use Rattle.mw_top.specs.declared.status.Status.TheVariants.{Done, Differs, Unknown, Usage, Refused, ReadFault, WriteFault, NoMemory}
 use Rattle.mw_top.specs.Answer.{compare_status, is_worked, IsAnswer, IsReport, AreRead}
-use Rattle.mw_top.specs.Files.{too_long, short, of_kind, next_fault, AreAccepted, next_file}
+use Rattle.mw_top.specs.Files.{too_long, short, in_file, next_fault, AreAccepted, next_file}
 use Rattle.mw_top.specs.Request.{request_of}
-use Rattle.mw_top.specs.Stops.{IsRead, GivesFile, StopsAt, IsStopped}
+use Rattle.mw_top.specs.Stops.{IsRead, FileStops, FileGives, StopsAt, IsStopped}
 use Rattle.mw_top.proofs.Files.{read_more}
 
 -- what holds of an Ok by two facts
@@ -52,22 +52,35 @@ long_contents most None long =
     let many = many_bytes (suc most) in
     (many.0, tt, omega (arith, many.1))
 
--- a reader's refusal of a file's contents
-pub file_refused : {A F : Type 0} (kind : F → FileFault) (told : Option (List ℕ)) (before now : ℕ) (refused : Refusal F) (stop : Stop) (reading : List ℕ → Result A FileFault) (bytes : List ℕ) (read : Result A F)
-    → IsRead told bytes → reading bytes ≡ of_kind kind read → StopsAt (λ fault placed. placed ≡ kind fault) refused stop → Fails refused read
-    → GivesFile told before now (λ (x : A). x) (Err stop) reading
-file_refused kind told before now (refusals.At fault) stop reading bytes read is_read is stops fails =
-    let first : reading bytes ≡ Err stops.0 = is ∙ ap (of_kind kind) fails ∙ ap Err (sym stops.1) in
-    rw stops.2 (bytes, is_read, first)
-file_refused kind told before now refusals.NoMemory stop reading bytes read is_read is stops fails = rw stops tt
+-- a file that stops a command before its reader
+pub not_read : {Y Z F : Type 0} (told : Option (List ℕ)) (before now : ℕ) (view : Z → Y) (kind : F → FileFault) (reader : List ℕ → Result Y F) (stop : Stop) (result : Result Z Stop)
+    → result ≡ Err stop → FileStops told before now stop short → FileGives told before now view result (in_file kind reader)
+unfolding in_file
+not_read told before now view kind reader (stops.Refused fault) result is stopped = rw is (stopped.0, stopped.1, rw stopped.2 refl)
+not_read told before now view kind reader stops.ReadFault result is stopped = rw is stopped
+not_read told before now view kind reader stops.NoMemory result is stopped = rw is tt
 
--- a file that was read at a later state of the shelf
-pub file_since : {X Y : Type 0} (told then : Option (List ℕ)) (before begun now : ℕ) (view : X → Y) (result : Result X Stop) (reading : List ℕ → Result Y FileFault)
-    → then ≡ told → before ≤ begun → GivesFile then begun now view result reading → GivesFile told before now view result reading
-file_since told then before begun now view (Ok x) reading same later gives = rw (sym same) gives
-file_since told then before begun now view (Err (stops.Refused fault)) reading same later gives = rw (sym same) gives
-file_since told then before begun now view (Err stops.ReadFault) reading same later gives = omega (arith, later, gives)
-file_since told then before begun now view (Err stops.NoMemory) reading same later gives = tt
+-- a file that a reader accepts
+pub file_accepted : {A F : Type 0} (kind : F → FileFault) (reader : List ℕ → Result A F) (told : Option (List ℕ)) (text bytes : List ℕ) (x : A)
+    → IsRead told bytes → short bytes ≡ Ok text → reader text ≡ Ok x → (contents : List ℕ) × IsRead told contents × (in_file kind reader contents ≡ Ok x)
+unfolding in_file
+file_accepted kind reader told text bytes x is_read is read = (bytes, is_read, rw (is, read) refl)
+
+-- a file that a reader refuses
+pub file_refused : {A F : Type 0} (kind : F → FileFault) (reader : List ℕ → Result A F) (told : Option (List ℕ)) (before now : ℕ) (text bytes : List ℕ) (refused : Refusal F) (stop : Stop)
+    → IsRead told bytes → short bytes ≡ Ok text → Fails refused (reader text) → StopsAt (λ fault placed. placed ≡ kind fault) refused stop
+    → FileStops told before now stop (in_file kind reader)
+unfolding in_file
+file_refused kind reader told before now text bytes (refusals.At fault) stop is_read is fails stops =
+    rw (stops.2, stops.1) (bytes, is_read, rw (is, fails) refl)
+file_refused kind reader told before now text bytes refusals.NoMemory stop is_read is fails stops = rw stops tt
+
+-- a file that stops a command, at a later state of the shelf than the first
+pub stops_since : {Y : Type 0} (told then : Option (List ℕ)) (before begun now : ℕ) (stop : Stop) (reading : List ℕ → Result Y FileFault)
+    → then ≡ told → before ≤ begun → FileStops then begun now stop reading → FileStops told before now stop reading
+stops_since told then before begun now (stops.Refused fault) reading same later stopped = rw (sym same) stopped
+stops_since told then before begun now stops.ReadFault reading same later stopped = omega (arith, later, stopped)
+stops_since told then before begun now stops.NoMemory reading same later stopped = tt
 
 -- ---- reports
 
@@ -90,31 +103,31 @@ compare_is_worked None = refl
 compare_is_worked (Some difference) = refl
 
 -- a file that stops a command, the contents of the earlier files being accepted
-pub is_stopped : {X Y : Type 0} (told : List ℕ → Option (List ℕ)) (before now : List ℕ → ℕ) (words : List (List ℕ)) (command : Command) (files contents : List (List ℕ))
-    (file : List ℕ) (view : X → Y) (reading : List ℕ → Result Y FileFault) (stop : Stop) (status : Status) (report : List ℕ)
+pub is_stopped : {Y : Type 0} (told : List ℕ → Option (List ℕ)) (before now : List ℕ → ℕ) (words : List (List ℕ)) (command : Command) (files contents : List (List ℕ))
+    (file : List ℕ) (reading : List ℕ → Result Y FileFault) (stop : Stop) (status : Status) (report : List ℕ)
     → request_of words ≡ Some (record { command = command; files = files }) → AreRead told files contents → AreAccepted command [] contents
     → next_file files contents ≡ Some file → ((bytes : List ℕ) (fault : FileFault) → reading bytes ≡ Err fault → next_fault command contents bytes ≡ Some fault)
-    → GivesFile (told file) (before file) (now file) view (Err stop) reading → IsStopped file stop status report
+    → FileStops (told file) (before file) (now file) stop reading → IsStopped file stop status report
     → IsReport told before now words status report
-is_stopped told before now words command files contents file view reading (stops.Refused fault) status report requested read accepted named faulty gives stopped =
+is_stopped told before now words command files contents file reading (stops.Refused fault) status report requested read accepted named faulty stops stopped =
     rw stopped.0 (record {
       request = record { command = command; files = files };
       requested = requested;
-      contents = contents ++ gives.0 ∷ [];
-      read = read_more told files contents file gives.0 named read gives.1;
+      contents = contents ++ stops.0 ∷ [];
+      read = read_more told files contents file stops.0 named read stops.1;
       refusal = record {
         earlier = contents;
-        last = gives.0;
+        last = stops.0;
         contents_are = refl;
         accepted = accepted;
         fault = fault;
-        fault_is = faulty gives.0 fault gives.2;
+        fault_is = faulty stops.0 fault stops.2;
         file = file;
         file_is = named;
         report_is = stopped.1;
       };
     })
-is_stopped told before now words command files contents file view reading stops.ReadFault status report requested read accepted named faulty gives stopped =
+is_stopped told before now words command files contents file reading stops.ReadFault status report requested read accepted named faulty stops stopped =
     rw stopped.0 (record {
       request = record { command = command; files = files };
       requested = requested;
@@ -123,7 +136,7 @@ is_stopped told before now words command files contents file view reading stops.
       accepted = accepted;
       file = file;
       file_is = named;
-      rose = gives;
+      rose = stops;
       line = stopped.1;
     })
-is_stopped told before now words command files contents file view reading stops.NoMemory status report requested read accepted named faulty gives stopped = absurd stopped
+is_stopped told before now words command files contents file reading stops.NoMemory status report requested read accepted named faulty stops stopped = absurd stopped

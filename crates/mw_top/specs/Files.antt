@@ -27,23 +27,23 @@ abbrev pub of_kind : {A F : Type 0} → (F → FileFault) → Result A F → Res
 of_kind kind (Ok x) = Ok x
 of_kind kind (Err fault) = Err (kind fault)
 
--- the bundle that a file's contents are, or their first fault
-unfoldable pub bundle_in : List ℕ → Result BundleData FileFault
-bundle_in contents = do
+-- what a file's contents are to the reader of its kind, or their first fault
+unfoldable pub in_file : {A F : Type 0} → (F → FileFault) → (List ℕ → Result A F) → List ℕ → Result A FileFault
+in_file kind reader contents = do
   bytes ← short contents
-  of_kind Bundle (read_bundle_of bytes)
+  of_kind kind (reader bytes)
 
--- the board that a file's contents are, or their first fault
-unfoldable pub board_in : List ℕ → Result BoardParts FileFault
-board_in contents = do
-  bytes ← short contents
-  of_kind Board (board_of bytes)
+-- a bundle
+abbrev pub bundle_in : List ℕ → Result BundleData FileFault
+bundle_in = in_file Bundle read_bundle_of
 
--- what the microprogram that a file's contents are is assembled to for a board, or its first fault
-unfoldable pub store_in : BoardParts → List ℕ → Result Assembled FileFault
-store_in board contents = do
-  bytes ← short contents
-  of_kind Text (store_of board bytes)
+-- a board
+abbrev pub board_in : List ℕ → Result BoardParts FileFault
+board_in = in_file Board board_of
+
+-- what a microprogram is assembled to for a board
+abbrev pub store_in : BoardParts → List ℕ → Result Assembled FileFault
+store_in board = in_file Text (store_of board)
 
 -- what a microprogram is assembled to for the board of a board file
 unfoldable pub assembled_in : List ℕ → List ℕ → Result Assembled FileFault

@@ -14,13 +14,16 @@ use Rattle.mw_top.specs.Report.{fault_line, refusal_line}
 abbrev pub IsRead : Option (List ℕ) → List ℕ → Type 0
 IsRead told bytes = IfSome told (λ whole. bytes ≡ whole)
 
--- What a call that reads a file gives: what its contents are read as, seen by view, or their first fault; unless the shelf failed or
--- memory ran out.
-abbrev pub GivesFile : {X Y : Type 0} → Option (List ℕ) → ℕ → ℕ → (X → Y) → Result X Stop → (List ℕ → Result Y FileFault) → Type 0
-GivesFile told before now view (Ok x) reading = (bytes : List ℕ) × IsRead told bytes × (reading bytes ≡ Ok (view x))
-GivesFile told before now view (Err (stops.Refused fault)) reading = (bytes : List ℕ) × IsRead told bytes × (reading bytes ≡ Err fault)
-GivesFile told before now view (Err stops.ReadFault) reading = Rose before now
-GivesFile told before now view (Err stops.NoMemory) reading = Unit {0}
+-- how a file stops a command: at the first fault of its contents, unless the shelf failed or memory ran out
+abbrev pub FileStops : {Y : Type 0} → Option (List ℕ) → ℕ → ℕ → Stop → (List ℕ → Result Y FileFault) → Type 0
+FileStops told before now (stops.Refused fault) reading = (bytes : List ℕ) × IsRead told bytes × (reading bytes ≡ Err fault)
+FileStops told before now stops.ReadFault reading = Rose before now
+FileStops told before now stops.NoMemory reading = Unit {0}
+
+-- what a call that reads a file gives: what its contents are read as, seen by view, or how it stops the command
+abbrev pub FileGives : {X Y : Type 0} → Option (List ℕ) → ℕ → ℕ → (X → Y) → Result X Stop → (List ℕ → Result Y FileFault) → Type 0
+FileGives told before now view (Ok x) reading = (bytes : List ℕ) × IsRead told bytes × (reading bytes ≡ Ok (view x))
+FileGives told before now view (Err stop) reading = FileStops told before now stop reading
 
 -- how a reader's refusal stops a command: at its fault, as that of a kind of file
 abbrev pub StopsAt : {F : Type 0} → (F → FileFault → Type 0) → Refusal F → Stop → Type 0

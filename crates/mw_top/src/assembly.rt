@@ -3,7 +3,7 @@ ghost use Rattle.std.specs.Prelude.{◌≡◌, ◌≤◌, List, ℕ, [], ◌∷�
 ghost use Rattle.mw_top.specs.Answer.{IsReport};
 ghost use Rattle.mw_top.specs.Files.{board_in, store_in};
 ghost use Rattle.mw_top.specs.Request.{request_of};
-ghost use Rattle.mw_top.specs.Stops.{GivesFile};
+ghost use Rattle.mw_top.specs.Stops.{FileGives};
 ghost use Rattle.mw_top.specs.declared.request.Command.TheVariants.{Asm};
 
 use crate::fault::{Stop, stop_at};
@@ -18,7 +18,7 @@ use std::alloc::Global;
 
 /// The board of a file.
 pub(crate) fn board_file<S: Shelf>(alloc: Global, file: &str, shelf: &mut S) -> Result<Board, Stop>
-    ensures gives { GivesFile (S.told shelf.old file.now) (S.faults shelf.old file.now) (S.faults shelf.new file.now) (λ board. board) result board_in }
+    ensures gives { FileGives (S.told shelf.old file.now) (S.faults shelf.old file.now) (S.faults shelf.new file.now) (λ board. board) result board_in }
     ensures kept { (other : List ℕ) → S.told shelf.new other ≡ S.told shelf.old other }
     ensures later { (other : List ℕ) → S.faults shelf.old other ≤ S.faults shelf.new other }
 {
@@ -36,7 +36,7 @@ pub(crate) fn microprogram_file<S: Shelf>(
     file: &str,
     shelf: &mut S,
 ) -> Result<Assembled, Stop>
-    ensures gives { GivesFile (S.told shelf.old file.now) (S.faults shelf.old file.now) (S.faults shelf.new file.now) (λ made. made) result (store_in board.now) }
+    ensures gives { FileGives (S.told shelf.old file.now) (S.faults shelf.old file.now) (S.faults shelf.new file.now) (λ made. made) result (store_in board.now) }
     ensures kept { (other : List ℕ) → S.told shelf.new other ≡ S.told shelf.old other }
     ensures later { (other : List ℕ) → S.faults shelf.old other ≤ S.faults shelf.new other }
 {

@@ -3,7 +3,7 @@ ghost use Rattle.std.specs.Prelude.{◌≡◌, ◌≤◌, List, ℕ, [], ◌∷�
 ghost use Rattle.mw_top.specs.Answer.{IsReport};
 ghost use Rattle.mw_top.specs.Files.{bundle_in};
 ghost use Rattle.mw_top.specs.Request.{request_of};
-ghost use Rattle.mw_top.specs.Stops.{GivesFile};
+ghost use Rattle.mw_top.specs.Stops.{FileGives};
 ghost use Rattle.mw_top.specs.declared.request.Command.TheVariants.{Compare};
 
 use crate::bundle::{Bundle, read_bundle};
@@ -18,7 +18,7 @@ use std::alloc::Global;
 
 /// The bundle of a file.
 fn bundle_file<S: Shelf>(alloc: Global, file: &str, shelf: &mut S) -> Result<Bundle, Stop>
-    ensures gives { GivesFile (S.told shelf.old file.now) (S.faults shelf.old file.now) (S.faults shelf.new file.now) (λ bundle. bundle) result bundle_in }
+    ensures gives { FileGives (S.told shelf.old file.now) (S.faults shelf.old file.now) (S.faults shelf.new file.now) (λ bundle. bundle) result bundle_in }
     ensures kept { (other : List ℕ) → S.told shelf.new other ≡ S.told shelf.old other }
     ensures later { (other : List ℕ) → S.faults shelf.old other ≤ S.faults shelf.new other }
 {

@@ -2,7 +2,7 @@
 ghost use Rattle.std.specs.Prelude.{◌≡◌, ◌≤◌, List, ℕ, IfOk, length};
 ghost use Rattle.mw_outside.specs.declared.read.TheConstants.{MOST_BYTES};
 ghost use Rattle.mw_top.specs.Files.{short};
-ghost use Rattle.mw_top.specs.Stops.{GivesFile};
+ghost use Rattle.mw_top.specs.Stops.{FileGives};
 
 use crate::fault::{FileFault, Stop};
 use mw_base::{Cause, TextFault};
@@ -18,7 +18,7 @@ const TOO_LONG: TextFault = TextFault {
 
 /// The contents of a file, which is refused where it is too long.
 pub(crate) fn read_file<S: Shelf>(alloc: Global, file: &str, shelf: &mut S) -> Result<Vec<u8>, Stop>
-    ensures gives { GivesFile (S.told shelf.old file.now) (S.faults shelf.old file.now) (S.faults shelf.new file.now) (λ contents. contents.items) result short }
+    ensures gives { FileGives (S.told shelf.old file.now) (S.faults shelf.old file.now) (S.faults shelf.new file.now) (λ contents. contents.items) result short }
     ensures short { IfOk result (λ contents. length contents.items ≤ MOST_BYTES) }
     ensures kept { (other : List ℕ) → S.told shelf.new other ≡ S.told shelf.old other }
     ensures later { (other : List ℕ) → S.faults shelf.old other ≤ S.faults shelf.new other }
