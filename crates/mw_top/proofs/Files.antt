@@ -1,5 +1,5 @@
 -- The contents of the first files of a command.
-use Rattle.std.proofs.Common.{◌≡◌, ℕ, suc, ◌+◌, ◌<◌, ◌≤◌, List, [], ◌∷◌, ◌++◌, length, append_assoc, Bool, true, false, ◌&&◌, ◌==◌, if◌then◌else◌, Option, Some, None, Ok, Err, refl, sym, ap, ap₂, arith, suc-le-suc}
+use Rattle.std.proofs.Common.{◌≡◌, ℕ, suc, ◌≤◌, List, [], ◌∷◌, ◌++◌, length, append_assoc, Bool, true, false, ◌&&◌, ◌==◌, if◌then◌else◌, Option, Some, None, Ok, Err, refl, sym, ap, ap₂, arith, suc-le-suc}
 use Rattle.std.specs.Prelude.{Contains}
 use Rattle.std.specs.List.{list_all}
 use Rattle.std.proofs.lemmas.Bool.Decides.{nat_tests}

@@ -4,7 +4,6 @@ use Rattle.std.proofs.lemmas.Bool.Decides.{nat_tests}
 use Rattle.mw_base.specs.declared.refusal.Refused.{Refused as Refusal}
 use Rattle.mw_base.specs.declared.refusal.Refused.TheVariants as refusals
 use Rattle.mw_base.specs.Reading.{Fails}
-use Rattle.mw_outside.specs.Causes.{Rose}
 use Rattle.mw_outside.specs.declared.read.TheConstants.{MOST_BYTES}
 use Rattle.mw_top.specs.declared.difference.Difference.{Difference}
 use Rattle.mw_top.specs.declared.fault.FileFault.{FileFault}

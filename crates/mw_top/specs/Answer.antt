@@ -1,5 +1,5 @@
 -- What a request is answered with, given the contents of its files.
-use Rattle.std.specs.Prelude.{◌≡◌, ℕ, List, [], ◌∷◌, ◌++◌, Option, Some, None, Result, Ok, Err, Bool, true, false, IfSome, Contains}
+use Rattle.std.specs.Prelude.{◌≡◌, ℕ, List, [], ◌∷◌, ◌++◌, Option, Some, None, Ok, Bool, true, false, IfSome, Contains}
 use Rattle.mw_asm.specs.declared.assembled.Assembled.{Assembled}
 use Rattle.mw_asm.specs.Listing.{listing_of}
 use Rattle.mw_board.specs.declared.parts.BoardParts.{BoardParts}

@@ -8,10 +8,9 @@ ghost use Rattle.mw_top.specs.declared.request.Command.TheVariants.{Compare};
 
 use crate::bundle::{Bundle, read_bundle};
 use crate::compare::compare_bundle;
-use crate::fault::{FileFault, Stop};
+use crate::fault::{Stop, stop_at};
 use crate::file::read_file;
 use crate::outcome::{Outcome, compared, stopped};
-use crate::refusal::BundleRefusal;
 use mw_base::NoMemory;
 use mw_outside::Shelf;
 use std::alloc::Global;
@@ -25,8 +24,7 @@ fn bundle_file<S: Shelf>(alloc: Global, file: &str, shelf: &mut S) -> Result<Bun
     let contents = read_file(alloc, file, shelf)?;
     match read_bundle(alloc, &contents) {
         Ok(bundle) => Ok(bundle),
-        Err(BundleRefusal::Refused(cause)) => Err(Stop::Refused(FileFault::Bundle(cause))),
-        Err(BundleRefusal::NoMemory) => Err(Stop::NoMemory),
+        Err(refused) => Err(stop_at(refused)),
     }
 }
 

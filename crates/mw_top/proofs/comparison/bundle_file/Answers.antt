@@ -1,6 +1,4 @@
-use Rattle.std.proofs.Common.{refl}
 use Rattle.std.proofs.lemmas.Result.{err_from_is_err_and}
-use Rattle.mw_base.specs.declared.refusal.Refused.TheVariants.{At}
 use Rattle.mw_top.specs.Bundle.{read_bundle_of}
 use Rattle.mw_top.specs.declared.fault.FileFault.TheVariants.{Bundle}
 use Rattle.mw_top.proofs.Outcomes.{not_read, file_accepted, file_refused}
@@ -16,7 +14,7 @@ returns-in-Ok-clause-gives g c =
     let contents = c.in_ok-contents.ensures.gives in
     file_accepted Bundle read_bundle_of _ _ contents.0 _ contents.1 contents.2 (rw c.deref.ensures.value at c.in-Ok.ensures.exact)
 
-pub returns-in-Err-Refused-clause-gives : goal.returns-in-Err-Refused-clause-gives
-returns-in-Err-Refused-clause-gives g c =
+pub returns-clause-gives : goal.returns-clause-gives
+returns-clause-gives g c =
     let contents = c.in_ok-contents.ensures.gives in
-    file_refused Bundle read_bundle_of _ 0 0 _ contents.0 (At c.in-Err-Refused.cause) _ contents.1 contents.2 (rw (c.in-Err-Refused.field-0-is, c.deref.ensures.value) at c.in-Err-Refused.ensures.exact) (_, refl, refl)
+    file_refused Bundle read_bundle_of _ _ _ _ contents.0 c.in-Err.refused c.stop_at.result contents.1 contents.2 (rw c.deref.ensures.value at c.in-Err.ensures.exact) c.stop_at.ensures
