@@ -8,8 +8,8 @@ ghost use Rattle.mw_top.specs.declared.request.Command.TheVariants.{Asm};
 
 use crate::fault::{Stop, stop_at};
 use crate::file::read_file;
-use crate::outcome::{Outcome, done, stopped};
-use mw_asm::{Assembled, assemble, listing};
+use crate::outcome::{Outcome, listed, stopped};
+use mw_asm::{Assembled, assemble};
 use mw_base::NoMemory;
 use mw_board::Board;
 use mw_boardfile::read_board;
@@ -64,7 +64,7 @@ pub(crate) fn assemble_files<S: Shelf>(
         Err(stop) => return stopped(alloc, board_name, stop),
     };
     match microprogram_file(alloc, &board, microprogram_name, shelf) {
-        Ok(made) => Ok(done(listing(alloc, &board, &made)?)),
+        Ok(made) => listed(alloc, &board, &made),
         Err(stop) => stopped(alloc, microprogram_name, stop),
     }
 }

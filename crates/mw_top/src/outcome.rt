@@ -1,5 +1,6 @@
 // What the work of a call ends with, before anything is written.
 ghost use Rattle.std.specs.Prelude.{◌≡◌, IfOk};
+ghost use Rattle.mw_asm.specs.Listing.{listing_of};
 ghost use Rattle.mw_top.specs.Answer.{compare_status};
 ghost use Rattle.mw_top.specs.Report.{usage_line, fault_line, refusal_line, compare_report};
 ghost use Rattle.mw_top.specs.Stops.{IsStopped};
@@ -9,7 +10,9 @@ use crate::difference::Difference;
 use crate::fault::{FileFault, Stop};
 use crate::report::{append_comparison, append_fault, append_refusal, append_usage};
 use crate::status::Status;
+use mw_asm::{Assembled, listing};
 use mw_base::NoMemory;
+use mw_board::Board;
 use std::alloc::Global;
 
 /// A status, and the report that is to be written.
@@ -69,17 +72,6 @@ pub(crate) fn stopped(alloc: Global, file: &str, stop: Stop) -> Result<Outcome, 
     }
 }
 
-/// The command has this output.
-pub(crate) fn done(report: Vec<u8>) -> Outcome
-    ensures status { result.status ≡ Done }
-    ensures report { result.report.items ≡ report.items }
-{
-    Outcome {
-        status: Status::Done,
-        report,
-    }
-}
-
 fn status_of(shown: Option<Difference>) -> Status
     ensures { result ≡ compare_status shown }
 {
@@ -98,6 +90,18 @@ pub(crate) fn compared(alloc: Global, shown: Option<Difference>) -> Result<Outco
     append_comparison(alloc, &mut report, shown)?;
     Ok(Outcome {
         status: status_of(shown),
+        report,
+    })
+}
+
+/// What a microprogram is assembled to for a board.
+pub(crate) fn listed(alloc: Global, board: &Board, made: &Assembled) -> Result<Outcome, NoMemory>
+    ensures status { IfOk result (λ outcome. outcome.status ≡ Done) }
+    ensures report { IfOk result (λ outcome. outcome.report.items ≡ listing_of board.now made.now) }
+{
+    let report = listing(alloc, board, made)?;
+    Ok(Outcome {
+        status: Status::Done,
         report,
     })
 }

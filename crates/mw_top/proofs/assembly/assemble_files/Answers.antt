@@ -1,5 +1,5 @@
-use Rattle.std.proofs.Common.{◌∙◌}
 use Rattle.std.proofs.lemmas.Result.{IfOk-weaker}
+use Rattle.mw_top.proofs.Outcomes.{joined}
 use Rattle.mw_top.proofs.Commands.{board_stops, microprogram_stops, microprogram_assembled}
 use Rattle.mw_top.proofs.assembly.assemble_files.Goals as goal
 
@@ -13,8 +13,10 @@ pub returns-in-Ok-microprogram_file-clause-report : goal.returns-in-Ok-microprog
 returns-in-Ok-microprogram_file-clause-report g c = λ words requested.
     let board = c.in-Ok.ensures.gives in
     let microprogram = c.in-Ok-microprogram_file.ensures.gives in
-    microprogram_assembled (g.S.Shelf.told c.args.shelf.now) _ (g.S.Shelf.faults c.args.shelf.now) _ words c.args.board_name.now c.args.microprogram_name.now board.0 microprogram.0 _ _ _ _ requested board.1 board.2
-    (c.in-Ok.ensures.kept c.args.microprogram_name.now) microprogram.1 microprogram.2 c.done.ensures.status (c.done.ensures.report ∙ c.in_ok-listing-in-Ok-microprogram_file.ensures)
+    joined c.listed.result (λ outcome status report.
+    microprogram_assembled (g.S.Shelf.told c.args.shelf.now) _ (g.S.Shelf.faults c.args.shelf.now) _ words c.args.board_name.now c.args.microprogram_name.now board.0 microprogram.0 _ _ outcome.status outcome.report.items requested board.1 board.2
+    (c.in-Ok.ensures.kept c.args.microprogram_name.now) microprogram.1 microprogram.2 status report)
+    c.listed.ensures.status c.listed.ensures.report
 
 pub returns-clause-report : goal.returns-clause-report
 returns-clause-report g c = λ words requested.
