@@ -1,53 +1,49 @@
 -- From how a call ended to what each status says.
-use Rattle.std.proofs.Common.{◌≡◌, ℕ, List, [], ◌∷◌, true, Option, Some, None, refl, sym, ◌∙◌, arith}
+use Rattle.std.proofs.Common.{◌≡◌, ℕ, ◌≤◌, List, [], ◌∷◌, ◌++◌, length, append_assoc, true, Option, Some, None, Ok, refl, ap, ◌∙◌, arith}
 use Rattle.std.specs.Prelude.{Contains}
 use Rattle.mw_outside.specs.Causes.{Rose}
 use Rattle.mw_top.specs.declared.request.Command.{Command}
-use Rattle.mw_top.specs.declared.request.Command.TheVariants.{Compare}
+use Rattle.mw_top.specs.declared.request.Command.TheVariants.{Asm, Compare}
 use Rattle.mw_top.specs.declared.status.Status.{Status}
 use Rattle.mw_top.specs.declared.status.Status.TheVariants.{Done, Differs, Unknown, Usage, Refused, ReadFault, WriteFault, NoMemory}
-use Rattle.mw_top.specs.Answer.{AreRead, AreTold, IsAnswer, IsRefusal, IsWorked, IsRefused, is_worked}
+use Rattle.mw_top.specs.Answer.{AreTold, IsAnswer, IsRefusal, IsWorked, IsRefused, IsReadFault, IsFirstReadFault, is_worked}
 use Rattle.mw_top.specs.Ending.{IsAccepted, IsEnd, NoneRose, Took}
+use Rattle.mw_top.specs.Files.{assembled_in, fault_of, next_fault}
 use Rattle.mw_top.specs.Request.{RequestData, request_of}
+use Rattle.mw_top.proofs.Files.{next_is_among, accepted_at, told_then_read, read_then_told, told_few, read_few, counted}
 
 -- ---- what the contents decide
 
--- contents that were read are those that are told
-read_is_told : (told : List ℕ → Option (List ℕ)) (files contents others : List (List ℕ)) → AreTold told files contents → AreRead told files others → others ≡ contents
-read_is_told told [] [] [] are_told are_read = refl
-read_is_told told (file ∷ files) (bytes ∷ contents) (other ∷ others) are_told are_read =
-    let first = rw are_told.0 at are_read.0 in
-    let rest = read_is_told told files contents others are_told.1 are_read.1 in
-    rw (first, rest) refl
-read_is_told told [] [] (other ∷ others) are_told are_read = absurd are_read
-read_is_told told [] (bytes ∷ contents) others are_told are_read = absurd are_told
-read_is_told told (file ∷ files) [] others are_told are_read = absurd are_told
-read_is_told told (file ∷ files) (bytes ∷ contents) [] are_told are_read = absurd are_read
-
--- no contents are accepted and refused
-not_both : (command : Command) (files contents : List (List ℕ)) (report : List ℕ) → IsAccepted command contents → IsRefusal command files contents report → ⊥
-not_both Compare (file ∷ []) (contents ∷ []) report accepted refused =
-    let e = sym accepted.1 ∙ refused.1 in
-    cc
-not_both Compare (file ∷ []) [] report accepted refused = absurd accepted
-not_both Compare (file ∷ []) (contents ∷ more ∷ rest) report accepted refused = absurd accepted
-not_both Compare [] contents report accepted refused = absurd refused
-not_both Compare (file ∷ more ∷ rest) contents report accepted refused = absurd refused
-
 -- what is answered was accepted
 answered_is_accepted : (command : Command) (contents : List (List ℕ)) (status : Status) (report : List ℕ) → IsAnswer command contents status report → IsAccepted command contents
-answered_is_accepted Compare (contents ∷ []) status report answer = (answer.0, answer.1)
+unfolding next_fault assembled_in
+answered_is_accepted Compare (contents ∷ []) status report answer = (refl, (ap fault_of answer.1, tt))
 answered_is_accepted Compare [] status report answer = absurd answer
 answered_is_accepted Compare (contents ∷ more ∷ rest) status report answer = absurd answer
+answered_is_accepted Asm (board ∷ microprogram ∷ []) status report answer =
+    let made : assembled_in board microprogram ≡ Ok answer.made = rw (answer.board_is, answer.made_is) refl in
+    (refl, (ap fault_of answer.board_is, (ap fault_of made, tt)))
+answered_is_accepted Asm [] status report answer = absurd answer
+answered_is_accepted Asm (board ∷ []) status report answer = absurd answer
+answered_is_accepted Asm (board ∷ microprogram ∷ more ∷ rest) status report answer = absurd answer
+
+-- no contents are accepted of which the first so many are refused
+not_both : (command : Command) (files contents others rest : List (List ℕ)) (report : List ℕ) → contents ≡ others ++ rest → IsAccepted command contents → IsRefusal command files others report → ⊥
+not_both command files contents others rest report begins accepted refusal =
+    let joined : (refusal.earlier ++ refusal.last ∷ []) ++ rest ≡ refusal.earlier ++ refusal.last ∷ rest = simp append_assoc in
+    let same : contents ≡ refusal.earlier ++ refusal.last ∷ rest = begins ∙ ap (λ front. front ++ rest) refusal.contents_are ∙ joined in
+    let none = accepted_at command [] refusal.earlier refusal.last rest (rw same at accepted.1) in
+    cc (none, refusal.fault_is)
 
 -- contents that are told, refused and answered
 not_answered : (told : List ℕ → Option (List ℕ)) (words : List (List ℕ)) (status : Status) (answered : List ℕ) (request : RequestData) (contents : List (List ℕ)) (report : List ℕ)
     → request_of words ≡ Some request → AreTold told request.files contents → IsRefusal request.command request.files contents report → IsWorked told words status answered → ⊥
 not_answered told words status answered request contents report requested are_told refusal worked =
     let same : worked.request ≡ request = cc (worked.requested, requested) in
-    let read = rw same at worked.read in
-    let answer = rw (same, read_is_told told request.files contents worked.contents are_told read) at worked.answer in
-    not_both request.command request.files contents report (answered_is_accepted request.command contents status answered answer) refusal
+    let accepted = answered_is_accepted request.command worked.contents status answered (rw same at worked.answer) in
+    let few : length contents ≤ length worked.contents = omega (arith, told_few told request.files contents are_told, counted words request requested, accepted.0) in
+    let begins = told_then_read told request.files contents worked.contents are_told (rw same at worked.read) few in
+    not_both request.command request.files worked.contents contents begins.0 report begins.1 accepted refusal
 
 -- contents that are told and accepted are not refused
 pub not_refused : (told : List ℕ → Option (List ℕ)) (words : List (List ℕ)) (request : RequestData) (contents : List (List ℕ)) (report : List ℕ)
@@ -55,8 +51,9 @@ pub not_refused : (told : List ℕ → Option (List ℕ)) (words : List (List �
 not_refused told words request contents report requested are_told accepted refused =
     let same : refused.request ≡ request = cc (refused.requested, requested) in
     let read = rw same at refused.read in
-    let refusal = rw (same, read_is_told told request.files contents refused.contents are_told read) at refused.refusal in
-    not_both request.command request.files contents report accepted refusal
+    let few : length refused.contents ≤ length contents = omega (arith, read_few told request.files refused.contents read, counted words request requested, accepted.0) in
+    let begins = read_then_told told request.files contents refused.contents are_told read few in
+    not_both request.command request.files contents refused.contents begins.0 report begins.1 accepted (rw same at refused.refusal)
 
 -- ---- what each status says
 
@@ -101,6 +98,11 @@ end_refused told before now words failed fails old new Differs end request conte
 end_refused told before now words failed fails old new Unknown end request contents report requested are_told refusal =
     absurd (not_answered told words Unknown end.0 request contents report requested are_told refusal end.1)
 
+-- a file could not be read
+pub read_fault : (told : List ℕ → Option (List ℕ)) (before now : List ℕ → ℕ) (words : List (List ℕ)) (report : List ℕ) → IsFirstReadFault told before now words report → IsReadFault before now words report
+read_fault told before now words report first =
+    record { request = first.request; requested = first.requested; file = first.file; among = next_is_among first.request.files first.contents first.file first.file_is; rose = first.rose; line = first.line }
+
 -- nothing failed
 pub end_complete : (told : List ℕ → Option (List ℕ)) (before now : List ℕ → ℕ) (words : List (List ℕ)) (failed fails : ℕ) (old new : Option (List ℕ)) (status : Status)
     → IsEnd told before now words failed fails old new status → NoneRose before now words → ¬ Rose failed fails
@@ -111,5 +113,5 @@ end_complete told before now words failed fails old new Unknown end none still =
 end_complete told before now words failed fails old new Usage end none still = (3, omega arith, refl)
 end_complete told before now words failed fails old new Refused end none still = (4, omega arith, refl)
 end_complete told before now words failed fails old new NoMemory end none still = (5, omega arith, refl)
-end_complete told before now words failed fails old new ReadFault end none still = absurd (none end.1.request end.1.requested end.1.file end.1.among end.1.rose)
+end_complete told before now words failed fails old new ReadFault end none still = absurd (none end.1.request end.1.requested end.1.file (next_is_among end.1.request.files end.1.contents end.1.file end.1.file_is) end.1.rose)
 end_complete told before now words failed fails old new WriteFault end none still = absurd (still end.0)

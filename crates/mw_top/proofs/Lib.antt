@@ -5,6 +5,8 @@ pub mod Unlike
 pub mod Starts
 pub mod Shown
 pub mod Names
+pub mod Files
 pub mod Outcomes
+pub mod Commands
 pub mod Ends
 pub mod OneStart

@@ -3,9 +3,10 @@ use Rattle.std.proofs.Common.{◌≡◌, true, false, ◌&&◌, nat_le, ◌≢�
 use Rattle.std.proofs.lemmas.List.{append-nil, drop_all}
 use Rattle.mw_base.specs.declared.cause.Cause.{Cause}
 use Rattle.mw_base.specs.declared.cause.Cause.TheVariants.{NotBundle}
-use Rattle.mw_top.specs.declared.refusal.BundleRefusal.{BundleRefusal}
-use Rattle.mw_top.specs.declared.refusal.BundleRefusal.TheVariants.{Refused, NoMemory}
-use Rattle.mw_top.specs.Reading.{◌>>=◌, Fails, present, each_of, count_of, list_of}
+use Rattle.mw_base.specs.declared.refusal.Refused.{Refused}
+use Rattle.mw_base.specs.declared.refusal.Refused.TheVariants.{At, NoMemory}
+use Rattle.mw_base.specs.Reading.{◌>>=◌, Fails}
+use Rattle.mw_top.specs.Reading.{present, each_of, count_of, list_of}
 use Rattle.mw_top.specs.Bundle.{assignment_from, link_from}
 use Rattle.std.proofs.lemmas.Bool.Decides.{nat_tests}
 use Rattle.toml.specs.Data.{Data, as_array}
@@ -36,12 +37,12 @@ goes_on reader front x values i value total within is h so_far =
     sym one ∙ so_far
 
 -- the item that is not read ends the list
-pub ends : {A : Type 0} (reader : Data → Result A Cause) (e : BundleRefusal) (front : List A) (values : List Value) (i : ℕ) (value : Value) (total : Result (List A) Cause)
+pub ends : {A : Type 0} (reader : Data → Result A Cause) (e : Refused Cause) (front : List A) (values : List Value) (i : ℕ) (value : Value) (total : Result (List A) Cause)
     → i < length values → value ≡ get_or values i value → Fails e (reader (view value))
     → with_front front (each_of reader (items_view (drop i values))) ≡ total → Fails e total
 unfolding each_of
 ends reader NoMemory front values i value total within is h so_far = tt
-ends reader (Refused cause) front values i value total within is h so_far =
+ends reader (At cause) front values i value total within is h so_far =
     let one : with_front front (each_of reader (items_view (drop i values))) ≡ Err cause = rw (next values i value within is, h) refl in
     sym so_far ∙ one
 

@@ -10,7 +10,8 @@ use Rattle.mw_base.specs.declared.cause.Cause.{Cause}
 use Rattle.toml.specs.Data.{Data, Items, no_items, item, Members, as_integer, as_array}
 use Rattle.mw_top.specs.declared.parts.Assignment.{Assignment}
 use Rattle.mw_top.specs.declared.parts.Link.{Link}
-use Rattle.mw_top.specs.Reading.{◌>>=◌, present, only_if, value_at, in_range, number_in, count_of, each_of, list_of}
+use Rattle.mw_base.specs.Reading.{◌>>=◌}
+use Rattle.mw_top.specs.Reading.{present, only_if, value_at, in_range, number_in, count_of, each_of, list_of}
 use Rattle.mw_top.specs.Bundle.{word_in, register_in, assignment_from, assignment_in, link_from, link_in, is_linked, links_each_once, BundleData, IsBundle, words_of, bound_of, registers_of, assignments_of, relation_of, start_of, IsAssignment, IsLink}
 use Rattle.std.specs.Prelude.{codes}
 

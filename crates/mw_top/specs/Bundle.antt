@@ -5,7 +5,8 @@ use Rattle.toml.specs.Data.{Data, Items, no_items, item, Members, no_members, me
 use Rattle.mw_base.specs.declared.cause.Cause.{Cause}
 use Rattle.mw_base.specs.declared.cause.Cause.TheVariants.{NotBundle}
 use Rattle.mw_top.specs.Document.{document_of, document_or_refusal}
-use Rattle.mw_top.specs.Reading.{◌>>=◌, present, only_if, value_at, number_in, list_of}
+use Rattle.mw_base.specs.Reading.{◌>>=◌}
+use Rattle.mw_top.specs.Reading.{present, only_if, value_at, number_in, list_of}
 use Rattle.mw_top.specs.declared.parts.Assignment.{Assignment}
 use Rattle.mw_top.specs.declared.parts.Link.{Link}
 

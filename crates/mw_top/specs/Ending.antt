@@ -1,14 +1,13 @@
 -- How a call of the bench ends.
-use Rattle.std.specs.Prelude.{◌≡◌, ◌⊎◌, ℕ, List, [], ◌∷◌, Option, Some, Ok, Contains}
+use Rattle.std.specs.Prelude.{◌≡◌, ◌⊎◌, ℕ, List, [], length, Option, Some, Contains}
 use Rattle.mw_outside.specs.Causes.{Rose}
 use Rattle.mw_outside.specs.Contents.{with_more}
 use Rattle.mw_top.specs.declared.status.Status.{Status}
-use Rattle.mw_top.specs.declared.status.Status.TheVariants.{Done, Differs, Unknown, Refused, WriteFault, NoMemory}
+use Rattle.mw_top.specs.declared.status.Status.TheVariants.{WriteFault, NoMemory}
 use Rattle.mw_top.specs.declared.request.Command.{Command}
-use Rattle.mw_top.specs.declared.request.Command.TheVariants.{Compare}
-use Rattle.mw_top.specs.Request.{RequestData, request_of}
-use Rattle.mw_top.specs.Bundle.{BundleData}
-use Rattle.mw_top.specs.Answer.{bundle_in, IsAnswer, IsRefusal, IsReport, TookPart}
+use Rattle.mw_top.specs.Request.{RequestData, file_count, request_of}
+use Rattle.mw_top.specs.Files.{AreAccepted}
+use Rattle.mw_top.specs.Answer.{IsReport, TookPart}
 
 -- the whole report was taken, and nothing else
 abbrev pub Took : Option (List ℕ) → Option (List ℕ) → List ℕ → Type 0
@@ -16,21 +15,12 @@ Took old new report = new ≡ with_more old report
 
 -- contents that a command accepts, one for each of its files
 abbrev pub IsAccepted : Command → List (List ℕ) → Type 0
-IsAccepted Compare (contents ∷ []) = (bundle : BundleData) × (bundle_in contents ≡ Ok bundle)
-IsAccepted Compare other = ⊥
+IsAccepted command contents = (length contents ≡ file_count command) × AreAccepted command [] contents
 
 -- of no file that the words ask for did the count of faults rise
 abbrev pub NoneRose : (List ℕ → ℕ) → (List ℕ → ℕ) → List (List ℕ) → Type 0
 NoneRose before now words =
     (request : RequestData) → request_of words ≡ Some request → (file : List ℕ) → Contains request.files file → ¬ Rose (before file) (now file)
-
--- What the work of a command ends with, given the names and the contents of its files: an answer, or a refusal of one of them.
-abbrev pub IsOutcome : Command → List (List ℕ) → List (List ℕ) → Status → List ℕ → Type 0
-IsOutcome command files contents Done report = IsAnswer command contents Done report
-IsOutcome command files contents Differs report = IsAnswer command contents Differs report
-IsOutcome command files contents Unknown report = IsAnswer command contents Unknown report
-IsOutcome command files contents Refused report = IsRefusal command files contents report
-IsOutcome command files contents other report = ⊥
 
 -- What a status says of a call: the report that it permits was taken. With a write fault, where the sink's count of faults rose,
 -- that is a part of one, and with want of memory nothing or a part of one.

@@ -7,6 +7,8 @@ pub mod Differs
 pub mod BundleJob
 pub mod Request
 pub mod Report
+pub mod Files
+pub mod Stops
 pub mod Answer
 pub mod Status
 pub mod Ending

@@ -1,33 +1,17 @@
 -- Readers of a file and of the values of its document: each answers what it read, or the cause why the file is refused.
-use Rattle.std.specs.Prelude.{◌≡◌, ℕ, suc, ℤ, pos, negsuc, List, [], ◌∷◌, Option, Some, None, Result, Ok, Err, Bool, nat_le, ◌&&◌, if◌then◌else◌}
+use Rattle.std.specs.Prelude.{ℕ, suc, ℤ, pos, negsuc, List, [], ◌∷◌, Option, Some, None, Result, Ok, Err, Bool, nat_le, ◌&&◌, if◌then◌else◌}
 use Rattle.std.specs.Borrow.{Bor}
 use Rattle.toml.specs.View.{view}
 use Rattle.toml.specs.declared.value.Value.{Value}
 use Rattle.toml.specs.Data.{Data, Items, no_items, item, Members, get_member, as_integer, as_array}
 use Rattle.mw_base.specs.declared.cause.Cause.{Cause}
 use Rattle.mw_base.specs.declared.cause.Cause.TheVariants.{NotBundle}
-use Rattle.mw_top.specs.declared.refusal.BundleRefusal.{BundleRefusal}
-use Rattle.mw_top.specs.declared.refusal.BundleRefusal.TheVariants.{Refused, NoMemory}
-
--- reads on with what was read, or stays with the cause
-infixl 10 ◌>>=◌
-abbrev pub ◌>>=◌ : {A B : Type 0} → Result A Cause → (A → Result B Cause) → Result B Cause
-(Ok x) >>= f = f x
-(Err e) >>= f = Err e
-
--- the refusal of a call is the cause that reading gives, unless memory ran out
-abbrev pub Fails : {Y : Type 0} → BundleRefusal → Result Y Cause → Type 0
-Fails NoMemory read = Unit {0}
-Fails (Refused cause) read = read ≡ Err cause
-
--- what a call returned, seen by view, is what reading gives, unless memory ran out
-abbrev pub Gives : {X Y : Type 0} → (X → Y) → Result X BundleRefusal → Result Y Cause → Type 0
-Gives view (Ok x) read = read ≡ Ok (view x)
-Gives view (Err e) read = Fails e read
+use Rattle.mw_base.specs.declared.refusal.Refused.{Refused}
+use Rattle.mw_base.specs.Reading.{◌>>=◌, Gives}
 
 -- each call of a closure that returns gives what the reader gives at the value
-abbrev pub Reads : {A : Type 0} → (Bor Value → Result A BundleRefusal → Type 0) → (Data → Result A Cause) → Type 0
-Reads {A} returns reader = (value : Bor Value) (result : Result A BundleRefusal) → returns value result → Gives (λ x. x) result (reader (view value.now))
+abbrev pub Reads : {A : Type 0} → (Bor Value → Result A (Refused Cause) → Type 0) → (Data → Result A Cause) → Type 0
+Reads {A} returns reader = (value : Bor Value) (result : Result A (Refused Cause)) → returns value result → Gives (λ x. x) result (reader (view value.now))
 
 -- what is there; where nothing is, the document is no bundle
 abbrev pub present : {A : Type 0} → Option A → Result A Cause

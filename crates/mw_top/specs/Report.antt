@@ -3,7 +3,8 @@ use Rattle.std.specs.Prelude.{ℕ, List, [], ◌∷◌, ◌++◌, codes, Option,
 use Rattle.mw_base.specs.Numbers.{hex, decimal}
 use Rattle.mw_base.specs.Causes.{number_of}
 use Rattle.mw_base.specs.declared.cause.Cause.{Cause}
-use Rattle.mw_base.specs.declared.cause.Cause.TheVariants.{FileTooLong, NotToml, NotBundle}
+use Rattle.mw_top.specs.declared.fault.FileFault.{FileFault}
+use Rattle.mw_top.specs.declared.fault.FileFault.TheVariants.{Text, Board, Bundle}
 use Rattle.mw_top.specs.declared.difference.Difference.{Difference}
 use Rattle.mw_top.specs.declared.difference.Difference.TheVariants.{Late, Event, StackPointer, Element, Memory}
 
@@ -19,14 +20,19 @@ usage_line = line (codes "usage: mw_bench COMMAND FILES [--nodes N] [--paths P] 
 abbrev pub fault_line : List ℕ → List ℕ
 fault_line file = line (codes "fault read " ++ file)
 
--- where a file is refused: a file that is too long at line 0 column 0, and a bundle as a whole, at the key -
-abbrev pub place_of : Cause → List ℕ
-place_of FileTooLong = codes " line 0 column 0 cause "
-place_of other = codes " key - cause "
+-- the cause at the end of a refusal
+abbrev pub cause_text : Cause → List ℕ
+cause_text cause = codes " cause " ++ decimal (number_of cause)
+
+-- where and why a file is refused: a text at a line and a column, a board file at a key, and a bundle as a whole, at the key -
+unfoldable pub fault_text : FileFault → List ℕ
+fault_text (Text fault) = codes " line " ++ decimal fault.line ++ codes " column " ++ decimal fault.column ++ cause_text fault.cause
+fault_text (Board fault) = codes " key " ++ fault.key ++ cause_text fault.cause
+fault_text (Bundle cause) = codes " key -" ++ cause_text cause
 
 -- a file that is refused
-abbrev pub refusal_line : List ℕ → Cause → List ℕ
-refusal_line file cause = line (codes "refused " ++ file ++ place_of cause ++ decimal (number_of cause))
+abbrev pub refusal_line : List ℕ → FileFault → List ℕ
+refusal_line file fault = line (codes "refused " ++ file ++ fault_text fault)
 
 -- the names of the board's elements, by number
 abbrev pub element_names : List (List ℕ)

@@ -3,7 +3,7 @@ use Rattle.std.specs.Prelude.{ℕ, List, [], ◌∷◌, codes, string_bytes, map
 use Rattle.std.specs.List.{list_all}
 use Rattle.std.specs.Str.{bytes_eq}
 use Rattle.mw_top.specs.declared.request.Command.{Command}
-use Rattle.mw_top.specs.declared.request.Command.TheVariants.{Compare}
+use Rattle.mw_top.specs.declared.request.Command.TheVariants.{Asm, Compare}
 use Rattle.mw_top.specs.declared.request.Request.{Request}
 
 -- a command and the names of its files, in the order of the words
@@ -17,11 +17,12 @@ data_of request = record { command = request.command; files = map string_bytes r
 
 -- the command of a word
 abbrev pub command_of : List ℕ → Option Command
-command_of word = if bytes_eq word (codes "compare") then Some Compare else None
+command_of word = if bytes_eq word (codes "compare") then Some Compare else (if bytes_eq word (codes "asm") then Some Asm else None)
 
 -- how many files a command has
 abbrev pub file_count : Command → ℕ
 file_count Compare = 1
+file_count Asm = 2
 
 -- a word that doesn't begin with '-'
 abbrev pub is_file_word : List ℕ → Bool

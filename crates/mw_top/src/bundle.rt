@@ -2,7 +2,7 @@
 ghost use Rattle.std.specs.Prelude.{◌≡◌, ◌<◌, ◌≤◌, ◌^◌, All, AllPairs, ◌≢◌, IfOk, length};
 ghost use Rattle.mw_top.specs.Bundle.{IsBundle, IsAssignment, IsLink};
 ghost use Rattle.mw_top.specs.Bundle.{bundle_keys, has_bundle_keys_only, bundle_of, read_bundle_of};
-ghost use Rattle.mw_top.specs.Reading.{Gives};
+ghost use Rattle.mw_base.specs.Reading.{Gives};
 ghost use Rattle.std.specs.List.{list_any};
 ghost use Rattle.toml.specs.Data.{same_key};
 ghost use Rattle.toml.specs.View.{table_view};

@@ -23,7 +23,7 @@ fn call(
 
 #[test]
 fn faulty_words(rt: HostRuntime) -> Result<(), Fail> {
-    let faulty: [&[&str]; 8] = [
+    let faulty: [&[&str]; 12] = [
         &[],
         &["compare"],
         &["compare", "t", "t"],
@@ -32,6 +32,10 @@ fn faulty_words(rt: HostRuntime) -> Result<(), Fail> {
         &["Compare", "t"],
         &["--help"],
         &["", "t"],
+        &["asm"],
+        &["asm", "t"],
+        &["asm", "t", "-u"],
+        &["asm", "t", "u", "v"],
     ];
     for words in faulty {
         let mut shelf = MemoryShelf::new(rt.alloc(), 4096, &[])?;

@@ -1,28 +1,30 @@
 // The command that compares one start.
 ghost use Rattle.std.specs.Prelude.{◌≡◌, ◌≤◌, List, ℕ, [], ◌∷◌, Some, IfOk, length};
-ghost use Rattle.mw_outside.specs.declared.read.TheConstants.{MOST_BYTES};
 ghost use Rattle.mw_top.specs.Answer.{IsReport};
-ghost use Rattle.mw_top.specs.Ending.{IsOutcome};
+ghost use Rattle.mw_top.specs.Files.{bundle_in};
 ghost use Rattle.mw_top.specs.Request.{request_of};
+ghost use Rattle.mw_top.specs.Stops.{FileGives};
 ghost use Rattle.mw_top.specs.declared.request.Command.TheVariants.{Compare};
 
-use crate::bundle::read_bundle;
+use crate::bundle::{Bundle, read_bundle};
 use crate::compare::compare_bundle;
-use crate::outcome::{Outcome, compared, fault, refused};
-use crate::refusal::BundleRefusal;
-use mw_base::{Cause, NoMemory};
-use mw_outside::{ReadRefusal, Shelf, read_whole};
+use crate::fault::{Stop, stop_at};
+use crate::file::read_file;
+use crate::outcome::{Outcome, compared, stopped};
+use mw_base::NoMemory;
+use mw_outside::Shelf;
 use std::alloc::Global;
 
-/// Compares the start of the bundle that the contents of a file are.
-fn compare_contents(alloc: Global, file: &str, contents: &[u8]) -> Result<Outcome, NoMemory>
-    requires { length contents.now ≤ MOST_BYTES }
-    ensures { IfOk result (λ outcome. IsOutcome Compare (file.now ∷ []) (contents.now ∷ []) outcome.status outcome.report.items) }
+/// The bundle of a file.
+fn bundle_file<S: Shelf>(alloc: Global, file: &str, shelf: &mut S) -> Result<Bundle, Stop>
+    ensures gives { FileGives (S.told shelf.old file.now) (S.faults shelf.old file.now) (S.faults shelf.new file.now) (λ bundle. bundle) result bundle_in }
+    ensures kept { (other : List ℕ) → S.told shelf.new other ≡ S.told shelf.old other }
+    ensures later { (other : List ℕ) → S.faults shelf.old other ≤ S.faults shelf.new other }
 {
-    match read_bundle(alloc, contents) {
-        Ok(bundle) => compared(alloc, compare_bundle(alloc, &bundle)?),
-        Err(BundleRefusal::Refused(cause)) => refused(alloc, file, cause),
-        Err(BundleRefusal::NoMemory) => Err(NoMemory),
+    let contents = read_file(alloc, file, shelf)?;
+    match read_bundle(alloc, &contents) {
+        Ok(bundle) => Ok(bundle),
+        Err(refused) => Err(stop_at(refused)),
     }
 }
 
@@ -37,10 +39,8 @@ pub(crate) fn compare_file<S: Shelf>(
     ensures kept { (other : List ℕ) → S.told shelf.new other ≡ S.told shelf.old other }
     ensures later { (other : List ℕ) → S.faults shelf.old other ≤ S.faults shelf.new other }
 {
-    match read_whole(alloc, shelf, file) {
-        Ok(contents) => compare_contents(alloc, file, &contents),
-        Err(ReadRefusal::Fault) => fault(alloc, file),
-        Err(ReadRefusal::TooLong) => refused(alloc, file, Cause::FileTooLong),
-        Err(ReadRefusal::NoMemory) => Err(NoMemory),
+    match bundle_file(alloc, file, shelf) {
+        Ok(bundle) => compared(alloc, compare_bundle(alloc, &bundle)?),
+        Err(stop) => stopped(alloc, file, stop),
     }
 }

@@ -1,14 +1,14 @@
 // The bytes of a file as a TOML document.
-ghost use Rattle.std.specs.Prelude.{◌≡◌, ◌≢◌, ◌↔◌};
+ghost use Rattle.std.specs.Prelude.{◌≡◌};
 ghost use Rattle.mw_base.specs.declared.cause.Cause.TheVariants.{NotToml};
-ghost use Rattle.mw_top.specs.declared.refusal.BundleRefusal.TheVariants.{Refused, NoMemory};
+ghost use Rattle.mw_base.specs.declared.refusal.Refused.TheVariants.{NoMemory};
+ghost use Rattle.mw_base.specs.Reading.{Gives, Refuses};
 ghost use Rattle.mw_top.specs.Document.{document_of, document_or_refusal};
-ghost use Rattle.mw_top.specs.Reading.{Gives};
 ghost use Rattle.toml.specs.Errors.{IsMemory};
 ghost use Rattle.toml.specs.View.{table_view};
 
 use crate::refusal::BundleRefusal;
-use mw_base::Cause;
+use mw_base::{Cause, Refused};
 use std::alloc::Global;
 use toml::Table;
 
@@ -24,12 +24,12 @@ pub(crate) fn read_document(alloc: Global, bytes: &[u8]) -> Result<Table, Bundle
 
 /// What an error of the TOML reader means: want of memory, or cause 20.
 fn refusal_of(e: &toml::de::Error) -> BundleRefusal
-    ensures memory { (result ≡ NoMemory) ↔ IsMemory e.now }
-    ensures refused { result ≢ NoMemory → result ≡ Refused NotToml }
+    ensures memory { IsMemory e.now → result ≡ NoMemory }
+    ensures refused { Refuses result NotToml }
 {
     if e.is_memory() {
-        BundleRefusal::NoMemory
+        Refused::NoMemory
     } else {
-        BundleRefusal::Refused(Cause::NotToml)
+        Refused::At(Cause::NotToml)
     }
 }

@@ -3,7 +3,8 @@ ghost use Rattle.std.specs.Prelude.{◌≡◌, ◌<◌};
 ghost use Rattle.mw_top.specs.Bundle.{word_in, register_in, assignment_in, link_in};
 ghost use Rattle.mw_top.specs.Bundle.{is_linked, links_each_once, version_of, words_of, bound_of};
 ghost use Rattle.mw_top.specs.Bundle.{registers_of, assignments_of, relation_of, start_of};
-ghost use Rattle.mw_top.specs.Reading.{Gives, number_in};
+ghost use Rattle.mw_base.specs.Reading.{Gives};
+ghost use Rattle.mw_top.specs.Reading.{number_in};
 ghost use Rattle.toml.specs.View.{view, table_view};
 
 use crate::parts::{Assignment, Link};

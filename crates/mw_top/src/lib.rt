@@ -1,11 +1,14 @@
 //! The bench's commands over files, from the words of a command line to a report and a status.
 #![tactic(auto)]
 
+mod assembly;
 mod bundle;
 mod compare;
 mod comparison;
 mod difference;
 mod document;
+mod fault;
+mod file;
 mod keys;
 mod machine;
 mod outcome;
@@ -38,5 +41,7 @@ mod compare_tests;
 mod computed_examples;
 #[cfg(test)]
 mod instruction_bundles;
+#[cfg(test)]
+mod order_tests;
 #[cfg(test)]
 mod tests;

@@ -1,8 +1,9 @@
 // The texts of reports.
 ghost use Rattle.std.specs.Prelude.{◌≡◌, ◌++◌, [], map, slice_index_or, OnOk};
-ghost use Rattle.mw_top.specs.Report.{line, usage_line, fault_line, place_of, refusal_line, element_names, difference_text, compare_report};
+ghost use Rattle.mw_top.specs.Report.{line, usage_line, fault_line, cause_text, fault_text, refusal_line, element_names, difference_text, compare_report};
 
 use crate::difference::Difference;
+use crate::fault::FileFault;
 use mw_base::{Cause, NoMemory, append_decimal, append_hex};
 use std::alloc::Global;
 
@@ -33,14 +34,36 @@ pub(crate) fn append_fault(report: &mut Vec<u8>, file: &str) -> Result<(), NoMem
     append_line(report, file.as_bytes())
 }
 
-/// The words between a refused file's name and the number of the cause.
-fn place_of(cause: Cause) -> &'static [u8]
-    ensures { result.now ≡ place_of cause }
+/// Appends the cause at the end of a refusal.
+fn append_cause(alloc: Global, report: &mut Vec<u8>, cause: Cause) -> Result<(), NoMemory>
+    ensures { OnOk result (report.new.items ≡ report.old.items ++ cause_text cause) }
 {
-    match cause {
-        Cause::FileTooLong => b" line 0 column 0 cause ",
-        // A bundle is refused only as a whole.
-        _ => b" key - cause ",
+    report.extend_from_slice(b" cause ")?;
+    append_decimal(alloc, report, u64::from(cause.number()))
+}
+
+/// Appends where and why a file is refused.
+#[tactic(auto, unfolding(crate::specs::Report::fault_text))]
+fn append_place(alloc: Global, report: &mut Vec<u8>, fault: &FileFault) -> Result<(), NoMemory>
+    ensures { OnOk result (report.new.items ≡ report.old.items ++ fault_text fault.now) }
+{
+    match fault {
+        FileFault::Text(fault) => {
+            report.extend_from_slice(b" line ")?;
+            append_decimal(alloc, report, u64::from(fault.line))?;
+            report.extend_from_slice(b" column ")?;
+            append_decimal(alloc, report, u64::from(fault.column))?;
+            append_cause(alloc, report, fault.cause)
+        }
+        FileFault::Board(fault) => {
+            report.extend_from_slice(b" key ")?;
+            report.extend_from_slice(fault.key.as_slice())?;
+            append_cause(alloc, report, fault.cause)
+        }
+        FileFault::Bundle(cause) => {
+            report.extend_from_slice(b" key -")?;
+            append_cause(alloc, report, *cause)
+        }
     }
 }
 
@@ -49,14 +72,13 @@ pub(crate) fn append_refusal(
     alloc: Global,
     report: &mut Vec<u8>,
     file: &str,
-    cause: Cause,
+    fault: &FileFault,
 ) -> Result<(), NoMemory>
-    ensures { OnOk result (report.new.items ≡ report.old.items ++ refusal_line file.now cause) }
+    ensures { OnOk result (report.new.items ≡ report.old.items ++ refusal_line file.now fault.now) }
 {
     report.extend_from_slice(b"refused ")?;
     report.extend_from_slice(file.as_bytes())?;
-    report.extend_from_slice(place_of(cause))?;
-    append_decimal(alloc, report, u64::from(cause.number()))?;
+    append_place(alloc, report, fault)?;
     append_line(report, b"")
 }
 

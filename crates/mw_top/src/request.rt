@@ -8,6 +8,8 @@ ghost use Rattle.std.specs.List.{list_all};
 pub enum Command {
     /// Compares one start of the one bundle named.
     Compare,
+    /// Assembles a microprogram: a board file, and the microprogram for its board.
+    Asm,
 }
 
 /// A command and the words that name its files.
@@ -24,6 +26,7 @@ fn command_of(word: &str) -> Option<Command>
 {
     match word {
         "compare" => Some(Command::Compare),
+        "asm" => Some(Command::Asm),
         _ => None,
     }
 }
@@ -34,6 +37,7 @@ fn file_count(command: Command) -> usize
 {
     match command {
         Command::Compare => 1,
+        Command::Asm => 2,
     }
 }
 

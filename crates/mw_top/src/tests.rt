@@ -1,5 +1,5 @@
 use super::*;
-use mw_base::Cause;
+use mw_base::{Cause, Refused};
 use std::alloc::Global;
 use std::test::Fail;
 
@@ -46,8 +46,8 @@ fn list_of(alloc: Global, key: &str, count: u32, item: &str) -> Result<String, F
 fn cause_of(alloc: Global, bytes: &[u8]) -> Result<u8, Fail> {
     match read_bundle(alloc, bytes) {
         Ok(_) => Ok(0),
-        Err(BundleRefusal::Refused(cause)) => Ok(cause.number()),
-        Err(BundleRefusal::NoMemory) => Err("memory")?,
+        Err(Refused::At(cause)) => Ok(cause.number()),
+        Err(Refused::NoMemory) => Err("memory")?,
     }
 }
 

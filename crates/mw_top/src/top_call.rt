@@ -1,11 +1,12 @@
 // The top call: all that the program does.
 ghost use Rattle.std.specs.Prelude.{◌≡◌, ◌≢◌, ◌≤◌, ◌⊎◌, List, ℕ, [], ◌∷◌, Option, None, Some, true, Contains, IfOk, map, length, string_bytes};
 ghost use Rattle.mw_outside.specs.Causes.{Rose};
-ghost use Rattle.mw_top.specs.Answer.{AreTold, IsRefusal, IsReport, IsWorked, IsRefused, IsReadFault, TookPart, is_worked};
+ghost use Rattle.mw_top.specs.Answer.{AreTold, IsRefusal, IsReport, IsWorked, IsRefused, IsReadFault, IsFirstReadFault, TookPart, is_worked};
 ghost use Rattle.mw_top.specs.Ending.{IsAccepted, IsEnd, NoneRose, Took};
 ghost use Rattle.mw_top.specs.Report.{usage_line};
 ghost use Rattle.mw_top.specs.Request.{RequestData, data_of, file_count, request_of};
 
+use crate::assembly::assemble_files;
 use crate::comparison::compare_file;
 use crate::outcome::{Outcome, usage};
 use crate::request::{Command, Request, read_words};
@@ -26,8 +27,10 @@ fn answer<S: Shelf>(
     ensures kept { (name : List ℕ) → S.told shelf.new name ≡ S.told shelf.old name }
     ensures later { (name : List ℕ) → S.faults shelf.old name ≤ S.faults shelf.new name }
 {
+    let files = request.files;
     match request.command {
-        Command::Compare => compare_file(alloc, request.files[0].as_str(), shelf),
+        Command::Compare => compare_file(alloc, files[0].as_str(), shelf),
+        Command::Asm => assemble_files(alloc, files[0].as_str(), files[1].as_str(), shelf),
     }
 }
 
@@ -115,6 +118,11 @@ pub fn bench<S: Shelf, K: Sink>(
     // `ReadFault`: the shelf failed at one of the files, and the line that says so was taken.
     ensures read_fault { result ≡ Status.ReadFault → (report : List ℕ)
         × IsReadFault (S.faults shelf.old) (S.faults shelf.new) (map string_bytes words.now) report
+        × Took (K.taken out.old) (K.taken out.new) report }
+
+    // A file is read only after the earlier ones: those were read, and are accepted, where the shelf failed at a later one.
+    ensures read_in_order { result ≡ Status.ReadFault → (report : List ℕ)
+        × IsFirstReadFault (S.told shelf.old) (S.faults shelf.old) (S.faults shelf.new) (map string_bytes words.now) report
         × Took (K.taken out.old) (K.taken out.new) report }
 
     // `WriteFault`: the sink failed, and a front part of a report was taken.

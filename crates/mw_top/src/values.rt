@@ -1,17 +1,18 @@
 // Readers of the values of a document.
 ghost use Rattle.std.specs.Prelude.{◌≤◌, IfOk, Result};
-ghost use Rattle.mw_top.specs.Reading.{Gives, Reads, present, in_range, number_in, value_at, each_of, list_of};
+ghost use Rattle.mw_base.specs.Reading.{Gives};
+ghost use Rattle.mw_top.specs.Reading.{Reads, present, in_range, number_in, value_at, each_of, list_of};
 ghost use Rattle.mw_base.specs.declared.cause.Cause.{Cause};
 ghost use Rattle.toml.specs.Data.{Data, as_array};
 ghost use Rattle.toml.specs.View.{view, items_view, table_view};
 
 use crate::refusal::BundleRefusal;
-use mw_base::Cause;
+use mw_base::{Cause, Refused};
 use std::alloc::Global;
 use toml::{Table, Value};
 
 /// The refusal of a document that is no bundle.
-pub(crate) const NO_BUNDLE: BundleRefusal = BundleRefusal::Refused(Cause::NotBundle);
+pub(crate) const NO_BUNDLE: BundleRefusal = Refused::At(Cause::NotBundle);
 
 /// The value under a key.
 pub(crate) fn value_at<'a>(table: &'a Table, key: &str) -> Result<&'a Value, BundleRefusal>

@@ -1,5 +1,5 @@
 use Rattle.std.proofs.Common.{map, string_bytes, sym}
-use Rattle.mw_top.proofs.Ends.{end_worked, end_usage, end_refused, end_complete, not_refused}
+use Rattle.mw_top.proofs.Ends.{end_worked, end_usage, end_refused, end_complete, not_refused, read_fault}
 use Rattle.mw_top.proofs.top_call.bench.Goals as goal
 
 pub returns-clause-usage : goal.returns-clause-usage
@@ -30,7 +30,12 @@ pub returns-clause-refused_due : goal.returns-clause-refused_due
 returns-clause-refused_due g c = end_refused _ _ _ _ _ _ _ _ c.end.result (c.end.ensures.end _ _ _ _ c.work-worked.ensures.report)
 
 pub returns-clause-read_fault : goal.returns-clause-read_fault
-returns-clause-read_fault g c = λ is. rw is at (c.end.ensures.end _ _ _ _ c.work-worked.ensures.report)
+returns-clause-read_fault g c = λ is.
+    let end = rw is at (c.end.ensures.end _ _ _ _ c.work-worked.ensures.report) in
+    (end.0, read_fault _ _ _ _ end.0 end.1, end.2)
+
+pub returns-clause-read_in_order : goal.returns-clause-read_in_order
+returns-clause-read_in_order g c = λ is. rw is at (c.end.ensures.end _ _ _ _ c.work-worked.ensures.report)
 
 pub returns-clause-write_fault : goal.returns-clause-write_fault
 returns-clause-write_fault g c = λ is. rw is at (c.end.ensures.end _ _ _ _ c.work-worked.ensures.report)
