@@ -1,5 +1,5 @@
 -- Each word to be made has a place in the store, which has at most 4,096 of them.
-use Rattle.std.proofs.Common.{◌≡◌, ℕ, ◌+◌, ◌-◌, ◌<◌, ◌≤◌, List, [], ◌∷◌, ◌++◌, Bool, true, false, Option, Some, None, Result, Ok, Err, refl, sym, ap, ◌∙◌, subst, arith, length, replicate, set, nat_lt, nat_le, length-append}
+use Rattle.std.proofs.Common.{◌≡◌, ℕ, ◌+◌, ◌-◌, ◌<◌, ◌≤◌, List, [], ◌∷◌, ◌++◌, Bool, true, false, Option, Some, None, Result, Ok, Err, refl, subst, IfSome, arith, length, replicate, set, nat_lt, nat_le, length-append}
 use Rattle.std.specs.Prelude.{if◌then◌else◌, slice_index_or}
 use Rattle.std.specs.List.{All}
 use Rattle.std.proofs.lemmas.Bool.Decides.{nat_tests}
@@ -25,7 +25,12 @@ use Rattle.mw_asm.specs.Names.{new_name, with_name}
 use Rattle.mw_asm.specs.Parts.{spelled}
 use Rattle.mw_asm.specs.declared.bits.SetBits.{SetBits}
 use Rattle.mw_asm.specs.Statements.{statement_of}
+use Rattle.mw_asm.specs.declared.assembled.Label.{Label}
+use Rattle.std.proofs.lemmas.Nat.{pow_pos}
+use Rattle.mw_asm.specs.Names.{bits_named}
+use Rattle.mw_asm.proofs.Fields.{FieldsFit}
 use Rattle.mw_asm.proofs.Steps.{bind_ok}
+use Rattle.mw_asm.proofs.Widths.{ValueFits, NamesFit, more_names_fit, bits_fit}
 
 -- the word has a place among so many
 abbrev pub HasPlace : List Bool → Word → Type 0
@@ -35,6 +40,17 @@ HasPlace used word = word.address < length used
 pub record Inside (used : List Bool) (words : List Word) : Type 0 where
   pub few : length used ≤ 4096
   pub each : All (HasPlace used) words
+
+-- an address of the store, or the one past it
+abbrev pub IsLow : Label → Type 0
+IsLow label = label.address ≤ 4096
+
+-- what is so after each line, on a board whose microword has so many bits
+pub record IsRight (bits : ℕ) (known : Known) : Type 0 where
+  pub inside : Inside known.used known.words
+  pub low : known.next ≤ 4096
+  pub labels : All IsLow known.labels
+  pub named : NamesFit bits known.names
 
 -- with one address more the list is no shorter, has the address, and stays within 4,096
 record Longer (used more : List Bool) (address : ℕ) : Type 0 where
@@ -70,60 +86,52 @@ pushed used words word inside low =
 abbrev ok_known : Known → Result Known TextFault
 ok_known known = Ok known
 
-abbrev AreInside : Known → Type 0
-AreInside known = Inside known.used known.words
-
--- what doesn't touch words
-record Keeps (known next : Known) : Type 0 where
-  used : next.used ≡ known.used
-  words : next.words ≡ known.words
-
-kept : (known next : Known) → Keeps known next → AreInside known → AreInside next
-kept known next keeps inside = rw (keeps.used, keeps.words) inside
-
 known_is : (known next : Known) → ok_known known ≡ Ok next → known ≡ next
 known_is known next is = cc
 
-meaning_keeps : (text : List ℕ) (name : Token) (meaning : Meaning) (known next : Known) → with_meaning text name meaning known ≡ Ok next → Keeps known next
+meaning_right : (bits : ℕ) (text : List ℕ) (name : Token) (meaning : Meaning) (known next : Known) → IfSome (bits_named (Some meaning)) (ValueFits bits) → with_meaning text name meaning known ≡ Ok next → IsRight bits known → IsRight bits next
 unfolding with_meaning
-meaning_keeps text name meaning known next is =
+meaning_right bits text name meaning known next fits is right =
     let last = bind_ok (new_name text known.names name) (λ done. ok_known (record known { names = with_name known.names (spelled text name) meaning })) next is in
     let e = known_is (record known { names = with_name known.names (spelled text name) meaning }) next last.2 in
-    record { used = ap (λ (k : Known). k.used) (sym e); words = ap (λ (k : Known). k.words) (sym e) }
+    subst (IsRight bits) e (record { inside = right.inside; low = right.low; labels = right.labels; named = more_names_fit bits known.names (spelled text name) meaning right.named fits })
 
-def_keeps : (fields : List NamedField) (text : List ℕ) (name : Token) (items : List Item) (known next : Known) → with_def fields text name items known ≡ Ok next → Keeps known next
+def_right : (bits : ℕ) (fields : List NamedField) (text : List ℕ) (name : Token) (items : List Item) (known next : Known) → FieldsFit bits fields → with_def fields text name items known ≡ Ok next → IsRight bits known → IsRight bits next
 unfolding with_def
-def_keeps fields text name items known next is =
-    let later = λ (bits : SetBits). ok_known (record known { names = with_name known.names (spelled text name) (meanings.Bits bits) }) in
+def_right bits fields text name items known next fit is right =
+    let later = λ (set : SetBits). ok_known (record known { names = with_name known.names (spelled text name) (meanings.Bits set) }) in
     let first = bind_ok (new_name text known.names name) (λ done. bits_of fields text known.names scopes.Def no_bits items >>= later) next is in
     let last = bind_ok (bits_of fields text known.names scopes.Def no_bits items) later next first.2 in
     let e = known_is (record known { names = with_name known.names (spelled text name) (meanings.Bits last.0) }) next last.2 in
-    record { used = ap (λ (k : Known). k.used) (sym e); words = ap (λ (k : Known). k.words) (sym e) }
+    let fits = bits_fit bits fields text known.names scopes.Def no_bits last.0 items fit right.named (pow_pos bits) last.1 in
+    subst (IsRight bits) e (record { inside = right.inside; low = right.low; labels = right.labels; named = more_names_fit bits known.names (spelled text name) (meanings.Bits last.0) right.named fits })
 
 -- of two answers, one a fault, the value is the other
 if_ok : (b : Bool) (known next : Known) (fault : TextFault) → (if b then ok_known known else Err fault) ≡ Ok next → (b ≡ true) × (known ≡ next)
 if_ok true known next fault is = (refl, known_is known next is)
 if_ok false known next fault is = absurd cc
 
-next_keeps : (token : Token) (address : ℕ) (known next : Known) → with_next token address known ≡ Ok next → Keeps known next
+next_right : (bits : ℕ) (token : Token) (address : ℕ) (known next : Known) → with_next token address known ≡ Ok next → IsRight bits known → IsRight bits next
 unfolding with_next
-next_keeps token address known next is =
+next_right bits token address known next is right =
     let e = if_ok (nat_lt address 4096) (record known { next = address }) next (fault_on token ValueTooWide) is in
-    record { used = ap (λ (k : Known). k.used) (sym e.1); words = ap (λ (k : Known). k.words) (sym e.1) }
+    let low : address ≤ 4096 = grind (arith, nat_tests, e.0) in
+    subst (IsRight bits) e.1 (record { inside = right.inside; low = low; labels = right.labels; named = right.named })
 
-label_keeps : (text : List ℕ) (name : Token) (known next : Known) → with_label text name known ≡ Ok next → Keeps known next
+label_right : (bits : ℕ) (text : List ℕ) (name : Token) (known next : Known) → with_label text name known ≡ Ok next → IsRight bits known → IsRight bits next
 unfolding with_label
-label_keeps text name known next is =
+label_right bits text name known next is right =
     let later = λ (more : Known). ok_known (record more { labels = more.labels ++ (record { name = spelled text name; address = more.next } ∷ []) }) in
     let last = bind_ok (with_meaning text name (meanings.Label known.next) known) later next is in
-    let e = known_is (record last.0 { labels = last.0.labels ++ (record { name = spelled text name; address = last.0.next } ∷ []) }) next last.2 in
-    let keeps = meaning_keeps text name (meanings.Label known.next) known last.0 last.1 in
-    record { used = ap (λ (k : Known). k.used) (sym e) ∙ keeps.used; words = ap (λ (k : Known). k.words) (sym e) ∙ keeps.words }
+    let more = last.0 in
+    let label : Label = record { name = spelled text name; address = more.next } in
+    let e = known_is (record more { labels = more.labels ++ (label ∷ []) }) next last.2 in
+    let was = meaning_right bits text name (meanings.Label known.next) known more tt last.1 right in
+    subst (IsRight bits) e (record { inside = was.inside; low = was.low; labels = All-push IsLow more.labels label was.labels was.low; named = was.named })
 
-optional_label_keeps : (text : List ℕ) (name : Option Token) (known next : Known) → with_optional_label text name known ≡ Ok next → Keeps known next
-optional_label_keeps text None known next is =
-    let e = known_is known next is in record { used = ap (λ (k : Known). k.used) (sym e); words = ap (λ (k : Known). k.words) (sym e) }
-optional_label_keeps text (Some name) known next is = label_keeps text name known next is
+optional_label_right : (bits : ℕ) (text : List ℕ) (name : Option Token) (known next : Known) → with_optional_label text name known ≡ Ok next → IsRight bits known → IsRight bits next
+optional_label_right bits text None known next is right = subst (IsRight bits) (known_is known next is) right
+optional_label_right bits text (Some name) known next is right = label_right bits text name known next is right
 
 -- after two tests, of which each may give a fault
 after_tests : (full there : Bool) (known next : Known) (first second : TextFault) → (if full then Err first else (if there then Err second else ok_known known)) ≡ Ok next → (full ≡ false) × (known ≡ next)
@@ -131,40 +139,41 @@ after_tests true there known next first second is = absurd cc
 after_tests false true known next first second is = absurd cc
 after_tests false false known next first second is = (refl, known_is known next is)
 
-word_inside : (first : Token) (items : List Item) (known next : Known) → with_word first items known ≡ Ok next → AreInside known → AreInside next
+word_right : (bits : ℕ) (first : Token) (items : List Item) (known next : Known) → with_word first items known ≡ Ok next → IsRight bits known → IsRight bits next
 unfolding with_word
-word_inside first items known next is inside =
+word_right bits first items known next is right =
     let word : Word = record { address = known.next; items = items } in
     let grown : Known = record known { next = known.next + 1; used = with_used known.used known.next; words = known.words ++ (word ∷ []) } in
     let e = after_tests (nat_le 4096 known.next) (slice_index_or known.used known.next false) grown next (fault_on first StoreFull) (fault_on first Overlap) is in
     let low : known.next < 4096 = grind (arith, nat_tests, e.0) in
-    subst AreInside e.1 (pushed known.used known.words word inside low)
+    subst (IsRight bits) e.1 (record { inside = pushed known.used known.words word right.inside low; low = omega (arith, low); labels = right.labels; named = right.named })
 
-optional_word_inside : (items : List Item) (known next : Known) → with_optional_word items known ≡ Ok next → AreInside known → AreInside next
-optional_word_inside [] known next is inside = subst AreInside (known_is known next is) inside
-optional_word_inside (first ∷ rest) known next is inside = word_inside first.name (first ∷ rest) known next is inside
+optional_word_right : (bits : ℕ) (items : List Item) (known next : Known) → with_optional_word items known ≡ Ok next → IsRight bits known → IsRight bits next
+optional_word_right bits [] known next is right = subst (IsRight bits) (known_is known next is) right
+optional_word_right bits (first ∷ rest) known next is right = word_right bits first.name (first ∷ rest) known next is right
 
-statement_inside : (fields : List NamedField) (text : List ℕ) (known next : Known) (statement : Statement) → with_statement fields text known statement ≡ Ok next → AreInside known → AreInside next
-statement_inside fields text known next (statements.Equ name value) is inside = kept known next (meaning_keeps text name (meanings.Number value) known next is) inside
-statement_inside fields text known next (statements.Def name items) is inside = kept known next (def_keeps fields text name items known next is) inside
-statement_inside fields text known next (statements.Org token address) is inside = kept known next (next_keeps token address known next is) inside
-statement_inside fields text known next (statements.Word label items) is inside =
+statement_right : (bits : ℕ) (fields : List NamedField) (text : List ℕ) (known next : Known) (statement : Statement) → FieldsFit bits fields → with_statement fields text known statement ≡ Ok next → IsRight bits known → IsRight bits next
+statement_right bits fields text known next (statements.Equ name value) fit is right = meaning_right bits text name (meanings.Number value) known next tt is right
+statement_right bits fields text known next (statements.Def name items) fit is right = def_right bits fields text name items known next fit is right
+statement_right bits fields text known next (statements.Org token address) fit is right = next_right bits token address known next is right
+statement_right bits fields text known next (statements.Word label items) fit is right =
     let two = bind_ok (with_optional_label text label known) (λ labelled. with_optional_word items labelled) next is in
-    optional_word_inside items two.0 next two.2 (kept known two.0 (optional_label_keeps text label known two.0 two.1) inside)
+    optional_word_right bits items two.0 next two.2 (optional_label_right bits text label known two.0 two.1 right)
 
-line_inside : (fields : List NamedField) (text : List ℕ) (known next : Known) (line : Line) → with_line fields text known line ≡ Ok next → AreInside known → AreInside next
+line_right : (bits : ℕ) (fields : List NamedField) (text : List ℕ) (known next : Known) (line : Line) → FieldsFit bits fields → with_line fields text known line ≡ Ok next → IsRight bits known → IsRight bits next
 unfolding with_line
-line_inside fields text known next line is inside =
+line_right bits fields text known next line fit is right =
     let two = bind_ok (statement_of text line) (λ statement. with_statement fields text known statement) next is in
-    statement_inside fields text known next two.0 two.2 inside
+    statement_right bits fields text known next two.0 fit two.2 right
 
-all_inside : (fields : List NamedField) (text : List ℕ) (known end : Known) (lines : List Line) → first_pass fields text known lines ≡ Ok end → AreInside known → AreInside end
+all_right : (bits : ℕ) (fields : List NamedField) (text : List ℕ) (known end : Known) (lines : List Line) → FieldsFit bits fields → first_pass fields text known lines ≡ Ok end → IsRight bits known → IsRight bits end
 unfolding first_pass
-all_inside fields text known end [] is inside = subst AreInside (known_is known end is) inside
-all_inside fields text known end (line ∷ rest) is inside =
+all_right bits fields text known end [] fit is right = subst (IsRight bits) (known_is known end is) right
+all_right bits fields text known end (line ∷ rest) fit is right =
     let two = bind_ok (with_line fields text known line) (λ next. first_pass fields text next rest) end is in
-    all_inside fields text two.0 end rest two.2 (line_inside fields text known two.0 line two.1 inside)
+    all_right bits fields text two.0 end rest fit two.2 (line_right bits fields text known two.0 line fit two.1 right)
 
 -- after the first pass
-pub first_pass_inside : (fields : List NamedField) (text : List ℕ) (end : Known) (lines : List Line) → first_pass fields text at_first lines ≡ Ok end → Inside end.used end.words
-first_pass_inside fields text end lines is = all_inside fields text at_first end lines is (record { few = omega arith; each = All-nil (HasPlace []) })
+pub first_pass_right : (bits : ℕ) (fields : List NamedField) (text : List ℕ) (end : Known) (lines : List Line) → FieldsFit bits fields → first_pass fields text at_first lines ≡ Ok end → IsRight bits end
+first_pass_right bits fields text end lines fit is =
+    all_right bits fields text at_first end lines fit is (record { inside = record { few = omega arith; each = All-nil (HasPlace []) }; low = omega arith; labels = All-nil IsLow; named = λ name. tt })

@@ -7,4 +7,6 @@ pub mod LineSteps
 pub mod Maps
 pub mod Shifts
 pub mod Steps
+pub mod Stores
+pub mod Widths
 pub mod WordSteps

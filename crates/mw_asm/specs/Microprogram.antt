@@ -1,11 +1,12 @@
 -- The microprogram that a text spells in the fields of a board.
-use Rattle.std.specs.Prelude.{ℕ, List, [], ◌∷◌, map, slice_set, Bool, Result, Ok}
+use Rattle.std.specs.Prelude.{◌≡◌, ◌<◌, ◌≤◌, ◌^◌, length, All, ℕ, List, [], ◌∷◌, map, slice_set, Bool, Result, Ok}
 use Rattle.mw_base.specs.declared.refusal.TextFault.{TextFault}
 use Rattle.mw_base.specs.Lines.{lines_of}
 use Rattle.mw_base.specs.Reading.{◌>>=◌}
 use Rattle.mw_base.specs.Tokens.{tokens_of}
 use Rattle.mw_board.specs.declared.parts.BoardParts.{BoardParts}
 use Rattle.mw_asm.specs.declared.assembled.Assembled.{Assembled}
+use Rattle.mw_asm.specs.declared.assembled.Label.{Label}
 use Rattle.mw_asm.specs.declared.first_pass.Word.{Word}
 use Rattle.mw_asm.specs.declared.names.Scope.TheVariants as scopes
 use Rattle.mw_asm.specs.Bits.{no_bits, word_of}
@@ -32,3 +33,11 @@ store_of board text = do
   known ← first_pass board.fields text at_first (lines_with 1 (lines_of text) tokens)
   words ← second_pass board text known.names (filled board.fill known.used) known.words
   Ok (record { store = record { words = words }; used = known.used; labels = known.labels })
+
+-- what is so of every microprogram: at most 4,096 words of the board's microword, for each whether a line put it there, and labels of such
+-- words or of the one past the last
+pub record IsAssembled (board : BoardParts) (made : Assembled) : Type 0 where
+  pub few : length made.store.words ≤ 4096
+  pub fit : All (λ word. word < 2 ^ board.microword) made.store.words
+  pub marked : length made.used ≡ length made.store.words
+  pub low : All (λ (label : Label). label.address ≤ 4096) made.labels

@@ -1,7 +1,7 @@
 // The microprogram of a text.
-ghost use Rattle.std.specs.Prelude.{◌<◌, ◌^◌, length};
+ghost use Rattle.std.specs.Prelude.{◌<◌, ◌^◌, IfOk, length};
 ghost use Rattle.mw_base.specs.Reading.{Gives};
-ghost use Rattle.mw_asm.specs.Microprogram.{store_of};
+ghost use Rattle.mw_asm.specs.Microprogram.{store_of, IsAssembled};
 
 use crate::assembled::Assembled;
 use crate::first_pass::first_pass;
@@ -23,6 +23,7 @@ use std::alloc::Global;
 pub fn assemble(alloc: Global, board: &Board, text: &[u8]) -> Result<Assembled, Refusal>
     requires { length text.now < 2 ^ 32 }
     ensures gives { Gives (λ made. made) result (store_of board.now text.now) }
+    ensures valid { IfOk result (λ made. IsAssembled board.now made) }
 {
     let tokens = tokens(alloc, text)?;
     let known = first_pass(alloc, board, text, &tokens)?;
