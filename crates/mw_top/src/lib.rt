@@ -32,6 +32,14 @@ pub use status::Status;
 pub use top_call::bench;
 
 #[cfg(test)]
+mod asm_cases;
+#[cfg(test)]
+mod asm_refusals;
+#[cfg(test)]
+mod asm_tests;
+#[cfg(test)]
+mod asm_vectors;
+#[cfg(test)]
 mod bundle_cases;
 #[cfg(test)]
 mod call_tests;
@@ -39,6 +47,12 @@ mod call_tests;
 mod compare_tests;
 #[cfg(test)]
 mod computed_examples;
+#[cfg(test)]
+mod cycle_boards;
+#[cfg(test)]
+mod cycle_cases;
+#[cfg(test)]
+mod cycle_tests;
 #[cfg(test)]
 mod instruction_bundles;
 #[cfg(test)]
