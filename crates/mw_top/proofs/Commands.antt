@@ -8,14 +8,14 @@ use Rattle.mw_top.specs.declared.fault.Stop.{Stop}
 use Rattle.mw_top.specs.declared.request.Command.TheVariants.{Asm, Compare}
 use Rattle.mw_top.specs.declared.status.Status.{Status}
 use Rattle.mw_top.specs.declared.status.Status.TheVariants.{Done}
-use Rattle.mw_top.specs.Answer.{compare_status, IsReport}
+use Rattle.mw_top.specs.Answer.{compare_status, IsReport, IsRead}
 use Rattle.mw_top.specs.Bundle.{BundleData}
 use Rattle.mw_top.specs.BundleJob.{job_of, IsBundleStart}
 use Rattle.mw_top.specs.Differs.{Start, difference_of}
 use Rattle.mw_top.specs.Files.{bundle_in, board_in, store_in}
 use Rattle.mw_top.specs.Report.{compare_report}
 use Rattle.mw_top.specs.Request.{request_of}
-use Rattle.mw_top.specs.Stops.{IsRead, FileStops, IsStopped}
+use Rattle.mw_top.specs.Stops.{FileStops, IsStopped}
 use Rattle.mw_top.proofs.Files.{bundle_refused, board_refused, board_accepted, microprogram_refused}
 use Rattle.mw_top.proofs.Outcomes.{stops_since, is_answered, compare_is_worked, is_stopped}
 

@@ -9,10 +9,9 @@ use Rattle.mw_board.specs.declared.parts.BoardParts.{BoardParts}
 use Rattle.mw_top.specs.declared.fault.FileFault.{FileFault}
 use Rattle.mw_top.specs.declared.request.Command.{Command}
 use Rattle.mw_top.specs.declared.request.Command.TheVariants.{Asm, Compare}
-use Rattle.mw_top.specs.Answer.{AreRead, AreTold}
+use Rattle.mw_top.specs.Answer.{IsRead, AreRead, AreTold}
 use Rattle.mw_top.specs.Files.{bundle_in, board_in, store_in, assembled_in, fault_of, next_fault, AreAccepted, next_file}
 use Rattle.mw_top.specs.Request.{RequestData, command_of, file_count, is_file_word, with_files, request_of}
-use Rattle.mw_top.specs.Stops.{IsRead}
 
 -- ---- one file more
 

@@ -12,10 +12,10 @@ use Rattle.mw_top.specs.declared.fault.Stop.TheVariants as stops
 use Rattle.mw_top.specs.declared.request.Command.{Command}
 use Rattle.mw_top.specs.declared.status.Status.{Status}
 use Rattle.mw_top.specs.declared.status.Status.TheVariants.{Done, Differs, Unknown, Usage, Refused, ReadFault, WriteFault, NoMemory}
-use Rattle.mw_top.specs.Answer.{compare_status, is_worked, IsAnswer, IsReport, AreRead}
+use Rattle.mw_top.specs.Answer.{compare_status, is_worked, IsAnswer, IsReport, IsRead, AreRead}
 use Rattle.mw_top.specs.Files.{too_long, short, in_file, next_fault, AreAccepted, next_file}
 use Rattle.mw_top.specs.Request.{request_of}
-use Rattle.mw_top.specs.Stops.{IsRead, FileStops, FileGives, StopsAt, IsStopped}
+use Rattle.mw_top.specs.Stops.{FileStops, FileGives, StopsAt, IsStopped}
 use Rattle.mw_top.proofs.Files.{read_more}
 
 -- what holds of an Ok by two facts

@@ -59,10 +59,14 @@ pub record IsRefusal (command : Command) (files contents : List (List ℕ)) (rep
   pub file_is : next_file files earlier ≡ Some file
   pub report_is : report ≡ refusal_line file fault
 
--- Contents that were read of the first so many files, in order: where the shelf tells a file's contents, they are these.
+-- contents that were read of a file: where the shelf tells any, they are these
+abbrev pub IsRead : Option (List ℕ) → List ℕ → Type 0
+IsRead told bytes = IfSome told (λ whole. bytes ≡ whole)
+
+-- contents that were read of the first so many files, in order
 abbrev pub AreRead : (List ℕ → Option (List ℕ)) → List (List ℕ) → List (List ℕ) → Type 0
 AreRead told files [] = Unit {0}
-AreRead told (file ∷ files) (bytes ∷ contents) = IfSome (told file) (λ whole. bytes ≡ whole) × AreRead told files contents
+AreRead told (file ∷ files) (bytes ∷ contents) = IsRead (told file) bytes × AreRead told files contents
 AreRead told [] (bytes ∷ contents) = ⊥
 
 -- the shelf tells these contents of the first so many files, in order
@@ -103,7 +107,7 @@ pub record IsReadFault (before now : List ℕ → ℕ) (words : List (List ℕ))
   pub rose : Rose (before file) (now file)
   pub line : report ≡ fault_line file
 
--- The report is that of a read fault, of the first file that was not read: its earlier files were read and are accepted, and then the
+-- The report is that of a read fault, of the first file that was not read: the files before it were read and are accepted, and the
 -- shelf's count of faults of this one rose.
 pub record IsFirstReadFault (told : List ℕ → Option (List ℕ)) (before now : List ℕ → ℕ) (words : List (List ℕ)) (report : List ℕ) : Type 0 where
   pub request : RequestData

@@ -1,5 +1,5 @@
 -- What the parts of a command give: the value of a file, or how the file stops the command.
-use Rattle.std.specs.Prelude.{◌≡◌, ℕ, List, Option, Result, Ok, Err, IfSome}
+use Rattle.std.specs.Prelude.{◌≡◌, ℕ, List, Option, Result, Ok, Err}
 use Rattle.mw_base.specs.declared.refusal.Refused.{Refused as Refusal}
 use Rattle.mw_base.specs.declared.refusal.Refused.TheVariants as refusals
 use Rattle.mw_outside.specs.Causes.{Rose}
@@ -8,11 +8,8 @@ use Rattle.mw_top.specs.declared.fault.Stop.{Stop}
 use Rattle.mw_top.specs.declared.fault.Stop.TheVariants as stops
 use Rattle.mw_top.specs.declared.status.Status.{Status}
 use Rattle.mw_top.specs.declared.status.Status.TheVariants.{Refused, ReadFault}
+use Rattle.mw_top.specs.Answer.{IsRead}
 use Rattle.mw_top.specs.Report.{fault_line, refusal_line}
-
--- contents that were read: those that are told, where any are
-abbrev pub IsRead : Option (List ℕ) → List ℕ → Type 0
-IsRead told bytes = IfSome told (λ whole. bytes ≡ whole)
 
 -- how a file stops a command: at the first fault of its contents, unless the shelf failed or memory ran out
 abbrev pub FileStops : {Y : Type 0} → Option (List ℕ) → ℕ → ℕ → Stop → (List ℕ → Result Y FileFault) → Type 0

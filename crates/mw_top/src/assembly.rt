@@ -1,5 +1,5 @@
 // The command that assembles a microprogram.
-ghost use Rattle.std.specs.Prelude.{◌≡◌, ◌≤◌, List, ℕ, [], ◌∷◌, Some, IfOk, length};
+ghost use Rattle.std.specs.Prelude.{◌≡◌, ◌≤◌, List, ℕ, [], ◌∷◌, Some, IfOk};
 ghost use Rattle.mw_top.specs.Answer.{IsReport};
 ghost use Rattle.mw_top.specs.Files.{board_in, store_in};
 ghost use Rattle.mw_top.specs.Request.{request_of};
@@ -17,7 +17,7 @@ use mw_outside::Shelf;
 use std::alloc::Global;
 
 /// The board of a file.
-pub(crate) fn board_file<S: Shelf>(alloc: Global, file: &str, shelf: &mut S) -> Result<Board, Stop>
+fn board_file<S: Shelf>(alloc: Global, file: &str, shelf: &mut S) -> Result<Board, Stop>
     ensures gives { FileGives (S.told shelf.old file.now) (S.faults shelf.old file.now) (S.faults shelf.new file.now) (λ board. board) result board_in }
     ensures kept { (other : List ℕ) → S.told shelf.new other ≡ S.told shelf.old other }
     ensures later { (other : List ℕ) → S.faults shelf.old other ≤ S.faults shelf.new other }
@@ -30,7 +30,7 @@ pub(crate) fn board_file<S: Shelf>(alloc: Global, file: &str, shelf: &mut S) -> 
 }
 
 /// What the microprogram of a file is assembled to for a board.
-pub(crate) fn microprogram_file<S: Shelf>(
+fn microprogram_file<S: Shelf>(
     alloc: Global,
     board: &Board,
     file: &str,

@@ -1,5 +1,5 @@
 // The command that compares one start.
-ghost use Rattle.std.specs.Prelude.{◌≡◌, ◌≤◌, List, ℕ, [], ◌∷◌, Some, IfOk, length};
+ghost use Rattle.std.specs.Prelude.{◌≡◌, ◌≤◌, List, ℕ, [], ◌∷◌, Some, IfOk};
 ghost use Rattle.mw_top.specs.Answer.{IsReport};
 ghost use Rattle.mw_top.specs.Files.{bundle_in};
 ghost use Rattle.mw_top.specs.Request.{request_of};

@@ -1,12 +1,12 @@
 // Why a file is refused, and how a file stops a command.
-ghost use Rattle.std.specs.Prelude.{◌≡◌, Option, List, ℕ};
+ghost use Rattle.std.specs.Prelude.{◌≡◌};
 ghost use Rattle.mw_top.specs.Stops.{StopsAt};
 
 use mw_base::{Cause, Refused, TextFault};
 use mw_boardfile::KeyFault;
 
 /// The first fault of a file.
-#[derive(Debug, Drop)]
+#[derive(Drop)]
 pub(crate) enum FileFault {
     /// A text's, at a line and a column; line 0 and column 0 where a file of any kind is too long.
     Text(TextFault),
@@ -47,7 +47,7 @@ impl From<Cause> for FileFault {
 }
 
 /// Why a file gives a command nothing to work on.
-#[derive(Debug, Drop)]
+#[derive(Drop)]
 pub(crate) enum Stop {
     /// The file can't be read.
     ReadFault,

@@ -45,7 +45,7 @@ fn files_in_order(rt: HostRuntime) -> Result<(), Fail> {
         (good, Some(&long), 4, b"refused m line 0 column 0 cause 5\n"),
         (
             good,
-            Some(b"a=1\n ?\n"),
+            Some(b"a=1\n @\n"),
             4,
             b"refused m line 2 column 2 cause 1\n",
         ),

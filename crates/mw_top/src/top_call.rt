@@ -120,7 +120,7 @@ pub fn bench<S: Shelf, K: Sink>(
         × IsReadFault (S.faults shelf.old) (S.faults shelf.new) (map string_bytes words.now) report
         × Took (K.taken out.old) (K.taken out.new) report }
 
-    // A file is read only after the earlier ones: those were read, and are accepted, where the shelf failed at a later one.
+    // A file is read only after those before it: where the shelf failed at one, they were read, and are accepted.
     ensures read_in_order { result ≡ Status.ReadFault → (report : List ℕ)
         × IsFirstReadFault (S.told shelf.old) (S.faults shelf.old) (S.faults shelf.new) (map string_bytes words.now) report
         × Took (K.taken out.old) (K.taken out.new) report }
