@@ -2,6 +2,7 @@
 #![tactic(auto)]
 
 mod bundle;
+mod bundle_board;
 mod compare;
 mod comparison;
 mod difference;
