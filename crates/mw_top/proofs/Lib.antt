@@ -2,6 +2,7 @@ pub mod Lists
 pub mod Known
 pub mod Ranges
 pub mod Unlike
+pub mod SmallBoard
 pub mod Starts
 pub mod Shown
 pub mod Names

@@ -30,7 +30,7 @@ only_boundary true boundary h = refl
 only_boundary false boundary h = cc
 
 -- what a start shows whose segment keeps its bound
-pub shown_after : (bundle : BundleData) (pair : Pair) (run : BoardRun) → Some run ≡ first_segment (board_of bundle) bundle.words no_environment pair.board (0 ∷ []) bundle.bound → is_named (0 ∷ []) run.state.at ≡ true → difference_of (job_of bundle) (start_with bundle pair) ≡ difference_at (boundary_of bundle) run (bundle_step bundle.assignments pair.machine false [] 0)
+pub shown_after : (bundle : BundleData) (pair : Pair) (run : BoardRun) → Some run ≡ first_segment (board_of bundle) bundle.words no_environment pair.board (0 ∷ []) bundle.bound → is_named (0 ∷ []) run.state.at ≡ true → difference_of (job_of bundle) (start_with bundle pair) ≡ difference_at (board_of bundle) (boundary_of bundle) run (bundle_step bundle.assignments pair.machine false [] 0)
 unfolding difference_of step_of
 shown_after bundle pair run reached named =
     let here : boundary_at (boundary_of bundle ∷ []) run.state.at ≡ Some (boundary_of bundle) = only_boundary (0 == run.state.at) (boundary_of bundle) (only_test (0 == run.state.at) named) in

@@ -1,12 +1,16 @@
 -- The registers of a start, link by link.
-use Rattle.std.proofs.Common.{◌≡◌, ◌≢◌, ℕ, ◌+◌, ◌<◌, zero, suc, List, [], ◌∷◌, length, get_or, set, All, AllPairs, refl, sym, ◌∙◌, arith, below_more, get_or-set_same, get_or-set_other, replicate, lit<, lit≤, map, cond, ◌==◌, ◌-◌, Bool, true, false, lt-ltb}
+use Rattle.std.proofs.Common.{◌≡◌, ◌≢◌, ℕ, ◌+◌, ◌^◌, ◌<◌, zero, suc, List, [], ◌∷◌, length, get_or, set, All, AllPairs, refl, sym, ◌∙◌, arith, below_more, get_or-set_same, get_or-set_other, replicate, lit<, lit≤, map, cond, ◌==◌, ◌-◌, Bool, true, false, nat_lt, lt-ltb}
 use Rattle.std.proofs.lemmas.Bool.Decides.{nat_tests}
 use Rattle.std.proofs.lemmas.List.{length-replicate, get_or-replicate}
 use Rattle.std.proofs.lemmas.List.Elements.{All-nil, All-cons, All-head, All-tail, All-map}
-use Rattle.mw_top.specs.Relation.{Line, element}
+use Rattle.std.proofs.Math.Nat.{zero-div}
+use Rattle.mw_base.specs.Words.{bit_of, num}
+use Rattle.mw_board.specs.declared.parts.BoardParts.{BoardParts}
+use Rattle.mw_board.specs.Depth.{depth_of}
 use Rattle.mw_cycle.specs.State.{BoardState}
+use Rattle.mw_top.specs.Relation.{Line, element}
 use Rattle.mw_top.specs.Bundle.{BundleData, IsBundle}
-use Rattle.mw_top.specs.BundleJob.{IsBundleStart, start_with, pc_line, link_line}
+use Rattle.mw_top.specs.BundleJob.{IsBundleStart, board_of, start_with, pc_line, link_line}
 use Rattle.mw_top.specs.declared.parts.Link.{Link}
 
 -- an item of a list, whatever would stand past its end
@@ -46,6 +50,7 @@ board_with regs = record {
   q = 0;
   mar = 0;
   ir = 0;
+  flips = 0;
   seq = record { pc = 1; r = 0; stack = replicate 5 0; sp = 0 };
   memory = replicate 16 0;
 }
@@ -61,15 +66,21 @@ zero_chosen : (b : Bool) (x y : ℕ) → x ≡ 0 → y ≡ 0 → cond b x y ≡ 
 zero_chosen true x y p q = p
 zero_chosen false x y p q = q
 
--- a register is an element
-pub register_element : (b : BoardState) (e : ℕ) → e < 16 → element b e ≡ get_or b.regs e 0
-register_element b e h = rw (lt-ltb e 16 h) refl
+-- a register is an element of every board
+pub register_element : (board : BoardParts) (b : BoardState) (e : ℕ) → e < 16 → element board b e ≡ get_or b.regs e 0
+register_element board b e h = rw (lt-ltb e 16 h) refl
+
+-- no flip-flop is on
+no_flip : (n : ℕ) → num (bit_of 0 n) ≡ 0
+no_flip n = rw (zero-div (2 ^ n)) refl
 
 -- an element that is neither linked nor the microprogram counter
-free_element : (regs : List ℕ) (e : ℕ) → 19 ≢ e → get_or regs e 0 ≡ 0 → element (board_with regs) e ≡ 0
-free_element regs e counter free =
+free_element : (bundle : BundleData) (regs : List ℕ) (e : ℕ) → 19 ≢ e → get_or regs e 0 ≡ 0 → element (board_of bundle) (board_with regs) e ≡ 0
+unfolding board_of
+free_element bundle regs e counter free =
     let other : (e == 19) ≡ false = grind (arith, nat_tests) in
-    rw other (zero_chosen _ _ _ free (zero_chosen (e == 16) _ _ refl (zero_chosen (e == 17) _ _ refl (zero_chosen (e == 18) _ _ refl (zero_chosen (e == 20) _ _ refl (zero_at 5 (e - 21)))))))
+    rw other (zero_chosen _ _ _ free (zero_chosen (e == 16) _ _ refl (zero_chosen (e == 17) _ _ refl (zero_chosen (e == 18) _ _ refl
+    (zero_chosen (nat_lt e 19) _ _ (no_flip (e - 19)) (zero_chosen (e == 20) _ _ refl (zero_at 5 (e - 21))))))))
 
 -- what holds of each image holds so of each item
 pub unmapped : {X Y : Type 0} (P : X → Type 0) (f : Y → X) (ys : List Y) → All P (map f ys) → All (λ y. P (f y)) ys
@@ -78,10 +89,11 @@ unmapped P f (y ∷ ys) h = All-cons (λ z. P (f z)) y ys (All-head P (f y) (map
 
 -- a line holds of a board with these registers
 abbrev Holds : BundleData → List ℕ → Line → Type 0
-Holds bundle regs line = element (board_with regs) line.left ≡ line.right (record { registers = bundle.start; memory = replicate 16 0 })
+Holds bundle regs line = element (board_of bundle) (board_with regs) line.left ≡ line.right (record { registers = bundle.start; memory = replicate 16 0 })
 
 -- a completed start is the bundle's
 pub is_start : (bundle : BundleData) (regs : List ℕ) → IsBundle bundle → length regs ≡ 16 → ((i : ℕ) → get_or regs i 0 < 16) → All (λ link. get_or regs link.board 0 ≡ get_or bundle.start link.machine 0) bundle.relation → ((e : ℕ) → All (λ link. link.board ≢ e) bundle.relation → get_or regs e 0 ≡ 0) → IsBundleStart bundle (start_with bundle (record { board = board_with regs; machine = record { registers = bundle.start; memory = replicate 16 0 } }))
+unfolding board_of depth_of
 is_start bundle regs is sixteen below linked free = record {
   boundary = refl;
   related = record {
@@ -92,6 +104,7 @@ is_start bundle regs is sixteen below linked free = record {
       q = lit< tt;
       mar = lit< tt;
       ir = lit< tt;
+      flips = lit< tt;
       seq = record {
         pc = lit< tt;
         r = lit< tt;
@@ -114,11 +127,11 @@ is_start bundle regs is sixteen below linked free = record {
     sp = refl;
     memory = refl;
     lines = All-cons (Holds bundle regs) pc_line (map link_line bundle.relation) refl
-        (All-map (Holds bundle regs) link_line bundle.relation (λ k d h. register_element (board_with regs) (get_or bundle.relation k d).board (is.links_fit k d h).board_below ∙ linked k d h));
+        (All-map (Holds bundle regs) link_line bundle.relation (λ k d h. register_element (board_of bundle) (board_with regs) (get_or bundle.relation k d).board (is.links_fit k d h).board_below ∙ linked k d h));
   };
   registers = refl;
   free = λ e few none.
-      free_element regs e (All-head (λ (line : Line). line.left ≢ e) pc_line (map link_line bundle.relation) none)
+      free_element bundle regs e (All-head (λ (line : Line). line.left ≢ e) pc_line (map link_line bundle.relation) none)
       (free e (unmapped (λ (line : Line). line.left ≢ e) link_line bundle.relation (All-tail (λ (line : Line). line.left ≢ e) pc_line (map link_line bundle.relation) none)));
   memory = λ a. zero_at 16 a;
   env = refl;

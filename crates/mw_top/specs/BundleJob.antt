@@ -1,6 +1,11 @@
 -- What a bundle asks to compare.
-use Rattle.std.specs.Prelude.{◌≡◌, ◌≢◌, ℕ, ◌<◌, List, [], ◌∷◌, map, replicate, All, slice_index}
-use Rattle.mw_cycle.specs.Board.{BoardParts}
+use Rattle.std.specs.Prelude.{◌≡◌, ◌≢◌, ℕ, ◌<◌, List, [], ◌∷◌, codes, map, replicate, All, slice_index, None}
+use Rattle.mw_board.specs.declared.bit.Bit.TheVariants as bits
+use Rattle.mw_board.specs.declared.bit.DFrom.TheVariants as sources
+use Rattle.mw_board.specs.declared.control.Control.TheVariants.{Field, Fixed}
+use Rattle.mw_board.specs.declared.control.Points.{Points}
+use Rattle.mw_board.specs.declared.field.NamedField.{NamedField}
+use Rattle.mw_board.specs.declared.parts.BoardParts.{BoardParts}
 use Rattle.mw_cycle.specs.Boundary.{Boundary}
 use Rattle.mw_cycle.specs.Environment.{Environment}
 use Rattle.mw_top.specs.declared.parts.Link.{Link}
@@ -9,11 +14,72 @@ use Rattle.mw_top.specs.Machine.{bundle_step}
 use Rattle.mw_top.specs.Relation.{Line, Job, Pair, InRelation, element, element_count}
 use Rattle.mw_top.specs.Differs.{Start}
 
--- the small board that bundles stand for: words of 4 bits and 16 memory words; past the store stands its first word
-abbrev pub board_of : BundleData → BoardParts
-board_of bundle = record { width = 4; address = 4; fill = slice_index bundle.words 0 }
+-- a field of the microword: its name, its lowest bit, and how many bits it has
+abbrev pub field : List ℕ → ℕ → ℕ → NamedField
+field name low width = record { name = name; field = record { low = low; width = width } }
 
--- PC, element 19, is 1
+-- the fields of the small board, in byte order of their names
+unfoldable pub small_fields : List NamedField
+small_fields =
+    field (codes "a") 9 4
+    ∷ field (codes "b") 13 4
+    ∷ field (codes "br") 22 12
+    ∷ field (codes "cin") 17 1
+    ∷ field (codes "dst") 6 3
+    ∷ field (codes "fun") 3 3
+    ∷ field (codes "off") 34 1
+    ∷ field (codes "seq") 18 4
+    ∷ field (codes "src") 0 3
+    ∷ []
+
+-- Its control points: these fields, by their numbers in that order. Where there is none the point is 0, and the carry into PC 1.
+unfoldable pub small_points : Points
+small_points = record {
+  alu_source = Field 8;
+  alu_function = Field 5;
+  alu_destination = Field 4;
+  a_address = Field 0;
+  b_address = Field 1;
+  sequencer = Field 7;
+  branch = Field 2;
+  test_disable = Field 6;
+  polarity = Fixed 0;
+  ci = Fixed 1;
+  rld = Fixed 0;
+  mar_load = Fixed 0;
+  ir_load = Fixed 0;
+  memory_write = Fixed 0;
+  out = Fixed 0;
+  carry_in = Field 3;
+  d = Fixed 0;
+  condition = Fixed 0;
+  link = Fixed 0;
+}
+
+-- The small board that bundles stand for: words of 4 bits, 16 memory words and no flip-flops. The carry in is 0 or 1; D, the
+-- condition, the links, the map and the vector are 0. Past the store stands the bundle's first word.
+unfoldable pub board_of : BundleData → BoardParts
+board_of bundle = record {
+  width = 4;
+  microword = 36;
+  address = 4;
+  fill = slice_index bundle.words 0;
+  unset = 0;
+  vector = 0;
+  fields = small_fields;
+  flipflop = [];
+  control = small_points;
+  carry_in = bits.Zero ∷ bits.One ∷ [];
+  condition = bits.Zero ∷ [];
+  ram_link = bits.Zero ∷ [];
+  q_link = bits.Zero ∷ [];
+  d = record { from = sources.Zero; mask = None } ∷ [];
+  map_low = 0;
+  map_bits = 0;
+  map_entries = [];
+}
+
+-- PC, element 19 of a board without flip-flops, is 1
 abbrev pub pc_line : Line
 pc_line = record { left = 19; right = λ _. 1 }
 
@@ -49,7 +115,7 @@ pub record IsBundleStart (bundle : BundleData) (start : Start) : Type 0 where
   pub boundary : start.boundary ≡ boundary_of bundle
   pub related : InRelation (job_of bundle) (boundary_of bundle) start.pair
   pub registers : start.pair.machine.registers ≡ bundle.start
-  pub free : (e : ℕ) → e < element_count (board_of bundle) → All (λ line. line.left ≢ e) (lines_of bundle) → element start.pair.board e ≡ 0
+  pub free : (e : ℕ) → e < element_count (board_of bundle) → All (λ line. line.left ≢ e) (lines_of bundle) → element (board_of bundle) start.pair.board e ≡ 0
   pub memory : (a : ℕ) → slice_index start.pair.machine.memory a ≡ 0
   pub env : start.env ≡ no_environment
 

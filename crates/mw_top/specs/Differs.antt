@@ -2,6 +2,7 @@
 use Rattle.std.specs.Prelude.{ℕ, ◌+◌, List, [], ◌∷◌, Bool, false, not, map, find, if◌then◌else◌, ◌==◌, Option, Some, None, option_map, slice_index_or}
 use Rattle.mw_base.specs.declared.event.Event.{Event}
 use Rattle.mw_base.specs.declared.event.Event.TheVariants.{Out, Taken}
+use Rattle.mw_board.specs.declared.parts.BoardParts.{BoardParts}
 use Rattle.mw_cycle.specs.Environment.{Environment}
 use Rattle.mw_cycle.specs.State.{BoardState}
 use Rattle.mw_cycle.specs.Run.{BoardRun}
@@ -47,8 +48,8 @@ abbrev pub pointer_difference : ℕ → BoardState → Option Difference
 pointer_difference sp b = if b.seq.sp == sp then None else Some differences.StackPointer
 
 -- the first line that fails, by its left side
-abbrev pub line_difference : List Line → BoardState → MachineState → Option Difference
-line_difference lines b m = option_map (λ line. differences.Element line.left) (find (λ line. not (line_holds b m line)) lines)
+abbrev pub line_difference : BoardParts → List Line → BoardState → MachineState → Option Difference
+line_difference board lines b m = option_map (λ line. differences.Element line.left) (find (λ line. not (line_holds board b m line)) lines)
 
 -- the least address with two contents
 abbrev pub memory_difference : List ℕ → List ℕ → Option Difference
@@ -61,11 +62,11 @@ first_of (None ∷ others) = first_of others
 first_of (Some difference ∷ others) = Some difference
 
 -- the first difference at the boundary reached: an event, the stack pointer, a line, a memory word
-unfoldable pub difference_at : Boundary Line → BoardRun → Stepped → Option Difference
-difference_at boundary run stepped = first_of
+unfoldable pub difference_at : BoardParts → Boundary Line → BoardRun → Stepped → Option Difference
+difference_at board boundary run stepped = first_of
     (event_difference run.events stepped.events
     ∷ pointer_difference boundary.sp run.state
-    ∷ line_difference boundary.lines run.state stepped.state
+    ∷ line_difference board boundary.lines run.state stepped.state
     ∷ memory_difference run.state.memory stepped.state.memory
     ∷ [])
 
@@ -76,7 +77,7 @@ step_of job start = job.step start.pair.machine (slice_index_or start.env.line 0
 -- what a run shows that stands at a boundary; a segment ends at one, so there is one
 abbrev pub shown_at : Job → Start → BoardRun → Option (Boundary Line) → Option Difference
 shown_at job start run None = Some differences.Late
-shown_at job start run (Some boundary) = difference_at boundary run (step_of job start)
+shown_at job start run (Some boundary) = difference_at job.board boundary run (step_of job start)
 
 -- what a first segment shows: one that isn't there is late
 abbrev pub shown_by : Job → Start → Option BoardRun → Option Difference

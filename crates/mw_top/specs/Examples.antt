@@ -45,6 +45,7 @@ first_pair = record {
     q = 0;
     mar = 0;
     ir = 0;
+    flips = 0;
     seq = record { pc = 1; r = 0; stack = replicate 5 0; sp = 0 };
     memory = replicate 16 0;
   };

@@ -1,6 +1,7 @@
 // A comparison of one start.
 ghost use Rattle.std.specs.Prelude.{◌≡◌, ◌<◌, ◌≤◌, ◌^◌, ℕ, List, Bool, [], ◌∷◌, All, IfOk, IfSome, true, length, map, slice_index};
 ghost use Rattle.mw_top.specs.Machine.{bundle_step};
+ghost use Rattle.mw_board.specs.declared.parts.BoardParts.{BoardParts};
 ghost use Rattle.mw_cycle.specs.Boundary.{first_segment, is_named};
 ghost use Rattle.mw_cycle.specs.State.{Fits};
 ghost use Rattle.mw_top.specs.Bundle.{IsBundle, IsLink};
@@ -8,40 +9,36 @@ ghost use Rattle.mw_top.specs.BundleJob.{board_of, boundary_of, job_of, link_lin
 ghost use Rattle.mw_top.specs.Differs.{Start, line_difference, difference_at, difference_of};
 
 use crate::bundle::Bundle;
+use crate::bundle_board::small_board;
 use crate::difference::{Difference, event_difference, memory_difference, pointer_difference};
 use crate::machine::{MacState, step};
 use crate::parts::Link;
 use crate::start::completed;
-use mw_base::{NoMemory, Width};
-use mw_cycle::{Board, Env, Run, State, Store, Whole, run_to_boundary};
+use mw_base::{Items, NoMemory};
+use mw_board::Store;
+use mw_cycle::{Env, Run, State, Whole, run_to_boundary};
 use std::alloc::Global;
 
-/// The number of PC among the board's elements.
+/// The number of PC among the elements of a board without flip-flops.
 const PC_ELEMENT: u32 = 19;
-
-/// The small board that bundles stand for.
-fn small_board(bundle: &Bundle) -> Board
-    ensures { result ≡ board_of bundle.now }
-{
-    let width = Width::new(4).unwrap();
-    Board::new(width, 4, u128::from(bundle.words()[0]))
-}
 
 /// A bundle's microprogram.
 fn microprogram(alloc: Global, words: &[u64]) -> Result<Store, NoMemory>
-    ensures { IfOk result (λ store. store ≡ words.now) }
+    ensures { IfOk result (λ store. store.words ≡ words.now) }
 {
     let mut microwords = Vec::new(alloc);
     for word in words {
         microwords.push(u128::from(*word))?;
     }
-    Ok(Store::new(microwords))
+    Ok(Store {
+        words: Items::from_vec(microwords),
+    })
 }
 
 /// The first link that fails.
 fn link_difference(links: &[Link], board: &State, machine: &MacState) -> Option<Difference>
     requires fit { All (IsLink (length machine.now.registers)) links.now }
-    ensures { result ≡ line_difference (map link_line links.now) board.now machine.now }
+    ensures { (parts : BoardParts) → result ≡ line_difference parts (map link_line links.now) board.now machine.now }
 {
     for link in links {
         if board.regs[usize::from(link.board)] != machine.registers[usize::from(link.machine)] {
@@ -52,9 +49,10 @@ fn link_difference(links: &[Link], board: &State, machine: &MacState) -> Option<
 }
 
 /// The first line of a bundle's relation that fails.
+#[tactic(auto, unfolding(crate::specs::BundleJob::board_of))]
 fn line_difference(bundle: &Bundle, board: &State, machine: &MacState) -> Option<Difference>
     requires each { length machine.now.registers ≡ bundle.now.registers }
-    ensures { result ≡ line_difference (lines_of bundle.now) board.now machine.now }
+    ensures { result ≡ line_difference (board_of bundle.now) (lines_of bundle.now) board.now machine.now }
 {
     if board.seq.pc != 1 {
         return Some(Difference::Element(PC_ELEMENT));
@@ -68,7 +66,7 @@ fn difference_at(bundle: &Bundle, run: &Run, machine: &MacState) -> Option<Diffe
     requires each { length machine.now.registers ≡ bundle.now.registers }
     requires events { length run.now.events < 2 ^ 32 }
     requires memory { length run.now.state.memory < 2 ^ 32 }
-    ensures { result ≡ difference_at (boundary_of bundle.now) run.now (record { state = machine.now; events = []; taken = 0 }) }
+    ensures { result ≡ difference_at (board_of bundle.now) (boundary_of bundle.now) run.now (record { state = machine.now; events = []; taken = 0 }) }
 {
     event_difference(&run.events, &[])
         .or(pointer_difference(0, &run.state))
@@ -83,7 +81,7 @@ fn difference_after(bundle: &Bundle, run: &Run, mut machine: MacState) -> Option
     requires words { (i : ℕ) → slice_index machine.registers i < 16 }
     requires events { length run.now.events < 2 ^ 32 }
     requires memory { length run.now.state.memory < 2 ^ 32 }
-    ensures { (request : Bool) (inputs : List ℕ) (from : ℕ) → result ≡ difference_at (boundary_of bundle.now) run.now (bundle_step bundle.now.assignments machine request inputs from) }
+    ensures { (request : Bool) (inputs : List ℕ) (from : ℕ) → result ≡ difference_at (board_of bundle.now) (boundary_of bundle.now) run.now (bundle_step bundle.now.assignments machine request inputs from) }
 {
     step(bundle.assignments(), &mut machine);
     difference_at(bundle, run, &machine)
@@ -98,7 +96,7 @@ fn first_run(alloc: Global, bundle: &Bundle, board: State) -> Result<Option<Run>
     ensures events { IfOk result (λ run. IfSome run (λ r. length r.events ≤ 500)) }
     ensures fits { IfOk result (λ run. IfSome run (λ r. Fits (board_of bundle.now) r.state)) }
 {
-    let small = small_board(bundle);
+    let small = small_board(alloc, bundle)?;
     let store = microprogram(alloc, bundle.words())?;
     let env = Env {
         line: Vec::new(alloc),
@@ -118,7 +116,7 @@ fn first_run(alloc: Global, bundle: &Bundle, board: State) -> Result<Option<Run>
 }
 
 /// The first difference that a completed start shows.
-#[tactic(auto, using(crate::proofs::Shown::shown_late))]
+#[tactic(auto, using(crate::proofs::Shown::shown_late), unfolding(crate::specs::BundleJob::board_of))]
 fn shown(
     alloc: Global,
     bundle: &Bundle,

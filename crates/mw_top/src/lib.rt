@@ -3,6 +3,7 @@
 
 mod assembly;
 mod bundle;
+mod bundle_board;
 mod compare;
 mod comparison;
 mod difference;

@@ -65,6 +65,7 @@ pub fn completed(alloc: Global, bundle: &Bundle) -> Result<(State, MacState), No
         q: 0,
         mar: 0,
         ir: 0,
+        flips: 0,
         seq: Seq {
             pc: 1,
             r: 0,

@@ -1,9 +1,10 @@
 use Rattle.std.proofs.Common.{refl}
 use Rattle.mw_cycle.proofs.OnLiterals.{cycle_on_literals}
 use Rattle.mw_top.specs.Machine.{bundle_step}
+use Rattle.mw_top.specs.BundleJob.{small_fields, small_points, board_of}
 use Rattle.mw_top.specs.Differs.{difference_at, step_of, difference_of}
 use Rattle.mw_top.proofs.computed_examples.same_shows_nothing.Goals as goal
 
 pub returns : goal.returns
-unfolding cycle_on_literals bundle_step difference_at step_of difference_of
+unfolding cycle_on_literals small_fields small_points board_of bundle_step difference_at step_of difference_of
 returns c = refl
