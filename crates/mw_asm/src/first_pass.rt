@@ -1,5 +1,5 @@
 // The first pass, over the lines of a text.
-ghost use Rattle.std.specs.Prelude.{◌≡◌, ◌+◌, ◌<◌, ◌≤◌, ◌^◌, ◌∷◌, List, IfOk, OnOk, length, drop, All};
+ghost use Rattle.std.specs.Prelude.{◌≡◌, ◌+◌, ◌<◌, ◌^◌, OnOk, length};
 ghost use Rattle.mw_base.specs.Lines.{lines_of};
 ghost use Rattle.mw_base.specs.Reading.{Gives};
 ghost use Rattle.mw_asm.specs.FirstPass.{at_first, with_used, with_meaning, with_def, with_next, with_label, with_optional_label, with_word, with_optional_word, with_statement, with_line, first_pass};

@@ -1,5 +1,5 @@
 // The bits that items set.
-ghost use Rattle.std.specs.Prelude.{◌≡◌, ◌+◌, ◌≤◌, IfSome};
+ghost use Rattle.std.specs.Prelude.{◌≡◌, IfSome};
 ghost use Rattle.mw_asm.specs.Bits.{no_bits};
 ghost use Rattle.mw_asm.specs.ItemBits.{FitsWord, field_named, value_of, field_set, valued_bits, alone_bits, item_bits, beside, with_item, bits_of};
 ghost use Rattle.mw_asm.specs.Views.{names_seen};

@@ -1,5 +1,5 @@
 // What names stand for.
-ghost use Rattle.std.specs.Prelude.{◌≡◌, OnOk, IfErr};
+ghost use Rattle.std.specs.Prelude.{◌≡◌, OnOk};
 ghost use Rattle.mw_asm.specs.Names.{no_names, with_name, new_name, number_named, bits_named};
 ghost use Rattle.mw_asm.specs.Views.{names_seen};
 

@@ -1,5 +1,5 @@
 // The second pass, over the words to be made.
-ghost use Rattle.std.specs.Prelude.{◌≡◌, ◌<◌, List, OnOk, IfOk, length, All, map};
+ghost use Rattle.std.specs.Prelude.{◌≡◌, ◌<◌, IfOk, length, All};
 ghost use Rattle.mw_base.specs.Reading.{Gives};
 ghost use Rattle.mw_asm.specs.Microprogram.{filled, second_pass};
 ghost use Rattle.mw_asm.specs.Views.{names_seen};

@@ -1,8 +1,8 @@
 // What a line says.
 ghost use Rattle.std.specs.Prelude.{◌≡◌, drop};
 ghost use Rattle.mw_base.specs.Reading.{Gives};
-ghost use Rattle.mw_asm.specs.Parts.{token_of, end_of};
-ghost use Rattle.mw_asm.specs.Statements.{name_at, equals_at, number_at, end_at, equ_of, def_of, org_of, labelled_of, unlabelled_of, keyword_of, keyword_in, is_labelled, statement_after, statement_of};
+ghost use Rattle.mw_asm.specs.Parts.{token_of};
+ghost use Rattle.mw_asm.specs.Statements.{name_at, equals_at, number_at, end_at, equ_of, def_of, org_of, labelled_of, unlabelled_of, keyword_of, keyword_in, is_labelled, statement_of};
 ghost use Rattle.mw_asm.specs.Views.{line_seen};
 
 use crate::items::{Item, items_of, optional_items};
