@@ -1,9 +1,9 @@
 // A comparison of one start.
 ghost use Rattle.std.specs.Prelude.{◌≡◌, ◌<◌, ◌≤◌, ◌^◌, ℕ, List, Bool, [], ◌∷◌, All, IfOk, IfSome, true, length, map, slice_index};
-ghost use Rattle.mw_top.specs.Machine.{bundle_step};
 ghost use Rattle.mw_board.specs.declared.parts.BoardParts.{BoardParts};
 ghost use Rattle.mw_cycle.specs.Boundary.{first_segment, is_named};
 ghost use Rattle.mw_cycle.specs.State.{Fits};
+ghost use Rattle.mw_top.specs.Machine.{bundle_step};
 ghost use Rattle.mw_top.specs.Bundle.{IsBundle, IsLink};
 ghost use Rattle.mw_top.specs.BundleJob.{board_of, boundary_of, job_of, link_line, lines_of, no_environment, start_with, IsBundleStart};
 ghost use Rattle.mw_top.specs.Differs.{Start, line_difference, difference_at, difference_of};

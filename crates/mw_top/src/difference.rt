@@ -14,7 +14,7 @@ pub enum Difference {
     Event(u32),
     /// The stack pointer isn't that of the boundary reached.
     StackPointer,
-    /// The first line that fails, by the number of its board element: 0 to 15 are the registers, 19 is PC.
+    /// The first line that fails, by the number of its board element: 0 to 15 are the registers; 19 is PC on a board without flip-flops.
     Element(u32),
     /// The memory words at this address differ.
     Memory(u32),
