@@ -27,10 +27,14 @@ given_at env place = record {
   input = slice_index env.inputs place.taken;
 }
 
--- what is left of the environment at a place, again an environment
+-- what is left of the environment at a place
 abbrev pub rest_at : Environment → Clock → Environment
 rest_at env place = record {
   line = drop place.cycle env.line;
   noise = drop place.cycle env.noise;
   inputs = drop place.taken env.inputs;
 }
+
+-- what is left of an environment is again one
+abbrev pub RestsAreEnvironments : Type 0
+RestsAreEnvironments = (board : BoardParts) (env : Environment) (place : Clock) → IsEnvironment board env → IsEnvironment board (rest_at env place)

@@ -6,6 +6,7 @@ mod control;
 mod datapath;
 mod environment;
 mod flipflops;
+mod laws;
 mod microword;
 mod one_cycle;
 mod run;
@@ -15,7 +16,8 @@ mod tests;
 
 pub use datapath::{Datapath, Whole};
 pub use environment::{Clock, Env};
+pub use laws::{boundaries_go_on, rests_are_environments, runs_go_on, segments_end_at_boundaries};
 pub use microword::Microword;
 pub use one_cycle::cycle;
-pub use run::{Run, boundaries_go_on, run_to_boundary, runs_go_on, segments_end_at_boundaries};
+pub use run::{Run, run_to_boundary};
 pub use state::{CycleIn, Nets, State};

@@ -2,8 +2,8 @@
 ghost use Rattle.std.specs.Prelude.{◌≡◌, ◌+◌, ◌<◌, ◌≤◌, ◌^◌, OnOk, IfOk, IfSome, length, [], Some, None, true, false};
 ghost use Rattle.mw_cycle.specs.Environment.{IsEnvironment, at_start};
 ghost use Rattle.mw_cycle.specs.State.{Fits};
-ghost use Rattle.mw_cycle.specs.Run.{BoardRun, clock_after, longer_run, run_of, RunsGoOn};
-ghost use Rattle.mw_cycle.specs.Boundary.{BoundariesGoOn, SegmentsEndAtBoundaries, first_segment, is_named};
+ghost use Rattle.mw_cycle.specs.Run.{BoardRun, clock_after, longer_run, run_of};
+ghost use Rattle.mw_cycle.specs.Boundary.{first_segment, is_named};
 
 use crate::datapath::Datapath;
 use crate::environment::{Clock, Env};
@@ -155,20 +155,3 @@ pub fn run_to_boundary<A: Datapath>(
         Ok(None)
     }
 }
-
-/// The law of segments: the first boundary within a limit is the run's next boundary, and where there is none within it
-/// no cycle start up to it is at a boundary.
-pub fn segments_end_at_boundaries()
-    ensures { SegmentsEndAtBoundaries }
-{}
-
-/// The law of suffixes: a run of n + m cycles is a run of n, and then of m from the state that it reached, over what is left of the
-/// environment at the place that it reached.
-pub fn runs_go_on()
-    ensures { RunsGoOn }
-{}
-
-/// The law of boundaries: from a boundary of a run, the boundaries of what is left of the run are those of the whole.
-pub fn boundaries_go_on()
-    ensures { BoundariesGoOn }
-{}

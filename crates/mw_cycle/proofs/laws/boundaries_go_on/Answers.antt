@@ -1,5 +1,5 @@
 use Rattle.mw_cycle.proofs.Suffix.{boundary_further}
-use Rattle.mw_cycle.proofs.run.boundaries_go_on.Goals as goal
+use Rattle.mw_cycle.proofs.laws.boundaries_go_on.Goals as goal
 
 pub returns : goal.returns
 returns c = boundary_further

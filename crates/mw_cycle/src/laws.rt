@@ -1,0 +1,26 @@
+// Laws of runs, of their boundaries and of their environments.
+ghost use Rattle.mw_cycle.specs.Environment.{RestsAreEnvironments};
+ghost use Rattle.mw_cycle.specs.Run.{RunsGoOn};
+ghost use Rattle.mw_cycle.specs.Boundary.{BoundariesGoOn, SegmentsEndAtBoundaries};
+
+/// The law of segments: the first boundary within a limit is the run's next boundary, and where there is none within it
+/// no cycle start up to it is at a boundary.
+pub fn segments_end_at_boundaries()
+    ensures { SegmentsEndAtBoundaries }
+{}
+
+/// The law of suffixes: a run of n + m cycles is a run of n, and then of m from the state that it reached, over what is left of the
+/// environment at the place that it reached.
+pub fn runs_go_on()
+    ensures { RunsGoOn }
+{}
+
+/// The law of boundaries: from a boundary of a run, the boundaries of what is left of the run are those of the whole.
+pub fn boundaries_go_on()
+    ensures { BoundariesGoOn }
+{}
+
+/// The law of what is left: at each place, what is left of an environment is again one.
+pub fn rests_are_environments()
+    ensures { RestsAreEnvironments }
+{}
