@@ -3,13 +3,13 @@ use Rattle.std.proofs.Common.{◌≡◌, ℕ, ◌%◌, ◌^◌, ◌<◌, List, l
 use Rattle.std.proofs.lemmas.Grind.{common_steps}
 use Rattle.std.proofs.lemmas.Nat.{pow_pos}
 use Rattle.mw_alu.specs.declared.answer.AluOut.{AluOut}
-use Rattle.mw_seq.specs.Sequencer.{IsSequencer, step_of}
+use Rattle.mw_seq.specs.Sequencer.{IsSequencer}
 use Rattle.mw_cycle.specs.declared.microword.Microword.{Microword}
 use Rattle.mw_cycle.specs.declared.state.CycleIn.{CycleIn}
 use Rattle.mw_board.specs.declared.parts.BoardParts.{BoardParts}
 use Rattle.mw_board.specs.Depth.{depth_of}
 use Rattle.mw_cycle.specs.State.{BoardState, Fits}
-use Rattle.mw_cycle.specs.Cycle.{edge, direct_address, next_address, writes_of, flips_after}
+use Rattle.mw_cycle.specs.Cycle.{edge, next_address, writes_of, flips_after}
 
 -- a number that may change stays below a bound
 chosen_below : (b : Bool) (x y n : ℕ) → x < n → y < n → cond b x y < n
@@ -31,7 +31,7 @@ low_bits : (y k : ℕ) → y % 2 ^ k < 2 ^ k
 low_bits y k = let some = pow_pos k in omega arith
 
 pub edge_fits : (board : BoardParts) (m : Microword) (answer : AluOut) (pass : Bool) (s : BoardState) (given : CycleIn) → Fits board s → next_address board m pass s given < 2 ^ 12
-    → IsSequencer (depth_of board) (step_of (depth_of board) m.sequencer pass (direct_address board m s) m.ci m.rld given.noise s.seq) → answer.y < 2 ^ board.width
+    → IsSequencer (depth_of board) (edge board m answer pass s given).seq → answer.y < 2 ^ board.width
     → (writes_of board m answer s given).b < 2 ^ board.width → (writes_of board m answer s given).q < 2 ^ board.width → flips_after board m answer s given < 2 ^ length board.flipflop
     → Fits board (edge board m answer pass s given)
 unfolding edge

@@ -9,7 +9,7 @@ use Rattle.std.proofs.lemmas.Grind.{common_steps, get_or_default_zero}
 use Rattle.mw_seq.specs.Sequencer.{IsSequencer}
 use Rattle.mw_board.specs.declared.parts.BoardParts.{BoardParts}
 use Rattle.mw_board.specs.Depth.{depth_of}
-use Rattle.mw_cycle.specs.State.{BoardState, Fits, are_registers_in_range, is_memory_in_range, cleared}
+use Rattle.mw_cycle.specs.State.{BoardState, Fits, are_words, is_sized, cleared}
 
 -- of a list of nothing but 0 each number is 0, also past its end
 all_zero : (n i : ℕ) → slice_index (replicate n 0) i ≡ 0
@@ -62,8 +62,8 @@ both true b e = (refl, e)
 both false b e = absurd cc
 
 -- a state in range fits
-pub in_range_fits : (board : BoardParts) (s : BoardState) → IsSequencer (depth_of board) s.seq → length s.regs ≡ 16 → (are_registers_in_range board s && is_memory_in_range board s) ≡ true → Fits board s
-unfolding are_registers_in_range is_memory_in_range
+pub in_range_fits : (board : BoardParts) (s : BoardState) → IsSequencer (depth_of board) s.seq → length s.regs ≡ 16 → (are_words board s && is_sized board s) ≡ true → Fits board s
+unfolding are_words is_sized
 in_range_fits board s seq sixteen e =
     let words = λ (xs : List ℕ). list_all (λ word. nat_lt word (2 ^ board.width)) xs in
     let at_in = nat_lt s.at (2 ^ 12) in
@@ -72,13 +72,13 @@ in_range_fits board s seq sixteen e =
     let ir_in = nat_lt s.ir (2 ^ board.width) in
     let flips_in = nat_lt s.flips (2 ^ length board.flipflop) in
     let size_is = length s.memory == 2 ^ board.address in
-    let all = both (words s.regs && q_in && ir_in && flips_in) (at_in && mar_in && size_is && words s.memory) e in
-    let flips = both (words s.regs && q_in && ir_in) flips_in all.0 in
-    let ir = both (words s.regs && q_in) ir_in flips.0 in
+    let all = both (words s.regs && q_in && ir_in && words s.memory) (at_in && mar_in && flips_in && size_is) e in
+    let memory = both (words s.regs && q_in && ir_in) (words s.memory) all.0 in
+    let ir = both (words s.regs && q_in) ir_in memory.0 in
     let q = both (words s.regs) q_in ir.0 in
-    let memory = both (at_in && mar_in && size_is) (words s.memory) all.1 in
-    let size = both (at_in && mar_in) size_is memory.0 in
-    let mar = both at_in mar_in size.0 in
+    let size = both (at_in && mar_in && flips_in) size_is all.1 in
+    let flips = both (at_in && mar_in) flips_in size.0 in
+    let mar = both at_in mar_in flips.0 in
     record {
       at = ltb-true s.at (2 ^ 12) mar.0;
       sixteen = sixteen;
@@ -93,16 +93,16 @@ in_range_fits board s seq sixteen e =
     }
 
 -- and one that fits is in range
-pub fits_in_range : (board : BoardParts) (s : BoardState) → Fits board s → (are_registers_in_range board s && is_memory_in_range board s) ≡ true
-unfolding are_registers_in_range is_memory_in_range
+pub fits_in_range : (board : BoardParts) (s : BoardState) → Fits board s → (are_words board s && is_sized board s) ≡ true
+unfolding are_words is_sized
 fits_in_range board s fits =
     rw (
       words_pass board.width s.regs fits.regs,
       lt-ltb s.q (2 ^ board.width) fits.q,
       lt-ltb s.ir (2 ^ board.width) fits.ir,
-      lt-ltb s.flips (2 ^ length board.flipflop) fits.flips,
+      words_pass board.width s.memory fits.memory,
       lt-ltb s.at (2 ^ 12) fits.at,
       lt-ltb s.mar (2 ^ board.address) fits.mar,
+      lt-ltb s.flips (2 ^ length board.flipflop) fits.flips,
       eq-eqb (length s.memory) (2 ^ board.address) fits.size,
-      words_pass board.width s.memory fits.memory,
     ) refl

@@ -77,7 +77,3 @@ no_more_flips board m answer s given fs n flips total past so_far =
     let none : flips_from board m answer s given n (drop n fs) ≡ 0 = rw (drop_all n fs past) refl in
     let all : flips + 2 ^ n * 0 ≡ total = rw none at so_far in
     omega (arith, all)
-
--- no flip-flop is taken yet
-pub no_flip_yet : (x total : ℕ) → x ≡ total → 0 + 2 ^ 0 * x ≡ total
-no_flip_yet x total e = omega (arith, e)

@@ -1,6 +1,6 @@
 -- One cycle of a board (Mick and Brick: one pipeline register), in the seven points of its order. All that is read is read
 -- before the edge.
-use Rattle.std.specs.Prelude.{ℕ, zero, suc, ◌+◌, ◌-◌, ◌*◌, ◌%◌, ◌^◌, List, [], ◌∷◌, Bool, true, false, not, if◌then◌else◌, ◌==◌, ◌||◌, slice_get, slice_index, slice_set, bit_and, Option, Some, None}
+use Rattle.std.specs.Prelude.{ℕ, ◌+◌, ◌-◌, ◌*◌, ◌%◌, ◌^◌, List, [], ◌∷◌, Bool, true, false, not, if◌then◌else◌, ◌==◌, ◌||◌, slice_get, slice_index, slice_set, bit_and, Option, Some, None}
 use Rattle.mw_base.specs.Words.{bit_of, differ, num, part}
 use Rattle.mw_base.specs.declared.event.Event.{Event}
 use Rattle.mw_base.specs.declared.event.Event.TheVariants.{Out, Taken}
@@ -8,6 +8,9 @@ use Rattle.mw_alu.specs.declared.answer.AluOut.{AluOut}
 use Rattle.mw_alu.specs.declared.edge.Pins.{Pins}
 use Rattle.mw_alu.specs.declared.edge.ShiftOut.{ShiftOut}
 use Rattle.mw_alu.specs.WholeWord.{alu_of, shift_of}
+use Rattle.mw_seq.specs.declared.instruction.Instruction.{Instruction}
+use Rattle.mw_seq.specs.declared.instruction.Instruction.TheVariants.{Jmap, Cjv}
+use Rattle.mw_seq.specs.Instruction.{instruction_of}
 use Rattle.mw_seq.specs.Sequencer.{is_full, next_of, step_of}
 use Rattle.mw_board.specs.declared.bit.Bit.{Bit}
 use Rattle.mw_board.specs.declared.bit.Bit.TheVariants.{One, Carry, Overflow, FZero, Sign, FLow, FHigh, QLow, QHigh, Line, Full, Ir, Flip}
@@ -46,7 +49,7 @@ abbrev pub masked : Option ℕ → ℕ → ℕ
 masked None d = d
 masked (Some mask) d = bit_and d mask
 
--- D
+-- D: the source that the microword chooses, behind its mask
 abbrev pub d_of : BoardParts → Microword → BoardState → CycleIn → ℕ
 d_of board m s given = masked m.d.mask (from_source board m.word m.d.from s given)
 
@@ -102,10 +105,14 @@ pass_of board m answer s given = m.test_disable || differ m.polarity (bit_value 
 abbrev pub map_of : BoardParts → BoardState → ℕ
 map_of board s = slice_index board.map_entries (part board.map_low board.map_bits s.ir)
 
--- the address at the Am2910's D: by the map in JMAP (2) and the vector in CJV (6), else the branch field
+-- the address at the Am2910's D: by the map in JMAP and the vector in CJV, else the branch field
+abbrev pub direct_for : Instruction → BoardParts → Microword → BoardState → ℕ
+direct_for Jmap board m s = map_of board s
+direct_for Cjv board m s = board.vector
+direct_for other board m s = m.branch
+
 unfoldable pub direct_address : BoardParts → Microword → BoardState → ℕ
-direct_address board m s =
-    if m.sequencer == 2 then map_of board s else (if m.sequencer == 6 then board.vector else m.branch)
+direct_address board m s = direct_for (instruction_of m.sequencer) board m s
 
 -- 5. The sequencer gives the next address.
 unfoldable pub next_address : BoardParts → Microword → Bool → BoardState → CycleIn → ℕ

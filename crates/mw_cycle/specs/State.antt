@@ -30,21 +30,21 @@ pub record Fits (board : BoardParts) (s : BoardState) : Type 0 where
   pub size : length s.memory ≡ 2 ^ board.address
   pub memory : (i : ℕ) → slice_index s.memory i < 2 ^ board.width
 
--- the registers are in range: there are always sixteen
-unfoldable pub are_registers_in_range : BoardParts → BoardState → Bool
-are_registers_in_range board s =
+-- each word has the board's width
+unfoldable pub are_words : BoardParts → BoardState → Bool
+are_words board s =
     list_all (λ word. nat_lt word (2 ^ board.width)) s.regs
     && nat_lt s.q (2 ^ board.width)
     && nat_lt s.ir (2 ^ board.width)
-    && nat_lt s.flips (2 ^ length board.flipflop)
+    && list_all (λ word. nat_lt word (2 ^ board.width)) s.memory
 
--- the addresses and the memory are in range
-unfoldable pub is_memory_in_range : BoardParts → BoardState → Bool
-is_memory_in_range board s =
+-- the addresses and the flip-flops are in range, and the memory has each of its words
+unfoldable pub is_sized : BoardParts → BoardState → Bool
+is_sized board s =
     nat_lt s.at (2 ^ 12)
     && nat_lt s.mar (2 ^ board.address)
+    && nat_lt s.flips (2 ^ length board.flipflop)
     && (length s.memory == 2 ^ board.address)
-    && list_all (λ word. nat_lt word (2 ^ board.width)) s.memory
 
 -- everything is 0
 unfoldable pub cleared : BoardParts → BoardState

@@ -34,7 +34,7 @@ fn loaded(
 /// What a flip-flop takes, which has this number.
 fn taken(
     board: &Board,
-    word: &Microword,
+    microword: &Microword,
     number: u8,
     flipflop: &FlipFlop,
     answer: &AluOut,
@@ -43,9 +43,9 @@ fn taken(
 ) -> bool
     requires number_in { number < 16 }
     requires valid { IsFlipFlop board.now flipflop.now }
-    ensures { result ≡ flip_of board.now word.now number flipflop.now answer.now state.now given }
+    ensures { result ≡ flip_of board.now microword.now number flipflop.now answer.now state.now given }
 {
-    let entry = value_at(board, word.word, flipflop.control);
+    let entry = value_at(board, microword.word, flipflop.control);
     let load = chosen(Load::Hold, flipflop.load.as_slice(), entry);
     loaded(board, load, flip(state, number), answer, state, given)
 }
@@ -53,19 +53,19 @@ fn taken(
 /// All flip-flops after the edge, flip-flop n as bit n.
 pub(crate) fn flips_after(
     board: &Board,
-    word: &Microword,
+    microword: &Microword,
     answer: &AluOut,
     state: &State,
     given: CycleIn,
 ) -> u16
-    ensures exact { result ≡ flips_after board.now word.now answer.now state.now given }
+    ensures exact { result ≡ flips_after board.now microword.now answer.now state.now given }
     ensures below { result < 2 ^ length board.now.flipflop }
 {
     let flipflops = board.parts().flipflop.as_slice();
     let mut flips = 0;
     for (n, flipflop) in flipflops.iter().enumerate() {
         let number = n as u8;
-        let takes = taken(board, word, number, flipflop, answer, state, given);
+        let takes = taken(board, microword, number, flipflop, answer, state, given);
         flips += number_of(takes) << number;
     }
     flips

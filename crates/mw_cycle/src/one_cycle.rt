@@ -1,6 +1,6 @@
 // One cycle.
 ghost use Rattle.std.specs.Prelude.{◌≡◌, ◌<◌, ◌≤◌, ◌^◌, ◌%◌, length};
-ghost use Rattle.mw_seq.specs.Sequencer.{IsSequencer, step_of};
+ghost use Rattle.mw_seq.specs.Sequencer.{IsSequencer};
 ghost use Rattle.mw_board.specs.Depth.{depth_of};
 ghost use Rattle.mw_board.specs.Valid.{IsFrom, IsMask};
 ghost use Rattle.mw_cycle.specs.Microword.{IsMicroword};
@@ -17,12 +17,7 @@ use crate::state::{CycleIn, Nets, State};
 use mw_alu::{AluOut, Pins, ShiftOut};
 use mw_base::Event;
 use mw_board::{Board, DFrom, Store};
-
-/// The code of JMAP, whose direct address is the map's.
-const JMAP: u8 = 2;
-
-/// The code of CJV, whose direct address is the vector.
-const CJV: u8 = 6;
+use mw_seq::Instruction;
 
 /// What the Am2901 reads in a cycle.
 #[derive(Clone, Copy, Debug)]
@@ -84,32 +79,38 @@ fn masked(mask: Option<u32>, d: u32) -> u32
 
 /// What the Am2901 reads.
 #[tactic(auto, unfolding(crate::specs::Cycle::operands_of))]
-fn read_operands(board: &Board, word: &Microword, state: &State, given: CycleIn) -> Operands
+fn read_operands(board: &Board, microword: &Microword, state: &State, given: CycleIn) -> Operands
     requires fits { Fits board.now state.now }
-    requires word_in { IsMicroword board.now word.now }
+    requires microword_in { IsMicroword board.now microword.now }
     requires input { given.input < 2 ^ board.now.width }
-    ensures exact { result ≡ operands_of board.now word.now state.now given }
+    ensures exact { result ≡ operands_of board.now microword.now state.now given }
     ensures a_below { result.a < 2 ^ board.now.width }
     ensures b_below { result.b < 2 ^ board.now.width }
     ensures d_below { result.d < 2 ^ board.now.width }
 {
-    let source = from_source(board, word.word, word.d.from, state, given);
+    let source = from_source(board, microword.word, microword.d.from, state, given);
     Operands {
-        a: state.regs[usize::from(word.a_address)],
-        b: state.regs[usize::from(word.b_address)],
-        d: masked(word.d.mask, source),
-        cin: early_bit(board, word.carry_in, state, given),
+        a: state.regs[usize::from(microword.a_address)],
+        b: state.regs[usize::from(microword.b_address)],
+        d: masked(microword.d.mask, source),
+        cin: early_bit(board, microword.carry_in, state, given),
     }
 }
 
 /// Whether the test is disabled, or its bit, turned over where polarity is 1, holds.
 #[tactic(auto, unfolding(crate::specs::Cycle::pass_of))]
-fn passes(board: &Board, word: &Microword, answer: &AluOut, state: &State, given: CycleIn) -> bool
-    requires { IsMicroword board.now word.now }
-    ensures { result ≡ pass_of board.now word.now answer.now state.now given }
+fn passes(
+    board: &Board,
+    microword: &Microword,
+    answer: &AluOut,
+    state: &State,
+    given: CycleIn,
+) -> bool
+    requires { IsMicroword board.now microword.now }
+    ensures { result ≡ pass_of board.now microword.now answer.now state.now given }
 {
-    let condition = bit_value(board, word.condition, answer, state, given);
-    word.test_disable | (word.polarity != condition)
+    let condition = bit_value(board, microword.condition, answer, state, given);
+    microword.test_disable | (microword.polarity != condition)
 }
 
 /// What the map gives for the instruction register.
@@ -127,26 +128,32 @@ fn mapped(board: &Board, state: &State) -> u16
 
 /// The address at the Am2910's D.
 #[tactic(auto, unfolding(crate::specs::Cycle::direct_address))]
-fn direct_address(board: &Board, word: &Microword, state: &State) -> u16
-    requires { IsMicroword board.now word.now }
-    ensures exact { result ≡ direct_address board.now word.now state.now }
+fn direct_address(board: &Board, microword: &Microword, state: &State) -> u16
+    requires { IsMicroword board.now microword.now }
+    ensures exact { result ≡ direct_address board.now microword.now state.now }
     ensures below { result < 2 ^ 12 }
 {
-    match word.sequencer {
-        JMAP => mapped(board, state),
-        CJV => board.parts().vector,
-        _ => word.branch,
+    match Instruction::of(microword.sequencer) {
+        Instruction::Jmap => mapped(board, state),
+        Instruction::Cjv => board.parts().vector,
+        _ => microword.branch,
     }
 }
 
 /// The pins of both shifts: a chosen bit stands at both ends.
 #[tactic(auto, unfolding(crate::specs::Cycle::pins_of))]
-fn pins(board: &Board, word: &Microword, answer: &AluOut, state: &State, given: CycleIn) -> Pins
-    requires { IsMicroword board.now word.now }
-    ensures { result ≡ pins_of board.now word.now answer.now state.now given }
+fn pins(
+    board: &Board,
+    microword: &Microword,
+    answer: &AluOut,
+    state: &State,
+    given: CycleIn,
+) -> Pins
+    requires { IsMicroword board.now microword.now }
+    ensures { result ≡ pins_of board.now microword.now answer.now state.now given }
 {
-    let ram = bit_value(board, word.ram_link, answer, state, given);
-    let q = bit_value(board, word.q_link, answer, state, given);
+    let ram = bit_value(board, microword.ram_link, answer, state, given);
+    let q = bit_value(board, microword.q_link, answer, state, given);
     Pins {
         ram_high: ram,
         ram_low: ram,
@@ -156,12 +163,12 @@ fn pins(board: &Board, word: &Microword, answer: &AluOut, state: &State, given: 
 }
 
 /// What the outside sees: an input that is taken hides an output.
-fn event(word: &Microword, y: u32, given: CycleIn) -> Option<Event>
-    ensures { result ≡ event_of word.now y given }
+fn event(microword: &Microword, y: u32, given: CycleIn) -> Option<Event>
+    ensures { result ≡ event_of microword.now y given }
 {
-    match word.d.from {
+    match microword.d.from {
         DFrom::Input => Some(Event::Taken(given.input)),
-        _ => word.out.then_some(Event::Out(y)),
+        _ => microword.out.then_some(Event::Out(y)),
     }
 }
 
@@ -170,39 +177,45 @@ fn event(word: &Microword, y: u32, given: CycleIn) -> Option<Event>
 fn writes<A: Datapath>(
     part: &A,
     board: &Board,
-    word: &Microword,
+    microword: &Microword,
     answer: &AluOut,
     state: &State,
     given: CycleIn,
 ) -> ShiftOut
     requires fits { Fits board.now state.now }
-    requires word_in { IsMicroword board.now word.now }
+    requires microword_in { IsMicroword board.now microword.now }
     requires f_in { answer.now.f < 2 ^ board.now.width }
-    ensures exact { result ≡ writes_of board.now word.now answer.now state.now given }
+    ensures exact { result ≡ writes_of board.now microword.now answer.now state.now given }
     ensures b_below { result.b < 2 ^ board.now.width }
     ensures q_below { result.q < 2 ^ board.now.width }
 {
-    let pins = pins(board, word, answer, state, given);
-    part.edge(board.width(), word.instruction, answer.f, state.q, pins)
+    let pins = pins(board, microword, answer, state, given);
+    part.edge(
+        board.width(),
+        microword.instruction,
+        answer.f,
+        state.q,
+        pins,
+    )
 }
 
 /// The edge: all that is written is written from what was there before it. Answers the next address.
 #[tactic(auto, unfolding(crate::specs::Cycle::edge, crate::specs::Cycle::next_address, mw_board::specs::Depth::depth_of))]
 fn take_edge(
     board: &Board,
-    word: &Microword,
+    microword: &Microword,
     settled: &Settled,
     state: &mut State,
     given: CycleIn,
 ) -> u16
     requires fits { Fits board.now state.old }
-    requires word_in { IsMicroword board.now word.now }
-    requires written { settled.now.writes ≡ writes_of board.now word.now settled.now.answer state.old given }
-    requires taken { settled.now.flips ≡ flips_after board.now word.now settled.now.answer state.old given }
-    ensures next { result ≡ next_address board.now word.now settled.now.pass state.old given }
+    requires microword_in { IsMicroword board.now microword.now }
+    requires written { settled.now.writes ≡ writes_of board.now microword.now settled.now.answer state.old given }
+    requires taken { settled.now.flips ≡ flips_after board.now microword.now settled.now.answer state.old given }
+    ensures next { result ≡ next_address board.now microword.now settled.now.pass state.old given }
     ensures below { result < 2 ^ 12 }
-    ensures exact { state.new ≡ edge board.now word.now settled.now.answer settled.now.pass state.old given }
-    ensures sequencer { IsSequencer (depth_of board.now) (step_of (depth_of board.now) word.now.sequencer settled.now.pass (direct_address board.now word.now state.old) word.now.ci word.now.rld given.noise state.old.seq) }
+    ensures exact { state.new ≡ edge board.now microword.now settled.now.answer settled.now.pass state.old given }
+    ensures sequencer { IsSequencer (depth_of board.now) state.new.seq }
 {
     let Settled {
         answer,
@@ -210,23 +223,28 @@ fn take_edge(
         flips,
         pass,
     } = settled;
-    let d = direct_address(board, word, state);
-    let next = state
-        .seq
-        .step(word.sequencer, *pass, d, word.ci, word.rld, given.noise);
-    if word.memory_write {
+    let d = direct_address(board, microword, state);
+    let next = state.seq.step(
+        microword.sequencer,
+        *pass,
+        d,
+        microword.ci,
+        microword.rld,
+        given.noise,
+    );
+    if microword.memory_write {
         state.memory[state.mar as usize] = answer.y;
     }
     if writes.write_b {
-        state.regs[usize::from(word.b_address)] = writes.b;
+        state.regs[usize::from(microword.b_address)] = writes.b;
     }
     if writes.write_q {
         state.q = writes.q;
     }
-    if word.mar_load {
+    if microword.mar_load {
         state.mar = low_bits(u128::from(answer.y), board.parts().address);
     }
-    if word.ir_load {
+    if microword.ir_load {
         state.ir = answer.y;
     }
     state.flips = *flips;
@@ -249,25 +267,25 @@ pub fn cycle<A: Datapath>(
     ensures exact { state.new ≡ state_after board.now store.now.words state.old given }
     ensures fits { Fits board.now state.new }
 {
-    let code = store.word(board, state.at);
-    let word = Microword::decoded(board, code);
+    let word = store.word(board, state.at);
+    let microword = Microword::decoded(board, word);
     let width = board.width();
-    let Operands { a, b, d, cin } = read_operands(board, &word, state, given);
-    let answer = part.answer(width, word.instruction, a, b, state.q, d, cin);
+    let Operands { a, b, d, cin } = read_operands(board, &microword, state, given);
+    let answer = part.answer(width, microword.instruction, a, b, state.q, d, cin);
     let carry = carry_net(&answer, given);
     let overflow = overflow_net(&answer, given);
-    let pass = passes(board, &word, &answer, state, given);
-    let writes = writes(part, board, &word, &answer, state, given);
-    let flips = flips_after(board, &word, &answer, state, given);
+    let pass = passes(board, &microword, &answer, state, given);
+    let writes = writes(part, board, &microword, &answer, state, given);
+    let flips = flips_after(board, &microword, &answer, state, given);
     let settled = Settled {
         answer,
         writes,
         flips,
         pass,
     };
-    let next = take_edge(board, &word, &settled, state, given);
+    let next = take_edge(board, &microword, &settled, state, given);
     Nets {
-        word: code,
+        word,
         a,
         b,
         d,
@@ -280,6 +298,6 @@ pub fn cycle<A: Datapath>(
         sign: answer.sign,
         pass,
         next,
-        event: event(&word, answer.y, given),
+        event: event(&microword, answer.y, given),
     }
 }

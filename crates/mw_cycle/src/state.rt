@@ -48,7 +48,7 @@ fn has_bits(number: u32, bits: u8) -> bool
 
 /// Whether a count is 2 to the power of bits.
 #[tactic(auto, using(std::proofs::lemmas::Nat::one_shl))]
-fn is_power_of_two(count: usize, bits: u8) -> bool
+fn is_two_to(count: usize, bits: u8) -> bool
     requires { bits ≤ 32 }
     ensures { result ≡ (count == 2 ^ bits) }
 {
@@ -64,7 +64,7 @@ fn have_bits(words: &[u32], bits: u8) -> bool
 }
 
 impl State {
-    ghost use Rattle.mw_cycle.specs.State.{Fits, are_registers_in_range, is_memory_in_range, cleared};
+    ghost use Rattle.mw_cycle.specs.State.{Fits, are_words, is_sized, cleared};
 
     #[tactic(auto, unfolding(crate::specs::State::cleared, mw_board::specs::Depth::depth_of))]
     fn cleared(alloc: Global, board: &Board) -> Result<State, NoMemory>
@@ -99,31 +99,30 @@ impl State {
         Ok(State::cleared(alloc, board)?)
     }
 
-    /// Whether each register is in its range.
-    #[tactic(auto, unfolding(crate::specs::State::are_registers_in_range))]
-    fn are_registers_in_range(&self, board: &Board) -> bool
-        ensures exact { result ≡ are_registers_in_range board.now self.now }
+    /// Whether each word has the board's width.
+    #[tactic(auto, unfolding(crate::specs::State::are_words))]
+    fn are_words(&self, board: &Board) -> bool
+        ensures exact { result ≡ are_words board.now self.now }
         ensures sixteen { length self.now.regs ≡ 16 }
     {
         let width = board.width().bits();
-        let flipflops = board.parts().flipflop.as_slice().len() as u8;
         have_bits(&self.regs, width)
             & has_bits(self.q, width)
             & has_bits(self.ir, width)
-            & has_bits(u32::from(self.flips), flipflops)
+            & have_bits(&self.memory, width)
     }
 
-    /// Whether the addresses are in their ranges, and the memory has each of its words.
-    #[tactic(auto, unfolding(crate::specs::State::is_memory_in_range))]
-    fn is_memory_in_range(&self, board: &Board) -> bool
-        ensures { result ≡ is_memory_in_range board.now self.now }
+    /// Whether the addresses and the flip-flops are in their ranges, and the memory has each of its words.
+    #[tactic(auto, unfolding(crate::specs::State::is_sized))]
+    fn is_sized(&self, board: &Board) -> bool
+        ensures { result ≡ is_sized board.now self.now }
     {
-        let width = board.width().bits();
-        let address = board.parts().address;
+        let parts = board.parts();
+        let flipflops = parts.flipflop.as_slice().len() as u8;
         has_bits(u32::from(self.at), 12)
-            & has_bits(self.mar, address)
-            & is_power_of_two(self.memory.len(), address)
-            & have_bits(&self.memory, width)
+            & has_bits(self.mar, parts.address)
+            & has_bits(u32::from(self.flips), flipflops)
+            & is_two_to(self.memory.len(), parts.address)
     }
 
     /// Whether the state fits a board: each part is in its range, and the memory has each of its words.
@@ -133,7 +132,7 @@ impl State {
     {
         // The sequencer is in its ranges whatever it holds, as this call says.
         let _full = self.seq.full();
-        self.are_registers_in_range(board) & self.is_memory_in_range(board)
+        self.are_words(board) & self.is_sized(board)
     }
 }
 

@@ -8,4 +8,5 @@ returns-clause-fits g c =
     let b = rw c.writes-writes.ensures.exact at c.writes-writes.ensures.b_below in
     let q = rw c.writes-writes.ensures.exact at c.writes-writes.ensures.q_below in
     let flips = rw c.flips_after-flips.ensures.exact at c.flips_after-flips.ensures.below in
-    rw c.take_edge-next.ensures.exact (edge_fits _ _ _ _ _ _ c.requires.fits next c.take_edge-next.ensures.sequencer y b q flips)
+    let sequencer = rw c.take_edge-next.ensures.exact at c.take_edge-next.ensures.sequencer in
+    rw c.take_edge-next.ensures.exact (edge_fits _ _ _ _ _ _ c.requires.fits next sequencer y b q flips)
