@@ -63,18 +63,18 @@ pub record ArePoints (fields : List NamedField) (control : Points) : Type 0 wher
   pub memory_write : IsPoint 1 fields control.memory_write
   pub out : IsPoint 1 fields control.out
 
--- a bit of the instruction register, and one of so many flip-flops
+-- a bit that names a bit of the instruction register, or a flip-flop, names one that there is
 abbrev pub IsBit : ℕ → ℕ → Bit → Type 0
 IsBit width flipflops (bits.Ir n) = n < width
 IsBit width flipflops (bits.Flip n) = n < flipflops
 IsBit width flipflops other = Unit {0}
 
--- a load of a flip-flop
+-- so does a load that takes a bit
 abbrev pub IsLoad : ℕ → ℕ → Load → Type 0
 IsLoad width flipflops (loads.Take bit) = IsBit width flipflops bit
 IsLoad width flipflops other = Unit {0}
 
--- one of so many fields, and one of so many flip-flops
+-- a source of D that names a field, or a flip-flop, names one that there is
 abbrev pub IsFrom : ℕ → ℕ → DFrom → Type 0
 IsFrom fields flipflops (sources.Field n) = n < fields
 IsFrom fields flipflops (sources.Flip n) = n < flipflops
@@ -85,7 +85,7 @@ abbrev pub IsMask : ℕ → Option ℕ → Type 0
 IsMask width None = Unit {0}
 IsMask width (Some mask) = mask < 2 ^ width
 
--- a source of D
+-- a source of D, and its mask
 pub record IsSource (width fields flipflops : ℕ) (source : DSource) : Type 0 where
   pub from : IsFrom fields flipflops source.from
   pub mask : IsMask width source.mask
@@ -97,11 +97,11 @@ pub record IsList {A : Type 0} (IsEntry : A → Type 0) (fields : List NamedFiel
   pub few : length list ≤ 64
   pub entries : All IsEntry list
 
--- a flip-flop
+-- the loads of a flip-flop, and the control that chooses from them
 abbrev pub IsFlipFlop : BoardParts → FlipFlop → Type 0
 IsFlipFlop p f = IsList (IsLoad p.width (length p.flipflop)) p.fields f.control f.load
 
--- the lists
+-- the lists of the board, each with the control that chooses from it
 pub record AreLists (p : BoardParts) : Type 0 where
   pub carry_in : IsList (IsBit p.width (length p.flipflop)) p.fields p.control.carry_in p.carry_in
   pub condition : IsList (IsBit p.width (length p.flipflop)) p.fields p.control.condition p.condition
@@ -116,7 +116,7 @@ pub record IsMap (p : BoardParts) : Type 0 where
   pub size : length p.map_entries ≡ map_size p.map_bits
   pub entries : All (λ entry. entry < 2 ^ 12) p.map_entries
 
--- a board
+-- what is so of every board
 pub record IsBoard (p : BoardParts) : Type 0 where
   pub sizes : AreSizes p
   pub few_fields : length p.fields ≤ 64

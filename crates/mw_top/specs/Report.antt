@@ -34,7 +34,7 @@ fault_text (Bundle cause) = codes " key -" ++ cause_text cause
 abbrev pub refusal_line : List ℕ → FileFault → List ℕ
 refusal_line file fault = line (codes "refused " ++ file ++ fault_text fault)
 
--- the names of the board's elements, by number
+-- the names of the elements of a board without flip-flops, by number
 abbrev pub element_names : List (List ℕ)
 element_names =
     codes "b.r0" ∷ codes "b.r1" ∷ codes "b.r2" ∷ codes "b.r3" ∷ codes "b.r4" ∷ codes "b.r5" ∷ codes "b.r6" ∷ codes "b.r7"

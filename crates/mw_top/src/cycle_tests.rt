@@ -1,4 +1,4 @@
-//! Cycles of five boards, as the tables of `cycle_cases` have them.
+//! Cycles of five boards, as the tables of `cycle_cases` have them. They stand here since `mw_cycle` reads no board files.
 use crate::cycle_boards::{BOARDS, STARTS, STORES};
 use crate::cycle_cases::{CASES_4, CASES_8, CASES_16, CASES_20, CASES_32, Case};
 use mw_base::{Event, Items};
