@@ -10,6 +10,7 @@ use Rattle.mw_base.specs.declared.cause.Cause.TheVariants.{ValueTooWide, StoreFu
 use Rattle.mw_base.specs.declared.token.Token.{Token}
 use Rattle.mw_base.specs.Reading.{◌>>=◌}
 use Rattle.mw_board.specs.declared.field.NamedField.{NamedField}
+use Rattle.mw_board.specs.Valid.{IsField}
 use Rattle.mw_asm.specs.declared.first_pass.Word.{Word}
 use Rattle.mw_asm.specs.declared.items.Item.{Item}
 use Rattle.mw_asm.specs.declared.names.Meaning.{Meaning}
@@ -28,7 +29,6 @@ use Rattle.mw_asm.specs.Statements.{statement_of}
 use Rattle.mw_asm.specs.declared.assembled.Label.{Label}
 use Rattle.std.proofs.lemmas.Nat.{pow_pos}
 use Rattle.mw_asm.specs.Names.{bits_named}
-use Rattle.mw_asm.proofs.Fields.{FieldsFit}
 use Rattle.mw_asm.proofs.Steps.{bind_ok}
 use Rattle.mw_asm.proofs.Widths.{ValueFits, NamesFit, more_names_fit, bits_fit}
 
@@ -96,7 +96,7 @@ meaning_right bits text name meaning known next fits is right =
     let e = known_is (record known { names = with_name known.names (spelled text name) meaning }) next last.2 in
     subst (IsRight bits) e (record { inside = right.inside; low = right.low; labels = right.labels; named = more_names_fit bits known.names (spelled text name) meaning right.named fits })
 
-def_right : (bits : ℕ) (fields : List NamedField) (text : List ℕ) (name : Token) (items : List Item) (known next : Known) → FieldsFit bits fields → with_def fields text name items known ≡ Ok next → IsRight bits known → IsRight bits next
+def_right : (bits : ℕ) (fields : List NamedField) (text : List ℕ) (name : Token) (items : List Item) (known next : Known) → All (IsField bits) fields → with_def fields text name items known ≡ Ok next → IsRight bits known → IsRight bits next
 unfolding with_def
 def_right bits fields text name items known next fit is right =
     let later = λ (set : SetBits). ok_known (record known { names = with_name known.names (spelled text name) (meanings.Bits set) }) in
@@ -152,7 +152,7 @@ optional_word_right : (bits : ℕ) (items : List Item) (known next : Known) → 
 optional_word_right bits [] known next is right = subst (IsRight bits) (known_is known next is) right
 optional_word_right bits (first ∷ rest) known next is right = word_right bits first.name (first ∷ rest) known next is right
 
-statement_right : (bits : ℕ) (fields : List NamedField) (text : List ℕ) (known next : Known) (statement : Statement) → FieldsFit bits fields → with_statement fields text known statement ≡ Ok next → IsRight bits known → IsRight bits next
+statement_right : (bits : ℕ) (fields : List NamedField) (text : List ℕ) (known next : Known) (statement : Statement) → All (IsField bits) fields → with_statement fields text known statement ≡ Ok next → IsRight bits known → IsRight bits next
 statement_right bits fields text known next (statements.Equ name value) fit is right = meaning_right bits text name (meanings.Number value) known next tt is right
 statement_right bits fields text known next (statements.Def name items) fit is right = def_right bits fields text name items known next fit is right
 statement_right bits fields text known next (statements.Org token address) fit is right = next_right bits token address known next is right
@@ -160,13 +160,13 @@ statement_right bits fields text known next (statements.Word label items) fit is
     let two = bind_ok (with_optional_label text label known) (λ labelled. with_optional_word items labelled) next is in
     optional_word_right bits items two.0 next two.2 (optional_label_right bits text label known two.0 two.1 right)
 
-line_right : (bits : ℕ) (fields : List NamedField) (text : List ℕ) (known next : Known) (line : Line) → FieldsFit bits fields → with_line fields text known line ≡ Ok next → IsRight bits known → IsRight bits next
+line_right : (bits : ℕ) (fields : List NamedField) (text : List ℕ) (known next : Known) (line : Line) → All (IsField bits) fields → with_line fields text known line ≡ Ok next → IsRight bits known → IsRight bits next
 unfolding with_line
 line_right bits fields text known next line fit is right =
     let two = bind_ok (statement_of text line) (λ statement. with_statement fields text known statement) next is in
     statement_right bits fields text known next two.0 fit two.2 right
 
-all_right : (bits : ℕ) (fields : List NamedField) (text : List ℕ) (known end : Known) (lines : List Line) → FieldsFit bits fields → first_pass fields text known lines ≡ Ok end → IsRight bits known → IsRight bits end
+all_right : (bits : ℕ) (fields : List NamedField) (text : List ℕ) (known end : Known) (lines : List Line) → All (IsField bits) fields → first_pass fields text known lines ≡ Ok end → IsRight bits known → IsRight bits end
 unfolding first_pass
 all_right bits fields text known end [] fit is right = subst (IsRight bits) (known_is known end is) right
 all_right bits fields text known end (line ∷ rest) fit is right =
@@ -174,6 +174,6 @@ all_right bits fields text known end (line ∷ rest) fit is right =
     all_right bits fields text two.0 end rest fit two.2 (line_right bits fields text known two.0 line fit two.1 right)
 
 -- after the first pass
-pub first_pass_right : (bits : ℕ) (fields : List NamedField) (text : List ℕ) (end : Known) (lines : List Line) → FieldsFit bits fields → first_pass fields text at_first lines ≡ Ok end → IsRight bits end
+pub first_pass_right : (bits : ℕ) (fields : List NamedField) (text : List ℕ) (end : Known) (lines : List Line) → All (IsField bits) fields → first_pass fields text at_first lines ≡ Ok end → IsRight bits end
 first_pass_right bits fields text end lines fit is =
     all_right bits fields text at_first end lines fit is (record { inside = record { few = omega arith; each = All-nil (HasPlace []) }; low = omega arith; labels = All-nil IsLow; named = λ name. tt })

@@ -9,7 +9,7 @@ use Rattle.mw_base.specs.Lines.{lines_of}
 use Rattle.mw_base.specs.Reading.{◌>>=◌}
 use Rattle.mw_base.specs.Tokens.{tokens_of}
 use Rattle.mw_board.specs.declared.parts.BoardParts.{BoardParts}
-use Rattle.mw_board.specs.Check.{check_of}
+use Rattle.mw_board.specs.Valid.{IsBoard, IsField}
 use Rattle.mw_asm.specs.declared.assembled.Assembled.{Assembled}
 use Rattle.mw_asm.specs.declared.first_pass.Word.{Word}
 use Rattle.mw_asm.specs.declared.names.Scope.TheVariants as scopes
@@ -19,7 +19,6 @@ use Rattle.mw_asm.specs.ItemBits.{bits_of}
 use Rattle.mw_asm.specs.Lines.{lines_with}
 use Rattle.mw_asm.specs.Microprogram.{IsAssembled, filled, second_pass, store_of}
 use Rattle.mw_asm.specs.Names.{Names}
-use Rattle.mw_asm.proofs.Fields.{FieldsFit, fields_fit, sizes_hold, words_fit}
 use Rattle.mw_asm.proofs.Inside.{IsRight, first_pass_right}
 use Rattle.mw_asm.proofs.Steps.{bind_ok}
 use Rattle.mw_asm.proofs.Widths.{NamesFit, bits_fit, word_fits}
@@ -43,7 +42,7 @@ ok_made made = Ok made
 store_is : (store end : List ℕ) → ok_store store ≡ Ok end → store ≡ end
 store_is store end is = cc
 
-second_right : (board : BoardParts) (text : List ℕ) (names : Names) (store end : List ℕ) (words : List Word) → FieldsFit board.microword board.fields → NamesFit board.microword names
+second_right : (board : BoardParts) (text : List ℕ) (names : Names) (store end : List ℕ) (words : List Word) → All (IsField board.microword) board.fields → NamesFit board.microword names
     → board.unset < 2 ^ board.microword → All (Below board.microword) store → second_pass board text names store words ≡ Ok end → Keeps board.microword store end
 unfolding second_pass
 second_right board text names store end [] fit named unset below is =
@@ -69,7 +68,7 @@ assembled board known words made right kept is =
     subst (IsAssembled board) (made_is whole made is) so
 
 -- what a text spells on a board
-pub store_right : (board : BoardParts) (text : List ℕ) (made : Assembled) → check_of board ≡ Ok tt → store_of board text ≡ Ok made → IsAssembled board made
+pub store_right : (board : BoardParts) (text : List ℕ) (made : Assembled) → IsBoard board → store_of board text ≡ Ok made → IsAssembled board made
 unfolding store_of
 store_right board text made valid is =
     let whole = λ (known : Known) (words : List ℕ). ok_made (record { store = record { words = words }; used = known.used; labels = known.labels }) in
@@ -78,9 +77,7 @@ store_right board text made valid is =
     let two = bind_ok (first_pass board.fields text at_first (lines_with 1 (lines_of text) one.0)) last made one.2 in
     let known = two.0 in
     let three = bind_ok (second_pass board text known.names (filled board.fill known.used) known.words) (whole known) made two.2 in
-    let fit = fields_fit board valid in
-    let own = words_fit board (sizes_hold board valid) in
-    let right = first_pass_right board.microword board.fields text known (lines_with 1 (lines_of text) one.0) fit two.1 in
-    let gaps = All-map (Below board.microword) (λ (used : Bool). board.fill) known.used (λ k d h. own.0) in
-    let kept = second_right board text known.names (filled board.fill known.used) three.0 known.words fit right.named own.1 gaps three.1 in
+    let right = first_pass_right board.microword board.fields text known (lines_with 1 (lines_of text) one.0) valid.fields two.1 in
+    let gaps = All-map (Below board.microword) (λ (used : Bool). board.fill) known.used (λ k d h. valid.sizes.fill) in
+    let kept = second_right board text known.names (filled board.fill known.used) three.0 known.words valid.fields right.named valid.sizes.unset gaps three.1 in
     assembled board known three.0 made right kept three.2

@@ -1,6 +1,7 @@
 -- The bits that items set lie within the microword.
-use Rattle.std.proofs.Common.{◌≡◌, ℕ, ◌^◌, ◌<◌, List, [], ◌∷◌, Bool, true, false, cond, Option, Some, None, Result, Ok, Err, refl, subst, arith, nat_lt, IfSome}
+use Rattle.std.proofs.Common.{◌≡◌, ℕ, ◌+◌, ◌^◌, ◌<◌, ◌≤◌, List, [], ◌∷◌, Bool, true, false, cond, Option, Some, None, Result, Ok, Err, refl, subst, arith, nat_lt, IfSome}
 use Rattle.std.specs.Prelude.{if◌then◌else◌, bit_and}
+use Rattle.std.specs.List.{All}
 use Rattle.std.specs.Str.{bytes_eq}
 use Rattle.std.proofs.lemmas.Bool.Decides.{nat_tests}
 use Rattle.std.proofs.lemmas.Nat.{or_lt, and_le_l}
@@ -11,6 +12,7 @@ use Rattle.mw_base.specs.Reading.{◌>>=◌}
 use Rattle.mw_base.specs.Words.{complement}
 use Rattle.mw_board.specs.declared.field.Field.{Field}
 use Rattle.mw_board.specs.declared.field.NamedField.{NamedField}
+use Rattle.mw_board.specs.Valid.{IsField}
 use Rattle.mw_asm.specs.declared.bits.SetBits.{SetBits}
 use Rattle.mw_asm.specs.declared.items.Item.{Item}
 use Rattle.mw_asm.specs.declared.names.Meaning.{Meaning}
@@ -21,7 +23,7 @@ use Rattle.mw_asm.specs.Items.{or_fault}
 use Rattle.mw_asm.specs.Lines.{fault_on}
 use Rattle.mw_asm.specs.Names.{Names, with_name, bits_named}
 use Rattle.mw_asm.specs.Parts.{spelled}
-use Rattle.mw_asm.proofs.Fields.{FitsIn, FieldsFit}
+use Rattle.mw_asm.proofs.Fields.{found_within}
 use Rattle.mw_asm.proofs.Shifts.{shifted_below}
 use Rattle.mw_asm.proofs.Steps.{bind_ok}
 
@@ -53,32 +55,33 @@ if_bits : (b : Bool) (bits set : SetBits) (fault : TextFault) → (if b then ok_
 if_bits true bits set fault is = (refl, cc)
 if_bits false bits set fault is = absurd cc
 
-field_set_fits : (bits : ℕ) (field : Field) (token : Token) (value : ℕ) (set : SetBits) → FitsIn bits field → field_set field token value ≡ Ok set → ValueFits bits set
+field_set_fits : (bits : ℕ) (field : Field) (token : Token) (value : ℕ) (set : SetBits) → field.low + field.width ≤ bits → field_set field token value ≡ Ok set → ValueFits bits set
 unfolding field_set
-field_set_fits bits field token value set fits is =
+field_set_fits bits field token value set within is =
     let e = if_bits (nat_lt value (2 ^ field.width)) (field_bits field value) set (fault_on token ValueTooWide) is in
     let below : value < 2 ^ field.width = grind (arith, nat_tests, e.0) in
-    subst (ValueFits bits) e.1 (shifted_below value field.width field.low bits below fits.within)
+    subst (ValueFits bits) e.1 (shifted_below value field.width field.low bits below within)
 
 valued_fits : (bits : ℕ) (fields : List NamedField) (text : List ℕ) (names : Names) (scope : Scope) (name token : Token) (set : SetBits)
-    → FieldsFit bits fields → valued_bits fields text names scope name token ≡ Ok set → ValueFits bits set
+    → All (IsField bits) fields → valued_bits fields text names scope name token ≡ Ok set → ValueFits bits set
 unfolding valued_bits field_named
 valued_fits bits fields text names scope name token set fit is =
     let named = or_fault (fault_on name UnknownName) (field_named fields (spelled text name)) in
     let one = bind_ok named (λ field. value_of text names scope token >>= (λ value. field_set field token value)) set is in
     let two = bind_ok (value_of text names scope token) (λ value. field_set one.0 token value) set one.2 in
-    let fits = found (FitsIn bits) (fault_on name UnknownName) (field_named fields (spelled text name)) one.0 one.1 (fit (λ f. bytes_eq f.name (spelled text name))) in
-    field_set_fits bits one.0 token two.0 set fits two.2
+    let there = found_within bits fields (λ f. bytes_eq f.name (spelled text name)) fit in
+    let within = found (λ field. field.low + field.width ≤ bits) (fault_on name UnknownName) (field_named fields (spelled text name)) one.0 one.1 there in
+    field_set_fits bits one.0 token two.0 set within two.2
 
 item_fits : (bits : ℕ) (fields : List NamedField) (text : List ℕ) (names : Names) (scope : Scope) (name : Token) (value : Option Token) (set : SetBits)
-    → FieldsFit bits fields → NamesFit bits names → item_bits fields text names scope name value ≡ Ok set → ValueFits bits set
+    → All (IsField bits) fields → NamesFit bits names → item_bits fields text names scope name value ≡ Ok set → ValueFits bits set
 unfolding alone_bits
 item_fits bits fields text names scope name (Some value) set fit named is = valued_fits bits fields text names scope name value set fit is
 item_fits bits fields text names scope name None set fit named is =
     found (ValueFits bits) (fault_on name UnknownName) (bits_named (names (spelled text name))) set is (named (spelled text name))
 
 with_item_fits : (bits : ℕ) (fields : List NamedField) (text : List ℕ) (names : Names) (scope : Scope) (before set : SetBits) (item : Item)
-    → FieldsFit bits fields → NamesFit bits names → ValueFits bits before → with_item fields text names scope before item ≡ Ok set → ValueFits bits set
+    → All (IsField bits) fields → NamesFit bits names → ValueFits bits before → with_item fields text names scope before item ≡ Ok set → ValueFits bits set
 unfolding with_item beside
 with_item_fits bits fields text names scope before set item fit named fits is =
     let one = bind_ok (item_bits fields text names scope item.name item.value) (λ own. beside item.name before own) set is in
@@ -88,7 +91,7 @@ with_item_fits bits fields text names scope before set item fit named fits is =
 
 -- the bits that items set
 pub bits_fit : (bits : ℕ) (fields : List NamedField) (text : List ℕ) (names : Names) (scope : Scope) (before set : SetBits) (items : List Item)
-    → FieldsFit bits fields → NamesFit bits names → ValueFits bits before → bits_of fields text names scope before items ≡ Ok set → ValueFits bits set
+    → All (IsField bits) fields → NamesFit bits names → ValueFits bits before → bits_of fields text names scope before items ≡ Ok set → ValueFits bits set
 unfolding bits_of
 bits_fit bits fields text names scope before set [] fit named fits is = let e : before ≡ set = bits_are before set is in subst (ValueFits bits) e fits
 bits_fit bits fields text names scope before set (item ∷ rest) fit named fits is =
