@@ -29,12 +29,15 @@ pub record Known : Type 0 where
   pub words : List Word
   pub labels : List Label
 
+-- before the first line: no name, no word and no label
 abbrev pub at_first : Known
 at_first = record { names = no_names; next = 0; used = []; words = []; labels = [] }
 
 -- with a word at this address
 unfoldable pub with_used : List Bool → ℕ → List Bool
-with_used used address = if nat_lt address (length used) then slice_set used address true else used ++ replicate (address - length used) false ++ (true ∷ [])
+with_used used address =
+    if nat_lt address (length used) then slice_set used address true
+    else used ++ replicate (address - length used) false ++ (true ∷ [])
 
 -- a name that the line defines
 unfoldable pub with_meaning : List ℕ → Token → Meaning → Known → Result Known TextFault
@@ -59,6 +62,7 @@ with_label text name known = do
   more ← with_meaning text name (meanings.Label known.next) known
   Ok (record more { labels = more.labels ++ (record { name = spelled text name; address = more.next } ∷ []) })
 
+-- the label that a line may begin with
 abbrev pub with_optional_label : List ℕ → Option Token → Known → Result Known TextFault
 with_optional_label text None known = Ok known
 with_optional_label text (Some name) known = with_label text name known
@@ -68,13 +72,18 @@ unfoldable pub with_word : Token → List Item → Known → Result Known TextFa
 with_word first items known =
     if nat_le 4096 known.next then Err (fault_on first StoreFull)
     else (if slice_index_or known.used known.next false then Err (fault_on first Overlap)
-    else Ok (record known { next = known.next + 1; used = with_used known.used known.next; words = known.words ++ (record { address = known.next; items = items } ∷ []) }))
+    else Ok (record known {
+      next = known.next + 1;
+      used = with_used known.used known.next;
+      words = known.words ++ (record { address = known.next; items = items } ∷ []);
+    }))
 
+-- the word that the items of a line make; without items none
 abbrev pub with_optional_word : List Item → Known → Result Known TextFault
 with_optional_word [] known = Ok known
 with_optional_word (first ∷ rest) known = with_word first.name (first ∷ rest) known
 
--- what is known after a line
+-- what is known after what a line says
 abbrev pub with_statement : List NamedField → List ℕ → Known → Statement → Result Known TextFault
 with_statement fields text known (statements.Equ name value) = with_meaning text name (meanings.Number value) known
 with_statement fields text known (statements.Def name items) = with_def fields text name items known
@@ -83,6 +92,7 @@ with_statement fields text known (statements.Word label items) = do
   labelled ← with_optional_label text label known
   with_optional_word items labelled
 
+-- what is known after a line
 unfoldable pub with_line : List NamedField → List ℕ → Known → Line → Result Known TextFault
 with_line fields text known line = do
   statement ← statement_of text line

@@ -23,11 +23,12 @@ use Rattle.mw_asm.specs.Parts.{spelled}
 unfoldable pub field_named : List NamedField → List ℕ → Option Field
 field_named fields name = option_map (λ (f : NamedField). f.field) (find (λ (f : NamedField). bytes_eq f.name name) fields)
 
--- a value: a number, or the name of one
+-- the value of a token of this kind: a number, or that of the name of one
 abbrev pub value_of_kind : List ℕ → Names → Scope → Token → Kind → Result ℕ TextFault
 value_of_kind text names scope token (Number value) = Ok value
 value_of_kind text names scope token other = or_fault (fault_on token UnknownName) (number_named scope (names (spelled text token)))
 
+-- the value that a token gives
 unfoldable pub value_of : List ℕ → Names → Scope → Token → Result ℕ TextFault
 value_of text names scope token = value_of_kind text names scope token token.kind
 

@@ -17,10 +17,11 @@ abbrev pub or_fault : {A : Type 0} → TextFault → Option A → Result A TextF
 or_fault fault (Some x) = Ok x
 or_fault fault None = Err fault
 
--- an item that is a name alone, and one that is a field and its value
+-- an item that is a name alone
 abbrev pub alone : Token → Item
 alone name = record { name = name; value = None }
 
+-- an item that is a field and its value
 abbrev pub valued : Token → Token → Item
 valued name value = record { name = name; value = Some value }
 

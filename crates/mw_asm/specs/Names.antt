@@ -18,6 +18,7 @@ use Rattle.mw_asm.specs.Statements.{keyword_of}
 abbrev pub Names : Type 0
 Names = List ℕ → Option Meaning
 
+-- no name stands for anything
 abbrev pub no_names : Names
 no_names = λ name. None
 

@@ -17,7 +17,11 @@ spelled text token = slice text token.start token.end
 
 -- what a sign is
 abbrev pub sign_of : List ℕ → Part
-sign_of sign = if bytes_eq sign (codes "=") then Equals else (if bytes_eq sign (codes ":") then Colon else (if bytes_eq sign (codes ",") then Comma else Other))
+sign_of sign =
+    if bytes_eq sign (codes "=") then Equals
+    else (if bytes_eq sign (codes ":") then Colon
+    else (if bytes_eq sign (codes ",") then Comma
+    else Other))
 
 -- what a token of this kind and these bytes is
 abbrev pub part_of_kind : Kind → List ℕ → Part
@@ -44,11 +48,12 @@ abbrev pub number_token : Token → Part → Result ℕ TextFault
 number_token token (Number value) = Ok value
 number_token token part = Err (fault_on token BadLine)
 
--- token n of a line, from 0; a line that ends before it is at fault there
+-- a token that has to be there; a line that ends before it is at fault there
 abbrev pub or_end : Line → Option Token → Result Token TextFault
 or_end line (Some token) = Ok token
 or_end line None = Err (bad_end line)
 
+-- token n of a line, from 0
 abbrev pub token_of : Line → ℕ → Result Token TextFault
 token_of line n = or_end line (slice_get line.tokens n)
 

@@ -14,22 +14,25 @@ use Rattle.mw_asm.specs.Items.{items_of, optional_items}
 use Rattle.mw_asm.specs.Lines.{Line}
 use Rattle.mw_asm.specs.Parts.{spelled, part_of, name_token, equals_token, number_token, token_of, end_of}
 
--- token n of a line has to be a name, "=", a number, or not there
+-- token n of a line, which has to be a name
 abbrev pub name_at : List ℕ → Line → ℕ → Result Token TextFault
 name_at text line n = do
   token ← token_of line n
   name_token token (part_of text token)
 
+-- token n of a line has to be "="
 abbrev pub equals_at : List ℕ → Line → ℕ → Result (Unit {0}) TextFault
 equals_at text line n = do
   token ← token_of line n
   equals_token token (part_of text token)
 
+-- the number that token n of a line has to be
 abbrev pub number_at : List ℕ → Line → ℕ → Result ℕ TextFault
 number_at text line n = do
   token ← token_of line n
   number_token token (part_of text token)
 
+-- the line has to end before token n
 abbrev pub end_at : Line → ℕ → Result (Unit {0}) TextFault
 end_at line n = end_of (slice_get line.tokens n)
 
@@ -73,7 +76,11 @@ unlabelled_of text line = do
 
 -- the keyword of these bytes
 abbrev pub keyword_of : List ℕ → Option Keyword
-keyword_of name = if bytes_eq name (codes "equ") then Some keywords.Equ else (if bytes_eq name (codes "def") then Some keywords.Def else (if bytes_eq name (codes "org") then Some keywords.Org else None))
+keyword_of name =
+    if bytes_eq name (codes "equ") then Some keywords.Equ
+    else (if bytes_eq name (codes "def") then Some keywords.Def
+    else (if bytes_eq name (codes "org") then Some keywords.Org
+    else None))
 
 -- before "=", ":" or "," a keyword is a name as any other
 abbrev pub leaves_keyword : Part → Bool
@@ -87,10 +94,12 @@ abbrev pub keyword_in : List ℕ → List Token → Option Keyword
 keyword_in text (first ∷ second ∷ rest) = if leaves_keyword (part_of text second) then keyword_of (spelled text first) else None
 keyword_in text other = None
 
+-- a name
 abbrev pub is_name : Part → Bool
 is_name parts.Name = true
 is_name part = false
 
+-- ":"
 abbrev pub is_colon : Part → Bool
 is_colon parts.Colon = true
 is_colon part = false
