@@ -23,7 +23,7 @@ use Rattle.mw_asm.specs.FirstPass.{Known, at_first, with_used, with_meaning, wit
 use Rattle.mw_asm.specs.ItemBits.{bits_of}
 use Rattle.mw_asm.specs.Lines.{Line, fault_on}
 use Rattle.mw_asm.specs.Names.{new_name, with_name}
-use Rattle.mw_asm.specs.Parts.{spelled}
+use Rattle.mw_asm.specs.Symbols.{spelled}
 use Rattle.mw_asm.specs.declared.bits.SetBits.{SetBits}
 use Rattle.mw_asm.specs.Statements.{statement_of}
 use Rattle.mw_asm.specs.declared.assembled.Label.{Label}

@@ -22,7 +22,7 @@ use Rattle.mw_asm.specs.ItemBits.{field_named, value_of, field_set, valued_bits,
 use Rattle.mw_asm.specs.Items.{or_fault}
 use Rattle.mw_asm.specs.Lines.{fault_on}
 use Rattle.mw_asm.specs.Names.{Names, with_name, bits_named}
-use Rattle.mw_asm.specs.Parts.{spelled}
+use Rattle.mw_asm.specs.Symbols.{spelled}
 use Rattle.mw_asm.proofs.Fields.{found_within}
 use Rattle.mw_asm.proofs.Shifts.{shifted_below}
 use Rattle.mw_asm.proofs.Steps.{bind_ok}

@@ -17,7 +17,7 @@ use Rattle.mw_asm.specs.Bits.{no_bits}
 use Rattle.mw_asm.specs.ItemBits.{bits_of}
 use Rattle.mw_asm.specs.Lines.{Line, fault_on}
 use Rattle.mw_asm.specs.Names.{Names, no_names, with_name, new_name}
-use Rattle.mw_asm.specs.Parts.{spelled}
+use Rattle.mw_asm.specs.Symbols.{spelled}
 use Rattle.mw_asm.specs.Statements.{statement_of}
 
 -- what is known after some lines: what names stand for, the next word's address, for each address up to the last word's whether a word

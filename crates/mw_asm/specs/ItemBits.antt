@@ -17,7 +17,7 @@ use Rattle.mw_asm.specs.Bits.{field_bits, agree, union}
 use Rattle.mw_asm.specs.Items.{or_fault}
 use Rattle.mw_asm.specs.Lines.{fault_on}
 use Rattle.mw_asm.specs.Names.{Names, number_named, bits_named}
-use Rattle.mw_asm.specs.Parts.{spelled}
+use Rattle.mw_asm.specs.Symbols.{spelled}
 
 -- the field of this name
 unfoldable pub field_named : List NamedField → List ℕ → Option Field

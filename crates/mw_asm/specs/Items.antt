@@ -7,10 +7,10 @@ use Rattle.mw_base.specs.Reading.{◌>>=◌}
 use Rattle.mw_asm.specs.declared.items.Awaits.{Awaits}
 use Rattle.mw_asm.specs.declared.items.Awaits.TheVariants as awaits
 use Rattle.mw_asm.specs.declared.items.Item.{Item}
-use Rattle.mw_asm.specs.declared.part.Part.{Part}
-use Rattle.mw_asm.specs.declared.part.Part.TheVariants.{Name, Number, Equals, Comma}
+use Rattle.mw_asm.specs.declared.symbol.Symbol.{Symbol}
+use Rattle.mw_asm.specs.declared.symbol.Symbol.TheVariants.{Name, Number, Equals, Comma}
 use Rattle.mw_asm.specs.Lines.{Line, fault_on, bad_end}
-use Rattle.mw_asm.specs.Parts.{part_of}
+use Rattle.mw_asm.specs.Symbols.{symbol_of}
 
 -- what there has to be, else this fault
 abbrev pub or_fault : {A : Type 0} → TextFault → Option A → Result A TextFault
@@ -26,12 +26,12 @@ abbrev pub valued : Token → Token → Item
 valued name value = record { name = name; value = Some value }
 
 -- what can follow this token, which is no comma; nothing where it can't stand here
-abbrev pub follow : Awaits → Token → Part → Option Awaits
+abbrev pub follow : Awaits → Token → Symbol → Option Awaits
 follow awaits.Name token Name = Some (awaits.Equals (alone token))
 follow (awaits.Equals item) token Equals = Some (awaits.Value item.name)
 follow (awaits.Value name) token Name = Some (awaits.Comma (valued name token))
 follow (awaits.Value name) token (Number value) = Some (awaits.Comma (valued name token))
-follow other token part = None
+follow other token symbol = None
 
 -- the item that ends here, if one can
 abbrev pub ended : Awaits → Option Item
@@ -45,7 +45,7 @@ with_front front (Ok items) = Ok (front ++ items)
 with_front front (Err fault) = Err fault
 
 -- the items that this token ends, and what can follow it
-abbrev pub passed : Awaits → Token → Part → Result (List Item × Awaits) TextFault
+abbrev pub passed : Awaits → Token → Symbol → Result (List Item × Awaits) TextFault
 passed before token Comma = do
   item ← or_fault (fault_on token BadLine) (ended before)
   Ok (item ∷ [], awaits.Name)
@@ -59,7 +59,7 @@ items_from text line before [] = do
   item ← or_fault (bad_end line) (ended before)
   Ok (item ∷ [])
 items_from text line before (token ∷ rest) = do
-  first ← passed before token (part_of text token)
+  first ← passed before token (symbol_of text token)
   with_front first.0 (items_from text line first.1 rest)
 
 -- the items that these tokens of a line are; there are one or more

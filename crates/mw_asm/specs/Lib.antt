@@ -7,6 +7,6 @@ pub mod Lines
 pub mod Listing
 pub mod Microprogram
 pub mod Names
-pub mod Parts
 pub mod Statements
+pub mod Symbols
 pub mod Views

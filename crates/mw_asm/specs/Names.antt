@@ -11,7 +11,7 @@ use Rattle.mw_asm.specs.declared.names.Meaning.TheVariants.{Number, Bits, Label}
 use Rattle.mw_asm.specs.declared.names.Scope.{Scope}
 use Rattle.mw_asm.specs.declared.names.Scope.TheVariants as scopes
 use Rattle.mw_asm.specs.Lines.{fault_on}
-use Rattle.mw_asm.specs.Parts.{spelled}
+use Rattle.mw_asm.specs.Symbols.{spelled}
 use Rattle.mw_asm.specs.Statements.{keyword_of}
 
 -- what each name stands for, if for anything

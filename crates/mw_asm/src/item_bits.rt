@@ -8,7 +8,7 @@ use crate::bits::{SetBits, power};
 use crate::items::{Item, or_fault};
 use crate::lines::fault_on;
 use crate::names::{Names, Scope, bits_named, number_named};
-use crate::part::spelled;
+use crate::symbol::spelled;
 use mw_base::{Cause, Kind, TextFault, Token};
 use mw_board::{Board, Field, NamedField};
 

@@ -10,9 +10,9 @@ mod lines;
 mod listed;
 mod microprogram;
 mod names;
-mod part;
 mod second_pass;
 mod statement;
+mod symbol;
 
 pub use assembled::{Assembled, Label};
 pub use listed::listing;

@@ -1,13 +1,13 @@
 // What a line says.
 ghost use Rattle.std.specs.Prelude.{◌≡◌, drop};
 ghost use Rattle.mw_base.specs.Reading.{Gives};
-ghost use Rattle.mw_asm.specs.Parts.{token_of};
+ghost use Rattle.mw_asm.specs.Symbols.{token_of};
 ghost use Rattle.mw_asm.specs.Statements.{name_at, equals_at, number_at, end_at, equ_of, def_of, org_of, labelled_of, unlabelled_of, keyword_of, keyword_in, is_labelled, statement_of};
 ghost use Rattle.mw_asm.specs.Views.{line_seen};
 
 use crate::items::{Item, items_of, optional_items};
 use crate::lines::{Line, bad_end, fault_on, or_refused};
-use crate::part::{part_of, spelled};
+use crate::symbol::{spelled, symbol_of};
 use mw_base::{Cause, Items, Refusal, TextFault, Token};
 use std::alloc::Global;
 
@@ -54,7 +54,7 @@ fn name_at(text: &[u8], line: Line, n: usize) -> Result<Token, TextFault>
     ensures { result ≡ name_at text.now (line_seen line.entry) n }
 {
     let token = token_of(line, n)?;
-    part_of(text, token).name(token)
+    symbol_of(text, token).name(token)
 }
 
 /// Token n of a line has to be `=`: cause 36.
@@ -62,7 +62,7 @@ fn equals_at(text: &[u8], line: Line, n: usize) -> Result<(), TextFault>
     ensures { result ≡ equals_at text.now (line_seen line.entry) n }
 {
     let token = token_of(line, n)?;
-    part_of(text, token).equals(token)
+    symbol_of(text, token).equals(token)
 }
 
 /// The number that token n of a line has to be: cause 36.
@@ -70,7 +70,7 @@ fn number_at(text: &[u8], line: Line, n: usize) -> Result<u128, TextFault>
     ensures { result ≡ number_at text.now (line_seen line.entry) n }
 {
     let token = token_of(line, n)?;
-    part_of(text, token).number(token)
+    symbol_of(text, token).number(token)
 }
 
 /// The line has to end before token n: cause 36.
@@ -157,7 +157,7 @@ fn keyword_in(text: &[u8], tokens: &[Token]) -> Option<Keyword>
 {
     match tokens {
         [first, second, ..] => {
-            if part_of(text, *second).leaves_keyword() {
+            if symbol_of(text, *second).leaves_keyword() {
                 keyword_of(spelled(text, *first))
             } else {
                 None
@@ -172,7 +172,8 @@ fn is_labelled(text: &[u8], tokens: &[Token]) -> bool
     ensures { result ≡ is_labelled text.now tokens.now }
 {
     match tokens {
-        [first, second, ..] => part_of(text, *first).is_name() & part_of(text, *second).is_colon(),
+        [first, second, ..] => symbol_of(text, *first).is_name()
+            & symbol_of(text, *second).is_colon(),
         _ => false,
     }
 }

@@ -3,7 +3,7 @@ use Rattle.mw_asm.proofs.items.items_of.Goals as goal
 
 pub returns-in-Err : goal.returns-in-Err
 returns-in-Err c =
-    refused_at c.in-Err.refusal c.loop-token.items.items c.args.text.now _ c.args.tokens.now c.loop-token.token-index _ c.loop-token.awaits c.part_of.result _ c.loop-token-test.true c.part_of.ensures c.in-Err.ensures.refused c.loop-token.invariant
+    refused_at c.in-Err.refusal c.loop-token.items.items c.args.text.now _ c.args.tokens.now c.loop-token.token-index _ c.loop-token.awaits c.symbol_of.result _ c.loop-token-test.true c.symbol_of.ensures c.in-Err.ensures.refused c.loop-token.invariant
 
 pub returns-in_ok-push-in-Some : goal.returns-in_ok-push-in-Some
 returns-in_ok-push-in-Some c =

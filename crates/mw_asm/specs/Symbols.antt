@@ -7,8 +7,8 @@ use Rattle.mw_base.specs.declared.token.Kind.{Kind}
 use Rattle.mw_base.specs.declared.token.Kind.TheVariants as kinds
 use Rattle.mw_base.specs.declared.token.Token.{Token}
 use Rattle.mw_base.specs.Tokens.{slice}
-use Rattle.mw_asm.specs.declared.part.Part.{Part}
-use Rattle.mw_asm.specs.declared.part.Part.TheVariants.{Name, Number, Equals, Colon, Comma, Other}
+use Rattle.mw_asm.specs.declared.symbol.Symbol.{Symbol}
+use Rattle.mw_asm.specs.declared.symbol.Symbol.TheVariants.{Name, Number, Equals, Colon, Comma, Other}
 use Rattle.mw_asm.specs.Lines.{Line, fault_on, bad_end}
 
 -- the bytes of a token
@@ -16,7 +16,7 @@ abbrev pub spelled : List ℕ → Token → List ℕ
 spelled text token = slice text token.start token.end
 
 -- what a sign is
-abbrev pub sign_of : List ℕ → Part
+abbrev pub sign_of : List ℕ → Symbol
 sign_of sign =
     if bytes_eq sign (codes "=") then Equals
     else (if bytes_eq sign (codes ":") then Colon
@@ -24,29 +24,29 @@ sign_of sign =
     else Other))
 
 -- what a token of this kind and these bytes is
-abbrev pub part_of_kind : Kind → List ℕ → Part
-part_of_kind kinds.Name bytes = Name
-part_of_kind (kinds.Number value) bytes = Number value
-part_of_kind kinds.Sign bytes = sign_of bytes
+abbrev pub symbol_of_kind : Kind → List ℕ → Symbol
+symbol_of_kind kinds.Name bytes = Name
+symbol_of_kind (kinds.Number value) bytes = Number value
+symbol_of_kind kinds.Sign bytes = sign_of bytes
 
 -- what a token of a text is
-unfoldable pub part_of : List ℕ → Token → Part
-part_of text token = part_of_kind token.kind (spelled text token)
+unfoldable pub symbol_of : List ℕ → Token → Symbol
+symbol_of text token = symbol_of_kind token.kind (spelled text token)
 
 -- a token that has to be a name
-abbrev pub name_token : Token → Part → Result Token TextFault
+abbrev pub name_token : Token → Symbol → Result Token TextFault
 name_token token Name = Ok token
-name_token token part = Err (fault_on token BadLine)
+name_token token symbol = Err (fault_on token BadLine)
 
 -- one that has to be "="
-abbrev pub equals_token : Token → Part → Result (Unit {0}) TextFault
+abbrev pub equals_token : Token → Symbol → Result (Unit {0}) TextFault
 equals_token token Equals = Ok tt
-equals_token token part = Err (fault_on token BadLine)
+equals_token token symbol = Err (fault_on token BadLine)
 
 -- one that has to be a number
-abbrev pub number_token : Token → Part → Result ℕ TextFault
+abbrev pub number_token : Token → Symbol → Result ℕ TextFault
 number_token token (Number value) = Ok value
-number_token token part = Err (fault_on token BadLine)
+number_token token symbol = Err (fault_on token BadLine)
 
 -- a token that has to be there; a line that ends before it is at fault there
 abbrev pub or_end : Line → Option Token → Result Token TextFault
