@@ -20,7 +20,7 @@ use Rattle.mw_asm.specs.Lines.{lines_with}
 use Rattle.mw_asm.specs.Microprogram.{IsAssembled, filled, second_pass, store_of}
 use Rattle.mw_asm.specs.Names.{Names}
 use Rattle.mw_asm.proofs.Inside.{IsRight, first_pass_right}
-use Rattle.mw_asm.proofs.Steps.{bind_ok}
+use Rattle.mw_asm.proofs.Steps.{bind_ok, ok, ok_is}
 use Rattle.mw_asm.proofs.Widths.{NamesFit, bits_fit, word_fits}
 
 -- a word of so many bits
@@ -32,21 +32,11 @@ record Keeps (bits : ℕ) (before after : List ℕ) : Type 0 where
   fit : All (Below bits) after
   sized : length after ≡ length before
 
--- what was read
-abbrev ok_store : List ℕ → Result (List ℕ) TextFault
-ok_store store = Ok store
-
-abbrev ok_made : Assembled → Result Assembled TextFault
-ok_made made = Ok made
-
-store_is : (store end : List ℕ) → ok_store store ≡ Ok end → store ≡ end
-store_is store end is = cc
-
 second_right : (board : BoardParts) (text : List ℕ) (names : Names) (store end : List ℕ) (words : List Word) → All (IsField board.microword) board.fields → NamesFit board.microword names
     → board.unset < 2 ^ board.microword → All (Below board.microword) store → second_pass board text names store words ≡ Ok end → Keeps board.microword store end
 unfolding second_pass
 second_right board text names store end [] fit named unset below is =
-    let e = store_is store end is in
+    let e = ok_is store end is in
     subst (Keeps board.microword store) e (record { fit = below; sized = refl })
 second_right board text names store end (word ∷ rest) fit named unset below is =
     let one = bind_ok (bits_of board.fields text names scopes.Word no_bits word.items) (λ bits. second_pass board text names (set store word.address (word_of board.unset bits)) rest) end is in
@@ -55,23 +45,20 @@ second_right board text names store end (word ∷ rest) fit named unset below is
     let later = second_right board text names (set store word.address (word_of board.unset one.0)) end rest fit named unset put one.2 in
     record { fit = later.fit; sized = later.sized ∙ length-set store word.address (word_of board.unset one.0) }
 
-made_is : (whole made : Assembled) → ok_made whole ≡ Ok made → whole ≡ made
-made_is whole made is = cc
-
 -- a microprogram of what the two passes leave
 assembled : (board : BoardParts) (known : Known) (words : List ℕ) (made : Assembled) → IsRight board.microword known → Keeps board.microword (filled board.fill known.used) words
-    → ok_made (record { store = record { words = words }; used = known.used; labels = known.labels }) ≡ Ok made → IsAssembled board made
+    → ok (record { store = record { words = words }; used = known.used; labels = known.labels }) ≡ Ok made → IsAssembled board made
 assembled board known words made right kept is =
     let sized : length words ≡ length known.used = kept.sized ∙ length-map known.used (λ (used : Bool). board.fill) in
     let whole : Assembled = record { store = record { words = words }; used = known.used; labels = known.labels } in
     let so : IsAssembled board whole = record { few = omega (arith, sized, right.inside.few); fit = kept.fit; marked = sym sized; low = right.labels } in
-    subst (IsAssembled board) (made_is whole made is) so
+    subst (IsAssembled board) (ok_is whole made is) so
 
 -- what a text spells on a board
 pub store_right : (board : BoardParts) (text : List ℕ) (made : Assembled) → IsBoard board → store_of board text ≡ Ok made → IsAssembled board made
 unfolding store_of
 store_right board text made valid is =
-    let whole = λ (known : Known) (words : List ℕ). ok_made (record { store = record { words = words }; used = known.used; labels = known.labels }) in
+    let whole = λ (known : Known) (words : List ℕ). ok (record { store = record { words = words }; used = known.used; labels = known.labels }) in
     let last = λ (known : Known). second_pass board text known.names (filled board.fill known.used) known.words >>= whole known in
     let one = bind_ok (tokens_of text) (λ tokens. first_pass board.fields text at_first (lines_with 1 (lines_of text) tokens) >>= last) made is in
     let two = bind_ok (first_pass board.fields text at_first (lines_with 1 (lines_of text) one.0)) last made one.2 in

@@ -25,7 +25,7 @@ use Rattle.mw_asm.specs.Names.{Names, with_name, bits_named}
 use Rattle.mw_asm.specs.Symbols.{spelled}
 use Rattle.mw_asm.proofs.Fields.{found_within}
 use Rattle.mw_asm.proofs.Shifts.{shifted_below}
-use Rattle.mw_asm.proofs.Steps.{bind_ok}
+use Rattle.mw_asm.proofs.Steps.{bind_ok, ok_is, if_ok}
 
 -- values within so many bits
 abbrev pub ValueFits : ℕ → SetBits → Type 0
@@ -44,21 +44,10 @@ found : {A : Type 0} (P : A → Type 0) (fault : TextFault) (there : Option A) (
 found P fault (Some y) x is holds = let e : y ≡ x = cc in subst P e holds
 found P fault None x is holds = absurd cc
 
--- bits that were read
-abbrev ok_bits : SetBits → Result SetBits TextFault
-ok_bits bits = Ok bits
-
-bits_are : (bits set : SetBits) → ok_bits bits ≡ Ok set → bits ≡ set
-bits_are bits set is = cc
-
-if_bits : (b : Bool) (bits set : SetBits) (fault : TextFault) → (if b then ok_bits bits else Err fault) ≡ Ok set → (b ≡ true) × (bits ≡ set)
-if_bits true bits set fault is = (refl, cc)
-if_bits false bits set fault is = absurd cc
-
 field_set_fits : (bits : ℕ) (field : Field) (token : Token) (value : ℕ) (set : SetBits) → field.low + field.width ≤ bits → field_set field token value ≡ Ok set → ValueFits bits set
 unfolding field_set
 field_set_fits bits field token value set within is =
-    let e = if_bits (nat_lt value (2 ^ field.width)) (field_bits field value) set (fault_on token ValueTooWide) is in
+    let e = if_ok (nat_lt value (2 ^ field.width)) (field_bits field value) set (fault_on token ValueTooWide) is in
     let below : value < 2 ^ field.width = grind (arith, nat_tests, e.0) in
     subst (ValueFits bits) e.1 (shifted_below value field.width field.low bits below within)
 
@@ -86,14 +75,14 @@ unfolding with_item beside
 with_item_fits bits fields text names scope before set item fit named fits is =
     let one = bind_ok (item_bits fields text names scope item.name item.value) (λ own. beside item.name before own) set is in
     let own = item_fits bits fields text names scope item.name item.value one.0 fit named one.1 in
-    let e = if_bits (agree before one.0) (union before one.0) set (fault_on item.name FieldConflict) one.2 in
+    let e = if_ok (agree before one.0) (union before one.0) set (fault_on item.name FieldConflict) one.2 in
     subst (ValueFits bits) e.1 (or_lt bits before.value one.0.value fits own)
 
 -- the bits that items set
 pub bits_fit : (bits : ℕ) (fields : List NamedField) (text : List ℕ) (names : Names) (scope : Scope) (before set : SetBits) (items : List Item)
     → All (IsField bits) fields → NamesFit bits names → ValueFits bits before → bits_of fields text names scope before items ≡ Ok set → ValueFits bits set
 unfolding bits_of
-bits_fit bits fields text names scope before set [] fit named fits is = let e : before ≡ set = bits_are before set is in subst (ValueFits bits) e fits
+bits_fit bits fields text names scope before set [] fit named fits is = let e : before ≡ set = ok_is before set is in subst (ValueFits bits) e fits
 bits_fit bits fields text names scope before set (item ∷ rest) fit named fits is =
     let one = bind_ok (with_item fields text names scope before item) (λ both. bits_of fields text names scope both rest) set is in
     bits_fit bits fields text names scope one.0 set rest fit named (with_item_fits bits fields text names scope before one.0 item fit named fits one.1) one.2
