@@ -1,6 +1,6 @@
 -- The bits that items set lie within the microword.
 use Rattle.std.proofs.Common.{◌≡◌, ℕ, ◌+◌, ◌^◌, ◌<◌, ◌≤◌, List, [], ◌∷◌, Bool, true, false, cond, Option, Some, None, Result, Ok, Err, refl, subst, arith, nat_lt, IfSome}
-use Rattle.std.specs.Prelude.{if◌then◌else◌, bit_and}
+use Rattle.std.specs.Prelude.{if◌then◌else◌, bit_and, ok_or}
 use Rattle.std.specs.List.{All}
 use Rattle.std.specs.Str.{bytes_eq}
 use Rattle.std.proofs.lemmas.Bool.Decides.{nat_tests}
@@ -19,7 +19,6 @@ use Rattle.mw_asm.specs.declared.names.Meaning.{Meaning}
 use Rattle.mw_asm.specs.declared.names.Scope.{Scope}
 use Rattle.mw_asm.specs.Bits.{field_bits, agree, union, word_of}
 use Rattle.mw_asm.specs.ItemBits.{field_named, value_of, field_set, valued_bits, alone_bits, item_bits, beside, with_item, bits_of}
-use Rattle.mw_asm.specs.Items.{or_fault}
 use Rattle.mw_asm.specs.Lines.{fault_on}
 use Rattle.mw_asm.specs.Names.{Names, with_name, bits_named}
 use Rattle.mw_asm.specs.Symbols.{spelled}
@@ -40,7 +39,7 @@ more_names_fit bits names name meaning fit new = λ other.
     elim (bytes_eq name other) as (λ b. IfSome (bits_named (cond b (Some meaning) (names other))) (ValueFits bits)) [ true ↦ new | false ↦ fit other ]
 
 -- what there was, where it had to be
-found : {A : Type 0} (P : A → Type 0) (fault : TextFault) (there : Option A) (x : A) → or_fault fault there ≡ Ok x → IfSome there P → P x
+found : {A : Type 0} (P : A → Type 0) (fault : TextFault) (there : Option A) (x : A) → ok_or there fault ≡ Ok x → IfSome there P → P x
 found P fault (Some y) x is holds = let e : y ≡ x = cc in subst P e holds
 found P fault None x is holds = absurd cc
 
@@ -55,7 +54,7 @@ valued_fits : (bits : ℕ) (fields : List NamedField) (text : List ℕ) (names :
     → All (IsField bits) fields → valued_bits fields text names scope name token ≡ Ok set → ValueFits bits set
 unfolding valued_bits field_named
 valued_fits bits fields text names scope name token set fit is =
-    let named = or_fault (fault_on name UnknownName) (field_named fields (spelled text name)) in
+    let named = ok_or (field_named fields (spelled text name)) (fault_on name UnknownName) in
     let one = bind_ok named (λ field. value_of text names scope token >>= (λ value. field_set field token value)) set is in
     let two = bind_ok (value_of text names scope token) (λ value. field_set one.0 token value) set one.2 in
     let there = found_within bits fields (λ f. bytes_eq f.name (spelled text name)) fit in

@@ -1,5 +1,5 @@
 -- Items, separated by commas: each is NAME or NAME = VALUE, and VALUE is a number or a name.
-use Rattle.std.specs.Prelude.{ℕ, List, [], ◌∷◌, ◌++◌, Option, Some, None, Result, Ok, Err}
+use Rattle.std.specs.Prelude.{ℕ, List, [], ◌∷◌, ◌++◌, Option, Some, None, ok_or, Result, Ok, Err}
 use Rattle.mw_base.specs.declared.cause.Cause.TheVariants.{BadLine}
 use Rattle.mw_base.specs.declared.refusal.TextFault.{TextFault}
 use Rattle.mw_base.specs.declared.token.Token.{Token}
@@ -11,11 +11,6 @@ use Rattle.mw_asm.specs.declared.symbol.Symbol.{Symbol}
 use Rattle.mw_asm.specs.declared.symbol.Symbol.TheVariants.{Name, Number, Equals, Comma}
 use Rattle.mw_asm.specs.Lines.{Line, fault_on, bad_end}
 use Rattle.mw_asm.specs.Symbols.{symbol_of}
-
--- what there has to be, else this fault
-abbrev pub or_fault : {A : Type 0} → TextFault → Option A → Result A TextFault
-or_fault fault (Some x) = Ok x
-or_fault fault None = Err fault
 
 -- an item that is a name alone
 abbrev pub alone : Token → Item
@@ -47,16 +42,16 @@ with_front front (Err fault) = Err fault
 -- the items that this token ends, and what can follow it
 abbrev pub passed : Awaits → Token → Symbol → Result (List Item × Awaits) TextFault
 passed before token Comma = do
-  item ← or_fault (fault_on token BadLine) (ended before)
+  item ← ok_or (ended before) (fault_on token BadLine)
   Ok (item ∷ [], awaits.Name)
 passed before token other = do
-  next ← or_fault (fault_on token BadLine) (follow before token other)
+  next ← ok_or (follow before token other) (fault_on token BadLine)
   Ok ([], next)
 
 -- the items of the rest of a line
 unfoldable pub items_from : List ℕ → Line → Awaits → List Token → Result (List Item) TextFault
 items_from text line before [] = do
-  item ← or_fault (bad_end line) (ended before)
+  item ← ok_or (ended before) (bad_end line)
   Ok (item ∷ [])
 items_from text line before (token ∷ rest) = do
   first ← passed before token (symbol_of text token)

@@ -1,5 +1,5 @@
 -- What the grammar asks of a token.
-use Rattle.std.specs.Prelude.{ℕ, List, if◌then◌else◌, codes, Option, Some, None, Result, Ok, Err, slice_get}
+use Rattle.std.specs.Prelude.{ℕ, List, if◌then◌else◌, codes, Option, Some, None, ok_or, Result, Ok, Err, slice_get}
 use Rattle.std.specs.Str.{bytes_eq}
 use Rattle.mw_base.specs.declared.cause.Cause.TheVariants.{BadLine}
 use Rattle.mw_base.specs.declared.refusal.TextFault.{TextFault}
@@ -48,14 +48,9 @@ abbrev pub number_token : Token → Symbol → Result ℕ TextFault
 number_token token (Number value) = Ok value
 number_token token symbol = Err (fault_on token BadLine)
 
--- a token that has to be there; a line that ends before it is at fault there
-abbrev pub or_end : Line → Option Token → Result Token TextFault
-or_end line (Some token) = Ok token
-or_end line None = Err (bad_end line)
-
--- token n of a line, from 0
+-- token n of a line, from 0; a line that ends before it is at fault there
 abbrev pub token_of : Line → ℕ → Result Token TextFault
-token_of line n = or_end line (slice_get line.tokens n)
+token_of line n = ok_or (slice_get line.tokens n) (bad_end line)
 
 -- no token, since the line has to end
 abbrev pub end_of : Option Token → Result (Unit {0}) TextFault

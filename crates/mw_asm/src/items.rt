@@ -2,7 +2,7 @@
 ghost use Rattle.std.specs.Prelude.{◌≡◌, List, ◌∷◌, IfOk, IfErr};
 ghost use Rattle.mw_base.specs.declared.token.Token.{Token};
 ghost use Rattle.mw_base.specs.Reading.{Fails, Gives};
-ghost use Rattle.mw_asm.specs.Items.{or_fault, alone, valued, follow, ended, passed, items_from, items_of, optional_items, with_front};
+ghost use Rattle.mw_asm.specs.Items.{alone, valued, follow, ended, passed, items_from, items_of, optional_items, with_front};
 ghost use Rattle.mw_asm.specs.Lines.{Line as SeenLine};
 ghost use Rattle.mw_asm.specs.Symbols.{symbol_of};
 ghost use Rattle.mw_asm.specs.Views.{line_seen};
@@ -32,16 +32,6 @@ pub(crate) enum Awaits {
     Value(Token),
     /// What ends this item.
     Comma(Item),
-}
-
-/// What there has to be, else this fault.
-pub(crate) fn or_fault<T>(there: Option<T>, fault: TextFault) -> Result<T, TextFault>
-    ensures { result ≡ or_fault fault there }
-{
-    match there {
-        Some(x) => Ok(x),
-        None => Err(fault),
-    }
 }
 
 fn alone(name: Token) -> Item

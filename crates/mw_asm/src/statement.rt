@@ -36,10 +36,7 @@ pub(crate) enum Statement {
 fn token_of(line: Line, n: usize) -> Result<Token, TextFault>
     ensures { result ≡ token_of (line_seen line.entry) n }
 {
-    match line.tokens.get(n) {
-        Some(token) => Ok(*token),
-        None => Err(bad_end(line)),
-    }
+    line.tokens.get(n).copied().ok_or(bad_end(line))
 }
 
 /// The tokens of a line from token n on.
