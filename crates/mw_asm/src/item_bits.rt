@@ -140,10 +140,7 @@ pub(crate) fn bits_of(
 {
     let mut bits = SetBits::none();
     for item in items {
-        match with_item(board, text, names, scope, bits, *item) {
-            Ok(both) => bits = both,
-            Err(fault) => return Err(fault),
-        }
+        bits = with_item(board, text, names, scope, bits, *item)?;
     }
     Ok(bits)
 }

@@ -114,10 +114,7 @@ pub(crate) fn items_of(
     let mut items = Vec::new(alloc);
     let mut awaits = Awaits::Name;
     for token in tokens {
-        match pass(&mut items, awaits, *token, symbol_of(text, *token)) {
-            Ok(next) => awaits = next,
-            Err(refusal) => return Err(refusal),
-        }
+        awaits = pass(&mut items, awaits, *token, symbol_of(text, *token))?;
     }
     match awaits.ended() {
         Some(item) => {

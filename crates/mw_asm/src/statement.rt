@@ -6,9 +6,9 @@ ghost use Rattle.mw_asm.specs.Statements.{name_at, equals_at, number_at, end_at,
 ghost use Rattle.mw_asm.specs.Views.{line_seen};
 
 use crate::items::{Item, items_of, optional_items};
-use crate::lines::{Line, bad_end, fault_on, or_refused};
+use crate::lines::{Line, bad_end, fault_on};
 use crate::symbol::{spelled, symbol_of};
-use mw_base::{Cause, Items, Refusal, TextFault, Token};
+use mw_base::{Cause, Items, Refusal, Refused, TextFault, Token};
 use std::alloc::Global;
 
 /// A word that begins a line of its own kind.
@@ -97,8 +97,8 @@ fn equ_of(text: &[u8], line: Line) -> Result<Statement, TextFault>
 fn def_of(alloc: Global, text: &[u8], line: Line) -> Result<Statement, Refusal>
     ensures { Gives (λ s. s) result (def_of text.now (line_seen line.entry)) }
 {
-    let name = or_refused(name_at(text, line, 1))?;
-    or_refused(equals_at(text, line, 2))?;
+    let name = name_at(text, line, 1).map_err(Refused::At)?;
+    equals_at(text, line, 2).map_err(Refused::At)?;
     let items = items_of(alloc, text, line, tokens_from(line, 3))?;
     Ok(Statement::Def(name, items))
 }
@@ -119,7 +119,7 @@ fn org_of(text: &[u8], line: Line) -> Result<Statement, TextFault>
 fn labelled_of(alloc: Global, text: &[u8], line: Line) -> Result<Statement, Refusal>
     ensures { Gives (λ s. s) result (labelled_of text.now (line_seen line.entry)) }
 {
-    let name = or_refused(token_of(line, 0))?;
+    let name = token_of(line, 0).map_err(Refused::At)?;
     let items = optional_items(alloc, text, line, tokens_from(line, 2))?;
     Ok(Statement::Word(Some(name), items))
 }
@@ -181,9 +181,9 @@ pub(crate) fn statement_of(alloc: Global, text: &[u8], line: Line) -> Result<Sta
     ensures { Gives (λ s. s) result (statement_of text.now (line_seen line.entry)) }
 {
     match keyword_in(text, line.tokens) {
-        Some(Keyword::Equ) => or_refused(equ_of(text, line)),
+        Some(Keyword::Equ) => equ_of(text, line).map_err(Refused::At),
         Some(Keyword::Def) => def_of(alloc, text, line),
-        Some(Keyword::Org) => or_refused(org_of(text, line)),
+        Some(Keyword::Org) => org_of(text, line).map_err(Refused::At),
         None => {
             if is_labelled(text, line.tokens) {
                 labelled_of(alloc, text, line)
