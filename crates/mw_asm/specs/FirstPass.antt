@@ -6,6 +6,7 @@ use Rattle.mw_base.specs.declared.token.Token.{Token}
 use Rattle.mw_base.specs.Reading.{◌>>=◌}
 use Rattle.mw_board.specs.declared.field.NamedField.{NamedField}
 use Rattle.mw_asm.specs.declared.assembled.Label.{Label}
+use Rattle.mw_asm.specs.declared.first_pass.TheConstants.{MOST_WORDS}
 use Rattle.mw_asm.specs.declared.first_pass.Word.{Word}
 use Rattle.mw_asm.specs.declared.items.Item.{Item}
 use Rattle.mw_asm.specs.declared.names.Meaning.{Meaning}
@@ -54,7 +55,7 @@ with_def fields text name items known = do
 
 -- org NUMBER
 unfoldable pub with_next : Token → ℕ → Known → Result Known TextFault
-with_next token address known = if nat_lt address 4096 then Ok (record known { next = address }) else Err (fault_on token ValueTooWide)
+with_next token address known = if nat_lt address MOST_WORDS then Ok (record known { next = address }) else Err (fault_on token ValueTooWide)
 
 -- a label of the next word's address
 unfoldable pub with_label : List ℕ → Token → Known → Result Known TextFault
@@ -70,7 +71,7 @@ with_optional_label text (Some name) known = with_label text name known
 -- a word at the next address, whose first item is this one
 unfoldable pub with_word : Token → List Item → Known → Result Known TextFault
 with_word first items known =
-    if nat_le 4096 known.next then Err (fault_on first StoreFull)
+    if nat_le MOST_WORDS known.next then Err (fault_on first StoreFull)
     else (if slice_index_or known.used known.next false then Err (fault_on first Overlap)
     else Ok (record known {
       next = known.next + 1;

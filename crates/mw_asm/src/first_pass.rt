@@ -48,7 +48,7 @@ pub(crate) struct Known<'a> {
 /// Notes that a word stands at this address.
 #[tactic(auto, unfolding(crate::specs::FirstPass::with_used))]
 fn mark_used(used: &mut Vec<bool>, address: usize) -> Result<(), NoMemory>
-    requires { address < 4096 }
+    requires { address < MOST_WORDS }
     ensures { OnOk result (used.new.items ≡ with_used used.old.items address) }
 {
     if address < used.len() {
