@@ -1,5 +1,5 @@
 -- The field that a search finds among those of a board.
-use Rattle.std.proofs.Common.{ℕ, ◌+◌, ◌≤◌, Option, List, [], ◌∷◌, Bool, true, false, cond, Some, None, arith, IfSome}
+use Rattle.std.proofs.Common.{ℕ, ◌+◌, ◌≤◌, List, [], ◌∷◌, Bool, true, false, cond, Some, arith, IfSome}
 use Rattle.std.specs.List.{All, find}
 use Rattle.std.specs.Option.{option_map}
 use Rattle.std.proofs.lemmas.List.Elements.{All-head, All-tail, All-weaker}

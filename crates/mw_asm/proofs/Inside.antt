@@ -1,5 +1,5 @@
 -- Each word to be made has a place in the store, which has at most 4,096 of them.
-use Rattle.std.proofs.Common.{◌≡◌, ℕ, ◌+◌, ◌-◌, ◌<◌, ◌≤◌, List, [], ◌∷◌, ◌++◌, Bool, true, false, Option, Some, None, Result, Ok, Err, refl, subst, IfSome, arith, length, replicate, set, nat_lt, nat_le, length-append}
+use Rattle.std.proofs.Common.{◌≡◌, ℕ, ◌+◌, ◌-◌, ◌<◌, ◌≤◌, List, [], ◌∷◌, ◌++◌, Bool, true, false, Option, Some, None, Ok, Err, refl, subst, IfSome, arith, length, replicate, set, nat_lt, nat_le, length-append}
 use Rattle.std.specs.Prelude.{if◌then◌else◌, slice_index_or}
 use Rattle.std.specs.List.{All}
 use Rattle.std.proofs.lemmas.Bool.Decides.{nat_tests}
@@ -29,7 +29,7 @@ use Rattle.mw_asm.specs.Statements.{statement_of}
 use Rattle.mw_asm.specs.declared.assembled.Label.{Label}
 use Rattle.std.proofs.lemmas.Nat.{pow_pos}
 use Rattle.mw_asm.specs.Names.{bits_named}
-use Rattle.mw_asm.proofs.Steps.{bind_ok, ok, ok_is, if_ok}
+use Rattle.mw_asm.proofs.Steps.{bind_ok, ok, ok_is, if_ok, steps_keep}
 use Rattle.mw_asm.proofs.Widths.{ValueFits, NamesFit, more_names_fit, bits_fit}
 
 -- the word has a place among so many
@@ -154,14 +154,8 @@ line_right bits fields text known next line fit is right =
     let two = bind_ok (statement_of text line) (λ statement. with_statement fields text known statement) next is in
     statement_right bits fields text known next two.0 fit two.2 right
 
-all_right : (bits : ℕ) (fields : List NamedField) (text : List ℕ) (known end : Known) (lines : List Line) → All (IsField bits) fields → first_pass fields text known lines ≡ Ok end → IsRight bits known → IsRight bits end
-unfolding first_pass
-all_right bits fields text known end [] fit is right = subst (IsRight bits) (ok_is known end is) right
-all_right bits fields text known end (line ∷ rest) fit is right =
-    let two = bind_ok (with_line fields text known line) (λ next. first_pass fields text next rest) end is in
-    all_right bits fields text two.0 end rest fit two.2 (line_right bits fields text known two.0 line fit two.1 right)
-
 -- after the first pass
 pub first_pass_right : (bits : ℕ) (fields : List NamedField) (text : List ℕ) (end : Known) (lines : List Line) → All (IsField bits) fields → first_pass fields text at_first lines ≡ Ok end → IsRight bits end
 first_pass_right bits fields text end lines fit is =
-    all_right bits fields text at_first end lines fit is (record { inside = record { few = omega arith; each = All-nil (HasPlace []) }; low = omega arith; labels = All-nil IsLow; named = λ name. tt })
+    let keeps = λ (known next : Known) (line : Line) (adds : with_line fields text known line ≡ Ok next) (right : IsRight bits known). line_right bits fields text known next line fit adds right in
+    steps_keep (IsRight bits) (with_line fields text) keeps at_first end lines is (record { inside = record { few = omega arith; each = All-nil (HasPlace []) }; low = omega arith; labels = All-nil IsLow; named = λ name. tt })

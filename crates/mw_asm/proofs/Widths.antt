@@ -1,5 +1,5 @@
 -- The bits that items set lie within the microword.
-use Rattle.std.proofs.Common.{◌≡◌, ℕ, ◌+◌, ◌^◌, ◌<◌, ◌≤◌, List, [], ◌∷◌, Bool, true, false, cond, Option, Some, None, Result, Ok, Err, refl, subst, arith, nat_lt, IfSome}
+use Rattle.std.proofs.Common.{◌≡◌, ℕ, ◌+◌, ◌^◌, ◌<◌, ◌≤◌, List, true, false, cond, Option, Some, None, Ok, subst, arith, nat_lt, IfSome}
 use Rattle.std.specs.Prelude.{if◌then◌else◌, bit_and, ok_or}
 use Rattle.std.specs.List.{All}
 use Rattle.std.specs.Str.{bytes_eq}
@@ -24,7 +24,7 @@ use Rattle.mw_asm.specs.Names.{Names, with_name, bits_named}
 use Rattle.mw_asm.specs.Symbols.{spelled}
 use Rattle.mw_asm.proofs.Fields.{found_within}
 use Rattle.mw_asm.proofs.Shifts.{shifted_below}
-use Rattle.mw_asm.proofs.Steps.{bind_ok, ok_is, if_ok}
+use Rattle.mw_asm.proofs.Steps.{bind_ok, if_ok, steps_keep}
 
 -- values within so many bits
 abbrev pub ValueFits : ℕ → SetBits → Type 0
@@ -80,11 +80,9 @@ with_item_fits bits fields text names scope before set item fit named fits is =
 -- the bits that items set
 pub bits_fit : (bits : ℕ) (fields : List NamedField) (text : List ℕ) (names : Names) (scope : Scope) (before set : SetBits) (items : List Item)
     → All (IsField bits) fields → NamesFit bits names → ValueFits bits before → bits_of fields text names scope before items ≡ Ok set → ValueFits bits set
-unfolding bits_of
-bits_fit bits fields text names scope before set [] fit named fits is = let e : before ≡ set = ok_is before set is in subst (ValueFits bits) e fits
-bits_fit bits fields text names scope before set (item ∷ rest) fit named fits is =
-    let one = bind_ok (with_item fields text names scope before item) (λ both. bits_of fields text names scope both rest) set is in
-    bits_fit bits fields text names scope one.0 set rest fit named (with_item_fits bits fields text names scope before one.0 item fit named fits one.1) one.2
+bits_fit bits fields text names scope before set items fit named fits is =
+    let keeps = λ (one next : SetBits) (item : Item) (adds : with_item fields text names scope one item ≡ Ok next) (kept : ValueFits bits one). with_item_fits bits fields text names scope one next item fit named kept adds in
+    steps_keep (ValueFits bits) (with_item fields text names scope) keeps before set items is fits
 
 -- a word of bits within the microword
 pub word_fits : (bits unset : ℕ) (set : SetBits) → unset < 2 ^ bits → ValueFits bits set → word_of unset set < 2 ^ bits

@@ -20,6 +20,7 @@ use Rattle.mw_asm.specs.Lines.{Line, fault_on}
 use Rattle.mw_asm.specs.Names.{Names, no_names, with_name, new_name}
 use Rattle.mw_asm.specs.Symbols.{spelled}
 use Rattle.mw_asm.specs.Statements.{statement_of}
+use Rattle.mw_asm.specs.Steps.{steps}
 
 -- what is known after some lines: what names stand for, the next word's address, for each address up to the last word's whether a word
 -- stands there, the words to be made and the labels, both in file order
@@ -100,8 +101,5 @@ with_line fields text known line = do
   with_statement fields text known statement
 
 -- what is known after lines, or the first fault of the first pass
-unfoldable pub first_pass : List NamedField → List ℕ → Known → List Line → Result Known TextFault
-first_pass fields text known [] = Ok known
-first_pass fields text known (line ∷ rest) = do
-  next ← with_line fields text known line
-  first_pass fields text next rest
+abbrev pub first_pass : List NamedField → List ℕ → Known → List Line → Result Known TextFault
+first_pass fields text known lines = steps (with_line fields text) known lines

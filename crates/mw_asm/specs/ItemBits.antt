@@ -1,5 +1,5 @@
 -- The bits that items set.
-use Rattle.std.specs.Prelude.{ℕ, ◌+◌, ◌^◌, ◌≤◌, List, [], ◌∷◌, if◌then◌else◌, nat_lt, option_map, Option, Some, None, ok_or, Result, Ok, Err}
+use Rattle.std.specs.Prelude.{ℕ, ◌+◌, ◌^◌, ◌≤◌, List, if◌then◌else◌, nat_lt, option_map, Option, Some, None, ok_or, Result, Ok, Err}
 use Rattle.std.specs.List.{find}
 use Rattle.std.specs.Str.{bytes_eq}
 use Rattle.mw_base.specs.declared.cause.Cause.TheVariants.{UnknownName, FieldConflict, ValueTooWide}
@@ -16,6 +16,7 @@ use Rattle.mw_asm.specs.declared.names.Scope.{Scope}
 use Rattle.mw_asm.specs.Bits.{field_bits, agree, union}
 use Rattle.mw_asm.specs.Lines.{fault_on}
 use Rattle.mw_asm.specs.Names.{Names, number_named, bits_named}
+use Rattle.mw_asm.specs.Steps.{steps}
 use Rattle.mw_asm.specs.Symbols.{spelled}
 
 -- the field of this name
@@ -62,11 +63,8 @@ with_item fields text names scope before item = do
   beside item.name before bits
 
 -- the bits that items set beside those before them
-unfoldable pub bits_of : List NamedField → List ℕ → Names → Scope → SetBits → List Item → Result SetBits TextFault
-bits_of fields text names scope before [] = Ok before
-bits_of fields text names scope before (item ∷ rest) = do
-  both ← with_item fields text names scope before item
-  bits_of fields text names scope both rest
+abbrev pub bits_of : List NamedField → List ℕ → Names → Scope → SetBits → List Item → Result SetBits TextFault
+bits_of fields text names scope before items = steps (with_item fields text names scope) before items
 
 -- a field that stands in a microword of at most 128 bits
 pub record FitsWord (field : Field) : Type 0 where

@@ -8,5 +8,6 @@ pub mod Listing
 pub mod Microprogram
 pub mod Names
 pub mod Statements
+pub mod Steps
 pub mod Symbols
 pub mod Views
