@@ -1,5 +1,5 @@
 -- Each word to be made has a place in the store, which has at most 4,096 of them.
-use Rattle.std.proofs.Common.{◌≡◌, ℕ, ◌+◌, ◌-◌, ◌<◌, ◌≤◌, List, [], ◌∷◌, ◌++◌, Bool, true, false, Option, Some, None, Result, Ok, Err, refl, subst, IfSome, arith, length, replicate, set, nat_lt, nat_le, length-append}
+use Rattle.std.proofs.Common.{◌≡◌, ℕ, ◌+◌, ◌-◌, ◌<◌, ◌≤◌, List, [], ◌∷◌, ◌++◌, Bool, true, false, Option, Some, None, Ok, Err, refl, subst, IfSome, arith, length, replicate, set, nat_lt, nat_le, length-append}
 use Rattle.std.specs.Prelude.{if◌then◌else◌, slice_index_or}
 use Rattle.std.specs.List.{All}
 use Rattle.std.proofs.lemmas.Bool.Decides.{nat_tests}
@@ -10,6 +10,7 @@ use Rattle.mw_base.specs.declared.cause.Cause.TheVariants.{ValueTooWide, StoreFu
 use Rattle.mw_base.specs.declared.token.Token.{Token}
 use Rattle.mw_base.specs.Reading.{◌>>=◌}
 use Rattle.mw_board.specs.declared.field.NamedField.{NamedField}
+use Rattle.mw_board.specs.Valid.{IsField}
 use Rattle.mw_asm.specs.declared.first_pass.Word.{Word}
 use Rattle.mw_asm.specs.declared.items.Item.{Item}
 use Rattle.mw_asm.specs.declared.names.Meaning.{Meaning}
@@ -22,14 +23,13 @@ use Rattle.mw_asm.specs.FirstPass.{Known, at_first, with_used, with_meaning, wit
 use Rattle.mw_asm.specs.ItemBits.{bits_of}
 use Rattle.mw_asm.specs.Lines.{Line, fault_on}
 use Rattle.mw_asm.specs.Names.{new_name, with_name}
-use Rattle.mw_asm.specs.Parts.{spelled}
+use Rattle.mw_asm.specs.Symbols.{spelled}
 use Rattle.mw_asm.specs.declared.bits.SetBits.{SetBits}
 use Rattle.mw_asm.specs.Statements.{statement_of}
 use Rattle.mw_asm.specs.declared.assembled.Label.{Label}
 use Rattle.std.proofs.lemmas.Nat.{pow_pos}
 use Rattle.mw_asm.specs.Names.{bits_named}
-use Rattle.mw_asm.proofs.Fields.{FieldsFit}
-use Rattle.mw_asm.proofs.Steps.{bind_ok}
+use Rattle.mw_asm.proofs.Steps.{bind_ok, ok, ok_is, if_ok, steps_keep}
 use Rattle.mw_asm.proofs.Widths.{ValueFits, NamesFit, more_names_fit, bits_fit}
 
 -- the word has a place among so many
@@ -82,34 +82,22 @@ pushed used words word inside low =
       each = All-push (HasPlace (with_used used word.address)) words word (All-weaker (HasPlace used) (HasPlace (with_used used word.address)) (λ w h. omega (arith, more.grows, h)) words inside.each) more.has;
     }
 
--- a value read
-abbrev ok_known : Known → Result Known TextFault
-ok_known known = Ok known
-
-known_is : (known next : Known) → ok_known known ≡ Ok next → known ≡ next
-known_is known next is = cc
-
 meaning_right : (bits : ℕ) (text : List ℕ) (name : Token) (meaning : Meaning) (known next : Known) → IfSome (bits_named (Some meaning)) (ValueFits bits) → with_meaning text name meaning known ≡ Ok next → IsRight bits known → IsRight bits next
 unfolding with_meaning
 meaning_right bits text name meaning known next fits is right =
-    let last = bind_ok (new_name text known.names name) (λ done. ok_known (record known { names = with_name known.names (spelled text name) meaning })) next is in
-    let e = known_is (record known { names = with_name known.names (spelled text name) meaning }) next last.2 in
+    let last = bind_ok (new_name text known.names name) (λ done. ok (record known { names = with_name known.names (spelled text name) meaning })) next is in
+    let e = ok_is (record known { names = with_name known.names (spelled text name) meaning }) next last.2 in
     subst (IsRight bits) e (record { inside = right.inside; low = right.low; labels = right.labels; named = more_names_fit bits known.names (spelled text name) meaning right.named fits })
 
-def_right : (bits : ℕ) (fields : List NamedField) (text : List ℕ) (name : Token) (items : List Item) (known next : Known) → FieldsFit bits fields → with_def fields text name items known ≡ Ok next → IsRight bits known → IsRight bits next
+def_right : (bits : ℕ) (fields : List NamedField) (text : List ℕ) (name : Token) (items : List Item) (known next : Known) → All (IsField bits) fields → with_def fields text name items known ≡ Ok next → IsRight bits known → IsRight bits next
 unfolding with_def
 def_right bits fields text name items known next fit is right =
-    let later = λ (set : SetBits). ok_known (record known { names = with_name known.names (spelled text name) (meanings.Bits set) }) in
+    let later = λ (set : SetBits). ok (record known { names = with_name known.names (spelled text name) (meanings.Bits set) }) in
     let first = bind_ok (new_name text known.names name) (λ done. bits_of fields text known.names scopes.Def no_bits items >>= later) next is in
     let last = bind_ok (bits_of fields text known.names scopes.Def no_bits items) later next first.2 in
-    let e = known_is (record known { names = with_name known.names (spelled text name) (meanings.Bits last.0) }) next last.2 in
+    let e = ok_is (record known { names = with_name known.names (spelled text name) (meanings.Bits last.0) }) next last.2 in
     let fits = bits_fit bits fields text known.names scopes.Def no_bits last.0 items fit right.named (pow_pos bits) last.1 in
     subst (IsRight bits) e (record { inside = right.inside; low = right.low; labels = right.labels; named = more_names_fit bits known.names (spelled text name) (meanings.Bits last.0) right.named fits })
-
--- of two answers, one a fault, the value is the other
-if_ok : (b : Bool) (known next : Known) (fault : TextFault) → (if b then ok_known known else Err fault) ≡ Ok next → (b ≡ true) × (known ≡ next)
-if_ok true known next fault is = (refl, known_is known next is)
-if_ok false known next fault is = absurd cc
 
 next_right : (bits : ℕ) (token : Token) (address : ℕ) (known next : Known) → with_next token address known ≡ Ok next → IsRight bits known → IsRight bits next
 unfolding with_next
@@ -121,23 +109,23 @@ next_right bits token address known next is right =
 label_right : (bits : ℕ) (text : List ℕ) (name : Token) (known next : Known) → with_label text name known ≡ Ok next → IsRight bits known → IsRight bits next
 unfolding with_label
 label_right bits text name known next is right =
-    let later = λ (more : Known). ok_known (record more { labels = more.labels ++ (record { name = spelled text name; address = more.next } ∷ []) }) in
+    let later = λ (more : Known). ok (record more { labels = more.labels ++ (record { name = spelled text name; address = more.next } ∷ []) }) in
     let last = bind_ok (with_meaning text name (meanings.Label known.next) known) later next is in
     let more = last.0 in
     let label : Label = record { name = spelled text name; address = more.next } in
-    let e = known_is (record more { labels = more.labels ++ (label ∷ []) }) next last.2 in
+    let e = ok_is (record more { labels = more.labels ++ (label ∷ []) }) next last.2 in
     let was = meaning_right bits text name (meanings.Label known.next) known more tt last.1 right in
     subst (IsRight bits) e (record { inside = was.inside; low = was.low; labels = All-push IsLow more.labels label was.labels was.low; named = was.named })
 
 optional_label_right : (bits : ℕ) (text : List ℕ) (name : Option Token) (known next : Known) → with_optional_label text name known ≡ Ok next → IsRight bits known → IsRight bits next
-optional_label_right bits text None known next is right = subst (IsRight bits) (known_is known next is) right
+optional_label_right bits text None known next is right = subst (IsRight bits) (ok_is known next is) right
 optional_label_right bits text (Some name) known next is right = label_right bits text name known next is right
 
 -- after two tests, of which each may give a fault
-after_tests : (full there : Bool) (known next : Known) (first second : TextFault) → (if full then Err first else (if there then Err second else ok_known known)) ≡ Ok next → (full ≡ false) × (known ≡ next)
+after_tests : (full there : Bool) (known next : Known) (first second : TextFault) → (if full then Err first else (if there then Err second else ok known)) ≡ Ok next → (full ≡ false) × (known ≡ next)
 after_tests true there known next first second is = absurd cc
 after_tests false true known next first second is = absurd cc
-after_tests false false known next first second is = (refl, known_is known next is)
+after_tests false false known next first second is = (refl, ok_is known next is)
 
 word_right : (bits : ℕ) (first : Token) (items : List Item) (known next : Known) → with_word first items known ≡ Ok next → IsRight bits known → IsRight bits next
 unfolding with_word
@@ -149,10 +137,10 @@ word_right bits first items known next is right =
     subst (IsRight bits) e.1 (record { inside = pushed known.used known.words word right.inside low; low = omega (arith, low); labels = right.labels; named = right.named })
 
 optional_word_right : (bits : ℕ) (items : List Item) (known next : Known) → with_optional_word items known ≡ Ok next → IsRight bits known → IsRight bits next
-optional_word_right bits [] known next is right = subst (IsRight bits) (known_is known next is) right
+optional_word_right bits [] known next is right = subst (IsRight bits) (ok_is known next is) right
 optional_word_right bits (first ∷ rest) known next is right = word_right bits first.name (first ∷ rest) known next is right
 
-statement_right : (bits : ℕ) (fields : List NamedField) (text : List ℕ) (known next : Known) (statement : Statement) → FieldsFit bits fields → with_statement fields text known statement ≡ Ok next → IsRight bits known → IsRight bits next
+statement_right : (bits : ℕ) (fields : List NamedField) (text : List ℕ) (known next : Known) (statement : Statement) → All (IsField bits) fields → with_statement fields text known statement ≡ Ok next → IsRight bits known → IsRight bits next
 statement_right bits fields text known next (statements.Equ name value) fit is right = meaning_right bits text name (meanings.Number value) known next tt is right
 statement_right bits fields text known next (statements.Def name items) fit is right = def_right bits fields text name items known next fit is right
 statement_right bits fields text known next (statements.Org token address) fit is right = next_right bits token address known next is right
@@ -160,20 +148,14 @@ statement_right bits fields text known next (statements.Word label items) fit is
     let two = bind_ok (with_optional_label text label known) (λ labelled. with_optional_word items labelled) next is in
     optional_word_right bits items two.0 next two.2 (optional_label_right bits text label known two.0 two.1 right)
 
-line_right : (bits : ℕ) (fields : List NamedField) (text : List ℕ) (known next : Known) (line : Line) → FieldsFit bits fields → with_line fields text known line ≡ Ok next → IsRight bits known → IsRight bits next
+line_right : (bits : ℕ) (fields : List NamedField) (text : List ℕ) (known next : Known) (line : Line) → All (IsField bits) fields → with_line fields text known line ≡ Ok next → IsRight bits known → IsRight bits next
 unfolding with_line
 line_right bits fields text known next line fit is right =
     let two = bind_ok (statement_of text line) (λ statement. with_statement fields text known statement) next is in
     statement_right bits fields text known next two.0 fit two.2 right
 
-all_right : (bits : ℕ) (fields : List NamedField) (text : List ℕ) (known end : Known) (lines : List Line) → FieldsFit bits fields → first_pass fields text known lines ≡ Ok end → IsRight bits known → IsRight bits end
-unfolding first_pass
-all_right bits fields text known end [] fit is right = subst (IsRight bits) (known_is known end is) right
-all_right bits fields text known end (line ∷ rest) fit is right =
-    let two = bind_ok (with_line fields text known line) (λ next. first_pass fields text next rest) end is in
-    all_right bits fields text two.0 end rest fit two.2 (line_right bits fields text known two.0 line fit two.1 right)
-
 -- after the first pass
-pub first_pass_right : (bits : ℕ) (fields : List NamedField) (text : List ℕ) (end : Known) (lines : List Line) → FieldsFit bits fields → first_pass fields text at_first lines ≡ Ok end → IsRight bits end
+pub first_pass_right : (bits : ℕ) (fields : List NamedField) (text : List ℕ) (end : Known) (lines : List Line) → All (IsField bits) fields → first_pass fields text at_first lines ≡ Ok end → IsRight bits end
 first_pass_right bits fields text end lines fit is =
-    all_right bits fields text at_first end lines fit is (record { inside = record { few = omega arith; each = All-nil (HasPlace []) }; low = omega arith; labels = All-nil IsLow; named = λ name. tt })
+    let keeps = λ (known next : Known) (line : Line) (adds : with_line fields text known line ≡ Ok next) (right : IsRight bits known). line_right bits fields text known next line fit adds right in
+    steps_keep (IsRight bits) (with_line fields text) keeps at_first end lines is (record { inside = record { few = omega arith; each = All-nil (HasPlace []) }; low = omega arith; labels = All-nil IsLow; named = λ name. tt })

@@ -1,5 +1,4 @@
 pub mod Addresses
-pub mod BitSteps
 pub mod Fields
 pub mod Inside
 pub mod ItemSteps

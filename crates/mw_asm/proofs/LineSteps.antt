@@ -15,6 +15,7 @@ use Rattle.mw_base.specs.Tokens.{fault_at, both, of_long_line, tokens_from, line
 use Rattle.mw_board.specs.declared.field.NamedField.{NamedField}
 use Rattle.mw_asm.specs.FirstPass.{Known, with_line, first_pass}
 use Rattle.mw_asm.specs.Lines.{count_in, line_with, lines_with, AreShort}
+use Rattle.mw_asm.specs.Steps.{steps}
 
 -- what is left of a list from a place on
 abbrev pub rest_of : {A : Type 0} → List A → ℕ → List A
@@ -34,7 +35,7 @@ pub goes_on : (fields : List NamedField) (text : List ℕ) (known next : Known) 
     → lines_of (rest_of text start) ≡ line ∷ lines_of (drop (length line) (rest_of text start)) → with_line fields text known (line_with number line rest) ≡ Ok next
     → first_pass fields text known (lines_with number (lines_of (drop start text)) rest) ≡ total
     → first_pass fields text next (lines_with (number + 1) (lines_of (drop (start + length line) text)) (drop (count_in number rest) rest)) ≡ total
-unfolding first_pass lines_with
+unfolding steps lines_with
 goes_on fields text known next number start line rest total first adds so_far =
     let one : first_pass fields text known (lines_with number (lines_of (drop start text)) rest) ≡ first_pass fields text next (lines_with (number + 1) (lines_of (drop (start + length line) text)) (drop (count_in number rest) rest)) =
     rw (lines_left text line start first, adds) refl in
@@ -44,7 +45,7 @@ goes_on fields text known next number start line rest total first adds so_far =
 pub fails : (refusal : Refused TextFault) (fields : List NamedField) (text : List ℕ) (known : Known) (number start : ℕ) (line : List ℕ) (rest : List Token) (total : Result Known TextFault)
     → lines_of (rest_of text start) ≡ line ∷ lines_of (drop (length line) (rest_of text start)) → Fails refusal (with_line fields text known (line_with number line rest))
     → first_pass fields text known (lines_with number (lines_of (drop start text)) rest) ≡ total → Fails refusal total
-unfolding first_pass lines_with
+unfolding steps lines_with
 fails NoMemory fields text known number start line rest total first faulty so_far = tt
 fails (At fault) fields text known number start line rest total first faulty so_far =
     let one : first_pass fields text known (lines_with number (lines_of (drop start text)) rest) ≡ Err fault = rw (lines_left text line start first, faulty) refl in
@@ -53,7 +54,7 @@ fails (At fault) fields text known number start line rest total first faulty so_
 -- no line more
 pub done : (fields : List NamedField) (text : List ℕ) (known : Known) (number start : ℕ) (rest : List Token) (total : Result Known TextFault)
     → length text ≤ start → first_pass fields text known (lines_with number (lines_of (drop start text)) rest) ≡ total → total ≡ Ok known
-unfolding first_pass lines_with lines_of
+unfolding steps lines_with lines_of
 done fields text known number start rest total past so_far =
     let one : first_pass fields text known (lines_with number (lines_of (drop start text)) rest) ≡ Ok known = rw (drop_all start text past) refl in
     sym so_far ∙ one

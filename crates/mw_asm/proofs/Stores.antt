@@ -1,15 +1,14 @@
 -- What is so of every assembled microprogram.
-use Rattle.std.proofs.Common.{◌≡◌, ℕ, ◌^◌, ◌<◌, List, [], ◌∷◌, Bool, Result, Ok, refl, sym, ◌∙◌, subst, arith, length, set}
+use Rattle.std.proofs.Common.{◌≡◌, ℕ, ◌^◌, ◌<◌, List, Bool, Ok, refl, sym, ◌∙◌, subst, arith, length, set}
 use Rattle.std.specs.List.{All}
 use Rattle.std.proofs.lemmas.List.{length-set, length-map}
 use Rattle.std.proofs.lemmas.List.Elements.{All-set, All-map}
 use Rattle.std.proofs.lemmas.Nat.{pow_pos}
-use Rattle.mw_base.specs.declared.refusal.TextFault.{TextFault}
 use Rattle.mw_base.specs.Lines.{lines_of}
 use Rattle.mw_base.specs.Reading.{◌>>=◌}
 use Rattle.mw_base.specs.Tokens.{tokens_of}
 use Rattle.mw_board.specs.declared.parts.BoardParts.{BoardParts}
-use Rattle.mw_board.specs.Check.{check_of}
+use Rattle.mw_board.specs.Valid.{IsBoard}
 use Rattle.mw_asm.specs.declared.assembled.Assembled.{Assembled}
 use Rattle.mw_asm.specs.declared.first_pass.Word.{Word}
 use Rattle.mw_asm.specs.declared.names.Scope.TheVariants as scopes
@@ -17,11 +16,10 @@ use Rattle.mw_asm.specs.Bits.{no_bits, word_of}
 use Rattle.mw_asm.specs.FirstPass.{Known, at_first, first_pass}
 use Rattle.mw_asm.specs.ItemBits.{bits_of}
 use Rattle.mw_asm.specs.Lines.{lines_with}
-use Rattle.mw_asm.specs.Microprogram.{IsAssembled, filled, second_pass, store_of}
+use Rattle.mw_asm.specs.Microprogram.{IsAssembled, filled, with_made, second_pass, store_of}
 use Rattle.mw_asm.specs.Names.{Names}
-use Rattle.mw_asm.proofs.Fields.{FieldsFit, fields_fit, sizes_hold, words_fit}
 use Rattle.mw_asm.proofs.Inside.{IsRight, first_pass_right}
-use Rattle.mw_asm.proofs.Steps.{bind_ok}
+use Rattle.mw_asm.proofs.Steps.{bind_ok, ok, ok_is, steps_keep}
 use Rattle.mw_asm.proofs.Widths.{NamesFit, bits_fit, word_fits}
 
 -- a word of so many bits
@@ -33,54 +31,38 @@ record Keeps (bits : ℕ) (before after : List ℕ) : Type 0 where
   fit : All (Below bits) after
   sized : length after ≡ length before
 
--- what was read
-abbrev ok_store : List ℕ → Result (List ℕ) TextFault
-ok_store store = Ok store
-
-abbrev ok_made : Assembled → Result Assembled TextFault
-ok_made made = Ok made
-
-store_is : (store end : List ℕ) → ok_store store ≡ Ok end → store ≡ end
-store_is store end is = cc
-
-second_right : (board : BoardParts) (text : List ℕ) (names : Names) (store end : List ℕ) (words : List Word) → FieldsFit board.microword board.fields → NamesFit board.microword names
-    → board.unset < 2 ^ board.microword → All (Below board.microword) store → second_pass board text names store words ≡ Ok end → Keeps board.microword store end
-unfolding second_pass
-second_right board text names store end [] fit named unset below is =
-    let e = store_is store end is in
-    subst (Keeps board.microword store) e (record { fit = below; sized = refl })
-second_right board text names store end (word ∷ rest) fit named unset below is =
-    let one = bind_ok (bits_of board.fields text names scopes.Word no_bits word.items) (λ bits. second_pass board text names (set store word.address (word_of board.unset bits)) rest) end is in
-    let made = word_fits board.microword board.unset one.0 unset (bits_fit board.microword board.fields text names scopes.Word no_bits one.0 word.items fit named (pow_pos board.microword) one.1) in
-    let put = All-set (Below board.microword) store word.address (word_of board.unset one.0) made below in
-    let later = second_right board text names (set store word.address (word_of board.unset one.0)) end rest fit named unset put one.2 in
-    record { fit = later.fit; sized = later.sized ∙ length-set store word.address (word_of board.unset one.0) }
-
-made_is : (whole made : Assembled) → ok_made whole ≡ Ok made → whole ≡ made
-made_is whole made is = cc
+made_right : (board : BoardParts) (text : List ℕ) (names : Names) (first store next : List ℕ) (word : Word) → IsBoard board → NamesFit board.microword names
+    → with_made board text names store word ≡ Ok next → Keeps board.microword first store → Keeps board.microword first next
+unfolding with_made
+made_right board text names first store next word valid named is kept =
+    let one = bind_ok (bits_of board.fields text names scopes.Word no_bits word.items) (λ bits. ok (set store word.address (word_of board.unset bits))) next is in
+    let fits = bits_fit board.microword board.fields text names scopes.Word no_bits one.0 word.items valid.fields named (pow_pos board.microword) one.1 in
+    let made = word_fits board.microword board.unset one.0 valid.sizes.unset fits in
+    let put = All-set (Below board.microword) store word.address (word_of board.unset one.0) made kept.fit in
+    subst (Keeps board.microword first) (ok_is (set store word.address (word_of board.unset one.0)) next one.2) (record { fit = put; sized = length-set store word.address (word_of board.unset one.0) ∙ kept.sized })
 
 -- a microprogram of what the two passes leave
 assembled : (board : BoardParts) (known : Known) (words : List ℕ) (made : Assembled) → IsRight board.microword known → Keeps board.microword (filled board.fill known.used) words
-    → ok_made (record { store = record { words = words }; used = known.used; labels = known.labels }) ≡ Ok made → IsAssembled board made
+    → ok (record { store = record { words = words }; used = known.used; labels = known.labels }) ≡ Ok made → IsAssembled board made
 assembled board known words made right kept is =
     let sized : length words ≡ length known.used = kept.sized ∙ length-map known.used (λ (used : Bool). board.fill) in
     let whole : Assembled = record { store = record { words = words }; used = known.used; labels = known.labels } in
     let so : IsAssembled board whole = record { few = omega (arith, sized, right.inside.few); fit = kept.fit; marked = sym sized; low = right.labels } in
-    subst (IsAssembled board) (made_is whole made is) so
+    subst (IsAssembled board) (ok_is whole made is) so
 
 -- what a text spells on a board
-pub store_right : (board : BoardParts) (text : List ℕ) (made : Assembled) → check_of board ≡ Ok tt → store_of board text ≡ Ok made → IsAssembled board made
+pub store_right : (board : BoardParts) (text : List ℕ) (made : Assembled) → IsBoard board → store_of board text ≡ Ok made → IsAssembled board made
 unfolding store_of
 store_right board text made valid is =
-    let whole = λ (known : Known) (words : List ℕ). ok_made (record { store = record { words = words }; used = known.used; labels = known.labels }) in
+    let whole = λ (known : Known) (words : List ℕ). ok (record { store = record { words = words }; used = known.used; labels = known.labels }) in
     let last = λ (known : Known). second_pass board text known.names (filled board.fill known.used) known.words >>= whole known in
     let one = bind_ok (tokens_of text) (λ tokens. first_pass board.fields text at_first (lines_with 1 (lines_of text) tokens) >>= last) made is in
     let two = bind_ok (first_pass board.fields text at_first (lines_with 1 (lines_of text) one.0)) last made one.2 in
     let known = two.0 in
     let three = bind_ok (second_pass board text known.names (filled board.fill known.used) known.words) (whole known) made two.2 in
-    let fit = fields_fit board valid in
-    let own = words_fit board (sizes_hold board valid) in
-    let right = first_pass_right board.microword board.fields text known (lines_with 1 (lines_of text) one.0) fit two.1 in
-    let gaps = All-map (Below board.microword) (λ (used : Bool). board.fill) known.used (λ k d h. own.0) in
-    let kept = second_right board text known.names (filled board.fill known.used) three.0 known.words fit right.named own.1 gaps three.1 in
+    let right = first_pass_right board.microword board.fields text known (lines_with 1 (lines_of text) one.0) valid.fields two.1 in
+    let gaps = All-map (Below board.microword) (λ (used : Bool). board.fill) known.used (λ k d h. valid.sizes.fill) in
+    let first = filled board.fill known.used in
+    let keeps = λ (store next : List ℕ) (word : Word) (adds : with_made board text known.names store word ≡ Ok next) (kept : Keeps board.microword first store). made_right board text known.names first store next word valid right.named adds kept in
+    let kept = steps_keep (Keeps board.microword first) (with_made board text known.names) keeps first three.0 known.words three.1 (record { fit = gaps; sized = refl }) in
     assembled board known three.0 made right kept three.2

@@ -1,6 +1,7 @@
 -- The bits that items set lie within the microword.
-use Rattle.std.proofs.Common.{◌≡◌, ℕ, ◌^◌, ◌<◌, List, [], ◌∷◌, Bool, true, false, cond, Option, Some, None, Result, Ok, Err, refl, subst, arith, nat_lt, IfSome}
-use Rattle.std.specs.Prelude.{if◌then◌else◌, bit_and}
+use Rattle.std.proofs.Common.{◌≡◌, ℕ, ◌+◌, ◌^◌, ◌<◌, ◌≤◌, List, true, false, cond, Option, Some, None, Ok, subst, arith, nat_lt, IfSome}
+use Rattle.std.specs.Prelude.{if◌then◌else◌, bit_and, ok_or}
+use Rattle.std.specs.List.{All}
 use Rattle.std.specs.Str.{bytes_eq}
 use Rattle.std.proofs.lemmas.Bool.Decides.{nat_tests}
 use Rattle.std.proofs.lemmas.Nat.{or_lt, and_le_l}
@@ -11,19 +12,19 @@ use Rattle.mw_base.specs.Reading.{◌>>=◌}
 use Rattle.mw_base.specs.Words.{complement}
 use Rattle.mw_board.specs.declared.field.Field.{Field}
 use Rattle.mw_board.specs.declared.field.NamedField.{NamedField}
+use Rattle.mw_board.specs.Valid.{IsField}
 use Rattle.mw_asm.specs.declared.bits.SetBits.{SetBits}
 use Rattle.mw_asm.specs.declared.items.Item.{Item}
 use Rattle.mw_asm.specs.declared.names.Meaning.{Meaning}
 use Rattle.mw_asm.specs.declared.names.Scope.{Scope}
 use Rattle.mw_asm.specs.Bits.{field_bits, agree, union, word_of}
 use Rattle.mw_asm.specs.ItemBits.{field_named, value_of, field_set, valued_bits, alone_bits, item_bits, beside, with_item, bits_of}
-use Rattle.mw_asm.specs.Items.{or_fault}
 use Rattle.mw_asm.specs.Lines.{fault_on}
 use Rattle.mw_asm.specs.Names.{Names, with_name, bits_named}
-use Rattle.mw_asm.specs.Parts.{spelled}
-use Rattle.mw_asm.proofs.Fields.{FitsIn, FieldsFit}
+use Rattle.mw_asm.specs.Symbols.{spelled}
+use Rattle.mw_asm.proofs.Fields.{found_within}
 use Rattle.mw_asm.proofs.Shifts.{shifted_below}
-use Rattle.mw_asm.proofs.Steps.{bind_ok}
+use Rattle.mw_asm.proofs.Steps.{bind_ok, if_ok, steps_keep}
 
 -- values within so many bits
 abbrev pub ValueFits : ℕ → SetBits → Type 0
@@ -38,62 +39,50 @@ more_names_fit bits names name meaning fit new = λ other.
     elim (bytes_eq name other) as (λ b. IfSome (bits_named (cond b (Some meaning) (names other))) (ValueFits bits)) [ true ↦ new | false ↦ fit other ]
 
 -- what there was, where it had to be
-found : {A : Type 0} (P : A → Type 0) (fault : TextFault) (there : Option A) (x : A) → or_fault fault there ≡ Ok x → IfSome there P → P x
+found : {A : Type 0} (P : A → Type 0) (fault : TextFault) (there : Option A) (x : A) → ok_or there fault ≡ Ok x → IfSome there P → P x
 found P fault (Some y) x is holds = let e : y ≡ x = cc in subst P e holds
 found P fault None x is holds = absurd cc
 
--- bits that were read
-abbrev ok_bits : SetBits → Result SetBits TextFault
-ok_bits bits = Ok bits
-
-bits_are : (bits set : SetBits) → ok_bits bits ≡ Ok set → bits ≡ set
-bits_are bits set is = cc
-
-if_bits : (b : Bool) (bits set : SetBits) (fault : TextFault) → (if b then ok_bits bits else Err fault) ≡ Ok set → (b ≡ true) × (bits ≡ set)
-if_bits true bits set fault is = (refl, cc)
-if_bits false bits set fault is = absurd cc
-
-field_set_fits : (bits : ℕ) (field : Field) (token : Token) (value : ℕ) (set : SetBits) → FitsIn bits field → field_set field token value ≡ Ok set → ValueFits bits set
+field_set_fits : (bits : ℕ) (field : Field) (token : Token) (value : ℕ) (set : SetBits) → field.low + field.width ≤ bits → field_set field token value ≡ Ok set → ValueFits bits set
 unfolding field_set
-field_set_fits bits field token value set fits is =
-    let e = if_bits (nat_lt value (2 ^ field.width)) (field_bits field value) set (fault_on token ValueTooWide) is in
+field_set_fits bits field token value set within is =
+    let e = if_ok (nat_lt value (2 ^ field.width)) (field_bits field value) set (fault_on token ValueTooWide) is in
     let below : value < 2 ^ field.width = grind (arith, nat_tests, e.0) in
-    subst (ValueFits bits) e.1 (shifted_below value field.width field.low bits below fits.within)
+    subst (ValueFits bits) e.1 (shifted_below value field.width field.low bits below within)
 
 valued_fits : (bits : ℕ) (fields : List NamedField) (text : List ℕ) (names : Names) (scope : Scope) (name token : Token) (set : SetBits)
-    → FieldsFit bits fields → valued_bits fields text names scope name token ≡ Ok set → ValueFits bits set
+    → All (IsField bits) fields → valued_bits fields text names scope name token ≡ Ok set → ValueFits bits set
 unfolding valued_bits field_named
 valued_fits bits fields text names scope name token set fit is =
-    let named = or_fault (fault_on name UnknownName) (field_named fields (spelled text name)) in
+    let named = ok_or (field_named fields (spelled text name)) (fault_on name UnknownName) in
     let one = bind_ok named (λ field. value_of text names scope token >>= (λ value. field_set field token value)) set is in
     let two = bind_ok (value_of text names scope token) (λ value. field_set one.0 token value) set one.2 in
-    let fits = found (FitsIn bits) (fault_on name UnknownName) (field_named fields (spelled text name)) one.0 one.1 (fit (λ f. bytes_eq f.name (spelled text name))) in
-    field_set_fits bits one.0 token two.0 set fits two.2
+    let there = found_within bits fields (λ f. bytes_eq f.name (spelled text name)) fit in
+    let within = found (λ field. field.low + field.width ≤ bits) (fault_on name UnknownName) (field_named fields (spelled text name)) one.0 one.1 there in
+    field_set_fits bits one.0 token two.0 set within two.2
 
 item_fits : (bits : ℕ) (fields : List NamedField) (text : List ℕ) (names : Names) (scope : Scope) (name : Token) (value : Option Token) (set : SetBits)
-    → FieldsFit bits fields → NamesFit bits names → item_bits fields text names scope name value ≡ Ok set → ValueFits bits set
+    → All (IsField bits) fields → NamesFit bits names → item_bits fields text names scope name value ≡ Ok set → ValueFits bits set
 unfolding alone_bits
 item_fits bits fields text names scope name (Some value) set fit named is = valued_fits bits fields text names scope name value set fit is
 item_fits bits fields text names scope name None set fit named is =
     found (ValueFits bits) (fault_on name UnknownName) (bits_named (names (spelled text name))) set is (named (spelled text name))
 
 with_item_fits : (bits : ℕ) (fields : List NamedField) (text : List ℕ) (names : Names) (scope : Scope) (before set : SetBits) (item : Item)
-    → FieldsFit bits fields → NamesFit bits names → ValueFits bits before → with_item fields text names scope before item ≡ Ok set → ValueFits bits set
+    → All (IsField bits) fields → NamesFit bits names → ValueFits bits before → with_item fields text names scope before item ≡ Ok set → ValueFits bits set
 unfolding with_item beside
 with_item_fits bits fields text names scope before set item fit named fits is =
     let one = bind_ok (item_bits fields text names scope item.name item.value) (λ own. beside item.name before own) set is in
     let own = item_fits bits fields text names scope item.name item.value one.0 fit named one.1 in
-    let e = if_bits (agree before one.0) (union before one.0) set (fault_on item.name FieldConflict) one.2 in
+    let e = if_ok (agree before one.0) (union before one.0) set (fault_on item.name FieldConflict) one.2 in
     subst (ValueFits bits) e.1 (or_lt bits before.value one.0.value fits own)
 
 -- the bits that items set
 pub bits_fit : (bits : ℕ) (fields : List NamedField) (text : List ℕ) (names : Names) (scope : Scope) (before set : SetBits) (items : List Item)
-    → FieldsFit bits fields → NamesFit bits names → ValueFits bits before → bits_of fields text names scope before items ≡ Ok set → ValueFits bits set
-unfolding bits_of
-bits_fit bits fields text names scope before set [] fit named fits is = let e : before ≡ set = bits_are before set is in subst (ValueFits bits) e fits
-bits_fit bits fields text names scope before set (item ∷ rest) fit named fits is =
-    let one = bind_ok (with_item fields text names scope before item) (λ both. bits_of fields text names scope both rest) set is in
-    bits_fit bits fields text names scope one.0 set rest fit named (with_item_fits bits fields text names scope before one.0 item fit named fits one.1) one.2
+    → All (IsField bits) fields → NamesFit bits names → ValueFits bits before → bits_of fields text names scope before items ≡ Ok set → ValueFits bits set
+bits_fit bits fields text names scope before set items fit named fits is =
+    let keeps = λ (one next : SetBits) (item : Item) (adds : with_item fields text names scope one item ≡ Ok next) (kept : ValueFits bits one). with_item_fits bits fields text names scope one next item fit named kept adds in
+    steps_keep (ValueFits bits) (with_item fields text names scope) keeps before set items is fits
 
 -- a word of bits within the microword
 pub word_fits : (bits unset : ℕ) (set : SetBits) → unset < 2 ^ bits → ValueFits bits set → word_of unset set < 2 ^ bits

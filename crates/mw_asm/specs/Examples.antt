@@ -6,6 +6,7 @@ use Rattle.mw_board.specs.declared.parts.BoardParts.{BoardParts}
 use Rattle.mw_asm.specs.declared.assembled.Assembled.{Assembled}
 use Rattle.mw_asm.specs.Microprogram.{store_of}
 
+-- a field of this name, lowest bit and width
 abbrev pub field : List ℕ → ℕ → ℕ → NamedField
 field name low width = record { name = name; field = record { low = low; width = width } }
 

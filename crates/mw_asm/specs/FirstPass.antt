@@ -6,6 +6,7 @@ use Rattle.mw_base.specs.declared.token.Token.{Token}
 use Rattle.mw_base.specs.Reading.{◌>>=◌}
 use Rattle.mw_board.specs.declared.field.NamedField.{NamedField}
 use Rattle.mw_asm.specs.declared.assembled.Label.{Label}
+use Rattle.mw_asm.specs.declared.first_pass.TheConstants.{MOST_WORDS}
 use Rattle.mw_asm.specs.declared.first_pass.Word.{Word}
 use Rattle.mw_asm.specs.declared.items.Item.{Item}
 use Rattle.mw_asm.specs.declared.names.Meaning.{Meaning}
@@ -17,8 +18,9 @@ use Rattle.mw_asm.specs.Bits.{no_bits}
 use Rattle.mw_asm.specs.ItemBits.{bits_of}
 use Rattle.mw_asm.specs.Lines.{Line, fault_on}
 use Rattle.mw_asm.specs.Names.{Names, no_names, with_name, new_name}
-use Rattle.mw_asm.specs.Parts.{spelled}
+use Rattle.mw_asm.specs.Symbols.{spelled}
 use Rattle.mw_asm.specs.Statements.{statement_of}
+use Rattle.mw_asm.specs.Steps.{steps}
 
 -- what is known after some lines: what names stand for, the next word's address, for each address up to the last word's whether a word
 -- stands there, the words to be made and the labels, both in file order
@@ -29,12 +31,15 @@ pub record Known : Type 0 where
   pub words : List Word
   pub labels : List Label
 
+-- before the first line: no name, no word and no label
 abbrev pub at_first : Known
 at_first = record { names = no_names; next = 0; used = []; words = []; labels = [] }
 
 -- with a word at this address
 unfoldable pub with_used : List Bool → ℕ → List Bool
-with_used used address = if nat_lt address (length used) then slice_set used address true else used ++ replicate (address - length used) false ++ (true ∷ [])
+with_used used address =
+    if nat_lt address (length used) then slice_set used address true
+    else used ++ replicate (address - length used) false ++ (true ∷ [])
 
 -- a name that the line defines
 unfoldable pub with_meaning : List ℕ → Token → Meaning → Known → Result Known TextFault
@@ -51,7 +56,7 @@ with_def fields text name items known = do
 
 -- org NUMBER
 unfoldable pub with_next : Token → ℕ → Known → Result Known TextFault
-with_next token address known = if nat_lt address 4096 then Ok (record known { next = address }) else Err (fault_on token ValueTooWide)
+with_next token address known = if nat_lt address MOST_WORDS then Ok (record known { next = address }) else Err (fault_on token ValueTooWide)
 
 -- a label of the next word's address
 unfoldable pub with_label : List ℕ → Token → Known → Result Known TextFault
@@ -59,6 +64,7 @@ with_label text name known = do
   more ← with_meaning text name (meanings.Label known.next) known
   Ok (record more { labels = more.labels ++ (record { name = spelled text name; address = more.next } ∷ []) })
 
+-- the label that a line may begin with
 abbrev pub with_optional_label : List ℕ → Option Token → Known → Result Known TextFault
 with_optional_label text None known = Ok known
 with_optional_label text (Some name) known = with_label text name known
@@ -66,15 +72,20 @@ with_optional_label text (Some name) known = with_label text name known
 -- a word at the next address, whose first item is this one
 unfoldable pub with_word : Token → List Item → Known → Result Known TextFault
 with_word first items known =
-    if nat_le 4096 known.next then Err (fault_on first StoreFull)
+    if nat_le MOST_WORDS known.next then Err (fault_on first StoreFull)
     else (if slice_index_or known.used known.next false then Err (fault_on first Overlap)
-    else Ok (record known { next = known.next + 1; used = with_used known.used known.next; words = known.words ++ (record { address = known.next; items = items } ∷ []) }))
+    else Ok (record known {
+      next = known.next + 1;
+      used = with_used known.used known.next;
+      words = known.words ++ (record { address = known.next; items = items } ∷ []);
+    }))
 
+-- the word that the items of a line make; without items none
 abbrev pub with_optional_word : List Item → Known → Result Known TextFault
 with_optional_word [] known = Ok known
 with_optional_word (first ∷ rest) known = with_word first.name (first ∷ rest) known
 
--- what is known after a line
+-- what is known after what a line says
 abbrev pub with_statement : List NamedField → List ℕ → Known → Statement → Result Known TextFault
 with_statement fields text known (statements.Equ name value) = with_meaning text name (meanings.Number value) known
 with_statement fields text known (statements.Def name items) = with_def fields text name items known
@@ -83,14 +94,12 @@ with_statement fields text known (statements.Word label items) = do
   labelled ← with_optional_label text label known
   with_optional_word items labelled
 
+-- what is known after a line
 unfoldable pub with_line : List NamedField → List ℕ → Known → Line → Result Known TextFault
 with_line fields text known line = do
   statement ← statement_of text line
   with_statement fields text known statement
 
 -- what is known after lines, or the first fault of the first pass
-unfoldable pub first_pass : List NamedField → List ℕ → Known → List Line → Result Known TextFault
-first_pass fields text known [] = Ok known
-first_pass fields text known (line ∷ rest) = do
-  next ← with_line fields text known line
-  first_pass fields text next rest
+abbrev pub first_pass : List NamedField → List ℕ → Known → List Line → Result Known TextFault
+first_pass fields text known lines = steps (with_line fields text) known lines

@@ -1,5 +1,5 @@
 -- The bits that items set.
-use Rattle.std.specs.Prelude.{ℕ, ◌+◌, ◌^◌, ◌≤◌, List, [], ◌∷◌, if◌then◌else◌, nat_lt, option_map, Option, Some, None, Result, Ok, Err}
+use Rattle.std.specs.Prelude.{ℕ, ◌+◌, ◌^◌, ◌≤◌, List, if◌then◌else◌, nat_lt, option_map, Option, Some, None, ok_or, Result, Ok, Err}
 use Rattle.std.specs.List.{find}
 use Rattle.std.specs.Str.{bytes_eq}
 use Rattle.mw_base.specs.declared.cause.Cause.TheVariants.{UnknownName, FieldConflict, ValueTooWide}
@@ -14,20 +14,21 @@ use Rattle.mw_asm.specs.declared.bits.SetBits.{SetBits}
 use Rattle.mw_asm.specs.declared.items.Item.{Item}
 use Rattle.mw_asm.specs.declared.names.Scope.{Scope}
 use Rattle.mw_asm.specs.Bits.{field_bits, agree, union}
-use Rattle.mw_asm.specs.Items.{or_fault}
 use Rattle.mw_asm.specs.Lines.{fault_on}
 use Rattle.mw_asm.specs.Names.{Names, number_named, bits_named}
-use Rattle.mw_asm.specs.Parts.{spelled}
+use Rattle.mw_asm.specs.Steps.{steps}
+use Rattle.mw_asm.specs.Symbols.{spelled}
 
 -- the field of this name
 unfoldable pub field_named : List NamedField → List ℕ → Option Field
 field_named fields name = option_map (λ (f : NamedField). f.field) (find (λ (f : NamedField). bytes_eq f.name name) fields)
 
--- a value: a number, or the name of one
+-- the value of a token of this kind: a number, or that of the name of one
 abbrev pub value_of_kind : List ℕ → Names → Scope → Token → Kind → Result ℕ TextFault
 value_of_kind text names scope token (Number value) = Ok value
-value_of_kind text names scope token other = or_fault (fault_on token UnknownName) (number_named scope (names (spelled text token)))
+value_of_kind text names scope token other = ok_or (number_named scope (names (spelled text token))) (fault_on token UnknownName)
 
+-- the value that a token gives
 unfoldable pub value_of : List ℕ → Names → Scope → Token → Result ℕ TextFault
 value_of text names scope token = value_of_kind text names scope token token.kind
 
@@ -38,13 +39,13 @@ field_set field token value = if nat_lt value (2 ^ field.width) then Ok (field_b
 -- FIELD = VALUE
 unfoldable pub valued_bits : List NamedField → List ℕ → Names → Scope → Token → Token → Result SetBits TextFault
 valued_bits fields text names scope name token = do
-  field ← or_fault (fault_on name UnknownName) (field_named fields (spelled text name))
+  field ← ok_or (field_named fields (spelled text name)) (fault_on name UnknownName)
   value ← value_of text names scope token
   field_set field token value
 
 -- the name of a def
 unfoldable pub alone_bits : List ℕ → Names → Token → Result SetBits TextFault
-alone_bits text names name = or_fault (fault_on name UnknownName) (bits_named (names (spelled text name)))
+alone_bits text names name = ok_or (bits_named (names (spelled text name))) (fault_on name UnknownName)
 
 -- the bits that an item sets
 abbrev pub item_bits : List NamedField → List ℕ → Names → Scope → Token → Option Token → Result SetBits TextFault
@@ -62,11 +63,8 @@ with_item fields text names scope before item = do
   beside item.name before bits
 
 -- the bits that items set beside those before them
-unfoldable pub bits_of : List NamedField → List ℕ → Names → Scope → SetBits → List Item → Result SetBits TextFault
-bits_of fields text names scope before [] = Ok before
-bits_of fields text names scope before (item ∷ rest) = do
-  both ← with_item fields text names scope before item
-  bits_of fields text names scope both rest
+abbrev pub bits_of : List NamedField → List ℕ → Names → Scope → SetBits → List Item → Result SetBits TextFault
+bits_of fields text names scope before items = steps (with_item fields text names scope) before items
 
 -- a field that stands in a microword of at most 128 bits
 pub record FitsWord (field : Field) : Type 0 where

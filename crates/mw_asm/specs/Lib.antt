@@ -7,6 +7,7 @@ pub mod Lines
 pub mod Listing
 pub mod Microprogram
 pub mod Names
-pub mod Parts
 pub mod Statements
+pub mod Steps
+pub mod Symbols
 pub mod Views

@@ -1,5 +1,5 @@
 -- The microprogram that a text spells in the fields of a board.
-use Rattle.std.specs.Prelude.{◌≡◌, ◌<◌, ◌≤◌, ◌^◌, length, All, ℕ, List, [], ◌∷◌, map, slice_set, Bool, Result, Ok}
+use Rattle.std.specs.Prelude.{◌≡◌, ◌<◌, ◌≤◌, ◌^◌, length, All, ℕ, List, map, slice_set, Bool, Result, Ok}
 use Rattle.mw_base.specs.declared.refusal.TextFault.{TextFault}
 use Rattle.mw_base.specs.Lines.{lines_of}
 use Rattle.mw_base.specs.Reading.{◌>>=◌}
@@ -14,13 +14,17 @@ use Rattle.mw_asm.specs.FirstPass.{at_first, first_pass}
 use Rattle.mw_asm.specs.ItemBits.{bits_of}
 use Rattle.mw_asm.specs.Lines.{lines_with}
 use Rattle.mw_asm.specs.Names.{Names}
+use Rattle.mw_asm.specs.Steps.{steps}
+
+-- the store with a word at its address
+unfoldable pub with_made : BoardParts → List ℕ → Names → List ℕ → Word → Result (List ℕ) TextFault
+with_made board text names store word = do
+  bits ← bits_of board.fields text names scopes.Word no_bits word.items
+  Ok (slice_set store word.address (word_of board.unset bits))
 
 -- the second pass: the store with each word at its address, or the first fault of their items
-unfoldable pub second_pass : BoardParts → List ℕ → Names → List ℕ → List Word → Result (List ℕ) TextFault
-second_pass board text names store [] = Ok store
-second_pass board text names store (word ∷ rest) = do
-  bits ← bits_of board.fields text names scopes.Word no_bits word.items
-  second_pass board text names (slice_set store word.address (word_of board.unset bits)) rest
+abbrev pub second_pass : BoardParts → List ℕ → Names → List ℕ → List Word → Result (List ℕ) TextFault
+second_pass board text names store words = steps (with_made board text names) store words
 
 -- a store of the fill word alone, as long as this list
 abbrev pub filled : ℕ → List Bool → List ℕ

@@ -9,15 +9,17 @@ use Rattle.mw_asm.specs.declared.bits.SetBits.{SetBits}
 use Rattle.mw_asm.specs.declared.names.Meaning.{Meaning}
 use Rattle.mw_asm.specs.declared.names.Meaning.TheVariants.{Number, Bits, Label}
 use Rattle.mw_asm.specs.declared.names.Scope.{Scope}
+use Rattle.mw_asm.specs.declared.names.TheConstants.{LONGEST_NAME}
 use Rattle.mw_asm.specs.declared.names.Scope.TheVariants as scopes
 use Rattle.mw_asm.specs.Lines.{fault_on}
-use Rattle.mw_asm.specs.Parts.{spelled}
+use Rattle.mw_asm.specs.Symbols.{spelled}
 use Rattle.mw_asm.specs.Statements.{keyword_of}
 
 -- what each name stands for, if for anything
 abbrev pub Names : Type 0
 Names = List ℕ → Option Meaning
 
+-- no name stands for anything
 abbrev pub no_names : Names
 no_names = λ name. None
 
@@ -29,7 +31,7 @@ with_name names name meaning = update bytes_eq names name (Some meaning)
 unfoldable pub new_name : List ℕ → Names → Token → Result (Unit {0}) TextFault
 new_name text names token =
     if is_some (names (spelled text token)) || is_some (keyword_of (spelled text token)) then Err (fault_on token Twice)
-    else (if nat_le (length (spelled text token)) 64 then Ok tt else Err (fault_on token ValueTooWide))
+    else (if nat_le (length (spelled text token)) LONGEST_NAME then Ok tt else Err (fault_on token ValueTooWide))
 
 -- the number that a name stands for as a value: that of an equ, and in the items of a word a label's address
 abbrev pub number_named : Scope → Option Meaning → Option ℕ

@@ -4,32 +4,35 @@ use Rattle.std.specs.Str.{bytes_eq}
 use Rattle.mw_base.specs.declared.refusal.TextFault.{TextFault}
 use Rattle.mw_base.specs.declared.token.Token.{Token}
 use Rattle.mw_base.specs.Reading.{◌>>=◌}
-use Rattle.mw_asm.specs.declared.part.Part.{Part}
-use Rattle.mw_asm.specs.declared.part.Part.TheVariants as parts
+use Rattle.mw_asm.specs.declared.symbol.Symbol.{Symbol}
+use Rattle.mw_asm.specs.declared.symbol.Symbol.TheVariants as symbols
 use Rattle.mw_asm.specs.declared.statement.Keyword.{Keyword}
 use Rattle.mw_asm.specs.declared.statement.Keyword.TheVariants as keywords
 use Rattle.mw_asm.specs.declared.statement.Statement.{Statement}
 use Rattle.mw_asm.specs.declared.statement.Statement.TheVariants.{Equ, Def, Org, Word}
 use Rattle.mw_asm.specs.Items.{items_of, optional_items}
 use Rattle.mw_asm.specs.Lines.{Line}
-use Rattle.mw_asm.specs.Parts.{spelled, part_of, name_token, equals_token, number_token, token_of, end_of}
+use Rattle.mw_asm.specs.Symbols.{spelled, symbol_of, name_token, equals_token, number_token, token_of, end_of}
 
--- token n of a line has to be a name, "=", a number, or not there
+-- token n of a line, which has to be a name
 abbrev pub name_at : List ℕ → Line → ℕ → Result Token TextFault
 name_at text line n = do
   token ← token_of line n
-  name_token token (part_of text token)
+  name_token token (symbol_of text token)
 
+-- token n of a line has to be "="
 abbrev pub equals_at : List ℕ → Line → ℕ → Result (Unit {0}) TextFault
 equals_at text line n = do
   token ← token_of line n
-  equals_token token (part_of text token)
+  equals_token token (symbol_of text token)
 
+-- the number that token n of a line has to be
 abbrev pub number_at : List ℕ → Line → ℕ → Result ℕ TextFault
 number_at text line n = do
   token ← token_of line n
-  number_token token (part_of text token)
+  number_token token (symbol_of text token)
 
+-- the line has to end before token n
 abbrev pub end_at : Line → ℕ → Result (Unit {0}) TextFault
 end_at line n = end_of (slice_get line.tokens n)
 
@@ -73,31 +76,37 @@ unlabelled_of text line = do
 
 -- the keyword of these bytes
 abbrev pub keyword_of : List ℕ → Option Keyword
-keyword_of name = if bytes_eq name (codes "equ") then Some keywords.Equ else (if bytes_eq name (codes "def") then Some keywords.Def else (if bytes_eq name (codes "org") then Some keywords.Org else None))
+keyword_of name =
+    if bytes_eq name (codes "equ") then Some keywords.Equ
+    else (if bytes_eq name (codes "def") then Some keywords.Def
+    else (if bytes_eq name (codes "org") then Some keywords.Org
+    else None))
 
 -- before "=", ":" or "," a keyword is a name as any other
-abbrev pub leaves_keyword : Part → Bool
-leaves_keyword parts.Equals = false
-leaves_keyword parts.Colon = false
-leaves_keyword parts.Comma = false
-leaves_keyword part = true
+abbrev pub leaves_keyword : Symbol → Bool
+leaves_keyword symbols.Equals = false
+leaves_keyword symbols.Colon = false
+leaves_keyword symbols.Comma = false
+leaves_keyword symbol = true
 
 -- the keyword with which a line begins; not before "=", ":", "," or the line's end
 abbrev pub keyword_in : List ℕ → List Token → Option Keyword
-keyword_in text (first ∷ second ∷ rest) = if leaves_keyword (part_of text second) then keyword_of (spelled text first) else None
+keyword_in text (first ∷ second ∷ rest) = if leaves_keyword (symbol_of text second) then keyword_of (spelled text first) else None
 keyword_in text other = None
 
-abbrev pub is_name : Part → Bool
-is_name parts.Name = true
-is_name part = false
+-- a name
+abbrev pub is_name : Symbol → Bool
+is_name symbols.Name = true
+is_name symbol = false
 
-abbrev pub is_colon : Part → Bool
-is_colon parts.Colon = true
-is_colon part = false
+-- ":"
+abbrev pub is_colon : Symbol → Bool
+is_colon symbols.Colon = true
+is_colon symbol = false
 
 -- the line begins with NAME:
 abbrev pub is_labelled : List ℕ → List Token → Bool
-is_labelled text (first ∷ second ∷ rest) = is_name (part_of text first) && is_colon (part_of text second)
+is_labelled text (first ∷ second ∷ rest) = is_name (symbol_of text first) && is_colon (symbol_of text second)
 is_labelled text other = false
 
 -- what a line says that begins with this keyword, if any

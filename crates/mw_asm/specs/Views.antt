@@ -18,4 +18,10 @@ names_seen names = λ name. get_by (λ key. bytes_eq name key.now) names.meaning
 
 -- what is known after some lines
 abbrev pub known_seen : passes.Known.Known → Known
-known_seen known = record { names = names_seen known.names; next = known.next; used = known.used.items; words = known.words.items; labels = known.labels.items }
+known_seen known = record {
+  names = names_seen known.names;
+  next = known.next;
+  used = known.used.items;
+  words = known.words.items;
+  labels = known.labels.items;
+}

@@ -10,10 +10,10 @@ use crate::assembled::Label;
 use crate::bits::SetBits;
 use crate::item_bits::bits_of;
 use crate::items::Item;
-use crate::lines::{Line, fault_on, line_with, or_refused, past_line};
+use crate::lines::{Line, fault_on, line_with, past_line};
 use crate::names::{Meaning, Names, Scope};
-use crate::part::spelled;
 use crate::statement::{Statement, statement_of};
+use crate::symbol::spelled;
 use mw_base::{Cause, Items, Name, NoMemory, Refusal, Refused, Token, first_line};
 use mw_board::Board;
 use std::alloc::Global;
@@ -48,7 +48,7 @@ pub(crate) struct Known<'a> {
 /// Notes that a word stands at this address.
 #[tactic(auto, unfolding(crate::specs::FirstPass::with_used))]
 fn mark_used(used: &mut Vec<bool>, address: usize) -> Result<(), NoMemory>
-    requires { address < 4096 }
+    requires { address < MOST_WORDS }
     ensures { OnOk result (used.new.items ≡ with_used used.old.items address) }
 {
     if address < used.len() {
@@ -79,7 +79,7 @@ impl<'a> Known<'a> {
     fn define(&mut self, text: &'a [u8], name: Token, meaning: Meaning) -> Result<(), Refusal>
         ensures { Gives (λ done. known_seen self.new) result (with_meaning text.now name meaning (known_seen self.old)) }
     {
-        or_refused(self.names.check_new(text, name))?;
+        self.names.check_new(text, name).map_err(Refused::At)?;
         self.names.insert(spelled(text, name), meaning)?;
         Ok(())
     }
@@ -95,8 +95,8 @@ impl<'a> Known<'a> {
     ) -> Result<(), Refusal>
         ensures { Gives (λ done. known_seen self.new) result (with_def board.now.fields text.now name items.now (known_seen self.old)) }
     {
-        or_refused(self.names.check_new(text, name))?;
-        let bits = or_refused(bits_of(board, text, &self.names, Scope::Def, items))?;
+        self.names.check_new(text, name).map_err(Refused::At)?;
+        let bits = bits_of(board, text, &self.names, Scope::Def, items).map_err(Refused::At)?;
         self.names.insert(spelled(text, name), Meaning::Bits(bits))?;
         Ok(())
     }
@@ -230,13 +230,9 @@ pub(crate) fn first_pass<'a>(
     while start < text.len() {
         let line = first_line(&text[start..]);
         number += 1;
-        match known.add_line(alloc, board, text, line_with(number, line, rest)) {
-            Ok(()) => {
-                start += line.len();
-                rest = past_line(number, rest);
-            }
-            Err(refusal) => return Err(refusal),
-        }
+        known.add_line(alloc, board, text, line_with(number, line, rest))?;
+        start += line.len();
+        rest = past_line(number, rest);
     }
     Ok(known)
 }

@@ -5,10 +5,10 @@ ghost use Rattle.mw_asm.specs.ItemBits.{FitsWord, field_named, value_of, field_s
 ghost use Rattle.mw_asm.specs.Views.{names_seen};
 
 use crate::bits::{SetBits, power};
-use crate::items::{Item, or_fault};
+use crate::items::Item;
 use crate::lines::fault_on;
 use crate::names::{Names, Scope, bits_named, number_named};
-use crate::part::spelled;
+use crate::symbol::spelled;
 use mw_base::{Cause, Kind, TextFault, Token};
 use mw_board::{Board, Field, NamedField};
 
@@ -38,10 +38,10 @@ fn value_of(text: &[u8], names: &Names, scope: Scope, token: Token) -> Result<u1
 {
     match token.kind {
         Kind::Number(value) => Ok(value),
-        _ => or_fault(
-            number_named(scope, names.get(spelled(text, token))),
-            fault_on(token, Cause::UnknownName),
-        ),
+        _ => number_named(scope, names.get(spelled(text, token))).ok_or(fault_on(
+            token,
+            Cause::UnknownName,
+        )),
     }
 }
 
@@ -71,7 +71,7 @@ fn valued_bits(
     ensures { result ≡ valued_bits board.now.fields text.now (names_seen names.now) scope name token }
 {
     let unknown = fault_on(name, Cause::UnknownName);
-    let field = or_fault(field_of_board(board, spelled(text, name)), unknown)?;
+    let field = field_of_board(board, spelled(text, name)).ok_or(unknown)?;
     let value = value_of(text, names, scope, token)?;
     field_set(field, token, value)
 }
@@ -81,10 +81,7 @@ fn valued_bits(
 fn alone_bits(text: &[u8], names: &Names, name: Token) -> Result<SetBits, TextFault>
     ensures { result ≡ alone_bits text.now (names_seen names.now) name }
 {
-    or_fault(
-        bits_named(names.get(spelled(text, name))),
-        fault_on(name, Cause::UnknownName),
-    )
+    bits_named(names.get(spelled(text, name))).ok_or(fault_on(name, Cause::UnknownName))
 }
 
 /// The bits that an item sets: cause 30 or 33.
@@ -143,10 +140,7 @@ pub(crate) fn bits_of(
 {
     let mut bits = SetBits::none();
     for item in items {
-        match with_item(board, text, names, scope, bits, *item) {
-            Ok(both) => bits = both,
-            Err(fault) => return Err(fault),
-        }
+        bits = with_item(board, text, names, scope, bits, *item)?;
     }
     Ok(bits)
 }

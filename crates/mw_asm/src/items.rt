@@ -2,13 +2,13 @@
 ghost use Rattle.std.specs.Prelude.{◌≡◌, List, ◌∷◌, IfOk, IfErr};
 ghost use Rattle.mw_base.specs.declared.token.Token.{Token};
 ghost use Rattle.mw_base.specs.Reading.{Fails, Gives};
-ghost use Rattle.mw_asm.specs.Items.{or_fault, alone, valued, follow, ended, passed, items_from, items_of, optional_items, with_front};
+ghost use Rattle.mw_asm.specs.Items.{alone, valued, follow, ended, passed, items_from, items_of, optional_items, with_front};
 ghost use Rattle.mw_asm.specs.Lines.{Line as SeenLine};
-ghost use Rattle.mw_asm.specs.Parts.{part_of};
+ghost use Rattle.mw_asm.specs.Symbols.{symbol_of};
 ghost use Rattle.mw_asm.specs.Views.{line_seen};
 
 use crate::lines::{Line, bad_end, fault_on};
-use crate::part::{Part, part_of};
+use crate::symbol::{Symbol, symbol_of};
 use mw_base::{Cause, Items, Refusal, Refused, TextFault, Token};
 use std::alloc::Global;
 
@@ -34,16 +34,6 @@ pub(crate) enum Awaits {
     Comma(Item),
 }
 
-/// What there has to be, else this fault.
-pub(crate) fn or_fault<T>(there: Option<T>, fault: TextFault) -> Result<T, TextFault>
-    ensures { result ≡ or_fault fault there }
-{
-    match there {
-        Some(x) => Ok(x),
-        None => Err(fault),
-    }
-}
-
 fn alone(name: Token) -> Item
     ensures { result ≡ alone name }
 {
@@ -61,13 +51,13 @@ fn valued(name: Token, value: Token) -> Item
 
 impl Awaits {
     /// What can follow this token, which is no comma; nothing where the token can't stand here.
-    fn follow(self, token: Token, part: Part) -> Option<Awaits>
-        ensures { result ≡ follow self token part }
+    fn follow(self, token: Token, symbol: Symbol) -> Option<Awaits>
+        ensures { result ≡ follow self token symbol }
     {
-        match (self, part) {
-            (Awaits::Name, Part::Name) => Some(Awaits::Equals(alone(token))),
-            (Awaits::Equals(item), Part::Equals) => Some(Awaits::Value(item.name)),
-            (Awaits::Value(name), Part::Name | Part::Number(_)) => {
+        match (self, symbol) {
+            (Awaits::Name, Symbol::Name) => Some(Awaits::Equals(alone(token))),
+            (Awaits::Equals(item), Symbol::Equals) => Some(Awaits::Value(item.name)),
+            (Awaits::Value(name), Symbol::Name | Symbol::Number(_)) => {
                 Some(Awaits::Comma(valued(name, token)))
             }
             _ => None,
@@ -86,21 +76,26 @@ impl Awaits {
 }
 
 /// Adds the item that a token ends, if any, and answers what can follow the token.
-fn pass(items: &mut Vec<Item>, before: Awaits, token: Token, part: Part) -> Result<Awaits, Refusal>
-    ensures goes { IfOk result (λ next. (text : _) (line : SeenLine) (rest : List Token) → part_of text token ≡ part
+fn pass(
+    items: &mut Vec<Item>,
+    before: Awaits,
+    token: Token,
+    symbol: Symbol,
+) -> Result<Awaits, Refusal>
+    ensures goes { IfOk result (λ next. (text : _) (line : SeenLine) (rest : List Token) → symbol_of text token ≡ symbol
         → with_front items.new.items (items_from text line next rest) ≡ with_front items.old.items (items_from text line before (token ∷ rest))) }
-    ensures refused { IfErr result (λ refusal. Fails refusal (passed before token part)) }
+    ensures refused { IfErr result (λ refusal. Fails refusal (passed before token symbol)) }
 {
     let fault = fault_on(token, Cause::BadLine);
-    match part {
-        Part::Comma => match before.ended() {
+    match symbol {
+        Symbol::Comma => match before.ended() {
             Some(item) => {
                 items.push(item)?;
                 Ok(Awaits::Name)
             }
             None => Err(Refused::At(fault)),
         },
-        _ => match before.follow(token, part) {
+        _ => match before.follow(token, symbol) {
             Some(next) => Ok(next),
             None => Err(Refused::At(fault)),
         },
@@ -119,10 +114,7 @@ pub(crate) fn items_of(
     let mut items = Vec::new(alloc);
     let mut awaits = Awaits::Name;
     for token in tokens {
-        match pass(&mut items, awaits, *token, part_of(text, *token)) {
-            Ok(next) => awaits = next,
-            Err(refusal) => return Err(refusal),
-        }
+        awaits = pass(&mut items, awaits, *token, symbol_of(text, *token))?;
     }
     match awaits.ended() {
         Some(item) => {

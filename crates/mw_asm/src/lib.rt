@@ -3,7 +3,6 @@
 
 mod assembled;
 mod bits;
-mod computed_examples;
 mod first_pass;
 mod item_bits;
 mod items;
@@ -11,14 +10,16 @@ mod lines;
 mod listed;
 mod microprogram;
 mod names;
-mod part;
 mod second_pass;
 mod statement;
+mod symbol;
 
 pub use assembled::{Assembled, Label};
 pub use listed::listing;
 pub use microprogram::assemble;
 
+#[cfg(test)]
+mod computed_examples;
 #[cfg(test)]
 mod listing_tests;
 #[cfg(test)]

@@ -1,11 +1,10 @@
 // The lines of a text, each with its tokens.
 ghost use Rattle.std.specs.Prelude.{◌≡◌, ◌≤◌, length, drop};
 ghost use Rattle.mw_base.specs.Lines.{content};
-ghost use Rattle.mw_base.specs.Reading.{Gives};
 ghost use Rattle.mw_asm.specs.Lines.{count_in, line_with, fault_on, bad_end};
 ghost use Rattle.mw_asm.specs.Views.{line_seen};
 
-use mw_base::{Cause, Refusal, Refused, TextFault, Token, content};
+use mw_base::{Cause, TextFault, Token, content};
 
 /// A line of a text.
 #[derive(Clone, Copy)]
@@ -67,15 +66,5 @@ pub(crate) fn bad_end(line: Line) -> TextFault
         line: line.number,
         column: line.end,
         cause: Cause::BadLine,
-    }
-}
-
-/// What was read, or its fault as the refusal of the text.
-pub(crate) fn or_refused<T>(read: Result<T, TextFault>) -> Result<T, Refusal>
-    ensures { Gives (λ x. x) result read }
-{
-    match read {
-        Ok(x) => Ok(x),
-        Err(fault) => Err(Refused::At(fault)),
     }
 }

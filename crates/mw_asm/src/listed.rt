@@ -10,22 +10,22 @@ use std::marker::Model;
 
 /// What a line shows of its labels: a space and the name, for each.
 #[derive(Drop)]
-struct Names {
+struct LabelText {
     text: Vec<u8>,
 }
 
-impl Model for Names {
+impl Model for LabelText {
     ghost Value = { List ℕ };
 
     ghost view = { λ names. names.text.items };
 }
 
-impl Names {
+impl LabelText {
     /// Without a label.
-    fn new(alloc: Global) -> Names
+    fn new(alloc: Global) -> LabelText
         ensures { result ≡ [] }
     {
-        Names {
+        LabelText {
             text: Vec::new(alloc),
         }
     }
@@ -47,18 +47,22 @@ impl Names {
 }
 
 /// No names, for each of so many addresses.
-fn no_names(alloc: Global, count: usize) -> Result<Vec<Names>, NoMemory>
+fn no_names(alloc: Global, count: usize) -> Result<Vec<LabelText>, NoMemory>
     ensures { IfOk result (λ names. names.items ≡ replicate count []) }
 {
     let mut names = Vec::with_capacity(alloc, count)?;
     for _ in 0..count {
-        names.push(Names::new(alloc))?;
+        names.push(LabelText::new(alloc))?;
     }
     Ok(names)
 }
 
 /// The names of the labels of each address below a count. One pass over the labels, which may have any addresses.
-fn names_by_address(alloc: Global, count: usize, labels: &[Label]) -> Result<Vec<Names>, NoMemory>
+fn names_by_address(
+    alloc: Global,
+    count: usize,
+    labels: &[Label],
+) -> Result<Vec<LabelText>, NoMemory>
     ensures len { IfOk result (λ names. length names.items ≡ count) }
     ensures each { IfOk result (λ names. (at : ℕ) → at < count → slice_index_or names.items at [] ≡ names_of (labels_at at labels.now)) }
 {

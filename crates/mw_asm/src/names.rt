@@ -5,8 +5,8 @@ ghost use Rattle.mw_asm.specs.Views.{names_seen};
 
 use crate::bits::SetBits;
 use crate::lines::fault_on;
-use crate::part::spelled;
 use crate::statement::keyword_of;
+use crate::symbol::spelled;
 use mw_base::{Cause, NoMemory, TextFault, Token};
 use std::alloc::Global;
 use std::collections::HashMap;

@@ -31,6 +31,7 @@ pub(crate) fn second_pass(
 {
     let unset = board.parts().unset;
     for word in words {
+        // A match, as the loop's proof needs the fault just as `bits_of` gives it.
         match bits_of(board, text, names, Scope::Word, word.items.as_slice()) {
             Ok(bits) => store[usize::from(word.address)] = bits.word(unset),
             Err(fault) => return Err(Refused::At(fault)),

@@ -1,14 +1,14 @@
 // What a line says.
 ghost use Rattle.std.specs.Prelude.{◌≡◌, drop};
 ghost use Rattle.mw_base.specs.Reading.{Gives};
-ghost use Rattle.mw_asm.specs.Parts.{token_of};
+ghost use Rattle.mw_asm.specs.Symbols.{token_of};
 ghost use Rattle.mw_asm.specs.Statements.{name_at, equals_at, number_at, end_at, equ_of, def_of, org_of, labelled_of, unlabelled_of, keyword_of, keyword_in, is_labelled, statement_of};
 ghost use Rattle.mw_asm.specs.Views.{line_seen};
 
 use crate::items::{Item, items_of, optional_items};
-use crate::lines::{Line, bad_end, fault_on, or_refused};
-use crate::part::{part_of, spelled};
-use mw_base::{Cause, Items, Refusal, TextFault, Token};
+use crate::lines::{Line, bad_end, fault_on};
+use crate::symbol::{spelled, symbol_of};
+use mw_base::{Cause, Items, Refusal, Refused, TextFault, Token};
 use std::alloc::Global;
 
 /// A word that begins a line of its own kind.
@@ -36,10 +36,7 @@ pub(crate) enum Statement {
 fn token_of(line: Line, n: usize) -> Result<Token, TextFault>
     ensures { result ≡ token_of (line_seen line.entry) n }
 {
-    match line.tokens.get(n) {
-        Some(token) => Ok(*token),
-        None => Err(bad_end(line)),
-    }
+    line.tokens.get(n).copied().ok_or(bad_end(line))
 }
 
 /// The tokens of a line from token n on.
@@ -54,7 +51,7 @@ fn name_at(text: &[u8], line: Line, n: usize) -> Result<Token, TextFault>
     ensures { result ≡ name_at text.now (line_seen line.entry) n }
 {
     let token = token_of(line, n)?;
-    part_of(text, token).name(token)
+    symbol_of(text, token).name(token)
 }
 
 /// Token n of a line has to be `=`: cause 36.
@@ -62,7 +59,7 @@ fn equals_at(text: &[u8], line: Line, n: usize) -> Result<(), TextFault>
     ensures { result ≡ equals_at text.now (line_seen line.entry) n }
 {
     let token = token_of(line, n)?;
-    part_of(text, token).equals(token)
+    symbol_of(text, token).equals(token)
 }
 
 /// The number that token n of a line has to be: cause 36.
@@ -70,7 +67,7 @@ fn number_at(text: &[u8], line: Line, n: usize) -> Result<u128, TextFault>
     ensures { result ≡ number_at text.now (line_seen line.entry) n }
 {
     let token = token_of(line, n)?;
-    part_of(text, token).number(token)
+    symbol_of(text, token).number(token)
 }
 
 /// The line has to end before token n: cause 36.
@@ -100,8 +97,8 @@ fn equ_of(text: &[u8], line: Line) -> Result<Statement, TextFault>
 fn def_of(alloc: Global, text: &[u8], line: Line) -> Result<Statement, Refusal>
     ensures { Gives (λ s. s) result (def_of text.now (line_seen line.entry)) }
 {
-    let name = or_refused(name_at(text, line, 1))?;
-    or_refused(equals_at(text, line, 2))?;
+    let name = name_at(text, line, 1).map_err(Refused::At)?;
+    equals_at(text, line, 2).map_err(Refused::At)?;
     let items = items_of(alloc, text, line, tokens_from(line, 3))?;
     Ok(Statement::Def(name, items))
 }
@@ -122,7 +119,7 @@ fn org_of(text: &[u8], line: Line) -> Result<Statement, TextFault>
 fn labelled_of(alloc: Global, text: &[u8], line: Line) -> Result<Statement, Refusal>
     ensures { Gives (λ s. s) result (labelled_of text.now (line_seen line.entry)) }
 {
-    let name = or_refused(token_of(line, 0))?;
+    let name = token_of(line, 0).map_err(Refused::At)?;
     let items = optional_items(alloc, text, line, tokens_from(line, 2))?;
     Ok(Statement::Word(Some(name), items))
 }
@@ -157,7 +154,7 @@ fn keyword_in(text: &[u8], tokens: &[Token]) -> Option<Keyword>
 {
     match tokens {
         [first, second, ..] => {
-            if part_of(text, *second).leaves_keyword() {
+            if symbol_of(text, *second).leaves_keyword() {
                 keyword_of(spelled(text, *first))
             } else {
                 None
@@ -172,7 +169,8 @@ fn is_labelled(text: &[u8], tokens: &[Token]) -> bool
     ensures { result ≡ is_labelled text.now tokens.now }
 {
     match tokens {
-        [first, second, ..] => part_of(text, *first).is_name() & part_of(text, *second).is_colon(),
+        [first, second, ..] => symbol_of(text, *first).is_name()
+            & symbol_of(text, *second).is_colon(),
         _ => false,
     }
 }
@@ -183,9 +181,9 @@ pub(crate) fn statement_of(alloc: Global, text: &[u8], line: Line) -> Result<Sta
     ensures { Gives (λ s. s) result (statement_of text.now (line_seen line.entry)) }
 {
     match keyword_in(text, line.tokens) {
-        Some(Keyword::Equ) => or_refused(equ_of(text, line)),
+        Some(Keyword::Equ) => equ_of(text, line).map_err(Refused::At),
         Some(Keyword::Def) => def_of(alloc, text, line),
-        Some(Keyword::Org) => or_refused(org_of(text, line)),
+        Some(Keyword::Org) => org_of(text, line).map_err(Refused::At),
         None => {
             if is_labelled(text, line.tokens) {
                 labelled_of(alloc, text, line)

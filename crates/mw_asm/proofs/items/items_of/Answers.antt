@@ -1,9 +1,11 @@
+use Rattle.std.proofs.lemmas.Result.{err_from_is_err_and}
 use Rattle.mw_asm.proofs.ItemSteps.{refused_at, all_passed, ends_early}
 use Rattle.mw_asm.proofs.items.items_of.Goals as goal
 
-pub returns-in-Err : goal.returns-in-Err
-returns-in-Err c =
-    refused_at c.in-Err.refusal c.loop-token.items.items c.args.text.now _ c.args.tokens.now c.loop-token.token-index _ c.loop-token.awaits c.part_of.result _ c.loop-token-test.true c.part_of.ensures c.in-Err.ensures.refused c.loop-token.invariant
+pub returns-in_err-awaits : goal.returns-in_err-awaits
+returns-in_err-awaits c =
+    let p = err_from_is_err_and c.from_residual.result c.from_residual.ensures.1 in
+    rw (p.1, p.2) (refused_at c.in_err-awaits.field-0.0 c.loop-token.items.items c.args.text.now _ c.args.tokens.now c.loop-token.token-index _ c.loop-token.awaits c.symbol_of.result _ c.loop-token-test.true c.symbol_of.ensures c.in_err-awaits.ensures.refused c.loop-token.invariant)
 
 pub returns-in_ok-push-in-Some : goal.returns-in_ok-push-in-Some
 returns-in_ok-push-in-Some c =

@@ -8,4 +8,4 @@ returns-in_ok-push-in-Some-clause-goes c = λ text line rest is.
 
 pub returns-in-Some-follow-clause-goes : goal.returns-in-Some-follow-clause-goes
 returns-in-Some-follow-clause-goes c = λ text line rest is.
-    goes_on c.args.items.now.items text line rest c.args.before c.args.token c.args.part c.in-Some-follow.next is (sym c.in-Some-follow.ensures)
+    goes_on c.args.items.now.items text line rest c.args.before c.args.token c.args.symbol c.in-Some-follow.next is (sym c.in-Some-follow.ensures)

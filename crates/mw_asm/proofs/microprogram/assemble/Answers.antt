@@ -4,7 +4,6 @@ use Rattle.mw_base.specs.Lines.{lines_of}
 use Rattle.mw_asm.specs.declared.assembled.Assembled.{Assembled}
 use Rattle.mw_asm.specs.Microprogram.{store_of}
 use Rattle.mw_asm.specs.Views.{known_seen}
-use Rattle.mw_asm.proofs.Fields.{fields_fit}
 use Rattle.mw_asm.proofs.Inside.{first_pass_right}
 use Rattle.mw_asm.proofs.LineSteps.{all_short}
 use Rattle.mw_asm.proofs.Stores.{store_right}
@@ -15,7 +14,7 @@ first_pass-requires-clause-lines c = all_short 1 0 (lines_of c.args.text.now) c.
 
 pub second_pass-requires : goal.second_pass-requires
 second_pass-requires c =
-    let right = first_pass_right c.args.board.now.microword c.args.board.now.fields c.args.text.now (known_seen c.in_ok-known.known) _ (fields_fit c.args.board.now c.parts.ensures.kept) c.in_ok-known.ensures in
+    let right = first_pass_right c.args.board.now.microword c.args.board.now.fields c.args.text.now (known_seen c.in_ok-known.known) _ c.parts.ensures.valid.fields c.in_ok-known.ensures in
     let sized : length c.in_ok-store.store.items ≡ length c.in_ok-known.known.used.items = ap length c.in_ok-store.ensures ∙ simp (length-map, c.deref-2.ensures.value) in
     rw (c.deref-3.ensures.value, sized) right.inside.each
 
@@ -24,4 +23,4 @@ unfolding store_of
 returns-clause-valid c =
     let made : Assembled = record { store = record { words = c.from_vec.result }; used = c.from_vec-2.result; labels = c.from_vec-3.result } in
     let gives : store_of c.args.board.now c.args.text.now ≡ Ok made = search rules in
-    store_right c.args.board.now c.args.text.now made c.parts.ensures.kept gives
+    store_right c.args.board.now c.args.text.now made c.parts.ensures.valid gives

@@ -1,6 +1,6 @@
 // What a microprogram's grammar asks of a token.
 ghost use Rattle.std.specs.Prelude.{◌≡◌};
-ghost use Rattle.mw_asm.specs.Parts.{spelled, sign_of, part_of, name_token, equals_token, number_token};
+ghost use Rattle.mw_asm.specs.Symbols.{spelled, sign_of, symbol_of, name_token, equals_token, number_token};
 ghost use Rattle.mw_asm.specs.Statements.{leaves_keyword, is_name, is_colon};
 
 use crate::lines::fault_on;
@@ -8,7 +8,7 @@ use mw_base::{Cause, Kind, TextFault, Token};
 
 /// What a token is in the grammar of microprograms.
 #[derive(Clone, Copy)]
-pub(crate) enum Part {
+pub(crate) enum Symbol {
     /// A name.
     Name,
     /// A number, of this value.
@@ -33,59 +33,59 @@ pub(crate) fn spelled(text: &[u8], token: Token) -> &[u8]
 }
 
 /// What a sign is.
-fn sign_of(sign: &[u8]) -> Part
+fn sign_of(sign: &[u8]) -> Symbol
     ensures { result ≡ sign_of sign.now }
 {
     if sign == b"=".as_slice() {
-        Part::Equals
+        Symbol::Equals
     } else if sign == b":".as_slice() {
-        Part::Colon
+        Symbol::Colon
     } else if sign == b",".as_slice() {
-        Part::Comma
+        Symbol::Comma
     } else {
-        Part::Other
+        Symbol::Other
     }
 }
 
 /// What a token of a text is.
-#[tactic(auto, unfolding(crate::specs::Parts::part_of))]
-pub(crate) fn part_of(text: &[u8], token: Token) -> Part
-    ensures { result ≡ part_of text.now token }
+#[tactic(auto, unfolding(crate::specs::Symbols::symbol_of))]
+pub(crate) fn symbol_of(text: &[u8], token: Token) -> Symbol
+    ensures { result ≡ symbol_of text.now token }
 {
     match token.kind {
-        Kind::Name => Part::Name,
-        Kind::Number(value) => Part::Number(value),
+        Kind::Name => Symbol::Name,
+        Kind::Number(value) => Symbol::Number(value),
         Kind::Sign => sign_of(spelled(text, token)),
     }
 }
 
-impl Part {
-    /// A token of this part, which has to be a name: cause 36.
+impl Symbol {
+    /// A token of this symbol, which has to be a name: cause 36.
     pub(crate) fn name(self, token: Token) -> Result<Token, TextFault>
         ensures { result ≡ name_token token self }
     {
         match self {
-            Part::Name => Ok(token),
+            Symbol::Name => Ok(token),
             _ => Err(fault_on(token, Cause::BadLine)),
         }
     }
 
-    /// A token of this part has to be `=`: cause 36.
+    /// A token of this symbol has to be `=`: cause 36.
     pub(crate) fn equals(self, token: Token) -> Result<(), TextFault>
         ensures { result ≡ equals_token token self }
     {
         match self {
-            Part::Equals => Ok(()),
+            Symbol::Equals => Ok(()),
             _ => Err(fault_on(token, Cause::BadLine)),
         }
     }
 
-    /// The number that a token of this part has to be: cause 36.
+    /// The number that a token of this symbol has to be: cause 36.
     pub(crate) fn number(self, token: Token) -> Result<u128, TextFault>
         ensures { result ≡ number_token token self }
     {
         match self {
-            Part::Number(value) => Ok(value),
+            Symbol::Number(value) => Ok(value),
             _ => Err(fault_on(token, Cause::BadLine)),
         }
     }
@@ -95,7 +95,7 @@ impl Part {
         ensures { result ≡ leaves_keyword self }
     {
         match self {
-            Part::Equals | Part::Colon | Part::Comma => false,
+            Symbol::Equals | Symbol::Colon | Symbol::Comma => false,
             _ => true,
         }
     }
@@ -105,7 +105,7 @@ impl Part {
         ensures { result ≡ is_name self }
     {
         match self {
-            Part::Name => true,
+            Symbol::Name => true,
             _ => false,
         }
     }
@@ -115,7 +115,7 @@ impl Part {
         ensures { result ≡ is_colon self }
     {
         match self {
-            Part::Colon => true,
+            Symbol::Colon => true,
             _ => false,
         }
     }

@@ -1,0 +1,11 @@
+-- Steps over a list, up to the first fault.
+use Rattle.std.specs.Prelude.{List, [], ◌∷◌, Result, Ok}
+use Rattle.mw_base.specs.declared.refusal.TextFault.{TextFault}
+use Rattle.mw_base.specs.Reading.{◌>>=◌}
+
+-- what a step for each element makes of what there was, or the first fault
+unfoldable pub steps : {A B : Type 0} → (B → A → Result B TextFault) → B → List A → Result B TextFault
+steps step before [] = Ok before
+steps step before (x ∷ rest) = do
+  after ← step before x
+  steps step after rest
