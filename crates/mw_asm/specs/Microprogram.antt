@@ -38,8 +38,8 @@ store_of board text = do
   words ← second_pass board text known.names (filled board.fill known.used) known.words
   Ok (record { store = record { words = words }; used = known.used; labels = known.labels })
 
--- what is so of every microprogram: at most 4,096 words of the board's microword, for each whether a line put it there, and labels of such
--- words or of the one past the last
+-- what is so of every microprogram: at most 4,096 words of the board's microword, for each whether a line put it there, and labels of
+-- addresses up to 4,096
 pub record IsAssembled (board : BoardParts) (made : Assembled) : Type 0 where
   pub few : length made.store.words ≤ 4096
   pub fit : All (λ word. word < 2 ^ board.microword) made.store.words

@@ -7,7 +7,7 @@ use mw_board::Store;
 pub struct Label {
     /// Its name.
     pub name: Name,
-    /// The control address of the next word after it, at most 4,096.
+    /// The control address that a word on its line has, or would have: at most 4,096.
     pub address: u16,
 }
 
