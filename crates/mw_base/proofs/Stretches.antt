@@ -72,20 +72,24 @@ both_read : (old new : List Token) (first later : Result (List Token) TextFault)
 both_read old new (Ok front) later read = let joined : new ≡ old ++ front = cc in rw (joined, before_twice) refl
 both_read old new (Err fault) later read = cc
 
+-- the first line of what is left of a text, and the lines after it
+pub lines_left : (text line : List ℕ) (start : ℕ) → lines_of (rest_of text start) ≡ line ∷ lines_of (drop (length line) (rest_of text start)) → lines_of (drop start text) ≡ line ∷ lines_of (drop (start + length line) text)
+lines_left text line start first =
+    let cut = rw (rest_is text start) at first in
+    rw (← drop-drop (length line) start text) cut
+
 -- a line, and the lines after it
 pub lines_read : (old new : List Token) (number start : ℕ) (text line : List ℕ) → lines_of (rest_of text start) ≡ line ∷ lines_of (drop (length line) (rest_of text start)) → Ok new ≡ before old (line_tokens number start (content line)) → before old (lines_tokens number start (lines_of (drop start text))) ≡ before new (lines_tokens (number + 1) (start + length line) (lines_of (drop (start + length line) text)))
 unfolding lines_tokens
 lines_read old new number start text line first read =
-    let cut = rw (rest_is text start) at first in
-    rw (cut, drop-drop (length line) start text) (both_read old new (line_tokens number start (content line)) (lines_tokens (number + 1) (start + length line) (lines_of (drop (start + length line) text))) read)
+    rw (lines_left text line start first) (both_read old new (line_tokens number start (content line)) (lines_tokens (number + 1) (start + length line) (lines_of (drop (start + length line) text))) read)
 
 -- a line that is refused
 pub lines_refused : (refusal : Refused TextFault) (old : List Token) (number start : ℕ) (text line : List ℕ) → lines_of (rest_of text start) ≡ line ∷ lines_of (drop (length line) (rest_of text start)) → Fails refusal (line_tokens number start (content line)) → Fails refusal (before old (lines_tokens number start (lines_of (drop start text))))
 unfolding lines_tokens
 lines_refused NoMemory old number start text line first fails = tt
 lines_refused (At fault) old number start text line first fails =
-    let cut = rw (rest_is text start) at first in
-    rw (cut, fails) refl
+    rw (lines_left text line start first, fails) refl
 
 -- all lines are read
 pub lines_done : (front : List Token) (number start : ℕ) (text : List ℕ) → length text ≤ start → before front (lines_tokens number start (lines_of (drop start text))) ≡ Ok front

@@ -54,7 +54,7 @@ pub fn content(line: &[u8]) -> &[u8]
 }
 
 /// The column, from 1, of a place of a line, from 0.
-fn column_of(at: usize) -> u32
+pub(crate) fn column_of(at: usize) -> u32
     requires { at + 1 < 2 ^ 32 }
     ensures { result ≡ at + 1 }
 {
@@ -162,11 +162,17 @@ fn of_long_line(number: u32, refusal: Refusal) -> Refusal
 
 /// Reads a line, which has this number and begins at this place of the text.
 #[tactic(auto, unfolding(crate::specs::Tokens::line_tokens))]
-fn push_line(tokens: &mut Vec<Token>, number: u32, start: usize, line: &[u8]) -> Result<(), Refusal>
+pub(crate) fn push_line(
+    tokens: &mut Vec<Token>,
+    number: u32,
+    start: usize,
+    line: &[u8],
+) -> Result<(), Refusal>
     requires short { start + length line.now < 2 ^ 32 }
     ensures pushed { OnOk result (Ok tokens.new.items ≡ before tokens.old.items (line_tokens number start line.now)) }
     ensures ordered { (text : List ℕ) → slice text start (start + length line.now) ≡ line.now → InOrder text start tokens.old.items
         → OnOk result (InOrder text (start + length line.now) tokens.new.items) }
+    ensures within { OnOk result (length line.now ≤ 4096) }
     ensures refused { IfErr result (λ refusal. Fails refusal (line_tokens number start line.now)) }
 {
     let read = push_pieces(tokens, number, start, line);
