@@ -17,7 +17,7 @@ use Rattle.mw_base.specs.Lines.{lines_of, content}
 use Rattle.mw_base.specs.Pieces.{piece_at}
 use Rattle.mw_base.specs.Reading.{◌>>=◌, with_front, Fails}
 use Rattle.mw_base.specs.TokenLines.{count_in, line_with, lines_with}
-use Rattle.mw_base.specs.Tokens.{before, both, fault_at, of_long_line, piece_then, token_at, tokens_from, line_tokens, lines_tokens}
+use Rattle.mw_base.specs.Tokens.{both, fault_at, of_long_line, piece_then, token_at, tokens_from, line_tokens, lines_tokens}
 use Rattle.mw_base.proofs.Lists.{with_front_twice}
 use Rattle.mw_base.proofs.Stretches.{rest_of, lines_left}
 
@@ -35,7 +35,7 @@ abbrev AreFrom : ℕ → Result (List Token) TextFault → Type 0
 AreFrom number (Ok tokens) = (earlier : ℕ) → earlier < number → count_in earlier tokens ≡ 0
 AreFrom number (Err fault) = Unit
 
-before_in : (number start at n : ℕ) (kind : Option Kind) (read : Result (List Token) TextFault) → AreIn number read → AreIn number (before (token_at number start at kind n) read)
+before_in : (number start at n : ℕ) (kind : Option Kind) (read : Result (List Token) TextFault) → AreIn number read → AreIn number (with_front (token_at number start at kind n) read)
 before_in number start at n None (Ok tokens) is = is
 before_in number start at n None (Err fault) is = tt
 before_in number start at n (Some kind) (Ok tokens) is = (refl, is)
