@@ -1,5 +1,5 @@
 -- What a grammar asks of the tokens of a line.
-use Rattle.std.specs.Prelude.{ℕ, List, drop, slice_get, option_map, Bool, false, if◌then◌else◌, Option, Some, None, ok_or, Result, Ok, Err}
+use Rattle.std.specs.Prelude.{ℕ, List, drop, slice_get, option_map, Bool, true, false, if◌then◌else◌, Option, Some, None, ok_or, Result, Ok, Err}
 use Rattle.mw_base.specs.declared.cause.Cause.{Cause}
 use Rattle.mw_base.specs.declared.cursor.Dotted.{Dotted}
 use Rattle.mw_base.specs.declared.cursor.Numeral.{Numeral}
@@ -46,6 +46,15 @@ symbol_at n cursor = option_map (symbol_of cursor.text) (slice_get cursor.tokens
 abbrev pub is_this : Sign → Option Symbol → Bool
 is_this sign None = false
 is_this sign (Some symbol) = is_sign sign symbol
+
+-- whether there is a symbol, and it is a name
+abbrev pub is_name : Option Symbol → Bool
+is_name (Some symbols.Name) = true
+is_name other = false
+
+-- whether token n is a name
+abbrev pub has_name : ℕ → Cursor → Bool
+has_name n cursor = is_name (symbol_at n cursor)
 
 -- whether token n is this sign
 abbrev pub has_sign : Sign → ℕ → Cursor → Bool

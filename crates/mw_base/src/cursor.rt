@@ -1,6 +1,6 @@
 // What a grammar asks of the tokens of a line.
 ghost use Rattle.std.specs.Prelude.{◌≡◌};
-ghost use Rattle.mw_base.specs.Cursors.{Cursor as Seen, at_line, after, misplaced, token_at, symbol_at, has_sign, name_at, number_at, sign_at, place_at, element_of, end_at};
+ghost use Rattle.mw_base.specs.Cursors.{Cursor as Seen, at_line, after, misplaced, token_at, symbol_at, has_name, has_sign, name_at, number_at, sign_at, place_at, element_of, end_at};
 ghost use Rattle.mw_base.specs.Symbols.{spelled};
 
 use crate::cause::Cause;
@@ -127,6 +127,13 @@ impl<'a> Cursor<'a> {
             Some(token) => Some(symbol_of(self.text, *token)),
             None => None,
         }
+    }
+
+    /// Whether token n is a name.
+    pub fn has_name(&self, n: usize) -> bool
+        ensures { result ≡ has_name n self.now }
+    {
+        matches!(self.symbol(n), Some(Symbol::Name))
     }
 
     /// Whether token n is this sign.
