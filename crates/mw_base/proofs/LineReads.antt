@@ -1,5 +1,5 @@
 -- The lines of a text, each with its tokens, one line at a time.
-use Rattle.std.proofs.Common.{◌≡◌, ℕ, zero, suc, ◌+◌, ◌-◌, ◌<◌, ◌≤◌, List, [], ◌∷◌, ◌++◌, Bool, true, false, cond, Option, Some, None, Result, Ok, Err, take, drop, length, refl, sym, ap, ap₂, ◌∙◌, arith, append-nil}
+use Rattle.std.proofs.Common.{◌≡◌, ℕ, zero, suc, ◌+◌, ◌-◌, ◌<◌, ◌≤◌, List, [], ◌∷◌, ◌++◌, Bool, true, false, cond, Option, Some, None, Result, Ok, Err, drop, length, refl, sym, ap, ap₂, ◌∙◌, arith, append-nil}
 use Rattle.std.specs.Prelude.{◌==◌, if◌then◌else◌, nat_le}
 use Rattle.std.proofs.lemmas.Bool.Decides.{nat_tests}
 use Rattle.std.proofs.lemmas.List.{drop_all}
@@ -16,7 +16,7 @@ use Rattle.mw_base.specs.declared.token.Token.{Token}
 use Rattle.mw_base.specs.Lines.{lines_of, content}
 use Rattle.mw_base.specs.Pieces.{piece_at}
 use Rattle.mw_base.specs.Reading.{◌>>=◌, with_front, Fails}
-use Rattle.mw_base.specs.TokenLines.{count_in, line_with, lines_with}
+use Rattle.mw_base.specs.TokenLines.{count_in, lines_with}
 use Rattle.mw_base.specs.Tokens.{both, fault_at, of_long_line, piece_then, token_at, tokens_from, line_tokens, lines_tokens}
 use Rattle.mw_base.proofs.Lists.{with_front_twice}
 use Rattle.mw_base.proofs.Stretches.{rest_of, lines_left}

@@ -3,7 +3,7 @@ use Rattle.std.proofs.Common.{◌≡◌, ℕ, ◌+◌, ◌≤◌, List, [], ◌�
 use Rattle.std.proofs.lemmas.List.{drop_all}
 use Rattle.mw_base.specs.declared.refusal.Refused.{Refused}
 use Rattle.mw_base.specs.declared.refusal.Refused.TheVariants.{At, NoMemory}
-use Rattle.mw_base.specs.Reading.{◌>>=◌, Fails}
+use Rattle.mw_base.specs.Reading.{Fails}
 use Rattle.mw_base.specs.Steps.{steps}
 use Rattle.mw_base.proofs.Results.{ok_is, bind_ok}
 
