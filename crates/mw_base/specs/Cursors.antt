@@ -50,7 +50,7 @@ is_this sign (Some symbol) = is_sign sign symbol
 -- whether there is a symbol, and it is a name
 abbrev pub is_name : Option Symbol → Bool
 is_name (Some symbols.Name) = true
-is_name other = false
+is_name symbol = false
 
 -- whether token n is a name
 abbrev pub has_name : ℕ → Cursor → Bool
@@ -63,18 +63,18 @@ has_sign sign n cursor = is_this sign (symbol_at n cursor)
 -- a token that has to be a name
 abbrev pub name_token : Cursor → Token → Symbol → Result Token TextFault
 name_token cursor token symbols.Name = Ok token
-name_token cursor token other = Err (misplaced token cursor)
+name_token cursor token symbol = Err (misplaced token cursor)
 
 -- one that has to be a number
 abbrev pub number_token : Cursor → Token → Symbol → Result Numeral TextFault
 number_token cursor token (symbols.Number value) = Ok (record { token = token; value = value })
-number_token cursor token other = Err (misplaced token cursor)
+number_token cursor token symbol = Err (misplaced token cursor)
 
 -- one that has to be the name of a label or an address
 abbrev pub place_token : Cursor → Token → Symbol → Result Place TextFault
 place_token cursor token symbols.Name = Ok (Label token)
 place_token cursor token (symbols.Number value) = Ok (Address (record { token = token; value = value }))
-place_token cursor token other = Err (misplaced token cursor)
+place_token cursor token symbol = Err (misplaced token cursor)
 
 -- token n, which has to be a name
 unfoldable pub name_at : ℕ → Cursor → Result Token TextFault

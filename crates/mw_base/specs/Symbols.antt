@@ -32,4 +32,4 @@ symbol_of text token = symbol_of_kind token.kind (spelled text token)
 -- it is this sign
 abbrev pub is_sign : SignOf → Symbol → Bool
 is_sign sign (Sign other) = bytes_eq (bytes_of other) (bytes_of sign)
-is_sign sign other = false
+is_sign sign symbol = false

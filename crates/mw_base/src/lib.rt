@@ -1,5 +1,5 @@
 //! What every crate of the bench shares: widths, bits of a word, names, lists, the causes of refusal, events, the tokens of
-//! texts, and numbers as texts spell and reports print them.
+//! texts, their lines as a grammar reads them, what names stand for, and numbers as texts spell and reports print them.
 #![tactic(auto)]
 
 mod cause;
@@ -39,6 +39,8 @@ pub use symbol::{Symbol, spelled, symbol_of};
 pub use token::{Kind, Token};
 pub use width::{Width, bit, mask};
 
+#[cfg(test)]
+mod line_tests;
 #[cfg(test)]
 mod tests;
 #[cfg(test)]

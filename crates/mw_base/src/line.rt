@@ -12,7 +12,7 @@ use crate::token::Token;
 use std::alloc::Global;
 
 /// A line of a text.
-#[derive(Debug, Drop)]
+#[derive(Drop)]
 pub struct Line {
     /// Its number, from 1.
     pub number: u32,

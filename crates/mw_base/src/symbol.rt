@@ -6,7 +6,7 @@ use crate::sign::{Sign, sign_of};
 use crate::token::{Kind, Token};
 
 /// What a grammar sees of a token.
-#[derive(Clone, Copy, Debug, PartialEq, Eq)]
+#[derive(Clone, Copy)]
 pub enum Symbol {
     /// A name.
     Name,
