@@ -20,7 +20,7 @@ pub use event::Event;
 pub use items::Items;
 pub use literal::number;
 pub use memory::NoMemory;
-pub use name::{Name, is_name};
+pub use name::{Name, is_name, is_one_of};
 pub use printed::{append_decimal, append_hex, append_padded};
 pub use refusal::{Refusal, Refused, TextFault};
 pub use scan::{content, first_line, tokens};
