@@ -1,6 +1,7 @@
 -- The table of the control points: in the order of their keys, with their names, their bits, and what drives them.
 use Rattle.std.specs.Prelude.{ℕ, List, [], ◌∷◌, codes, Option, Some, None}
 use Rattle.mw_board.specs.declared.control.Control.{Control}
+use Rattle.mw_board.specs.declared.control.Control.TheVariants.{Fixed}
 use Rattle.mw_board.specs.declared.control.Points.{Points}
 use Rattle.mw_board.specs.declared.point.Point.{Point}
 use Rattle.mw_board.specs.declared.point.Point.TheVariants.{AluSource, AluFunction, AluDestination, AAddress, BAddress, Sequencer, Branch, TestDisable, Polarity, Ci, Rld, MarLoad, IrLoad, MemoryWrite, Out, CarryIn, D, Condition, Link}
@@ -98,3 +99,27 @@ with_driver points CarryIn driver = record points { carry_in = driver }
 with_driver points D driver = record points { d = driver }
 with_driver points Condition driver = record points { condition = driver }
 with_driver points Link driver = record points { link = driver }
+
+-- where nothing drives a point: 0, and 1 into the microprogram counter
+abbrev pub default_points : Points
+default_points = record {
+  alu_source = Fixed 0;
+  alu_function = Fixed 0;
+  alu_destination = Fixed 0;
+  a_address = Fixed 0;
+  b_address = Fixed 0;
+  sequencer = Fixed 0;
+  branch = Fixed 0;
+  test_disable = Fixed 0;
+  polarity = Fixed 0;
+  ci = Fixed 1;
+  rld = Fixed 0;
+  mar_load = Fixed 0;
+  ir_load = Fixed 0;
+  memory_write = Fixed 0;
+  out = Fixed 0;
+  carry_in = Fixed 0;
+  d = Fixed 0;
+  condition = Fixed 0;
+  link = Fixed 0;
+}

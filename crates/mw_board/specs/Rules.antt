@@ -1,5 +1,5 @@
 -- The rules of a board's parts, a definition each. A rule answers nothing, or why the part breaks it.
-use Rattle.std.specs.Prelude.{ℕ, ◌+◌, ◌%◌, ◌^◌, List, [], ◌∷◌, codes, length, slice_get, Bool, not, nat_lt, nat_le, ◌==◌, ◌&&◌, if◌then◌else◌, Option, Some, None, Result, Ok, Err}
+use Rattle.std.specs.Prelude.{◌≡◌, ℕ, ◌+◌, ◌%◌, ◌^◌, List, [], ◌∷◌, codes, length, slice_get, Bool, not, nat_lt, nat_le, ◌==◌, ◌&&◌, if◌then◌else◌, Option, Some, None, Result, Ok, Err}
 use Rattle.std.specs.List.{list_any}
 use Rattle.std.specs.Str.{bytes_eq}
 use Rattle.mw_base.specs.declared.cause.Cause.{Cause}
@@ -14,11 +14,12 @@ use Rattle.mw_board.specs.declared.bit.Load.{Load}
 use Rattle.mw_board.specs.declared.bit.Load.TheVariants as loads
 use Rattle.mw_board.specs.declared.control.Control.{Control}
 use Rattle.mw_board.specs.declared.control.Control.TheVariants as controls
+use Rattle.mw_board.specs.declared.control.Points.{Points}
 use Rattle.mw_board.specs.declared.field.NamedField.{NamedField}
 use Rattle.mw_board.specs.declared.flipflop.FlipFlop.{FlipFlop}
 use Rattle.mw_board.specs.declared.point.Point.{Point}
 use Rattle.mw_board.specs.Elements.{is_reserved}
-use Rattle.mw_board.specs.Points.{bits_of}
+use Rattle.mw_board.specs.Points.{bits_of, driver_of}
 
 -- what a rule answers
 abbrev pub Verdict : Type 0
@@ -116,6 +117,10 @@ driver_of_bits_rule None fields driver = control_rule fields driver
 
 abbrev pub driver_rule : List NamedField → Point → Control → Verdict
 driver_rule fields point driver = driver_of_bits_rule (bits_of point) fields driver
+
+-- the rule of what drives it is kept at each point
+abbrev pub DriversKeep : List NamedField → Points → Type 0
+DriversKeep fields control = (point : Point) → driver_rule fields point (driver_of control point) ≡ Ok tt
 
 -- ---- lists
 

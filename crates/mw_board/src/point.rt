@@ -1,6 +1,8 @@
 // The table of the control points.
-ghost use Rattle.std.specs.Prelude.{◌≡◌};
+ghost use Rattle.std.specs.Prelude.{◌≡◌, List, Ok};
+ghost use Rattle.mw_board.specs.declared.field.NamedField.{NamedField};
 ghost use Rattle.mw_board.specs.Points.{name_of, bits_of, driver_of, with_driver};
+ghost use Rattle.mw_board.specs.Rules.{driver_rule, DriversKeep};
 
 use crate::control::{Control, Points};
 
@@ -142,7 +144,10 @@ impl Points {
 
     /// The same points, of which one has another driver.
     pub fn with(self, point: Point, driver: Control) -> Points
-        ensures { result ≡ with_driver self point driver }
+        ensures exact { result ≡ with_driver self point driver }
+        // Where the new driver keeps the rule of its point, all do as they did before.
+        ensures kept { (fields : List NamedField) → driver_rule fields point driver ≡ Ok tt
+            → DriversKeep fields self → DriversKeep fields result }
     {
         let mut points = self;
         match point {
