@@ -12,7 +12,11 @@ use Rattle.mw_boardfile.specs.FlipFlops.{flipflop_at, each_flipflop}
 use Rattle.mw_boardfile.specs.declared.fault.KeyFault.{KeyFault}
 use Rattle.mw_board.specs.declared.field.NamedField.{NamedField}
 use Rattle.mw_board.specs.declared.flipflop.FlipFlop.{FlipFlop}
-use Rattle.toml.specs.Data.{Data}
+use Rattle.mw_board.specs.declared.control.Points.{Points}
+use Rattle.mw_board.specs.declared.point.Point.{Point}
+use Rattle.mw_board.specs.Points.{name_of}
+use Rattle.mw_boardfile.specs.Control.{given_point, each_point}
+use Rattle.toml.specs.Data.{Data, Members, get_member}
 use Rattle.toml.specs.View.{view, members_view}
 use Rattle.mw_boardfile.specs.Fields.{count_of}
 use Rattle.toml.specs.declared.value.Value.{Value}
@@ -149,4 +153,30 @@ pub flipflops_end : (width : ℕ) (fields : List NamedField) (earlier : List Fli
 unfolding each_flipflop
 flipflops_end width fields earlier values n total past so_far =
     let one : each_flipflop width fields (data_of values) earlier n (data_of (drop n values)) ≡ Ok earlier = rw (ap data_of (drop_all n values past)) refl in
+    sym so_far ∙ one
+
+-- ---- each control point
+
+pub point_ends : (fields : List NamedField) (control : Members) (before : Points) (e : Refused KeyFault) (points : List Point) (n : ℕ) (point : Point) (total : Result Points KeyFault)
+    → n < length points → point ≡ get_or points n point → Fails e (given_point fields before point (get_member (name_of point) control))
+    → each_point fields control before (drop n points) ≡ total → Fails e total
+unfolding each_point
+point_ends fields control before NoMemory points n point total within is fails so_far = tt
+point_ends fields control before (At fault) points n point total within is fails so_far =
+    let one : each_point fields control before (drop n points) ≡ Err fault = rw (next points n point within is, fails) refl in
+    sym so_far ∙ one
+
+pub point_goes_on : (fields : List NamedField) (control : Members) (before after : Points) (points : List Point) (n : ℕ) (point : Point) (total : Result Points KeyFault)
+    → n < length points → point ≡ get_or points n point → given_point fields before point (get_member (name_of point) control) ≡ Ok after
+    → each_point fields control before (drop n points) ≡ total → each_point fields control after (drop (n + 1) points) ≡ total
+unfolding each_point
+point_goes_on fields control before after points n point total within is reads so_far =
+    let one : each_point fields control before (drop n points) ≡ each_point fields control after (drop (n + 1) points) = rw (next points n point within is, reads) refl in
+    sym one ∙ so_far
+
+pub points_end : (fields : List NamedField) (control : Members) (before : Points) (points : List Point) (n : ℕ) (total : Result Points KeyFault) → length points ≤ n
+    → each_point fields control before (drop n points) ≡ total → total ≡ Ok before
+unfolding each_point
+points_end fields control before points n total past so_far =
+    let one : each_point fields control before (drop n points) ≡ Ok before = rw (drop_all n points past) refl in
     sym so_far ∙ one

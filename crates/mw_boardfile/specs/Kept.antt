@@ -1,13 +1,15 @@
 -- The rules of boards of what was read, for private clauses: a reader asks them, so the board of what it read is never refused.
-use Rattle.std.specs.Prelude.{◌≡◌, ℕ, List, length, All, IfOk, Result, Ok}
+use Rattle.std.specs.Prelude.{◌≡◌, ℕ, List, [], ◌∷◌, length, All, IfOk, Result, Ok}
 use Rattle.std.specs.Borrow.{Bor}
+use Rattle.toml.specs.Data.{Members, no_members, member}
 use Rattle.toml.specs.declared.value.Value.{Value}
 use Rattle.mw_base.specs.declared.cause.Cause.{Cause}
 use Rattle.mw_board.specs.declared.control.Control.{Control}
 use Rattle.mw_board.specs.declared.control.Points.{Points}
 use Rattle.mw_board.specs.declared.field.NamedField.{NamedField}
-use Rattle.mw_board.specs.Check.{flipflop_check, flipflops_from, field_check}
-use Rattle.mw_board.specs.Rules.{Verdict, width_rule, microword_rule, address_rule, word_rule, vector_rule, bit_rule, carry_in_rule, d_source_rule, chosen_rule, list_rule, map_bits_rule, map_entry_rule, map_entries_rule}
+use Rattle.mw_board.specs.declared.flipflop.FlipFlop.{FlipFlop}
+use Rattle.mw_board.specs.Check.{flipflop_check, flipflops_from}
+use Rattle.mw_board.specs.Rules.{Verdict, width_rule, microword_rule, address_rule, word_rule, vector_rule, fields_rule, name_rule, field_rule, bit_rule, carry_in_rule, d_source_rule, chosen_rule, list_rule, map_bits_rule, map_entry_rule, map_entries_rule}
 use Rattle.mw_boardfile.specs.declared.map.BoardMap.{BoardMap}
 use Rattle.mw_boardfile.specs.declared.select.BoardLists.{BoardLists}
 use Rattle.mw_boardfile.specs.declared.sizes.BoardSizes.{BoardSizes}
@@ -38,6 +40,28 @@ pub record SizesKeep (sizes : BoardSizes) : Type 0 where
   pub fill : Kept (word_rule sizes.microword sizes.fill)
   pub unset : Kept (word_rule sizes.microword sizes.unset)
   pub vector : Kept (vector_rule sizes.vector)
+
+-- a field
+abbrev pub FieldKeeps : ℕ → NamedField → Type 0
+FieldKeeps microword f = Kept (name_rule f.name) × Kept (field_rule microword f.field.low f.field.width)
+
+-- the names of a table's members
+abbrev pub names_of : Members → List (List ℕ)
+names_of no_members = []
+names_of (member name value rest) = name ∷ names_of rest
+
+-- fields
+pub record FieldsKeep (microword : ℕ) (fields : List NamedField) : Type 0 where
+  pub few : Kept (fields_rule (length fields))
+  pub each : All (FieldKeeps microword) fields
+
+-- a flip-flop, after the earlier ones
+abbrev pub FlipFlopKeeps : ℕ → List NamedField → ℕ → List FlipFlop → FlipFlop → Type 0
+FlipFlopKeeps width fields flipflops earlier f = (i : ℕ) → flipflop_check width fields flipflops earlier i f ≡ Ok tt
+
+-- flipflop
+abbrev pub FlipFlopsKeep : ℕ → List NamedField → ℕ → List FlipFlop → Type 0
+FlipFlopsKeep width fields flipflops fs = flipflops_from width fields flipflops [] 0 fs ≡ Ok tt
 
 -- select
 pub record ListsKeep (width : ℕ) (fields : List NamedField) (flipflops : ℕ) (control : Points) (lists : BoardLists) : Type 0 where

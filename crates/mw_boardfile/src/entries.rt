@@ -7,6 +7,8 @@ ghost use Rattle.mw_boardfile.specs.Entries.{flip_bit, bit_spelled, bit_in, carr
 ghost use Rattle.mw_boardfile.specs.Entries.{named_source, field_source, flip_source, source_spelled};
 ghost use Rattle.mw_boardfile.specs.Entries.{mask_number, masked, d_source_in, is_text_at};
 ghost use Rattle.mw_boardfile.specs.Fields.{field_number};
+ghost use Rattle.mw_board.specs.Rules.{bit_rule, carry_in_rule, load_rule, d_source_rule};
+ghost use Rattle.mw_boardfile.specs.Kept.{Kept};
 ghost use Rattle.mw_boardfile.specs.Views.{given, data_of};
 
 use crate::fields::field_number;

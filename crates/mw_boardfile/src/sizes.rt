@@ -132,7 +132,7 @@ fn fill(microword: u8, value: Option<&Value>) -> Result<u128, Cause>
 }
 
 /// unset: a microword; 0 where it isn't there.
-#[tactic(auto, unfolding(crate::specs::Sizes::unset_in))]
+#[tactic(auto, using(crate::proofs::Kept::zero_fits), unfolding(crate::specs::Sizes::unset_in))]
 fn unset(microword: u8, value: Option<&Value>) -> Result<u128, Cause>
     ensures exact { result ≡ unset_in microword (given value.entry) }
     ensures kept { IfOk result (λ unset. Kept (word_rule microword unset)) }
@@ -144,7 +144,7 @@ fn unset(microword: u8, value: Option<&Value>) -> Result<u128, Cause>
 }
 
 /// vector: a control address; 0 where it isn't there.
-#[tactic(auto, unfolding(crate::specs::Sizes::vector_in))]
+#[tactic(auto, unfolding(crate::specs::Sizes::vector_in, mw_board::specs::Rules::vector_rule))]
 fn vector(value: Option<&Value>) -> Result<u16, Cause>
     ensures exact { result ≡ vector_in (given value.entry) }
     ensures kept { IfOk result (λ vector. Kept (vector_rule vector)) }
