@@ -28,7 +28,7 @@ pub use items::Items;
 pub use line::{Line, end_fault, fault_on, lines, text_end};
 pub use literal::number;
 pub use memory::NoMemory;
-pub use name::{Name, is_name};
+pub use name::{Name, is_name, is_one_of};
 pub use named::Names;
 pub use place::Place;
 pub use printed::{append_decimal, append_hex, append_padded};
