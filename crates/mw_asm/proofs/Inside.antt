@@ -6,7 +6,9 @@ use Rattle.std.proofs.lemmas.Bool.Decides.{nat_tests}
 use Rattle.std.proofs.lemmas.List.{length-set, length-replicate}
 use Rattle.std.proofs.lemmas.List.Elements.{All-nil, All-push, All-weaker}
 use Rattle.mw_base.specs.declared.refusal.TextFault.{TextFault}
-use Rattle.mw_base.specs.declared.cause.Cause.TheVariants.{ValueTooWide, StoreFull, Overlap}
+use Rattle.mw_base.specs.declared.cause.Cause.TheVariants.{ValueTooWide, StoreFull, Overlap, BadLine}
+use Rattle.mw_base.specs.declared.cursor.Numeral.{Numeral}
+use Rattle.mw_base.specs.Cursors.{at_line}
 use Rattle.mw_base.specs.declared.token.Token.{Token}
 use Rattle.mw_base.specs.Reading.{◌>>=◌}
 use Rattle.mw_board.specs.declared.field.NamedField.{NamedField}
@@ -19,17 +21,19 @@ use Rattle.mw_asm.specs.declared.names.Scope.TheVariants as scopes
 use Rattle.mw_asm.specs.declared.statement.Statement.{Statement}
 use Rattle.mw_asm.specs.declared.statement.Statement.TheVariants as statements
 use Rattle.mw_asm.specs.Bits.{no_bits}
-use Rattle.mw_asm.specs.FirstPass.{Known, at_first, with_used, with_meaning, with_def, with_next, with_label, with_optional_label, with_word, with_optional_word, with_statement, with_line, first_pass}
+use Rattle.mw_asm.specs.FirstPass.{Known, at_first, can_define, with_used, with_meaning, with_def, with_next, with_label, with_optional_label, with_word, with_optional_word, with_statement, with_line, first_pass}
 use Rattle.mw_asm.specs.ItemBits.{bits_of}
-use Rattle.mw_asm.specs.Lines.{Line, fault_on}
-use Rattle.mw_asm.specs.Names.{new_name, with_name}
-use Rattle.mw_asm.specs.Symbols.{spelled}
+use Rattle.mw_base.specs.declared.line.Line.{Line}
+use Rattle.mw_base.specs.TokenLines.{fault_on}
+use Rattle.mw_base.specs.Named.{with_name}
+use Rattle.mw_base.specs.Symbols.{spelled}
 use Rattle.mw_asm.specs.declared.bits.SetBits.{SetBits}
 use Rattle.mw_asm.specs.Statements.{statement_of}
 use Rattle.mw_asm.specs.declared.assembled.Label.{Label}
 use Rattle.std.proofs.lemmas.Nat.{pow_pos}
 use Rattle.mw_asm.specs.Names.{bits_named}
-use Rattle.mw_asm.proofs.Steps.{bind_ok, ok, ok_is, if_ok, steps_keep}
+use Rattle.mw_base.proofs.Results.{bind_ok, done, ok_is, if_ok}
+use Rattle.mw_base.proofs.Steps.{steps_keep}
 use Rattle.mw_asm.proofs.Widths.{ValueFits, NamesFit, more_names_fit, bits_fit}
 
 -- the word has a place among so many
@@ -85,47 +89,47 @@ pushed used words word inside low =
 meaning_right : (bits : ℕ) (text : List ℕ) (name : Token) (meaning : Meaning) (known next : Known) → IfSome (bits_named (Some meaning)) (ValueFits bits) → with_meaning text name meaning known ≡ Ok next → IsRight bits known → IsRight bits next
 unfolding with_meaning
 meaning_right bits text name meaning known next fits is right =
-    let last = bind_ok (new_name text known.names name) (λ done. ok (record known { names = with_name known.names (spelled text name) meaning })) next is in
-    let e = ok_is (record known { names = with_name known.names (spelled text name) meaning }) next last.2 in
+    let last = bind_ok (can_define text known name) (λ allowed. done {F = TextFault} (record known { names = with_name known.names (spelled text name) meaning })) next is in
+    let e = ok_is {F = TextFault} (record known { names = with_name known.names (spelled text name) meaning }) next last.2 in
     subst (IsRight bits) e (record { inside = right.inside; low = right.low; labels = right.labels; named = more_names_fit bits known.names (spelled text name) meaning right.named fits })
 
 def_right : (bits : ℕ) (fields : List NamedField) (text : List ℕ) (name : Token) (items : List Item) (known next : Known) → All (IsField bits) fields → with_def fields text name items known ≡ Ok next → IsRight bits known → IsRight bits next
 unfolding with_def
 def_right bits fields text name items known next fit is right =
-    let later = λ (set : SetBits). ok (record known { names = with_name known.names (spelled text name) (meanings.Bits set) }) in
-    let first = bind_ok (new_name text known.names name) (λ done. bits_of fields text known.names scopes.Def no_bits items >>= later) next is in
+    let later = λ (set : SetBits). done {F = TextFault} (record known { names = with_name known.names (spelled text name) (meanings.Bits set) }) in
+    let first = bind_ok (can_define text known name) (λ allowed. bits_of fields text known.names scopes.Def no_bits items >>= later) next is in
     let last = bind_ok (bits_of fields text known.names scopes.Def no_bits items) later next first.2 in
-    let e = ok_is (record known { names = with_name known.names (spelled text name) (meanings.Bits last.0) }) next last.2 in
+    let e = ok_is {F = TextFault} (record known { names = with_name known.names (spelled text name) (meanings.Bits last.0) }) next last.2 in
     let fits = bits_fit bits fields text known.names scopes.Def no_bits last.0 items fit right.named (pow_pos bits) last.1 in
     subst (IsRight bits) e (record { inside = right.inside; low = right.low; labels = right.labels; named = more_names_fit bits known.names (spelled text name) (meanings.Bits last.0) right.named fits })
 
-next_right : (bits : ℕ) (token : Token) (address : ℕ) (known next : Known) → with_next token address known ≡ Ok next → IsRight bits known → IsRight bits next
+next_right : (bits : ℕ) (address : Numeral) (known next : Known) → with_next address known ≡ Ok next → IsRight bits known → IsRight bits next
 unfolding with_next
-next_right bits token address known next is right =
-    let e = if_ok (nat_lt address 4096) (record known { next = address }) next (fault_on token ValueTooWide) is in
-    let low : address ≤ 4096 = grind (arith, nat_tests, e.0) in
+next_right bits address known next is right =
+    let e = if_ok (nat_lt address.value 4096) (record known { next = address.value }) next (fault_on address.token ValueTooWide) is in
+    let low : address.value ≤ 4096 = grind (arith, nat_tests, e.0) in
     subst (IsRight bits) e.1 (record { inside = right.inside; low = low; labels = right.labels; named = right.named })
 
 label_right : (bits : ℕ) (text : List ℕ) (name : Token) (known next : Known) → with_label text name known ≡ Ok next → IsRight bits known → IsRight bits next
 unfolding with_label
 label_right bits text name known next is right =
-    let later = λ (more : Known). ok (record more { labels = more.labels ++ (record { name = spelled text name; address = more.next } ∷ []) }) in
+    let later = λ (more : Known). done {F = TextFault} (record more { labels = more.labels ++ (record { name = spelled text name; address = more.next } ∷ []) }) in
     let last = bind_ok (with_meaning text name (meanings.Label known.next) known) later next is in
     let more = last.0 in
     let label : Label = record { name = spelled text name; address = more.next } in
-    let e = ok_is (record more { labels = more.labels ++ (label ∷ []) }) next last.2 in
+    let e = ok_is {F = TextFault} (record more { labels = more.labels ++ (label ∷ []) }) next last.2 in
     let was = meaning_right bits text name (meanings.Label known.next) known more tt last.1 right in
     subst (IsRight bits) e (record { inside = was.inside; low = was.low; labels = All-push IsLow more.labels label was.labels was.low; named = was.named })
 
 optional_label_right : (bits : ℕ) (text : List ℕ) (name : Option Token) (known next : Known) → with_optional_label text name known ≡ Ok next → IsRight bits known → IsRight bits next
-optional_label_right bits text None known next is right = subst (IsRight bits) (ok_is known next is) right
+optional_label_right bits text None known next is right = subst (IsRight bits) (ok_is {F = TextFault} known next is) right
 optional_label_right bits text (Some name) known next is right = label_right bits text name known next is right
 
 -- after two tests, of which each may give a fault
-after_tests : (full there : Bool) (known next : Known) (first second : TextFault) → (if full then Err first else (if there then Err second else ok known)) ≡ Ok next → (full ≡ false) × (known ≡ next)
+after_tests : (full there : Bool) (known next : Known) (first second : TextFault) → (if full then Err first else (if there then Err second else done {F = TextFault} known)) ≡ Ok next → (full ≡ false) × (known ≡ next)
 after_tests true there known next first second is = absurd cc
 after_tests false true known next first second is = absurd cc
-after_tests false false known next first second is = (refl, ok_is known next is)
+after_tests false false known next first second is = (refl, ok_is {F = TextFault} known next is)
 
 word_right : (bits : ℕ) (first : Token) (items : List Item) (known next : Known) → with_word first items known ≡ Ok next → IsRight bits known → IsRight bits next
 unfolding with_word
@@ -137,13 +141,13 @@ word_right bits first items known next is right =
     subst (IsRight bits) e.1 (record { inside = pushed known.used known.words word right.inside low; low = omega (arith, low); labels = right.labels; named = right.named })
 
 optional_word_right : (bits : ℕ) (items : List Item) (known next : Known) → with_optional_word items known ≡ Ok next → IsRight bits known → IsRight bits next
-optional_word_right bits [] known next is right = subst (IsRight bits) (ok_is known next is) right
+optional_word_right bits [] known next is right = subst (IsRight bits) (ok_is {F = TextFault} known next is) right
 optional_word_right bits (first ∷ rest) known next is right = word_right bits first.name (first ∷ rest) known next is right
 
 statement_right : (bits : ℕ) (fields : List NamedField) (text : List ℕ) (known next : Known) (statement : Statement) → All (IsField bits) fields → with_statement fields text known statement ≡ Ok next → IsRight bits known → IsRight bits next
 statement_right bits fields text known next (statements.Equ name value) fit is right = meaning_right bits text name (meanings.Number value) known next tt is right
 statement_right bits fields text known next (statements.Def name items) fit is right = def_right bits fields text name items known next fit is right
-statement_right bits fields text known next (statements.Org token address) fit is right = next_right bits token address known next is right
+statement_right bits fields text known next (statements.Org address) fit is right = next_right bits address known next is right
 statement_right bits fields text known next (statements.Word label items) fit is right =
     let two = bind_ok (with_optional_label text label known) (λ labelled. with_optional_word items labelled) next is in
     optional_word_right bits items two.0 next two.2 (optional_label_right bits text label known two.0 two.1 right)
@@ -151,7 +155,7 @@ statement_right bits fields text known next (statements.Word label items) fit is
 line_right : (bits : ℕ) (fields : List NamedField) (text : List ℕ) (known next : Known) (line : Line) → All (IsField bits) fields → with_line fields text known line ≡ Ok next → IsRight bits known → IsRight bits next
 unfolding with_line
 line_right bits fields text known next line fit is right =
-    let two = bind_ok (statement_of text line) (λ statement. with_statement fields text known statement) next is in
+    let two = bind_ok (statement_of (at_line text line BadLine)) (λ statement. with_statement fields text known statement) next is in
     statement_right bits fields text known next two.0 fit two.2 right
 
 -- after the first pass

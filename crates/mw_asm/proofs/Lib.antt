@@ -2,10 +2,7 @@ pub mod Addresses
 pub mod Fields
 pub mod Inside
 pub mod ItemSteps
-pub mod LineSteps
-pub mod Maps
 pub mod Shifts
-pub mod Steps
 pub mod Stores
 pub mod Widths
 pub mod WordSteps

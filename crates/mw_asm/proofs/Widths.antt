@@ -1,12 +1,11 @@
 -- The bits that items set lie within the microword.
 use Rattle.std.proofs.Common.{◌≡◌, ℕ, ◌+◌, ◌^◌, ◌<◌, ◌≤◌, List, true, false, cond, Option, Some, None, Ok, subst, arith, nat_lt, IfSome}
-use Rattle.std.specs.Prelude.{if◌then◌else◌, bit_and, ok_or}
+use Rattle.std.specs.Prelude.{bit_and, ok_or}
 use Rattle.std.specs.List.{All}
 use Rattle.std.specs.Str.{bytes_eq}
 use Rattle.std.proofs.lemmas.Bool.Decides.{nat_tests}
 use Rattle.std.proofs.lemmas.Nat.{or_lt, and_le_l}
 use Rattle.mw_base.specs.declared.cause.Cause.TheVariants.{UnknownName, FieldConflict, ValueTooWide}
-use Rattle.mw_base.specs.declared.refusal.TextFault.{TextFault}
 use Rattle.mw_base.specs.declared.token.Token.{Token}
 use Rattle.mw_base.specs.Reading.{◌>>=◌}
 use Rattle.mw_base.specs.Words.{complement}
@@ -19,12 +18,14 @@ use Rattle.mw_asm.specs.declared.names.Meaning.{Meaning}
 use Rattle.mw_asm.specs.declared.names.Scope.{Scope}
 use Rattle.mw_asm.specs.Bits.{field_bits, agree, union, word_of}
 use Rattle.mw_asm.specs.ItemBits.{field_named, value_of, field_set, valued_bits, alone_bits, item_bits, beside, with_item, bits_of}
-use Rattle.mw_asm.specs.Lines.{fault_on}
-use Rattle.mw_asm.specs.Names.{Names, with_name, bits_named}
-use Rattle.mw_asm.specs.Symbols.{spelled}
+use Rattle.mw_base.specs.TokenLines.{fault_on}
+use Rattle.mw_base.specs.Named.{with_name}
+use Rattle.mw_asm.specs.Names.{Names, bits_named}
+use Rattle.mw_base.specs.Symbols.{spelled}
 use Rattle.mw_asm.proofs.Fields.{found_within}
 use Rattle.mw_asm.proofs.Shifts.{shifted_below}
-use Rattle.mw_asm.proofs.Steps.{bind_ok, if_ok, steps_keep}
+use Rattle.mw_base.proofs.Results.{bind_ok, if_ok, found}
+use Rattle.mw_base.proofs.Steps.{steps_keep}
 
 -- values within so many bits
 abbrev pub ValueFits : ℕ → SetBits → Type 0
@@ -37,11 +38,6 @@ NamesFit bits names = (name : List ℕ) → IfSome (bits_named (names name)) (Va
 pub more_names_fit : (bits : ℕ) (names : Names) (name : List ℕ) (meaning : Meaning) → NamesFit bits names → IfSome (bits_named (Some meaning)) (ValueFits bits) → NamesFit bits (with_name names name meaning)
 more_names_fit bits names name meaning fit new = λ other.
     elim (bytes_eq name other) as (λ b. IfSome (bits_named (cond b (Some meaning) (names other))) (ValueFits bits)) [ true ↦ new | false ↦ fit other ]
-
--- what there was, where it had to be
-found : {A : Type 0} (P : A → Type 0) (fault : TextFault) (there : Option A) (x : A) → ok_or there fault ≡ Ok x → IfSome there P → P x
-found P fault (Some y) x is holds = let e : y ≡ x = cc in subst P e holds
-found P fault None x is holds = absurd cc
 
 field_set_fits : (bits : ℕ) (field : Field) (token : Token) (value : ℕ) (set : SetBits) → field.low + field.width ≤ bits → field_set field token value ≡ Ok set → ValueFits bits set
 unfolding field_set

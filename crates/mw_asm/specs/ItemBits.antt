@@ -8,16 +8,16 @@ use Rattle.mw_base.specs.declared.token.Kind.{Kind}
 use Rattle.mw_base.specs.declared.token.Kind.TheVariants.{Number}
 use Rattle.mw_base.specs.declared.token.Token.{Token}
 use Rattle.mw_base.specs.Reading.{◌>>=◌}
+use Rattle.mw_base.specs.Steps.{steps}
+use Rattle.mw_base.specs.Symbols.{spelled}
+use Rattle.mw_base.specs.TokenLines.{fault_on}
 use Rattle.mw_board.specs.declared.field.Field.{Field}
 use Rattle.mw_board.specs.declared.field.NamedField.{NamedField}
 use Rattle.mw_asm.specs.declared.bits.SetBits.{SetBits}
 use Rattle.mw_asm.specs.declared.items.Item.{Item}
 use Rattle.mw_asm.specs.declared.names.Scope.{Scope}
 use Rattle.mw_asm.specs.Bits.{field_bits, agree, union}
-use Rattle.mw_asm.specs.Lines.{fault_on}
 use Rattle.mw_asm.specs.Names.{Names, number_named, bits_named}
-use Rattle.mw_asm.specs.Steps.{steps}
-use Rattle.mw_asm.specs.Symbols.{spelled}
 
 -- the field of this name
 unfoldable pub field_named : List NamedField → List ℕ → Option Field

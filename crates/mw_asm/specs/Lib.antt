@@ -3,11 +3,8 @@ pub mod Examples
 pub mod FirstPass
 pub mod ItemBits
 pub mod Items
-pub mod Lines
 pub mod Listing
 pub mod Microprogram
 pub mod Names
 pub mod Statements
-pub mod Steps
-pub mod Symbols
 pub mod Views

@@ -3,6 +3,8 @@ use Rattle.std.specs.Prelude.{◌≡◌, ◌<◌, ◌≤◌, ◌^◌, length, Al
 use Rattle.mw_base.specs.declared.refusal.TextFault.{TextFault}
 use Rattle.mw_base.specs.Lines.{lines_of}
 use Rattle.mw_base.specs.Reading.{◌>>=◌}
+use Rattle.mw_base.specs.Steps.{steps}
+use Rattle.mw_base.specs.TokenLines.{lines_with}
 use Rattle.mw_base.specs.Tokens.{tokens_of}
 use Rattle.mw_board.specs.declared.parts.BoardParts.{BoardParts}
 use Rattle.mw_asm.specs.declared.assembled.Assembled.{Assembled}
@@ -12,9 +14,7 @@ use Rattle.mw_asm.specs.declared.names.Scope.TheVariants as scopes
 use Rattle.mw_asm.specs.Bits.{no_bits, word_of}
 use Rattle.mw_asm.specs.FirstPass.{at_first, first_pass}
 use Rattle.mw_asm.specs.ItemBits.{bits_of}
-use Rattle.mw_asm.specs.Lines.{lines_with}
 use Rattle.mw_asm.specs.Names.{Names}
-use Rattle.mw_asm.specs.Steps.{steps}
 
 -- the store with a word at its address
 unfoldable pub with_made : BoardParts → List ℕ → Names → List ℕ → Word → Result (List ℕ) TextFault

@@ -1,77 +1,55 @@
 -- What a line says.
-use Rattle.std.specs.Prelude.{ℕ, List, ◌∷◌, drop, Bool, true, false, ◌&&◌, if◌then◌else◌, codes, Option, Some, None, Result, Ok, slice_get}
+use Rattle.std.specs.Prelude.{ℕ, List, [], ◌∷◌, Bool, true, false, ◌&&◌, if◌then◌else◌, codes, Option, Some, None, Result, Ok}
 use Rattle.std.specs.Str.{bytes_eq}
 use Rattle.mw_base.specs.declared.refusal.TextFault.{TextFault}
+use Rattle.mw_base.specs.declared.sign.Sign.TheVariants.{Equals, Colon, Comma}
+use Rattle.mw_base.specs.declared.symbol.Symbol.{Symbol}
+use Rattle.mw_base.specs.declared.symbol.Symbol.TheVariants.{Sign}
 use Rattle.mw_base.specs.declared.token.Token.{Token}
+use Rattle.mw_base.specs.Cursors.{Cursor, after, token_at, symbol_at, has_name, has_sign, name_at, sign_at, number_at, end_at}
 use Rattle.mw_base.specs.Reading.{◌>>=◌}
-use Rattle.mw_asm.specs.declared.symbol.Symbol.{Symbol}
-use Rattle.mw_asm.specs.declared.symbol.Symbol.TheVariants as symbols
+use Rattle.mw_base.specs.Symbols.{spelled}
 use Rattle.mw_asm.specs.declared.statement.Keyword.{Keyword}
 use Rattle.mw_asm.specs.declared.statement.Keyword.TheVariants as keywords
 use Rattle.mw_asm.specs.declared.statement.Statement.{Statement}
 use Rattle.mw_asm.specs.declared.statement.Statement.TheVariants.{Equ, Def, Org, Word}
 use Rattle.mw_asm.specs.Items.{items_of, optional_items}
-use Rattle.mw_asm.specs.Lines.{Line}
-use Rattle.mw_asm.specs.Symbols.{spelled, symbol_of, name_token, equals_token, number_token, token_of, end_of}
-
--- token n of a line, which has to be a name
-abbrev pub name_at : List ℕ → Line → ℕ → Result Token TextFault
-name_at text line n = do
-  token ← token_of line n
-  name_token token (symbol_of text token)
-
--- token n of a line has to be "="
-abbrev pub equals_at : List ℕ → Line → ℕ → Result (Unit {0}) TextFault
-equals_at text line n = do
-  token ← token_of line n
-  equals_token token (symbol_of text token)
-
--- the number that token n of a line has to be
-abbrev pub number_at : List ℕ → Line → ℕ → Result ℕ TextFault
-number_at text line n = do
-  token ← token_of line n
-  number_token token (symbol_of text token)
-
--- the line has to end before token n
-abbrev pub end_at : Line → ℕ → Result (Unit {0}) TextFault
-end_at line n = end_of (slice_get line.tokens n)
 
 -- equ NAME = NUMBER
-unfoldable pub equ_of : List ℕ → Line → Result Statement TextFault
-equ_of text line = do
-  name ← name_at text line 1
-  equals ← equals_at text line 2
-  value ← number_at text line 3
-  end ← end_at line 4
-  Ok (Equ name value)
+unfoldable pub equ_of : Cursor → Result Statement TextFault
+equ_of line = do
+  name ← name_at 1 line
+  equals ← sign_at Equals 2 line
+  number ← number_at 3 line
+  end ← end_at 4 line
+  Ok (Equ name number.value)
 
 -- def NAME = ITEMS
-unfoldable pub def_of : List ℕ → Line → Result Statement TextFault
-def_of text line = do
-  name ← name_at text line 1
-  equals ← equals_at text line 2
-  items ← items_of text line (drop 3 line.tokens)
+unfoldable pub def_of : Cursor → Result Statement TextFault
+def_of line = do
+  name ← name_at 1 line
+  equals ← sign_at Equals 2 line
+  items ← items_of (after 3 line)
   Ok (Def name items)
 
 -- org NUMBER
-unfoldable pub org_of : List ℕ → Line → Result Statement TextFault
-org_of text line = do
-  value ← number_at text line 1
-  token ← token_of line 1
-  end ← end_at line 2
-  Ok (Org token value)
+unfoldable pub org_of : Cursor → Result Statement TextFault
+org_of line = do
+  address ← number_at 1 line
+  end ← end_at 2 line
+  Ok (Org address)
 
 -- NAME: and then ITEMS or nothing
-unfoldable pub labelled_of : List ℕ → Line → Result Statement TextFault
-labelled_of text line = do
-  name ← token_of line 0
-  items ← optional_items text line (drop 2 line.tokens)
+unfoldable pub labelled_of : Cursor → Result Statement TextFault
+labelled_of line = do
+  name ← token_at 0 line
+  items ← optional_items (after 2 line)
   Ok (Word (Some name) items)
 
 -- ITEMS, or nothing
-unfoldable pub unlabelled_of : List ℕ → Line → Result Statement TextFault
-unlabelled_of text line = do
-  items ← optional_items text line line.tokens
+unfoldable pub unlabelled_of : Cursor → Result Statement TextFault
+unlabelled_of line = do
+  items ← optional_items line
   Ok (Word None items)
 
 -- the keyword of these bytes
@@ -82,40 +60,30 @@ keyword_of name =
     else (if bytes_eq name (codes "org") then Some keywords.Org
     else None))
 
--- before "=", ":" or "," a keyword is a name as any other
-abbrev pub leaves_keyword : Symbol → Bool
-leaves_keyword symbols.Equals = false
-leaves_keyword symbols.Colon = false
-leaves_keyword symbols.Comma = false
-leaves_keyword symbol = true
+-- before "=", ":", "," or the line's end a keyword is a name as any other
+abbrev pub leaves_keyword : Option Symbol → Bool
+leaves_keyword None = false
+leaves_keyword (Some (Sign Equals)) = false
+leaves_keyword (Some (Sign Colon)) = false
+leaves_keyword (Some (Sign Comma)) = false
+leaves_keyword (Some symbol) = true
 
--- the keyword with which a line begins; not before "=", ":", "," or the line's end
-abbrev pub keyword_in : List ℕ → List Token → Option Keyword
-keyword_in text (first ∷ second ∷ rest) = if leaves_keyword (symbol_of text second) then keyword_of (spelled text first) else None
-keyword_in text other = None
+-- the keyword that the first of these tokens of a text is
+abbrev pub keyword_first : List ℕ → List Token → Option Keyword
+keyword_first text [] = None
+keyword_first text (first ∷ rest) = keyword_of (spelled text first)
 
--- a name
-abbrev pub is_name : Symbol → Bool
-is_name symbols.Name = true
-is_name symbol = false
-
--- ":"
-abbrev pub is_colon : Symbol → Bool
-is_colon symbols.Colon = true
-is_colon symbol = false
-
--- the line begins with NAME:
-abbrev pub is_labelled : List ℕ → List Token → Bool
-is_labelled text (first ∷ second ∷ rest) = is_name (symbol_of text first) && is_colon (symbol_of text second)
-is_labelled text other = false
+-- the keyword with which a line begins
+abbrev pub keyword_in : Cursor → Option Keyword
+keyword_in line = if leaves_keyword (symbol_at 1 line) then keyword_first line.text line.tokens else None
 
 -- what a line says that begins with this keyword, if any
-abbrev pub statement_after : List ℕ → Line → Option Keyword → Result Statement TextFault
-statement_after text line (Some keywords.Equ) = equ_of text line
-statement_after text line (Some keywords.Def) = def_of text line
-statement_after text line (Some keywords.Org) = org_of text line
-statement_after text line None = if is_labelled text line.tokens then labelled_of text line else unlabelled_of text line
+abbrev pub statement_after : Cursor → Option Keyword → Result Statement TextFault
+statement_after line (Some keywords.Equ) = equ_of line
+statement_after line (Some keywords.Def) = def_of line
+statement_after line (Some keywords.Org) = org_of line
+statement_after line None = if has_name 0 line && has_sign Colon 1 line then labelled_of line else unlabelled_of line
 
 -- what a line says, or where it leaves its grammar: at the first token that can't follow those before it, or at its end
-unfoldable pub statement_of : List ℕ → Line → Result Statement TextFault
-statement_of text line = statement_after text line (keyword_in text line.tokens)
+unfoldable pub statement_of : Cursor → Result Statement TextFault
+statement_of line = statement_after line (keyword_in line)

@@ -1,20 +1,19 @@
 // The first pass, over the lines of a text.
-ghost use Rattle.std.specs.Prelude.{◌≡◌, ◌+◌, ◌<◌, ◌^◌, OnOk, length};
-ghost use Rattle.mw_base.specs.Lines.{lines_of};
+ghost use Rattle.std.specs.Prelude.{◌≡◌, ◌<◌, OnOk};
 ghost use Rattle.mw_base.specs.Reading.{Gives};
-ghost use Rattle.mw_asm.specs.FirstPass.{at_first, with_used, with_meaning, with_def, with_next, with_label, with_optional_label, with_word, with_optional_word, with_statement, with_line, first_pass};
-ghost use Rattle.mw_asm.specs.Lines.{lines_with, AreShort};
-ghost use Rattle.mw_asm.specs.Views.{line_seen, known_seen};
+ghost use Rattle.mw_asm.specs.FirstPass.{at_first, can_define, with_used, with_meaning, with_def, with_next, with_label, with_optional_label, with_word, with_optional_word, with_statement, with_line, first_pass};
+ghost use Rattle.mw_asm.specs.Views.{known_seen};
 
 use crate::assembled::Label;
 use crate::bits::SetBits;
 use crate::item_bits::bits_of;
 use crate::items::Item;
-use crate::lines::{Line, fault_on, line_with, past_line};
-use crate::names::{Meaning, Names, Scope};
-use crate::statement::{Statement, statement_of};
-use crate::symbol::spelled;
-use mw_base::{Cause, Items, Name, NoMemory, Refusal, Refused, Token, first_line};
+use crate::names::{Meaning, Scope};
+use crate::statement::{Statement, keyword_of, statement_of};
+use mw_base::{
+    Cause, Cursor, Items, Line, Name, Names, NoMemory, Numeral, Refusal, Refused, TextFault, Token,
+    fault_on, spelled,
+};
 use mw_board::Board;
 use std::alloc::Global;
 
@@ -34,7 +33,7 @@ pub(crate) struct Word {
 #[derive(Drop)]
 pub(crate) struct Known<'a> {
     /// What names stand for.
-    pub names: Names<'a>,
+    pub names: Names<'a, Meaning>,
     /// The next word's address.
     pub next: u16,
     /// For each address up to the last word's, whether a word stands there.
@@ -74,12 +73,20 @@ impl<'a> Known<'a> {
         }
     }
 
+    /// Whether a line can define the name: cause 31 where it is defined or a keyword, else 33 where it is too long.
+    fn check_new(&self, text: &[u8], name: Token) -> Result<(), TextFault>
+        ensures { result ≡ can_define text.now (known_seen self.now) name }
+    {
+        let is_keyword = keyword_of(spelled(text, name)).is_some();
+        self.names.check_new(text, name, is_keyword)
+    }
+
     /// Gives a name that a line defines its meaning: cause 31 or 33.
     #[tactic(auto, unfolding(crate::specs::FirstPass::with_meaning))]
     fn define(&mut self, text: &'a [u8], name: Token, meaning: Meaning) -> Result<(), Refusal>
         ensures { Gives (λ done. known_seen self.new) result (with_meaning text.now name meaning (known_seen self.old)) }
     {
-        self.names.check_new(text, name).map_err(Refused::At)?;
+        self.check_new(text, name).map_err(Refused::At)?;
         self.names.insert(spelled(text, name), meaning)?;
         Ok(())
     }
@@ -95,7 +102,7 @@ impl<'a> Known<'a> {
     ) -> Result<(), Refusal>
         ensures { Gives (λ done. known_seen self.new) result (with_def board.now.fields text.now name items.now (known_seen self.old)) }
     {
-        self.names.check_new(text, name).map_err(Refused::At)?;
+        self.check_new(text, name).map_err(Refused::At)?;
         let bits = bits_of(board, text, &self.names, Scope::Def, items).map_err(Refused::At)?;
         self.names.insert(spelled(text, name), Meaning::Bits(bits))?;
         Ok(())
@@ -103,14 +110,14 @@ impl<'a> Known<'a> {
 
     /// org NUMBER: cause 33.
     #[tactic(auto, unfolding(crate::specs::FirstPass::with_next))]
-    fn go_to(&mut self, token: Token, address: u128) -> Result<(), Refusal>
-        ensures { Gives (λ done. known_seen self.new) result (with_next token address (known_seen self.old)) }
+    fn go_to(&mut self, address: Numeral) -> Result<(), Refusal>
+        ensures { Gives (λ done. known_seen self.new) result (with_next address (known_seen self.old)) }
     {
-        if address < u128::from(MOST_WORDS) {
-            self.next = address as u16;
+        if address.value < u128::from(MOST_WORDS) {
+            self.next = address.value as u16;
             Ok(())
         } else {
-            Err(Refused::At(fault_on(token, Cause::ValueTooWide)))
+            Err(Refused::At(fault_on(address.token, Cause::ValueTooWide)))
         }
     }
 
@@ -188,7 +195,7 @@ impl<'a> Known<'a> {
         match statement {
             Statement::Equ(name, value) => self.define(text, name, Meaning::Number(value)),
             Statement::Def(name, items) => self.define_bits(board, text, name, items.as_slice()),
-            Statement::Org(token, address) => self.go_to(token, address),
+            Statement::Org(address) => self.go_to(address),
             Statement::Word(label, items) => {
                 self.add_optional_label(alloc, text, label)?;
                 self.add_optional_word(items)
@@ -203,36 +210,27 @@ impl<'a> Known<'a> {
         alloc: Global,
         board: &Board,
         text: &'a [u8],
-        line: Line,
+        line: &Line,
     ) -> Result<(), Refusal>
-        ensures { Gives (λ done. known_seen self.new) result (with_line board.now.fields text.now (known_seen self.old) (line_seen line.entry)) }
+        ensures { Gives (λ done. known_seen self.new) result (with_line board.now.fields text.now (known_seen self.old) line.now) }
     {
-        let statement = statement_of(alloc, text, line)?;
+        let statement = statement_of(alloc, &Cursor::new(text, line, Cause::BadLine))?;
         self.add_statement(alloc, board, text, statement)
     }
 }
 
-/// The first pass over a text of these tokens.
+/// The first pass over these lines of a text.
 pub(crate) fn first_pass<'a>(
     alloc: Global,
     board: &Board,
     text: &'a [u8],
-    tokens: &[Token],
+    lines: &[Line],
 ) -> Result<Known<'a>, Refusal>
-    requires short { length text.now < 2 ^ 32 }
-    requires lines { AreShort (lines_of text.now) }
-    ensures { Gives (λ known. known_seen known) result (first_pass board.now.fields text.now at_first (lines_with 1 (lines_of text.now) tokens.now)) }
+    ensures { Gives (λ known. known_seen known) result (first_pass board.now.fields text.now at_first lines.now) }
 {
     let mut known = Known::new(alloc);
-    let mut number = 0;
-    let mut start = 0;
-    let mut rest = tokens;
-    while start < text.len() {
-        let line = first_line(&text[start..]);
-        number += 1;
-        known.add_line(alloc, board, text, line_with(number, line, rest))?;
-        start += line.len();
-        rest = past_line(number, rest);
+    for line in lines {
+        known.add_line(alloc, board, text, line)?;
     }
     Ok(known)
 }

@@ -1,15 +1,13 @@
 // The bits that items set.
 ghost use Rattle.std.specs.Prelude.{◌≡◌, IfSome};
+ghost use Rattle.mw_base.specs.Named.{names_seen};
 ghost use Rattle.mw_asm.specs.Bits.{no_bits};
 ghost use Rattle.mw_asm.specs.ItemBits.{FitsWord, field_named, value_of, field_set, valued_bits, alone_bits, item_bits, beside, with_item, bits_of};
-ghost use Rattle.mw_asm.specs.Views.{names_seen};
 
 use crate::bits::{SetBits, power};
 use crate::items::Item;
-use crate::lines::fault_on;
-use crate::names::{Names, Scope, bits_named, number_named};
-use crate::symbol::spelled;
-use mw_base::{Cause, Kind, TextFault, Token};
+use crate::names::{Meaning, Scope, bits_named, number_named};
+use mw_base::{Cause, Kind, Names, TextFault, Token, fault_on, spelled};
 use mw_board::{Board, Field, NamedField};
 
 /// The field of this name.
@@ -33,7 +31,12 @@ fn field_of_board(board: &Board, name: &[u8]) -> Option<Field>
 
 /// A value: a number, or the name of one. Cause 30.
 #[tactic(auto, unfolding(crate::specs::ItemBits::value_of))]
-fn value_of(text: &[u8], names: &Names, scope: Scope, token: Token) -> Result<u128, TextFault>
+fn value_of(
+    text: &[u8],
+    names: &Names<Meaning>,
+    scope: Scope,
+    token: Token,
+) -> Result<u128, TextFault>
     ensures { result ≡ value_of text.now (names_seen names.now) scope token }
 {
     match token.kind {
@@ -63,7 +66,7 @@ fn field_set(field: Field, token: Token, value: u128) -> Result<SetBits, TextFau
 fn valued_bits(
     board: &Board,
     text: &[u8],
-    names: &Names,
+    names: &Names<Meaning>,
     scope: Scope,
     name: Token,
     token: Token,
@@ -78,7 +81,7 @@ fn valued_bits(
 
 /// The name of a `def`: cause 30.
 #[tactic(auto, unfolding(crate::specs::ItemBits::alone_bits))]
-fn alone_bits(text: &[u8], names: &Names, name: Token) -> Result<SetBits, TextFault>
+fn alone_bits(text: &[u8], names: &Names<Meaning>, name: Token) -> Result<SetBits, TextFault>
     ensures { result ≡ alone_bits text.now (names_seen names.now) name }
 {
     bits_named(names.get(spelled(text, name))).ok_or(fault_on(name, Cause::UnknownName))
@@ -88,7 +91,7 @@ fn alone_bits(text: &[u8], names: &Names, name: Token) -> Result<SetBits, TextFa
 fn item_bits(
     board: &Board,
     text: &[u8],
-    names: &Names,
+    names: &Names<Meaning>,
     scope: Scope,
     item: Item,
 ) -> Result<SetBits, TextFault>
@@ -117,7 +120,7 @@ fn beside(item: Token, before: SetBits, bits: SetBits) -> Result<SetBits, TextFa
 fn with_item(
     board: &Board,
     text: &[u8],
-    names: &Names,
+    names: &Names<Meaning>,
     scope: Scope,
     before: SetBits,
     item: Item,
@@ -132,7 +135,7 @@ fn with_item(
 pub(crate) fn bits_of(
     board: &Board,
     text: &[u8],
-    names: &Names,
+    names: &Names<Meaning>,
     scope: Scope,
     items: &[Item],
 ) -> Result<SetBits, TextFault>

@@ -1,15 +1,10 @@
 // Lists of items.
 ghost use Rattle.std.specs.Prelude.{◌≡◌, List, ◌∷◌, IfOk, IfErr};
 ghost use Rattle.mw_base.specs.declared.token.Token.{Token};
-ghost use Rattle.mw_base.specs.Reading.{Fails, Gives};
-ghost use Rattle.mw_asm.specs.Items.{alone, valued, follow, ended, passed, items_from, items_of, optional_items, with_front};
-ghost use Rattle.mw_asm.specs.Lines.{Line as SeenLine};
-ghost use Rattle.mw_asm.specs.Symbols.{symbol_of};
-ghost use Rattle.mw_asm.specs.Views.{line_seen};
+ghost use Rattle.mw_base.specs.Reading.{with_front, Fails, Gives};
+ghost use Rattle.mw_asm.specs.Items.{alone, valued, follow, ended, passed, items_from, items_of, optional_items};
 
-use crate::lines::{Line, bad_end, fault_on};
-use crate::symbol::{Symbol, symbol_of};
-use mw_base::{Cause, Items, Refusal, Refused, TextFault, Token};
+use mw_base::{Cursor, Items, Refusal, Refused, Sign, Symbol, Token, symbol_of};
 use std::alloc::Global;
 
 /// An item: a field and its value, or the name of a `def` alone.
@@ -56,7 +51,7 @@ impl Awaits {
     {
         match (self, symbol) {
             (Awaits::Name, Symbol::Name) => Some(Awaits::Equals(alone(token))),
-            (Awaits::Equals(item), Symbol::Equals) => Some(Awaits::Value(item.name)),
+            (Awaits::Equals(item), Symbol::Sign(Sign::Equals)) => Some(Awaits::Value(item.name)),
             (Awaits::Value(name), Symbol::Name | Symbol::Number(_)) => {
                 Some(Awaits::Comma(valued(name, token)))
             }
@@ -75,67 +70,56 @@ impl Awaits {
     }
 }
 
-/// Adds the item that a token ends, if any, and answers what can follow the token.
+/// Adds the item that a token of a line ends, if any, and answers what can follow the token.
 fn pass(
     items: &mut Vec<Item>,
+    line: &Cursor,
     before: Awaits,
     token: Token,
-    symbol: Symbol,
 ) -> Result<Awaits, Refusal>
-    ensures goes { IfOk result (λ next. (text : _) (line : SeenLine) (rest : List Token) → symbol_of text token ≡ symbol
-        → with_front items.new.items (items_from text line next rest) ≡ with_front items.old.items (items_from text line before (token ∷ rest))) }
-    ensures refused { IfErr result (λ refusal. Fails refusal (passed before token symbol)) }
+    ensures goes { IfOk result (λ next. (rest : List Token) → with_front items.new.items (items_from line.now next rest) ≡ with_front items.old.items (items_from line.now before (token ∷ rest))) }
+    ensures refused { IfErr result (λ refusal. Fails refusal (passed line.now before token)) }
 {
-    let fault = fault_on(token, Cause::BadLine);
-    match symbol {
-        Symbol::Comma => match before.ended() {
+    let symbol = symbol_of(line.text(), token);
+    if symbol.is_sign(Sign::Comma) {
+        return match before.ended() {
             Some(item) => {
                 items.push(item)?;
                 Ok(Awaits::Name)
             }
-            None => Err(Refused::At(fault)),
-        },
-        _ => match before.follow(token, symbol) {
-            Some(next) => Ok(next),
-            None => Err(Refused::At(fault)),
-        },
+            None => Err(Refused::At(line.misplaced(token))),
+        };
+    }
+    match before.follow(token, symbol) {
+        Some(next) => Ok(next),
+        None => Err(Refused::At(line.misplaced(token))),
     }
 }
 
 /// The items that these tokens of a line are; there are one or more. Cause 36.
-pub(crate) fn items_of(
-    alloc: Global,
-    text: &[u8],
-    line: Line,
-    tokens: &[Token],
-) -> Result<Items<Item>, Refusal>
-    ensures { Gives (λ items. items) result (items_of text.now (line_seen line.entry) tokens.now) }
+pub(crate) fn items_of(alloc: Global, line: &Cursor) -> Result<Items<Item>, Refusal>
+    ensures { Gives (λ items. items) result (items_of line.now) }
 {
     let mut items = Vec::new(alloc);
     let mut awaits = Awaits::Name;
-    for token in tokens {
-        awaits = pass(&mut items, awaits, *token, symbol_of(text, *token))?;
+    for token in line.tokens() {
+        awaits = pass(&mut items, line, awaits, *token)?;
     }
     match awaits.ended() {
         Some(item) => {
             items.push(item)?;
             Ok(Items::from_vec(items))
         }
-        None => Err(Refused::At(bad_end(line))),
+        None => Err(Refused::At(line.end_fault())),
     }
 }
 
 /// The items that these tokens of a line are, or none where there are no tokens. Cause 36.
-pub(crate) fn optional_items(
-    alloc: Global,
-    text: &[u8],
-    line: Line,
-    tokens: &[Token],
-) -> Result<Items<Item>, Refusal>
-    ensures { Gives (λ items. items) result (optional_items text.now (line_seen line.entry) tokens.now) }
+pub(crate) fn optional_items(alloc: Global, line: &Cursor) -> Result<Items<Item>, Refusal>
+    ensures { Gives (λ items. items) result (optional_items line.now) }
 {
-    match tokens {
+    match line.tokens() {
         [] => Ok(Items::from_vec(Vec::new(alloc))),
-        _ => items_of(alloc, text, line, tokens),
+        _ => items_of(alloc, line),
     }
 }

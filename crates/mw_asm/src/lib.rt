@@ -6,13 +6,11 @@ mod bits;
 mod first_pass;
 mod item_bits;
 mod items;
-mod lines;
 mod listed;
 mod microprogram;
 mod names;
 mod second_pass;
 mod statement;
-mod symbol;
 
 pub use assembled::{Assembled, Label};
 pub use listed::listing;

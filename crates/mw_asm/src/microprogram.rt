@@ -6,7 +6,7 @@ ghost use Rattle.mw_asm.specs.Microprogram.{store_of, IsAssembled};
 use crate::assembled::Assembled;
 use crate::first_pass::first_pass;
 use crate::second_pass::{filled, second_pass};
-use mw_base::{Items, Refusal, tokens};
+use mw_base::{Items, Refusal, lines};
 use mw_board::{Board, Store};
 use std::alloc::Global;
 
@@ -25,8 +25,8 @@ pub fn assemble(alloc: Global, board: &Board, text: &[u8]) -> Result<Assembled, 
     ensures gives { Gives (λ made. made) result (store_of board.now text.now) }
     ensures valid { IfOk result (λ made. IsAssembled board.now made) }
 {
-    let tokens = tokens(alloc, text)?;
-    let known = first_pass(alloc, board, text, &tokens)?;
+    let lines = lines(alloc, text)?;
+    let known = first_pass(alloc, board, text, &lines)?;
     let store = filled(alloc, board.parts().fill, &known.used)?;
     let words = second_pass(board, text, &known.names, &known.words, store)?;
     Ok(Assembled {

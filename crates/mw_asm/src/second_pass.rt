@@ -1,13 +1,13 @@
 // The second pass, over the words to be made.
 ghost use Rattle.std.specs.Prelude.{◌≡◌, ◌<◌, IfOk, length, All};
+ghost use Rattle.mw_base.specs.Named.{names_seen};
 ghost use Rattle.mw_base.specs.Reading.{Gives};
 ghost use Rattle.mw_asm.specs.Microprogram.{filled, second_pass};
-ghost use Rattle.mw_asm.specs.Views.{names_seen};
 
 use crate::first_pass::Word;
 use crate::item_bits::bits_of;
-use crate::names::{Names, Scope};
-use mw_base::{NoMemory, Refusal, Refused};
+use crate::names::{Meaning, Scope};
+use mw_base::{Names, NoMemory, Refusal, Refused};
 use mw_board::Board;
 use std::alloc::Global;
 
@@ -22,7 +22,7 @@ pub(crate) fn filled(alloc: Global, fill: u128, used: &[bool]) -> Result<Vec<u12
 pub(crate) fn second_pass(
     board: &Board,
     text: &[u8],
-    names: &Names,
+    names: &Names<Meaning>,
     words: &[Word],
     mut store: Vec<u128>,
 ) -> Result<Vec<u128>, Refusal>

@@ -1,15 +1,12 @@
 -- One rule on each entry, an entry at a time.
-use Rattle.std.proofs.Common.{◌≡◌, ℕ, suc, ◌+◌, ◌<◌, ◌≤◌, List, [], ◌∷◌, ◌++◌, length, get_or, take, drop, Ok, Err, refl, sym, ap, ◌∙◌, add-one, drop-cons}
+use Rattle.std.proofs.Common.{◌≡◌, ℕ, ◌+◌, ◌<◌, ◌≤◌, List, [], ◌∷◌, ◌++◌, length, get_or, take, drop, Ok, Err, refl, sym, ap, ◌∙◌}
 use Rattle.std.proofs.lemmas.List.{drop_all, take_more}
+use Rattle.mw_base.proofs.Lists.{next}
 use Rattle.mw_board.specs.declared.fault.PartFault.{PartFault}
+use Rattle.mw_board.specs.declared.field.NamedField.{NamedField}
 use Rattle.mw_board.specs.declared.flipflop.FlipFlop.{FlipFlop}
-use Rattle.mw_board.specs.declared.parts.BoardParts.{BoardParts}
 use Rattle.mw_board.specs.Rules.{all_of}
 use Rattle.mw_board.specs.Check.{Checked, each_from, flipflop_check, flipflops_from}
-
--- the entry at a place, and those after it
-next : {A : Type 0} (entries : List A) (n : ℕ) (entry : A) → n < length entries → entry ≡ get_or entries n entry → drop n entries ≡ entry ∷ drop (n + 1) entries
-next entries n entry within is = rw (add-one) (drop-cons entries n entry within ∙ ap (λ e. e ∷ drop (suc n) entries) (sym is))
 
 -- one answer alone
 alone : (checked : Checked) → all_of (checked ∷ []) ≡ checked
@@ -44,28 +41,28 @@ front_grows : (flipflops : List FlipFlop) (i : ℕ) (f : FlipFlop) → i < lengt
 front_grows flipflops i f within is = take_more flipflops i f within ∙ ap (λ (x : FlipFlop). take i flipflops ++ x ∷ []) (sym is)
 
 -- a flip-flop that breaks a rule ends them
-pub flipflop_fails : (p : BoardParts) (fault : PartFault) (flipflops : List FlipFlop) (i : ℕ) (f : FlipFlop) (total : Checked)
-    → i < length flipflops → f ≡ get_or flipflops i f → flipflop_check p (take i flipflops) i f ≡ Err fault → flipflops_from p (take i flipflops) i (drop i flipflops) ≡ total → Err fault ≡ total
+pub flipflop_fails : (width : ℕ) (fields : List NamedField) (count : ℕ) (fault : PartFault) (flipflops : List FlipFlop) (i : ℕ) (f : FlipFlop) (total : Checked)
+    → i < length flipflops → f ≡ get_or flipflops i f → flipflop_check width fields count (take i flipflops) i f ≡ Err fault → flipflops_from width fields count (take i flipflops) i (drop i flipflops) ≡ total → Err fault ≡ total
 unfolding flipflops_from
-flipflop_fails p fault flipflops i f total within is fails so_far =
-    let one : flipflops_from p (take i flipflops) i (drop i flipflops) ≡ Err fault = rw (next flipflops i f within is, fails) refl in
+flipflop_fails width fields count fault flipflops i f total within is fails so_far =
+    let one : flipflops_from width fields count (take i flipflops) i (drop i flipflops) ≡ Err fault = rw (next flipflops i f within is, fails) refl in
     sym one ∙ so_far
 
 -- one more flip-flop keeps them
-pub flipflop_goes_on : (p : BoardParts) (flipflops : List FlipFlop) (i : ℕ) (f : FlipFlop) (total : Checked)
-    → i < length flipflops → f ≡ get_or flipflops i f → flipflop_check p (take i flipflops) i f ≡ Ok tt → flipflops_from p (take i flipflops) i (drop i flipflops) ≡ total
-    → flipflops_from p (take (i + 1) flipflops) (i + 1) (drop (i + 1) flipflops) ≡ total
+pub flipflop_goes_on : (width : ℕ) (fields : List NamedField) (count : ℕ) (flipflops : List FlipFlop) (i : ℕ) (f : FlipFlop) (total : Checked)
+    → i < length flipflops → f ≡ get_or flipflops i f → flipflop_check width fields count (take i flipflops) i f ≡ Ok tt → flipflops_from width fields count (take i flipflops) i (drop i flipflops) ≡ total
+    → flipflops_from width fields count (take (i + 1) flipflops) (i + 1) (drop (i + 1) flipflops) ≡ total
 unfolding flipflops_from
-flipflop_goes_on p flipflops i f total within is holds so_far =
-    let one : flipflops_from p (take i flipflops) i (drop i flipflops) ≡ flipflops_from p (take (i + 1) flipflops) (i + 1) (drop (i + 1) flipflops) =
-    rw (next flipflops i f within is, holds, front_grows flipflops i f within is) (alone (flipflops_from p (take i flipflops ++ f ∷ []) (i + 1) (drop (i + 1) flipflops))) in
+flipflop_goes_on width fields count flipflops i f total within is holds so_far =
+    let one : flipflops_from width fields count (take i flipflops) i (drop i flipflops) ≡ flipflops_from width fields count (take (i + 1) flipflops) (i + 1) (drop (i + 1) flipflops) =
+    rw (next flipflops i f within is, holds, front_grows flipflops i f within is) (alone (flipflops_from width fields count (take i flipflops ++ f ∷ []) (i + 1) (drop (i + 1) flipflops))) in
     sym one ∙ so_far
 
 -- all flip-flops keep them
-pub flipflops_done : (p : BoardParts) (flipflops : List FlipFlop) (i : ℕ) (total : Checked) → length flipflops ≤ i → flipflops_from p (take i flipflops) i (drop i flipflops) ≡ total → Ok tt ≡ total
+pub flipflops_done : (width : ℕ) (fields : List NamedField) (count : ℕ) (flipflops : List FlipFlop) (i : ℕ) (total : Checked) → length flipflops ≤ i → flipflops_from width fields count (take i flipflops) i (drop i flipflops) ≡ total → Ok tt ≡ total
 unfolding flipflops_from
-flipflops_done p flipflops i total past so_far =
-    let one : flipflops_from p (take i flipflops) i (drop i flipflops) ≡ Ok tt = rw (drop_all i flipflops past) refl in
+flipflops_done width fields count flipflops i total past so_far =
+    let one : flipflops_from width fields count (take i flipflops) i (drop i flipflops) ≡ Ok tt = rw (drop_all i flipflops past) refl in
     sym one ∙ so_far
 
 -- of three answers, the second is the first fault

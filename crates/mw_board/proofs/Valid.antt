@@ -2,7 +2,7 @@
 use Rattle.std.proofs.Common.{◌≡◌, ℕ, ◌+◌, ◌%◌, ◌^◌, ◌<◌, ◌≤◌, List, [], ◌∷◌, ◌++◌, length, slice_get, Bool, true, false, Ok, Err, Option, Some, None, Result, refl, nat_lt, nat_le, ◌&&◌, ◌==◌, arith}
 use Rattle.std.specs.List.{All, AllByRecursion}
 use Rattle.std.proofs.lemmas.Bool.{eqb-true}
-use Rattle.std.proofs.lemmas.List.Elements.{All-nil, All-cons}
+use Rattle.std.proofs.lemmas.List.Elements.{All-nil, All-cons, recursion_from_All}
 use Rattle.std.proofs.lemmas.Bool.Decides.{nat_tests}
 use Rattle.mw_base.specs.declared.cause.Cause.{Cause}
 use Rattle.mw_base.specs.declared.cause.Cause.TheVariants.{FieldOutside, SelectTooWide, BadWidth, MapSize, TooMany, BadValue}
@@ -18,8 +18,11 @@ use Rattle.mw_board.specs.declared.control.Control.TheVariants as controls
 use Rattle.mw_board.specs.declared.field.NamedField.{NamedField}
 use Rattle.mw_board.specs.declared.flipflop.FlipFlop.{FlipFlop}
 use Rattle.mw_board.specs.declared.parts.BoardParts.{BoardParts}
-use Rattle.mw_board.specs.Rules.{Verdict, ask, all_of, width_rule, microword_rule, address_rule, word_rule, vector_rule, fields_rule, name_rule, field_rule, flipflops_rule, flipflop_name_rule, control_rule, point_rule, chosen_rule, list_rule, bit_rule, carry_in_rule, load_rule, source_rule, mask_rule, d_source_rule, map_bits_rule, map_entry_rule, map_entries_rule, width_of, map_size}
-use Rattle.mw_board.specs.Check.{Checked, placed, number_16, at_key, at_flipflop, in_list, in_load, each_from, list_check, sizes_tests, sizes_check, field_check, fields_check, flipflop_check, flipflops_from, flipflops_check, points_tests, points_check, lists_tests, lists_check, map_check, check_of}
+use Rattle.mw_board.specs.declared.point.Point.{Point}
+use Rattle.mw_board.specs.Keys.{width_key, microword_key, address_key, fill_key, unset_key, vector_key, fields_key, flipflop_key, name_key, control_key, load_key, first_point_key, carry_in_key, condition_key, ram_link_key, q_link_key, d_key, map_bits_key, map_entries_key}
+use Rattle.mw_board.specs.Points.{all_points, driver_of}
+use Rattle.mw_board.specs.Rules.{Verdict, ask, all_of, width_rule, microword_rule, address_rule, word_rule, vector_rule, fields_rule, name_rule, field_rule, flipflops_rule, flipflop_name_rule, control_rule, point_rule, driver_rule, chosen_rule, list_rule, bit_rule, carry_in_rule, load_rule, source_rule, mask_rule, d_source_rule, map_bits_rule, map_entry_rule, map_entries_rule, width_of, map_size}
+use Rattle.mw_board.specs.Check.{Checked, placed, number_16, at_key, at_flipflop, in_list, in_load, each_from, list_check, sizes_tests, sizes_check, field_check, fields_check, flipflop_check, flipflops_from, flipflops_check, point_check, points_check, lists_tests, lists_check, map_check, check_of}
 use Rattle.mw_board.specs.Valid.{AreSizes, IsField, IsControl, IsPoint, ArePoints, IsBit, IsLoad, IsFrom, IsMask, IsSource, IsList, IsFlipFlop, AreLists, IsMap, IsBoard}
 
 -- of answers without a fault none is a fault
@@ -193,9 +196,9 @@ sizes_are : (p : BoardParts) → sizes_check p ≡ Ok tt → AreSizes p
 unfolding sizes_check
 sizes_are p e =
     let kept = all_kept (sizes_tests p) e in
-    let width = width_kept p.width (at_place 1 0 0 (width_rule p.width) kept.0) in
-    let microword = microword_kept p.microword (at_place 2 0 0 (microword_rule p.microword) kept.1.0) in
-    let address = address_kept p.width p.address (at_place 3 0 0 (address_rule p.width p.address) kept.1.1.0) in
+    let width = width_kept p.width (at_place width_key 0 0 (width_rule p.width) kept.0) in
+    let microword = microword_kept p.microword (at_place microword_key 0 0 (microword_rule p.microword) kept.1.0) in
+    let address = address_kept p.width p.address (at_place address_key 0 0 (address_rule p.width p.address) kept.1.1.0) in
     record {
       least = width.0;
       most = width.1;
@@ -205,9 +208,9 @@ sizes_are p e =
       address_some = address.0;
       address_within = address.1;
       address_most = address.2;
-      fill = word_kept p.microword p.fill (at_place 4 0 0 (word_rule p.microword p.fill) kept.1.1.1.0);
-      unset = word_kept p.microword p.unset (at_place 5 0 0 (word_rule p.microword p.unset) kept.1.1.1.1.0);
-      vector = vector_kept p.vector (at_place 6 0 0 (vector_rule p.vector) kept.1.1.1.1.1.0);
+      fill = word_kept p.microword p.fill (at_place fill_key 0 0 (word_rule p.microword p.fill) kept.1.1.1.0);
+      unset = word_kept p.microword p.unset (at_place unset_key 0 0 (word_rule p.microword p.unset) kept.1.1.1.1.0);
+      vector = vector_kept p.vector (at_place vector_key 0 0 (vector_rule p.vector) kept.1.1.1.1.1.0);
     }
 
 -- one rule on each entry, which makes each what it is
@@ -220,8 +223,8 @@ each_kept rule Is keeps n (x ∷ rest) e =
 
 one_field : (m n : ℕ) (f : NamedField) → field_check m n f ≡ Ok tt → IsField m f
 one_field m n f e =
-    let kept = all_kept (in_list 7 n (name_rule f.name) ∷ in_list 7 n (field_rule m f.field.low f.field.width) ∷ []) e in
-    field_kept m f (at_place 7 (number_16 n) 0 (field_rule m f.field.low f.field.width) kept.1.0)
+    let kept = all_kept (in_list fields_key n (name_rule f.name) ∷ in_list fields_key n (field_rule m f.field.low f.field.width) ∷ []) e in
+    field_kept m f (at_place fields_key (number_16 n) 0 (field_rule m f.field.low f.field.width) kept.1.0)
 
 -- a list from which a control chooses
 list_is : {A : Type 0} (Is : A → Type 0) (place : ℕ → Verdict → Checked) → ((n : ℕ) (verdict : Verdict) → place n verdict ≡ Ok tt → verdict ≡ Ok tt)
@@ -237,75 +240,73 @@ list_is Is place at fields control rule keeps xs chooser e =
       entries = each_kept (λ n x. place n (rule x)) Is (λ n x h. keeps x (at n (rule x) h)) 0 xs kept.1.0;
     }
 
-flipflop_is : (p : BoardParts) (earlier : List FlipFlop) (i : ℕ) (f : FlipFlop) → flipflop_check p earlier i f ≡ Ok tt → IsFlipFlop p f
+flipflop_is : (p : BoardParts) (earlier : List FlipFlop) (i : ℕ) (f : FlipFlop) → flipflop_check p.width p.fields (length p.flipflop) earlier i f ≡ Ok tt → IsFlipFlop p f
 unfolding flipflop_check
 flipflop_is p earlier i f e =
-    let kept = all_kept (at_flipflop 9 i (flipflop_name_rule earlier f.name) ∷ at_flipflop 10 i (control_rule p.fields f.control) ∷ list_check (in_load i) p.fields f.control (load_rule p.width (length p.flipflop)) f.load ∷ []) e in
-    list_is (IsLoad p.width (length p.flipflop)) (in_load i) (λ n verdict h. at_place 11 (number_16 i) (number_16 n) verdict h) p.fields f.control (load_rule p.width (length p.flipflop)) (load_kept p.width (length p.flipflop)) f.load
-    (at_place 10 (number_16 i) 0 (control_rule p.fields f.control) kept.1.0) kept.1.1.0
+    let kept = all_kept (at_flipflop name_key i (flipflop_name_rule earlier f.name) ∷ at_flipflop control_key i (control_rule p.fields f.control) ∷ list_check (in_load i) p.fields f.control (load_rule p.width (length p.flipflop)) f.load ∷ []) e in
+    list_is (IsLoad p.width (length p.flipflop)) (in_load i) (λ n verdict h. at_place load_key (number_16 i) (number_16 n) verdict h) p.fields f.control (load_rule p.width (length p.flipflop)) (load_kept p.width (length p.flipflop)) f.load
+    (at_place control_key (number_16 i) 0 (control_rule p.fields f.control) kept.1.0) kept.1.1.0
 
-flipflops_are : (p : BoardParts) (earlier : List FlipFlop) (i : ℕ) (fs : List FlipFlop) → flipflops_from p earlier i fs ≡ Ok tt → All (IsFlipFlop p) fs
+flipflops_are : (p : BoardParts) (earlier : List FlipFlop) (i : ℕ) (fs : List FlipFlop) → flipflops_from p.width p.fields (length p.flipflop) earlier i fs ≡ Ok tt → All (IsFlipFlop p) fs
 unfolding flipflops_from
 flipflops_are p earlier i [] e = All-nil (IsFlipFlop p)
 flipflops_are p earlier i (f ∷ rest) e =
-    let kept = all_kept (flipflop_check p earlier i f ∷ flipflops_from p (earlier ++ f ∷ []) (i + 1) rest ∷ []) e in
+    let kept = all_kept (flipflop_check p.width p.fields (length p.flipflop) earlier i f ∷ flipflops_from p.width p.fields (length p.flipflop) (earlier ++ f ∷ []) (i + 1) rest ∷ []) e in
     All-cons (IsFlipFlop p) f rest (flipflop_is p earlier i f kept.0) (flipflops_are p (earlier ++ f ∷ []) (i + 1) rest kept.1.0)
 
--- the control of a point, whose test this is
-point_is : (row bits : ℕ) (fields : List NamedField) (control : Control) → at_key row (point_rule bits fields control) ≡ Ok tt → IsPoint bits fields control
-point_is row bits fields control e = point_kept bits fields control (at_place row 0 0 (point_rule bits fields control) e)
+-- what drives each point keeps the rule
+drivers_kept : (p : BoardParts) → points_check p ≡ Ok tt → AllByRecursion (λ point. driver_rule p.fields point (driver_of p.control point) ≡ Ok tt) all_points
+unfolding points_check
+drivers_kept p e =
+    let keeps = λ (point : Point). driver_rule p.fields point (driver_of p.control point) ≡ Ok tt in
+    recursion_from_All keeps all_points (each_kept (point_check p.fields p.control) keeps (λ n point h. at_place (first_point_key + n) 0 0 (driver_rule p.fields point (driver_of p.control point)) h) 0 all_points e)
 
 points_are : (p : BoardParts) → points_check p ≡ Ok tt → ArePoints p.fields p.control
-unfolding points_check
 points_are p e =
-    let kept = all_kept (points_tests p) e in
+    let kept = drivers_kept p e in
     record {
-      alu_source = point_is 12 3 p.fields p.control.alu_source kept.0;
-      alu_function = point_is 13 3 p.fields p.control.alu_function kept.1.0;
-      alu_destination = point_is 14 3 p.fields p.control.alu_destination kept.1.1.0;
-      a_address = point_is 15 4 p.fields p.control.a_address kept.1.1.1.0;
-      b_address = point_is 16 4 p.fields p.control.b_address kept.1.1.1.1.0;
-      sequencer = point_is 17 4 p.fields p.control.sequencer kept.1.1.1.1.1.0;
-      branch = point_is 18 12 p.fields p.control.branch kept.1.1.1.1.1.1.0;
-      test_disable = point_is 19 1 p.fields p.control.test_disable kept.1.1.1.1.1.1.1.0;
-      polarity = point_is 20 1 p.fields p.control.polarity kept.1.1.1.1.1.1.1.1.0;
-      ci = point_is 21 1 p.fields p.control.ci kept.1.1.1.1.1.1.1.1.1.0;
-      rld = point_is 22 1 p.fields p.control.rld kept.1.1.1.1.1.1.1.1.1.1.0;
-      mar_load = point_is 23 1 p.fields p.control.mar_load kept.1.1.1.1.1.1.1.1.1.1.1.0;
-      ir_load = point_is 24 1 p.fields p.control.ir_load kept.1.1.1.1.1.1.1.1.1.1.1.1.0;
-      memory_write = point_is 25 1 p.fields p.control.memory_write kept.1.1.1.1.1.1.1.1.1.1.1.1.1.0;
-      out = point_is 26 1 p.fields p.control.out kept.1.1.1.1.1.1.1.1.1.1.1.1.1.1.0;
+      alu_source = point_kept 3 p.fields p.control.alu_source kept.0;
+      alu_function = point_kept 3 p.fields p.control.alu_function kept.1.0;
+      alu_destination = point_kept 3 p.fields p.control.alu_destination kept.1.1.0;
+      a_address = point_kept 4 p.fields p.control.a_address kept.1.1.1.0;
+      b_address = point_kept 4 p.fields p.control.b_address kept.1.1.1.1.0;
+      sequencer = point_kept 4 p.fields p.control.sequencer kept.1.1.1.1.1.0;
+      branch = point_kept 12 p.fields p.control.branch kept.1.1.1.1.1.1.0;
+      test_disable = point_kept 1 p.fields p.control.test_disable kept.1.1.1.1.1.1.1.0;
+      polarity = point_kept 1 p.fields p.control.polarity kept.1.1.1.1.1.1.1.1.0;
+      ci = point_kept 1 p.fields p.control.ci kept.1.1.1.1.1.1.1.1.1.0;
+      rld = point_kept 1 p.fields p.control.rld kept.1.1.1.1.1.1.1.1.1.1.0;
+      mar_load = point_kept 1 p.fields p.control.mar_load kept.1.1.1.1.1.1.1.1.1.1.1.0;
+      ir_load = point_kept 1 p.fields p.control.ir_load kept.1.1.1.1.1.1.1.1.1.1.1.1.0;
+      memory_write = point_kept 1 p.fields p.control.memory_write kept.1.1.1.1.1.1.1.1.1.1.1.1.1.0;
+      out = point_kept 1 p.fields p.control.out kept.1.1.1.1.1.1.1.1.1.1.1.1.1.1.0;
     }
 
--- a control that chooses, whose test this is
-chooser_is : (row : ℕ) (fields : List NamedField) (control : Control) → at_key row (control_rule fields control) ≡ Ok tt → control_rule fields control ≡ Ok tt
-chooser_is row fields control e = at_place row 0 0 (control_rule fields control) e
-
 lists_are : (p : BoardParts) → points_check p ≡ Ok tt → lists_check p ≡ Ok tt → AreLists p
-unfolding points_check lists_check
+unfolding lists_check
 lists_are p points e =
-    let choosers = (all_kept (points_tests p) points).1.1.1.1.1.1.1.1.1.1.1.1.1.1.1 in
+    let choosers = (drivers_kept p points).1.1.1.1.1.1.1.1.1.1.1.1.1.1.1 in
     let kept = all_kept (lists_tests p) e in
     let at = λ (row n : ℕ) (verdict : Verdict) (h : in_list row n verdict ≡ Ok tt). at_place row (number_16 n) 0 verdict h in
-    let link = chooser_is 30 p.fields p.control.link choosers.1.1.1.0 in
+    let link = choosers.1.1.1.0 in
     record {
-      carry_in = list_is (IsBit p.width (length p.flipflop)) (in_list 31) (at 31) p.fields p.control.carry_in (carry_in_rule p.width (length p.flipflop)) (carry_in_kept p.width (length p.flipflop)) p.carry_in (chooser_is 27 p.fields p.control.carry_in choosers.0) kept.0;
-      condition = list_is (IsBit p.width (length p.flipflop)) (in_list 32) (at 32) p.fields p.control.condition (bit_rule p.width (length p.flipflop)) (bit_kept p.width (length p.flipflop)) p.condition (chooser_is 29 p.fields p.control.condition choosers.1.1.0) kept.1.0;
-      ram_link = list_is (IsBit p.width (length p.flipflop)) (in_list 33) (at 33) p.fields p.control.link (bit_rule p.width (length p.flipflop)) (bit_kept p.width (length p.flipflop)) p.ram_link link kept.1.1.0;
-      q_link = list_is (IsBit p.width (length p.flipflop)) (in_list 34) (at 34) p.fields p.control.link (bit_rule p.width (length p.flipflop)) (bit_kept p.width (length p.flipflop)) p.q_link link kept.1.1.1.0;
-      d = list_is (IsSource p.width (length p.fields) (length p.flipflop)) (in_list 35) (at 35) p.fields p.control.d (d_source_rule p.width (length p.fields) (length p.flipflop)) (source_kept p.width (length p.fields) (length p.flipflop)) p.d (chooser_is 28 p.fields p.control.d choosers.1.0) kept.1.1.1.1.0;
+      carry_in = list_is (IsBit p.width (length p.flipflop)) (in_list carry_in_key) (at carry_in_key) p.fields p.control.carry_in (carry_in_rule p.width (length p.flipflop)) (carry_in_kept p.width (length p.flipflop)) p.carry_in choosers.0 kept.0;
+      condition = list_is (IsBit p.width (length p.flipflop)) (in_list condition_key) (at condition_key) p.fields p.control.condition (bit_rule p.width (length p.flipflop)) (bit_kept p.width (length p.flipflop)) p.condition choosers.1.1.0 kept.1.0;
+      ram_link = list_is (IsBit p.width (length p.flipflop)) (in_list ram_link_key) (at ram_link_key) p.fields p.control.link (bit_rule p.width (length p.flipflop)) (bit_kept p.width (length p.flipflop)) p.ram_link link kept.1.1.0;
+      q_link = list_is (IsBit p.width (length p.flipflop)) (in_list q_link_key) (at q_link_key) p.fields p.control.link (bit_rule p.width (length p.flipflop)) (bit_kept p.width (length p.flipflop)) p.q_link link kept.1.1.1.0;
+      d = list_is (IsSource p.width (length p.fields) (length p.flipflop)) (in_list d_key) (at d_key) p.fields p.control.d (d_source_rule p.width (length p.fields) (length p.flipflop)) (source_kept p.width (length p.fields) (length p.flipflop)) p.d choosers.1.0 kept.1.1.1.1.0;
     }
 
 map_is : (p : BoardParts) → map_check p ≡ Ok tt → IsMap p
 unfolding map_check
 map_is p e =
-    let kept = all_kept (at_key 37 (map_bits_rule p.width p.map_low p.map_bits) ∷ each_from (λ n entry. in_list 38 n (map_entry_rule entry)) 0 p.map_entries ∷ at_key 38 (map_entries_rule p.map_bits (length p.map_entries)) ∷ []) e in
-    let bits = map_bits_kept p.width p.map_low p.map_bits (at_place 37 0 0 (map_bits_rule p.width p.map_low p.map_bits) kept.0) in
+    let kept = all_kept (at_key map_bits_key (map_bits_rule p.width p.map_low p.map_bits) ∷ each_from (λ n entry. in_list map_entries_key n (map_entry_rule entry)) 0 p.map_entries ∷ at_key map_entries_key (map_entries_rule p.map_bits (length p.map_entries)) ∷ []) e in
+    let bits = map_bits_kept p.width p.map_low p.map_bits (at_place map_bits_key 0 0 (map_bits_rule p.width p.map_low p.map_bits) kept.0) in
     record {
       most = bits.0;
       within = bits.1;
-      size = map_entries_kept p.map_bits (length p.map_entries) (at_place 38 0 0 (map_entries_rule p.map_bits (length p.map_entries)) kept.1.1.0);
-      entries = each_kept (λ n entry. in_list 38 n (map_entry_rule entry)) (λ entry. entry < 2 ^ 12) (λ n entry h. map_entry_kept entry (at_place 38 (number_16 n) 0 (map_entry_rule entry) h)) 0 p.map_entries kept.1.0;
+      size = map_entries_kept p.map_bits (length p.map_entries) (at_place map_entries_key 0 0 (map_entries_rule p.map_bits (length p.map_entries)) kept.1.1.0);
+      entries = each_kept (λ n entry. in_list map_entries_key n (map_entry_rule entry)) (λ entry. entry < 2 ^ 12) (λ n entry h. map_entry_kept entry (at_place map_entries_key (number_16 n) 0 (map_entry_rule entry) h)) 0 p.map_entries kept.1.0;
     }
 
 -- parts that break no rule are a board
@@ -313,13 +314,13 @@ pub is_board : (p : BoardParts) → check_of p ≡ Ok tt → IsBoard p
 unfolding check_of fields_check flipflops_check
 is_board p e =
     let kept = all_kept (sizes_check p ∷ fields_check p ∷ flipflops_check p ∷ points_check p ∷ lists_check p ∷ map_check p ∷ []) e in
-    let fields = all_kept (at_key 7 (fields_rule (length p.fields)) ∷ each_from (field_check p.microword) 0 p.fields ∷ []) kept.1.0 in
-    let flipflops = all_kept (at_key 8 (flipflops_rule (length p.flipflop)) ∷ flipflops_from p [] 0 p.flipflop ∷ []) kept.1.1.0 in
+    let fields = all_kept (at_key fields_key (fields_rule (length p.fields)) ∷ each_from (field_check p.microword) 0 p.fields ∷ []) kept.1.0 in
+    let flipflops = all_kept (at_key flipflop_key (flipflops_rule (length p.flipflop)) ∷ flipflops_from p.width p.fields (length p.flipflop) [] 0 p.flipflop ∷ []) kept.1.1.0 in
     record {
       sizes = sizes_are p kept.0;
-      few_fields = fields_kept (length p.fields) (at_place 7 0 0 (fields_rule (length p.fields)) fields.0);
+      few_fields = fields_kept (length p.fields) (at_place fields_key 0 0 (fields_rule (length p.fields)) fields.0);
       fields = each_kept (field_check p.microword) (IsField p.microword) (one_field p.microword) 0 p.fields fields.1.0;
-      few_flipflops = flipflops_kept (length p.flipflop) (at_place 8 0 0 (flipflops_rule (length p.flipflop)) flipflops.0);
+      few_flipflops = flipflops_kept (length p.flipflop) (at_place flipflop_key 0 0 (flipflops_rule (length p.flipflop)) flipflops.0);
       flipflops = flipflops_are p [] 0 p.flipflop flipflops.1.0;
       points = points_are p kept.1.1.1.0;
       lists = lists_are p kept.1.1.1.0 kept.1.1.1.1.0;

@@ -1,5 +1,5 @@
 -- The rules of a board's parts, a definition each. A rule answers nothing, or why the part breaks it.
-use Rattle.std.specs.Prelude.{ℕ, ◌+◌, ◌%◌, ◌^◌, List, [], ◌∷◌, codes, length, slice_get, Bool, not, nat_lt, nat_le, ◌==◌, ◌&&◌, if◌then◌else◌, Option, Some, None, Result, Ok, Err}
+use Rattle.std.specs.Prelude.{◌≡◌, ℕ, ◌+◌, ◌%◌, ◌^◌, List, [], ◌∷◌, codes, length, slice_get, Bool, not, nat_lt, nat_le, ◌==◌, ◌&&◌, if◌then◌else◌, Option, Some, None, Result, Ok, Err}
 use Rattle.std.specs.List.{list_any}
 use Rattle.std.specs.Str.{bytes_eq}
 use Rattle.mw_base.specs.declared.cause.Cause.{Cause}
@@ -14,8 +14,12 @@ use Rattle.mw_board.specs.declared.bit.Load.{Load}
 use Rattle.mw_board.specs.declared.bit.Load.TheVariants as loads
 use Rattle.mw_board.specs.declared.control.Control.{Control}
 use Rattle.mw_board.specs.declared.control.Control.TheVariants as controls
+use Rattle.mw_board.specs.declared.control.Points.{Points}
 use Rattle.mw_board.specs.declared.field.NamedField.{NamedField}
 use Rattle.mw_board.specs.declared.flipflop.FlipFlop.{FlipFlop}
+use Rattle.mw_board.specs.declared.point.Point.{Point}
+use Rattle.mw_board.specs.Elements.{is_reserved}
+use Rattle.mw_board.specs.Points.{bits_of, driver_of}
 
 -- what a rule answers
 abbrev pub Verdict : Type 0
@@ -74,18 +78,6 @@ field_rule microword low width = all_of (
 unfoldable pub flipflops_rule : ℕ → Verdict
 flipflops_rule count = ask (nat_le count 16) TooMany
 
--- the names that the board's other elements have
-abbrev pub reserved_names : List (List ℕ)
-reserved_names =
-    codes "r0" ∷ codes "r1" ∷ codes "r2" ∷ codes "r3" ∷ codes "r4" ∷ codes "r5" ∷ codes "r6" ∷ codes "r7"
-    ∷ codes "r8" ∷ codes "r9" ∷ codes "r10" ∷ codes "r11" ∷ codes "r12" ∷ codes "r13" ∷ codes "r14" ∷ codes "r15"
-    ∷ codes "q" ∷ codes "mar" ∷ codes "ir" ∷ codes "upc" ∷ codes "count"
-    ∷ codes "stack0" ∷ codes "stack1" ∷ codes "stack2" ∷ codes "stack3" ∷ codes "stack4" ∷ codes "sp" ∷ []
-
--- the name is one of these
-abbrev pub is_reserved : List ℕ → Bool
-is_reserved name = list_any (bytes_eq name) reserved_names
-
 -- one of the flip-flops has the name
 abbrev pub is_flipflop_name : List FlipFlop → List ℕ → Bool
 is_flipflop_name flipflops name = list_any (λ f. bytes_eq name f.name) flipflops
@@ -117,6 +109,18 @@ point_rule bits fields (controls.Field n) = all_of (
     ∷ ask (nat_le (width_of (slice_get fields n)) bits) SelectTooWide
     ∷ [])
 point_rule bits fields (controls.Fixed value) = ask (nat_lt value (2 ^ bits)) BadValue
+
+-- the rule of what drives a point: by its bits, or as what chooses
+abbrev pub driver_of_bits_rule : Option ℕ → List NamedField → Control → Verdict
+driver_of_bits_rule (Some bits) fields driver = point_rule bits fields driver
+driver_of_bits_rule None fields driver = control_rule fields driver
+
+abbrev pub driver_rule : List NamedField → Point → Control → Verdict
+driver_rule fields point driver = driver_of_bits_rule (bits_of point) fields driver
+
+-- the rule of what drives it is kept at each point
+abbrev pub DriversKeep : List NamedField → Points → Type 0
+DriversKeep fields control = (point : Point) → driver_rule fields point (driver_of control point) ≡ Ok tt
 
 -- ---- lists
 

@@ -1,20 +1,22 @@
 // The rules of boards in the order of a board file's keys.
-ghost use Rattle.std.specs.Prelude.{◌≡◌, ℕ, [], length, min, Result};
+ghost use Rattle.std.specs.Prelude.{◌≡◌, ◌<◌, ◌≤◌, ℕ, [], length, min, Result};
 ghost use Rattle.mw_base.specs.declared.cause.Cause.{Cause};
 ghost use Rattle.mw_board.specs.Rules.{Verdict, bit_rule, carry_in_rule, d_source_rule, load_rule, map_entry_rule};
 ghost use Rattle.mw_board.specs.Check.{placed, number_16, at_key, at_flipflop, in_list, in_load, each_from};
 ghost use Rattle.mw_board.specs.Check.{list_check, sizes_check, field_check, fields_check, flipflop_check};
 ghost use Rattle.mw_board.specs.Check.{flipflops_from, flipflops_check, points_check, lists_check};
-ghost use Rattle.mw_board.specs.Check.{map_check, check_of};
+ghost use Rattle.mw_board.specs.Check.{point_check, map_check, check_of};
+ghost use Rattle.mw_board.specs.Keys.{carry_in_key, d_key, map_entries_key};
 ghost use Rattle.mw_board.specs.Following.{Follows, place_of};
 
 use crate::bit::{Bit, DSource, Load};
-use crate::control::Control;
+use crate::control::{Control, Points};
 use crate::fault::PartFault;
 use crate::field::NamedField;
 use crate::flipflop::FlipFlop;
 use crate::parts::BoardParts;
-use crate::rules;
+use crate::point::Point;
+use crate::{key, rules};
 use mw_base::Cause;
 
 /// A list of a board.
@@ -59,7 +61,7 @@ fn placed_in(list: ListKey, n: usize, verdict: Result<(), Cause>) -> Result<(), 
 {
     match list {
         ListKey::Key(row) => placed(row, number_16(n), 0, verdict),
-        ListKey::Loads(flipflop) => placed(11, flipflop, number_16(n), verdict),
+        ListKey::Loads(flipflop) => placed(key::LOAD, flipflop, number_16(n), verdict),
     }
 }
 
@@ -123,9 +125,9 @@ fn check_carry_ins(
     width: u8,
     flipflops: usize,
 ) -> Result<(), PartFault>
-    ensures { result ≡ list_check (in_list 31) fields.now control (carry_in_rule width flipflops) bits.now }
+    ensures { result ≡ list_check (in_list carry_in_key) fields.now control (carry_in_rule width flipflops) bits.now }
 {
-    chosen_list(ListKey::Key(31), fields, control, bits, |bit| {
+    chosen_list(ListKey::Key(key::CARRY_IN), fields, control, bits, |bit| {
         rules::carry_in_rule(width, flipflops, *bit)
     })
 }
@@ -138,10 +140,10 @@ fn check_sources(
     width: u8,
     flipflops: usize,
 ) -> Result<(), PartFault>
-    ensures { result ≡ list_check (in_list 35) fields.now control
+    ensures { result ≡ list_check (in_list d_key) fields.now control
         (d_source_rule width (length fields.now) flipflops) sources.now }
 {
-    chosen_list(ListKey::Key(35), fields, control, sources, |source| {
+    chosen_list(ListKey::Key(key::D), fields, control, sources, |source| {
         rules::d_source_rule(width, fields.len(), flipflops, *source)
     })
 }
@@ -168,9 +170,9 @@ fn check_loads(
 
 /// The entries of the map.
 fn check_entries(entries: &[u16]) -> Result<(), PartFault>
-    ensures { result ≡ each_from (λ n entry. in_list 38 n (map_entry_rule entry)) 0 entries.now }
+    ensures { result ≡ each_from (λ n entry. in_list map_entries_key n (map_entry_rule entry)) 0 entries.now }
 {
-    each(ListKey::Key(38), entries, |entry| {
+    each(ListKey::Key(key::MAP_ENTRIES), entries, |entry| {
         rules::map_entry_rule(u64::from(*entry))
     })
 }
@@ -179,24 +181,31 @@ fn check_entries(entries: &[u16]) -> Result<(), PartFault>
 fn check_sizes(parts: &BoardParts) -> Result<(), PartFault>
     ensures { result ≡ sizes_check parts.now }
 {
-    at_key(1, rules::width_rule(u64::from(parts.width)))?;
-    at_key(2, rules::microword_rule(u64::from(parts.microword)))?;
+    at_key(key::WIDTH, rules::width_rule(u64::from(parts.width)))?;
     at_key(
-        3,
+        key::MICROWORD,
+        rules::microword_rule(u64::from(parts.microword)),
+    )?;
+    at_key(
+        key::ADDRESS,
         rules::address_rule(parts.width, u64::from(parts.address)),
     )?;
-    at_key(4, rules::word_rule(parts.microword, parts.fill))?;
-    at_key(5, rules::word_rule(parts.microword, parts.unset))?;
-    at_key(6, rules::vector_rule(u64::from(parts.vector)))
+    at_key(key::FILL, rules::word_rule(parts.microword, parts.fill))?;
+    at_key(key::UNSET, rules::word_rule(parts.microword, parts.unset))?;
+    at_key(key::VECTOR, rules::vector_rule(u64::from(parts.vector)))
 }
 
 fn check_field(microword: u8, n: usize, named: &NamedField) -> Result<(), PartFault>
     ensures { result ≡ field_check microword n named.now }
 {
     let field = &named.field;
-    placed_in(ListKey::Key(7), n, rules::name_rule(named.name.as_slice()))?;
     placed_in(
-        ListKey::Key(7),
+        ListKey::Key(key::FIELDS),
+        n,
+        rules::name_rule(named.name.as_slice()),
+    )?;
+    placed_in(
+        ListKey::Key(key::FIELDS),
         n,
         rules::field_rule(microword, u64::from(field.low), u64::from(field.width)),
     )
@@ -216,7 +225,7 @@ fn check_fields(parts: &BoardParts) -> Result<(), PartFault>
     ensures { result ≡ fields_check parts.now }
 {
     let fields = parts.fields.as_slice();
-    at_key(7, rules::fields_rule(fields.len()))?;
+    at_key(key::FIELDS, rules::fields_rule(fields.len()))?;
     check_each_field(parts.microword, fields)
 }
 
@@ -227,19 +236,24 @@ fn check_flipflop(
     i: usize,
     flipflop: &FlipFlop,
 ) -> Result<(), PartFault>
-    ensures { result ≡ flipflop_check parts.now earlier.now i flipflop.now }
+    ensures { result ≡ flipflop_check parts.now.width parts.now.fields (length parts.now.flipflop) earlier.now i flipflop.now }
 {
     let fields = parts.fields.as_slice();
     let count = parts.flipflop.as_slice().len();
     let control = flipflop.control;
     let number = number_16(i);
     placed(
-        9,
+        key::NAME,
         number,
         0,
         rules::flipflop_name_rule(earlier, flipflop.name.as_slice()),
     )?;
-    placed(10, number, 0, rules::control_rule(fields, control))?;
+    placed(
+        key::CONTROL,
+        number,
+        0,
+        rules::control_rule(fields, control),
+    )?;
     check_loads(
         i,
         fields,
@@ -251,7 +265,7 @@ fn check_flipflop(
 }
 
 fn check_each_flipflop(parts: &BoardParts, flipflops: &[FlipFlop]) -> Result<(), PartFault>
-    ensures { result ≡ flipflops_from parts.now [] 0 flipflops.now }
+    ensures { result ≡ flipflops_from parts.now.width parts.now.fields (length parts.now.flipflop) [] 0 flipflops.now }
 {
     for (i, flipflop) in flipflops.iter().enumerate() {
         check_flipflop(parts, &flipflops[..i], i, flipflop)?;
@@ -264,35 +278,45 @@ fn check_flipflops(parts: &BoardParts) -> Result<(), PartFault>
     ensures { result ≡ flipflops_check parts.now }
 {
     let flipflops = parts.flipflop.as_slice();
-    at_key(8, rules::flipflops_rule(flipflops.len()))?;
+    at_key(key::FLIPFLOP, rules::flipflops_rule(flipflops.len()))?;
     check_each_flipflop(parts, flipflops)
+}
+
+fn check_point(
+    fields: &[NamedField],
+    control: &Points,
+    n: usize,
+    point: &Point,
+) -> Result<(), PartFault>
+    requires { n < 19 }
+    ensures { result ≡ point_check fields.now control.now n point.now }
+{
+    let driver = control.driver(*point);
+    at_key(
+        key::FIRST_POINT + n as u8,
+        rules::driver_rule(fields, *point, driver),
+    )
+}
+
+fn check_each_point(
+    fields: &[NamedField],
+    control: &Points,
+    points: &[Point],
+) -> Result<(), PartFault>
+    requires { length points.now ≤ 19 }
+    ensures { result ≡ each_from (point_check fields.now control.now) 0 points.now }
+{
+    for (n, point) in points.iter().enumerate() {
+        check_point(fields, control, n, point)?;
+    }
+    Ok(())
 }
 
 #[tactic(auto, unfolding(crate::specs::Check::points_check))]
 fn check_points(parts: &BoardParts) -> Result<(), PartFault>
     ensures { result ≡ points_check parts.now }
 {
-    let fields = parts.fields.as_slice();
-    let points = parts.control;
-    at_key(12, rules::point_rule(3, fields, points.alu_source))?;
-    at_key(13, rules::point_rule(3, fields, points.alu_function))?;
-    at_key(14, rules::point_rule(3, fields, points.alu_destination))?;
-    at_key(15, rules::point_rule(4, fields, points.a_address))?;
-    at_key(16, rules::point_rule(4, fields, points.b_address))?;
-    at_key(17, rules::point_rule(4, fields, points.sequencer))?;
-    at_key(18, rules::point_rule(12, fields, points.branch))?;
-    at_key(19, rules::point_rule(1, fields, points.test_disable))?;
-    at_key(20, rules::point_rule(1, fields, points.polarity))?;
-    at_key(21, rules::point_rule(1, fields, points.ci))?;
-    at_key(22, rules::point_rule(1, fields, points.rld))?;
-    at_key(23, rules::point_rule(1, fields, points.mar_load))?;
-    at_key(24, rules::point_rule(1, fields, points.ir_load))?;
-    at_key(25, rules::point_rule(1, fields, points.memory_write))?;
-    at_key(26, rules::point_rule(1, fields, points.out))?;
-    at_key(27, rules::control_rule(fields, points.carry_in))?;
-    at_key(28, rules::control_rule(fields, points.d))?;
-    at_key(29, rules::control_rule(fields, points.condition))?;
-    at_key(30, rules::control_rule(fields, points.link))
+    check_each_point(parts.fields.as_slice(), &parts.control, &Point::ALL)
 }
 
 #[tactic(auto, unfolding(crate::specs::Check::lists_check))]
@@ -311,7 +335,7 @@ fn check_lists(parts: &BoardParts) -> Result<(), PartFault>
         flipflops,
     )?;
     check_bits(
-        32,
+        key::CONDITION,
         fields,
         points.condition,
         parts.condition.as_slice(),
@@ -319,7 +343,7 @@ fn check_lists(parts: &BoardParts) -> Result<(), PartFault>
         flipflops,
     )?;
     check_bits(
-        33,
+        key::RAM_LINK,
         fields,
         points.link,
         parts.ram_link.as_slice(),
@@ -327,7 +351,7 @@ fn check_lists(parts: &BoardParts) -> Result<(), PartFault>
         flipflops,
     )?;
     check_bits(
-        34,
+        key::Q_LINK,
         fields,
         points.link,
         parts.q_link.as_slice(),
@@ -343,7 +367,7 @@ fn check_map(parts: &BoardParts) -> Result<(), PartFault>
 {
     let entries = parts.map_entries.as_slice();
     at_key(
-        37,
+        key::MAP_BITS,
         rules::map_bits_rule(
             parts.width,
             u64::from(parts.map_low),
@@ -351,7 +375,10 @@ fn check_map(parts: &BoardParts) -> Result<(), PartFault>
         ),
     )?;
     check_entries(entries)?;
-    at_key(38, rules::map_entries_rule(parts.map_bits, entries.len()))
+    at_key(
+        key::MAP_ENTRIES,
+        rules::map_entries_rule(parts.map_bits, entries.len()),
+    )
 }
 
 /// The first rule of boards that the parts break, in the order of a board file's keys.

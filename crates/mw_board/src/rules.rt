@@ -4,15 +4,17 @@ ghost use Rattle.std.specs.List.{list_any};
 ghost use Rattle.std.specs.Str.{bytes_eq};
 ghost use Rattle.mw_board.specs.Rules.{ask, all_of, width_rule, microword_rule, address_rule, word_rule};
 ghost use Rattle.mw_board.specs.Rules.{vector_rule, fields_rule, name_rule, field_rule, flipflops_rule};
-ghost use Rattle.mw_board.specs.Rules.{is_reserved, is_flipflop_name, flipflop_name_rule, width_of};
-ghost use Rattle.mw_board.specs.Rules.{control_rule, point_rule, chosen_rule, list_rule, bit_rule};
+ghost use Rattle.mw_board.specs.Rules.{is_flipflop_name, flipflop_name_rule, width_of};
+ghost use Rattle.mw_board.specs.Rules.{control_rule, point_rule, driver_rule, chosen_rule, list_rule, bit_rule};
 ghost use Rattle.mw_board.specs.Rules.{carry_in_rule, load_rule, source_rule, mask_rule, d_source_rule};
 ghost use Rattle.mw_board.specs.Rules.{map_bits_rule, map_entry_rule, map_size, map_entries_rule};
 
 use crate::bit::{Bit, DFrom, DSource, Load};
 use crate::control::Control;
+use crate::element::is_reserved;
 use crate::field::NamedField;
 use crate::flipflop::FlipFlop;
+use crate::point::Point;
 use mw_base::{Cause, is_name};
 
 /// The cause, where the test doesn't hold.
@@ -115,27 +117,6 @@ pub fn flipflops_rule(count: usize) -> Result<(), Cause>
     ask(count <= 16, Cause::TooMany)
 }
 
-/// The names that a board's other elements have.
-const RESERVED: [&[u8]; 27] = [
-    b"r0", b"r1", b"r2", b"r3", b"r4", b"r5", b"r6", b"r7", b"r8", b"r9", b"r10", b"r11", b"r12",
-    b"r13", b"r14", b"r15", b"q", b"mar", b"ir", b"upc", b"count", b"stack0", b"stack1", b"stack2",
-    b"stack3", b"stack4", b"sp",
-];
-
-/// Whether the name is one of these.
-fn is_one_of(names: &[&[u8]], name: &[u8]) -> bool
-    ensures { result ≡ list_any (λ other. bytes_eq name.now other.now) names.now }
-{
-    names.iter().any(|other| name == *other)
-}
-
-/// Whether another element of a board has the name.
-fn is_reserved(name: &[u8]) -> bool
-    ensures { result ≡ is_reserved name.now }
-{
-    is_one_of(&RESERVED, name)
-}
-
 /// Whether one of the flip-flops has the name.
 fn is_flipflop_name(flipflops: &[FlipFlop], name: &[u8]) -> bool
     ensures { result ≡ is_flipflop_name flipflops.now name.now }
@@ -186,6 +167,16 @@ pub fn point_rule(bits: u8, fields: &[NamedField], control: Control) -> Result<(
             ask(width_of(fields, number) <= bits, Cause::SelectTooWide)
         }
         Control::Fixed(value) => ask(has_bits(u128::from(value), bits), Cause::BadValue),
+    }
+}
+
+/// The rule of what drives a point: `point_rule` of its bits, or `control_rule` where it chooses from a list.
+pub fn driver_rule(fields: &[NamedField], point: Point, driver: Control) -> Result<(), Cause>
+    ensures { result ≡ driver_rule fields.now point driver }
+{
+    match point.bits() {
+        Some(bits) => point_rule(bits, fields, driver),
+        None => control_rule(fields, driver),
     }
 }
 

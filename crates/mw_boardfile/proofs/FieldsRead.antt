@@ -1,5 +1,5 @@
 -- Reading the fields of a table, a field at a time.
-use Rattle.std.proofs.Common.{◌≡◌, ℕ, List, [], ◌∷◌, ◌++◌, Result, Ok, Err, append_assoc, append-nil, refl, sym, ap, ◌∙◌}
+use Rattle.std.proofs.Common.{◌≡◌, ℕ, List, [], ◌∷◌, ◌++◌, map, Result, Ok, Err, append_assoc, append-nil, refl, sym, ap, ◌∙◌}
 use Rattle.std.specs.Prelude.{codes}
 use Rattle.toml.specs.Data.{Data, Members, no_members, member, get_member}
 use Rattle.mw_base.specs.declared.refusal.Refused.{Refused}
@@ -32,6 +32,12 @@ field_goes_on microword fields name value rest f total is so_far =
     let one : before fields (each_field microword (member name value rest)) ≡ before (fields ++ f ∷ []) (each_field microword rest) =
     rw is (before_twice fields f (each_field microword rest)) in
     sym one ∙ so_far
+
+-- and one more name
+pub name_goes_on : (fields : List NamedField) (f : NamedField) (name : List ℕ) (rest : List (List ℕ)) → f.name ≡ name
+    → map (λ (f : NamedField). f.name) (fields ++ f ∷ []) ++ rest ≡ map (λ (f : NamedField). f.name) fields ++ name ∷ rest
+name_goes_on [] f name rest is = ap (λ (n : List ℕ). n ∷ rest) is
+name_goes_on (first ∷ others) f name rest is = ap (λ (ns : List (List ℕ)). first.name ∷ ns) (name_goes_on others f name rest is)
 
 -- a field that is refused
 pub field_fails : (microword : ℕ) (fields : List NamedField) (name : List ℕ) (value : Data) (rest : Members) (fault : KeyFault) (total : Result (List NamedField) KeyFault)

@@ -1,9 +1,6 @@
 -- The fields that are read of a table stand in the order of its keys.
-use Rattle.std.proofs.Common.{◌≡◌, ℕ, List, [], ◌∷◌, Result, Ok, Err, sym, subst, map}
-use Rattle.std.specs.Prelude.{String, string_bytes, string_cmp, IfOk}
-use Rattle.mw_base.specs.declared.refusal.Refused.{Refused}
-use Rattle.mw_base.specs.Reading.{Gives}
-use Rattle.mw_boardfile.specs.declared.fault.KeyFault.{KeyFault}
+use Rattle.std.proofs.Common.{◌≡◌, ℕ, List, [], ◌∷◌, sym, subst, map}
+use Rattle.std.specs.Prelude.{String, string_bytes, string_cmp}
 use Rattle.std.specs.BTreeMap.{BTreeMap, IsOrdered}
 use Rattle.std.specs.Cmp.Lexicographic.{slice_cmp}
 use Rattle.std.specs.List.{AllByRecursion}
@@ -15,8 +12,7 @@ use Rattle.toml.specs.View.{table_view, members_view}
 use Rattle.toml.specs.declared.value.Value.{Value}
 use Rattle.mw_board.specs.Order.{AreInOrder}
 use Rattle.mw_board.specs.declared.field.NamedField.{NamedField}
-use Rattle.mw_boardfile.specs.Fields.{each_field}
-use Rattle.mw_boardfile.proofs.AcceptedFields.{names_of, each_field_ok}
+use Rattle.mw_boardfile.specs.Kept.{names_of}
 
 -- a key below others, seen as bytes
 below_bytes : (key : String Global) (entries : List (String Global × Value)) → AllByRecursion (λ other. string_cmp key other ≡ Less) (map (λ m. m.0) entries)
@@ -30,20 +26,12 @@ unfolding IsStrictlySortedBy
 names_in_order [] sorted = tt
 names_in_order (m ∷ rest) sorted = (below_bytes m.0 rest sorted.0, names_in_order rest sorted.1)
 
--- the fields of a map whose keys ascend are in order
-pub fields_in_order : (microword : ℕ) (table : BTreeMap (String Global) Value) (fields : List NamedField)
-    → IsOrdered string_cmp table → each_field microword (table_view table) ≡ Ok fields → AreInOrder fields
-fields_in_order microword table fields sorted e =
-    let read = each_field_ok microword (table_view table) fields e in
-    subst (λ (names : List (List ℕ)). IsStrictlySortedBy (slice_cmp nat_cmp) names) (sym read.names) (names_in_order table.entries sorted)
+-- the fields that have the names of a map whose keys ascend are in order
+pub fields_in_order : (table : BTreeMap (String Global) Value) (fields : List NamedField)
+    → IsOrdered string_cmp table → map (λ (f : NamedField). f.name) fields ≡ names_of (table_view table) → AreInOrder fields
+fields_in_order table fields sorted names = subst (λ (ns : List (List ℕ)). IsStrictlySortedBy (slice_cmp nat_cmp) ns) (sym names) (names_in_order table.entries sorted)
 
 -- no fields are in order
 pub none_in_order : AreInOrder []
 unfolding IsStrictlySortedBy
 none_in_order = tt
-
--- what a call returned that reads the fields of a map whose keys ascend
-pub gives_in_order : (microword : ℕ) (table : BTreeMap (String Global) Value) (result : Result (List NamedField) (Refused KeyFault))
-    → IsOrdered string_cmp table → Gives (λ (fields : List NamedField). fields) result (each_field microword (table_view table)) → IfOk result (λ fields. AreInOrder fields)
-gives_in_order microword table (Ok fields) sorted gives = fields_in_order microword table fields sorted gives
-gives_in_order microword table (Err refusal) sorted gives = tt

@@ -1,11 +1,5 @@
-pub mod Accepted
-pub mod AcceptedControl
-pub mod AcceptedFields
-pub mod AcceptedFlipFlops
-pub mod AcceptedLists
-pub mod AcceptedSizes
 pub mod FieldsRead
 pub mod InOrder
+pub mod Kept
 pub mod Keys
 pub mod Loops
-pub mod Steps

@@ -1,10 +1,11 @@
 -- Loops over lists, an item at a time.
-use Rattle.std.proofs.Common.{◌≡◌, ℕ, suc, ◌+◌, ◌<◌, ◌≤◌, Bool, true, false, List, [], ◌∷◌, ◌++◌, length, get_or, drop, Option, Some, None, cond, Result, Ok, Err, String, Global, refl, sym, ap, ◌∙◌, append_assoc, add-one, drop-cons}
+use Rattle.std.proofs.Common.{◌≡◌, ℕ, suc, ◌+◌, ◌<◌, ◌≤◌, Bool, true, false, List, [], ◌∷◌, ◌++◌, length, get_or, drop, Option, Some, None, cond, Result, Ok, Err, String, Global, refl, sym, ap, ◌∙◌, add-one}
 use Rattle.std.proofs.lemmas.List.{drop_all, append-nil}
 use Rattle.mw_base.specs.declared.cause.Cause.{Cause}
-use Rattle.mw_base.specs.Reading.{◌>>=◌, Fails}
+use Rattle.mw_base.specs.Reading.{◌>>=◌, with_front, Fails}
 use Rattle.mw_base.specs.declared.refusal.Refused.{Refused}
 use Rattle.mw_base.specs.declared.refusal.Refused.TheVariants.{At, NoMemory}
+use Rattle.mw_base.proofs.Lists.{next, regroup}
 use Rattle.mw_boardfile.specs.declared.fault.Fault.{Fault}
 use Rattle.mw_boardfile.specs.Lists.{first_place, is_refused, none_refused, each_of}
 use Rattle.mw_boardfile.specs.Views.{data_of}
@@ -12,14 +13,14 @@ use Rattle.mw_boardfile.specs.FlipFlops.{flipflop_at, each_flipflop}
 use Rattle.mw_boardfile.specs.declared.fault.KeyFault.{KeyFault}
 use Rattle.mw_board.specs.declared.field.NamedField.{NamedField}
 use Rattle.mw_board.specs.declared.flipflop.FlipFlop.{FlipFlop}
-use Rattle.toml.specs.Data.{Data}
+use Rattle.mw_board.specs.declared.control.Points.{Points}
+use Rattle.mw_board.specs.declared.point.Point.{Point}
+use Rattle.mw_board.specs.Points.{name_of}
+use Rattle.mw_boardfile.specs.Control.{given_point, each_point}
+use Rattle.toml.specs.Data.{Data, Members, get_member}
 use Rattle.toml.specs.View.{view, members_view}
 use Rattle.mw_boardfile.specs.Fields.{count_of}
 use Rattle.toml.specs.declared.value.Value.{Value}
-
--- the item at a place, and those after it
-pub next : {A : Type 0} (items : List A) (n : ℕ) (item : A) → n < length items → item ≡ get_or items n item → drop n items ≡ item ∷ drop (n + 1) items
-next items n item within is = rw (add-one) (drop-cons items n item within ∙ ap (λ i. i ∷ drop (suc n) items) (sym is))
 
 -- ---- the first that passes
 
@@ -69,14 +70,6 @@ all_taken reader cause values n total past so_far =
     sym one ∙ so_far
 
 -- ---- each entry
-
--- what was read before, and what is still read
-abbrev pub with_front : {A F : Type 0} → List A → Result (List A) F → Result (List A) F
-with_front front read = read >>= λ rest. Ok (front ++ rest)
-
-pub regroup : {A F : Type 0} (front : List A) (x : A) (read : Result (List A) F) → with_front front (read >>= λ rest. Ok (x ∷ rest)) ≡ with_front (front ++ x ∷ []) read
-regroup front x (Ok rest) = ap Ok (sym (append_assoc front (x ∷ []) rest))
-regroup front x (Err fault) = refl
 
 pub one_more : {A : Type 0} (reader : Data → Result A Cause) (front : List A) (x : A) (values : List Value) (n : ℕ) (value : Value) (total : Result (List A) Fault)
     → n < length values → value ≡ get_or values n value → reader (view value) ≡ Ok x
@@ -149,4 +142,30 @@ pub flipflops_end : (width : ℕ) (fields : List NamedField) (earlier : List Fli
 unfolding each_flipflop
 flipflops_end width fields earlier values n total past so_far =
     let one : each_flipflop width fields (data_of values) earlier n (data_of (drop n values)) ≡ Ok earlier = rw (ap data_of (drop_all n values past)) refl in
+    sym so_far ∙ one
+
+-- ---- each control point
+
+pub point_ends : (fields : List NamedField) (control : Members) (before : Points) (e : Refused KeyFault) (points : List Point) (n : ℕ) (point : Point) (total : Result Points KeyFault)
+    → n < length points → point ≡ get_or points n point → Fails e (given_point fields before point (get_member (name_of point) control))
+    → each_point fields control before (drop n points) ≡ total → Fails e total
+unfolding each_point
+point_ends fields control before NoMemory points n point total within is fails so_far = tt
+point_ends fields control before (At fault) points n point total within is fails so_far =
+    let one : each_point fields control before (drop n points) ≡ Err fault = rw (next points n point within is, fails) refl in
+    sym so_far ∙ one
+
+pub point_goes_on : (fields : List NamedField) (control : Members) (before after : Points) (points : List Point) (n : ℕ) (point : Point) (total : Result Points KeyFault)
+    → n < length points → point ≡ get_or points n point → given_point fields before point (get_member (name_of point) control) ≡ Ok after
+    → each_point fields control before (drop n points) ≡ total → each_point fields control after (drop (n + 1) points) ≡ total
+unfolding each_point
+point_goes_on fields control before after points n point total within is reads so_far =
+    let one : each_point fields control before (drop n points) ≡ each_point fields control after (drop (n + 1) points) = rw (next points n point within is, reads) refl in
+    sym one ∙ so_far
+
+pub points_end : (fields : List NamedField) (control : Members) (before : Points) (points : List Point) (n : ℕ) (total : Result Points KeyFault) → length points ≤ n
+    → each_point fields control before (drop n points) ≡ total → total ≡ Ok before
+unfolding each_point
+points_end fields control before points n total past so_far =
+    let one : each_point fields control before (drop n points) ≡ Ok before = rw (drop_all n points past) refl in
     sym so_far ∙ one

@@ -1,5 +1,5 @@
 -- control.POINT.
-use Rattle.std.specs.Prelude.{ℕ, ◌-◌, ◌^◌, ℤ, min, List, codes, Option, Some, None, Result, Ok, Err}
+use Rattle.std.specs.Prelude.{ℕ, ◌-◌, ◌^◌, ℤ, min, List, [], ◌∷◌, codes, Option, Some, None, Result, Ok, Err}
 use Rattle.toml.specs.Data.{Data, Members, get_member, as_str, as_integer}
 use Rattle.mw_base.specs.declared.cause.Cause.{Cause}
 use Rattle.mw_base.specs.declared.cause.Cause.TheVariants.{BadValue, WrongKind}
@@ -8,11 +8,10 @@ use Rattle.mw_board.specs.declared.control.Control.{Control}
 use Rattle.mw_board.specs.declared.control.Control.TheVariants.{Field, Fixed}
 use Rattle.mw_board.specs.declared.control.Points.{Points}
 use Rattle.mw_board.specs.declared.field.NamedField.{NamedField}
-use Rattle.mw_board.specs.Rules.{control_rule, point_rule}
+use Rattle.mw_board.specs.declared.point.Point.{Point}
+use Rattle.mw_board.specs.Points.{all_points, name_of, with_driver, default_points}
+use Rattle.mw_board.specs.Rules.{control_rule, driver_rule}
 use Rattle.mw_boardfile.specs.declared.fault.KeyFault.{KeyFault}
-use Rattle.mw_boardfile.specs.declared.points.Numbers.{Numbers}
-use Rattle.mw_boardfile.specs.declared.points.Flags.{Flags}
-use Rattle.mw_boardfile.specs.declared.points.Choosers.{Choosers}
 use Rattle.mw_boardfile.specs.Entries.{if_some, part_number}
 use Rattle.mw_boardfile.specs.Fields.{field_number}
 use Rattle.mw_boardfile.specs.Values.{below, under, whole, not_negative, table_or_none}
@@ -42,103 +41,29 @@ control_in fields value = do
   right ← control_rule fields control
   Ok control
 
--- a point of so many bits; a constant where it isn't there
-unfoldable pub point_in : ℕ → ℕ → List NamedField → Option Data → Result Control Cause
-point_in bits default fields None = Ok (Fixed default)
-point_in bits default fields (Some value) = do
-  control ← control_in fields value
-  right ← point_rule bits fields control
-  Ok control
+-- what drives a point
+unfoldable pub driver_in : List NamedField → Point → Data → Result Control Cause
+driver_in fields point value = do
+  driver ← named_or_constant fields (as_str value) (as_integer value)
+  right ← driver_rule fields point driver
+  Ok driver
 
--- a point that chooses from a list; its first entry where it isn't there
-unfoldable pub chooser_in : List NamedField → Option Data → Result Control Cause
-chooser_in fields None = Ok (Fixed 0)
-chooser_in fields (Some value) = control_in fields value
+-- the points so far, and one that is driven as its key says; without a key it stays as it is
+abbrev pub given_point : List NamedField → Points → Point → Option Data → Result Points KeyFault
+given_point fields points point None = Ok points
+given_point fields points point (Some value) = do
+  driver ← under (below (codes "control") (name_of point)) (whole (driver_in fields point value))
+  Ok (with_driver points point driver)
 
--- control.POINT
-abbrev pub point_of : ℕ → ℕ → List NamedField → Members → List ℕ → Result Control KeyFault
-point_of bits default fields control name = under (below (codes "control") name) (whole (point_in bits default fields (get_member name control)))
-
--- control.POINT, of one that chooses
-abbrev pub chooser_of : List NamedField → Members → List ℕ → Result Control KeyFault
-chooser_of fields control name = under (below (codes "control") name) (whole (chooser_in fields (get_member name control)))
-
--- the points that take a number of more than one bit
-unfoldable pub numbers_of : List NamedField → Members → Result Numbers KeyFault
-numbers_of fields control = do
-  alu_source ← point_of 3 0 fields control (codes "alu_source")
-  alu_function ← point_of 3 0 fields control (codes "alu_function")
-  alu_destination ← point_of 3 0 fields control (codes "alu_destination")
-  a_address ← point_of 4 0 fields control (codes "a_address")
-  b_address ← point_of 4 0 fields control (codes "b_address")
-  sequencer ← point_of 4 0 fields control (codes "sequencer")
-  branch ← point_of 12 0 fields control (codes "branch")
-  Ok (record {
-    alu_source = alu_source;
-    alu_function = alu_function;
-    alu_destination = alu_destination;
-    a_address = a_address;
-    b_address = b_address;
-    sequencer = sequencer;
-    branch = branch;
-  })
-
--- the points of one bit; ci is 1 where it isn't there
-unfoldable pub flags_of : List NamedField → Members → Result Flags KeyFault
-flags_of fields control = do
-  test_disable ← point_of 1 0 fields control (codes "test_disable")
-  polarity ← point_of 1 0 fields control (codes "polarity")
-  ci ← point_of 1 1 fields control (codes "ci")
-  rld ← point_of 1 0 fields control (codes "rld")
-  mar_load ← point_of 1 0 fields control (codes "mar_load")
-  ir_load ← point_of 1 0 fields control (codes "ir_load")
-  memory_write ← point_of 1 0 fields control (codes "memory_write")
-  out ← point_of 1 0 fields control (codes "out")
-  Ok (record {
-    test_disable = test_disable;
-    polarity = polarity;
-    ci = ci;
-    rld = rld;
-    mar_load = mar_load;
-    ir_load = ir_load;
-    memory_write = memory_write;
-    out = out;
-  })
-
--- the points that choose from a list
-unfoldable pub choosers_of : List NamedField → Members → Result Choosers KeyFault
-choosers_of fields control = do
-  carry_in ← chooser_of fields control (codes "carry_in")
-  d ← chooser_of fields control (codes "d")
-  condition ← chooser_of fields control (codes "condition")
-  link ← chooser_of fields control (codes "link")
-  Ok (record { carry_in = carry_in; d = d; condition = condition; link = link })
+-- the points so far, and each of these
+unfoldable pub each_point : List NamedField → Members → Points → List Point → Result Points KeyFault
+each_point fields control points [] = Ok points
+each_point fields control points (point ∷ rest) = do
+  more ← given_point fields points point (get_member (name_of point) control)
+  each_point fields control more rest
 
 -- control: each point, in the order of the format
 unfoldable pub points_of : List NamedField → Members → Result Points KeyFault
 points_of fields document = do
   control ← under (codes "control") (whole (table_or_none (get_member (codes "control") document)))
-  numbers ← numbers_of fields control
-  flags ← flags_of fields control
-  choosers ← choosers_of fields control
-  Ok (record {
-    alu_source = numbers.alu_source;
-    alu_function = numbers.alu_function;
-    alu_destination = numbers.alu_destination;
-    a_address = numbers.a_address;
-    b_address = numbers.b_address;
-    sequencer = numbers.sequencer;
-    branch = numbers.branch;
-    test_disable = flags.test_disable;
-    polarity = flags.polarity;
-    ci = flags.ci;
-    rld = flags.rld;
-    mar_load = flags.mar_load;
-    ir_load = flags.ir_load;
-    memory_write = flags.memory_write;
-    out = flags.out;
-    carry_in = choosers.carry_in;
-    d = choosers.d;
-    condition = choosers.condition;
-    link = choosers.link;
-  })
+  each_point fields control default_points all_points

@@ -4,6 +4,7 @@ pub mod Document
 pub mod Entries
 pub mod Fields
 pub mod FlipFlops
+pub mod Kept
 pub mod Lists
 pub mod Map
 pub mod Sizes

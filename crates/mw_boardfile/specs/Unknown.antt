@@ -1,11 +1,13 @@
 -- Keys that the format doesn't have.
-use Rattle.std.specs.Prelude.{ℕ, ◌+◌, List, [], ◌∷◌, ◌++◌, codes, Bool, Option, Some, None, Result, Ok, Err, if◌then◌else◌}
+use Rattle.std.specs.Prelude.{ℕ, ◌+◌, List, map, [], ◌∷◌, ◌++◌, codes, Bool, Option, Some, None, Result, Ok, Err, if◌then◌else◌}
 use Rattle.std.specs.List.{list_any}
+use Rattle.std.specs.Str.{bytes_eq}
 use Rattle.std.specs.Ordering.{nat_cmp, is_lt}
 use Rattle.std.specs.Cmp.Lexicographic.{slice_cmp}
-use Rattle.toml.specs.Data.{Data, Items, Members, no_members, member, get_member, same_key, as_array, as_table}
+use Rattle.toml.specs.Data.{Data, Items, Members, no_members, member, get_member, as_array, as_table}
 use Rattle.mw_base.specs.declared.cause.Cause.TheVariants.{UnknownKey}
 use Rattle.mw_base.specs.Numbers.{decimal}
+use Rattle.mw_board.specs.Points.{all_points, name_of}
 use Rattle.mw_boardfile.specs.declared.unknown.Place.{Place}
 use Rattle.mw_boardfile.specs.declared.unknown.Place.TheVariants.{File, FlipFlop, Control, Select, Map}
 use Rattle.mw_boardfile.specs.declared.fault.KeyFault.{KeyFault}
@@ -21,11 +23,9 @@ file_keys =
 abbrev pub flipflop_keys : List (List ℕ)
 flipflop_keys = codes "name" ∷ codes "control" ∷ codes "load" ∷ []
 
+-- the control points
 abbrev pub control_keys : List (List ℕ)
-control_keys =
-    codes "alu_source" ∷ codes "alu_function" ∷ codes "alu_destination" ∷ codes "a_address" ∷ codes "b_address" ∷ codes "sequencer"
-    ∷ codes "branch" ∷ codes "test_disable" ∷ codes "polarity" ∷ codes "ci" ∷ codes "rld" ∷ codes "mar_load" ∷ codes "ir_load"
-    ∷ codes "memory_write" ∷ codes "out" ∷ codes "carry_in" ∷ codes "d" ∷ codes "condition" ∷ codes "link" ∷ []
+control_keys = map name_of all_points
 
 abbrev pub select_keys : List (List ℕ)
 select_keys = codes "carry_in" ∷ codes "condition" ∷ codes "ram_link" ∷ codes "q_link" ∷ codes "d" ∷ []
@@ -43,7 +43,7 @@ keys_at Map = map_keys
 
 -- one of these keys
 abbrev pub is_one_of : List (List ℕ) → List ℕ → Bool
-is_one_of keys key = list_any (same_key key) keys
+is_one_of keys key = list_any (bytes_eq key) keys
 
 -- ---- the least of those that aren't, by the bytes of their dotted paths
 

@@ -7,6 +7,8 @@ ghost use Rattle.mw_boardfile.specs.Entries.{flip_bit, bit_spelled, bit_in, carr
 ghost use Rattle.mw_boardfile.specs.Entries.{named_source, field_source, flip_source, source_spelled};
 ghost use Rattle.mw_boardfile.specs.Entries.{mask_number, masked, d_source_in, is_text_at};
 ghost use Rattle.mw_boardfile.specs.Fields.{field_number};
+ghost use Rattle.mw_board.specs.Rules.{bit_rule, carry_in_rule, load_rule, d_source_rule};
+ghost use Rattle.mw_boardfile.specs.Kept.{Kept};
 ghost use Rattle.mw_boardfile.specs.Views.{given, data_of};
 
 use crate::fields::field_number;
@@ -128,7 +130,8 @@ fn bit_spelled(flipflops: &[Value], text: &str) -> Result<Bit, Cause>
 /// A bit of a condition or a link: cause 23, 2, 3 or 24.
 #[tactic(auto, unfolding(crate::specs::Entries::bit_in))]
 pub(crate) fn bit(width: u8, flipflops: &[Value], value: &Value) -> Result<Bit, Cause>
-    ensures { result ≡ bit_in width (data_of flipflops.now) (view value.now) }
+    ensures exact { result ≡ bit_in width (data_of flipflops.now) (view value.now) }
+    ensures kept { IfOk result (λ bit. Kept (bit_rule width (length flipflops.now) bit)) }
 {
     let bit = bit_spelled(flipflops, text(value)?)?;
     bit_rule(width, flipflops.len(), bit)?;
@@ -138,7 +141,8 @@ pub(crate) fn bit(width: u8, flipflops: &[Value], value: &Value) -> Result<Bit, 
 /// A bit of the carry in: cause 23, 2, 3 or 24.
 #[tactic(auto, unfolding(crate::specs::Entries::carry_in_in))]
 pub(crate) fn carry_in(width: u8, flipflops: &[Value], value: &Value) -> Result<Bit, Cause>
-    ensures { result ≡ carry_in_in width (data_of flipflops.now) (view value.now) }
+    ensures exact { result ≡ carry_in_in width (data_of flipflops.now) (view value.now) }
+    ensures kept { IfOk result (λ bit. Kept (carry_in_rule width (length flipflops.now) bit)) }
 {
     let bit = bit_spelled(flipflops, text(value)?)?;
     carry_in_rule(width, flipflops.len(), bit)?;
@@ -179,7 +183,8 @@ fn load_spelled(flipflops: &[Value], text: &str) -> Result<Load, Cause>
 /// A load of a flip-flop: cause 23, 2, 3 or 24.
 #[tactic(auto, unfolding(crate::specs::Entries::load_in))]
 pub(crate) fn load(width: u8, flipflops: &[Value], value: &Value) -> Result<Load, Cause>
-    ensures { result ≡ load_in width (data_of flipflops.now) (view value.now) }
+    ensures exact { result ≡ load_in width (data_of flipflops.now) (view value.now) }
+    ensures kept { IfOk result (λ load. Kept (load_rule width (length flipflops.now) load)) }
 {
     let load = load_spelled(flipflops, text(value)?)?;
     load_rule(width, flipflops.len(), load)?;
@@ -295,7 +300,8 @@ pub(crate) fn d_source(
     flipflops: &[Value],
     value: &Value,
 ) -> Result<DSource, Cause>
-    ensures { result ≡ d_source_in width fields.now (data_of flipflops.now) (view value.now) }
+    ensures exact { result ≡ d_source_in width fields.now (data_of flipflops.now) (view value.now) }
+    ensures kept { IfOk result (λ source. Kept (d_source_rule width (length fields.now) (length flipflops.now) source)) }
 {
     let bytes = text(value)?.as_bytes();
     let source = masked(fields, flipflops, bytes, first_place(bytes, |c| *c == b'&'))?;

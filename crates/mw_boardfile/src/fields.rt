@@ -1,5 +1,5 @@
 // fields.NAME.
-ghost use Rattle.std.specs.Prelude.{◌≡◌, ◌+◌, ◌≤◌, codes, option_map, IfOk};
+ghost use Rattle.std.specs.Prelude.{◌≡◌, ◌+◌, ◌≤◌, codes, map, option_map, All, IfOk};
 ghost use Rattle.toml.specs.View.{view, table_view};
 ghost use Rattle.mw_base.specs.Reading.{Gives};
 ghost use Rattle.mw_board.specs.Order.{AreInOrder};
@@ -7,6 +7,7 @@ ghost use Rattle.mw_boardfile.specs.Fields.{pair, field_in, field_of, count_of, 
 ghost use Rattle.mw_boardfile.specs.Lists.{none_refused};
 ghost use Rattle.mw_base.specs.declared.cause.Cause.TheVariants.{WrongKind};
 ghost use Rattle.mw_boardfile.specs.Values.{Answers, whole, at_entry, natural, list};
+ghost use Rattle.mw_boardfile.specs.Kept.{FieldKeeps, FieldsKeep, names_of};
 ghost use Rattle.mw_boardfile.specs.Views.{given, data_of, members};
 
 use crate::fault::{BoardRefusal, Fault};
@@ -41,7 +42,8 @@ fn natural_at(n: usize, value: &Value) -> Result<u64, Fault>
 /// [low, width], the value of fields.NAME.
 #[tactic(auto, unfolding(crate::specs::Fields::field_in))]
 fn field(microword: u8, name: &[u8], value: &Value) -> Result<Field, Fault>
-    ensures { result ≡ field_in microword name.now (view value.now) }
+    ensures exact { result ≡ field_in microword name.now (view value.now) }
+    ensures kept { IfOk result (λ field. FieldKeeps microword (record { name = name.now; field = field })) }
 {
     let entries = whole_list(value)?;
     integers_only(entries)?;
@@ -89,7 +91,9 @@ fn named_field(
     name: &[u8],
     value: &Value,
 ) -> Result<NamedField, BoardRefusal>
-    ensures { Gives (λ f. f) result (field_of microword name.now (view value.now)) }
+    ensures gives { Gives (λ f. f) result (field_of microword name.now (view value.now)) }
+    ensures name { IfOk result (λ f. f.name ≡ name.now) }
+    ensures kept { IfOk result (FieldKeeps microword) }
 {
     let key = below(alloc, b"fields", name)?;
     let field = under(alloc, &key, field(microword, name, value))?;
@@ -104,6 +108,8 @@ fn each_field(
     table: &Table,
 ) -> Result<Items<NamedField>, BoardRefusal>
     ensures gives { Gives (λ fields. fields) result (each_field microword (table_view table.now)) }
+    ensures names { IfOk result (λ fields. map (λ f. f.name) fields ≡ names_of (table_view table.now)) }
+    ensures kept { IfOk result (λ fields. All (FieldKeeps microword) fields) }
     ensures order { IfOk result (λ fields. AreInOrder fields) }
 {
     let mut fields = Vec::new(alloc);
@@ -128,6 +134,7 @@ pub(crate) fn fields(
     document: &Table,
 ) -> Result<Items<NamedField>, BoardRefusal>
     ensures gives { Gives (λ fields. fields) result (fields_of microword (table_view document.now)) }
+    ensures kept { IfOk result (FieldsKeep microword) }
     ensures order { IfOk result (λ fields. AreInOrder fields) }
 {
     match under_whole(alloc, b"fields", table_or_none(member(document, "fields")))? {

@@ -1,5 +1,5 @@
 // flipflop.
-ghost use Rattle.std.specs.Prelude.{◌≡◌, [], ◌++◌, ◌∷◌, codes, length, option_map};
+ghost use Rattle.std.specs.Prelude.{◌≡◌, [], ◌++◌, ◌∷◌, codes, length, option_map, IfOk};
 ghost use Rattle.toml.specs.Data.{as_str, as_table};
 ghost use Rattle.toml.specs.View.{view, table_view};
 ghost use Rattle.mw_base.specs.Reading.{Gives};
@@ -8,6 +8,8 @@ ghost use Rattle.mw_boardfile.specs.FlipFlops.{load_values_in, loads_in, name_of
 ghost use Rattle.mw_boardfile.specs.FlipFlops.{flipflop_of, flipflop_at, each_flipflop};
 ghost use Rattle.mw_boardfile.specs.Lists.{none_refused};
 ghost use Rattle.mw_boardfile.specs.Values.{Answers, whole};
+ghost use Rattle.mw_board.specs.Rules.{flipflops_rule, flipflop_name_rule, control_rule, load_rule};
+ghost use Rattle.mw_boardfile.specs.Kept.{Kept, ListKeeps, FlipFlopKeeps, FlipFlopsKeep};
 ghost use Rattle.mw_boardfile.specs.Views.{given, data_of};
 ghost use Rattle.mw_base.specs.declared.cause.Cause.TheVariants.{WrongKind};
 
@@ -43,7 +45,8 @@ fn tables_only(values: &[Value]) -> Result<(), Fault>
 /// The tables of the flip-flops: cause 23 or 14.
 #[tactic(auto, unfolding(crate::specs::FlipFlops::tables_in))]
 pub(crate) fn tables<'a>(value: Option<&'a Value>) -> Result<&'a [Value], Fault>
-    ensures { Answers (λ vs. data_of vs.now) result (tables_in (given value.entry)) }
+    ensures exact { Answers (λ vs. data_of vs.now) result (tables_in (given value.entry)) }
+    ensures kept { IfOk result (λ vs. Kept (flipflops_rule (length vs.now))) }
 {
     let values = match list_or_none(value) {
         Ok(values) => values,
@@ -57,7 +60,8 @@ pub(crate) fn tables<'a>(value: Option<&'a Value>) -> Result<&'a [Value], Fault>
 /// name: cause 21, 23, 24 or 31.
 #[tactic(auto, unfolding(crate::specs::FlipFlops::name_in))]
 fn name<'a>(earlier: &[FlipFlop], value: Option<&'a Value>) -> Result<&'a str, Cause>
-    ensures { Answers (λ name. name.now) result (name_in earlier.now (given value.entry)) }
+    ensures exact { Answers (λ name. name.now) result (name_in earlier.now (given value.entry)) }
+    ensures kept { IfOk result (λ name. Kept (flipflop_name_rule earlier.now name.now)) }
 {
     let name = text(required(value)?)?;
     flipflop_name_rule(earlier, name.as_bytes())?;
@@ -67,7 +71,8 @@ fn name<'a>(earlier: &[FlipFlop], value: Option<&'a Value>) -> Result<&'a str, C
 /// control: cause 21, 23 or 24.
 #[tactic(auto, unfolding(crate::specs::FlipFlops::flip_control_in))]
 fn flip_control(fields: &[NamedField], value: Option<&Value>) -> Result<Control, Cause>
-    ensures { result ≡ flip_control_in fields.now (given value.entry) }
+    ensures exact { result ≡ flip_control_in fields.now (given value.entry) }
+    ensures kept { IfOk result (λ control. Kept (control_rule fields.now control)) }
 {
     control(fields, required(value)?)
 }
@@ -90,7 +95,8 @@ fn loads(
     control: Control,
     value: Option<&Value>,
 ) -> Result<Items<Load>, Refused<Fault>>
-    ensures { Gives (λ loads. loads) result (loads_in width fields.now (data_of flipflops.now) control (given value.entry)) }
+    ensures gives { Gives (λ loads. loads) result (loads_in width fields.now (data_of flipflops.now) control (given value.entry)) }
+    ensures kept { IfOk result (ListKeeps (load_rule width (length flipflops.now)) fields.now control) }
 {
     match load_values(value) {
         Ok(values) => chosen_list(
@@ -111,7 +117,8 @@ fn name_of(
     earlier: &[FlipFlop],
     table: &Table,
 ) -> Result<Name, BoardRefusal>
-    ensures { Gives (λ name. name) result (name_of key.now earlier.now (table_view table.now)) }
+    ensures gives { Gives (λ name. name) result (name_of key.now earlier.now (table_view table.now)) }
+    ensures kept { IfOk result (λ name. Kept (flipflop_name_rule earlier.now name)) }
 {
     let key = below(alloc, key, b"name")?;
     match name(earlier, member(table, "name")) {
@@ -126,7 +133,8 @@ fn control_of(
     fields: &[NamedField],
     table: &Table,
 ) -> Result<Control, BoardRefusal>
-    ensures { Gives (λ control. control) result (control_of key.now fields.now (table_view table.now)) }
+    ensures gives { Gives (λ control. control) result (control_of key.now fields.now (table_view table.now)) }
+    ensures kept { IfOk result (λ control. Kept (control_rule fields.now control)) }
 {
     let key = below(alloc, key, b"control")?;
     under_whole(alloc, &key, flip_control(fields, member(table, "control")))
@@ -141,8 +149,9 @@ fn loads_of(
     control: Control,
     table: &Table,
 ) -> Result<Items<Load>, BoardRefusal>
-    ensures { Gives (λ loads. loads) result
+    ensures gives { Gives (λ loads. loads) result
         (loads_of key.now width fields.now (data_of flipflops.now) control (table_view table.now)) }
+    ensures kept { IfOk result (ListKeeps (load_rule width (length flipflops.now)) fields.now control) }
 {
     let key = below(alloc, key, b"load")?;
     let value = member(table, "load");
@@ -164,8 +173,9 @@ fn flipflop(
     key: &[u8],
     table: &Table,
 ) -> Result<FlipFlop, BoardRefusal>
-    ensures { Gives (λ f. f) result
+    ensures gives { Gives (λ f. f) result
         (flipflop_of width fields.now (data_of flipflops.now) earlier.now key.now (table_view table.now)) }
+    ensures kept { IfOk result (FlipFlopKeeps width fields.now (length flipflops.now) earlier.now) }
 {
     let name = name_of(alloc, key, earlier, table)?;
     let control = control_of(alloc, key, fields, table)?;
@@ -188,8 +198,9 @@ fn flipflop_at(
     n: usize,
     value: &Value,
 ) -> Result<FlipFlop, BoardRefusal>
-    ensures { Gives (λ f. f) result
+    ensures gives { Gives (λ f. f) result
         (flipflop_at width fields.now (data_of flipflops.now) earlier.now n (view value.now)) }
+    ensures kept { IfOk result (FlipFlopKeeps width fields.now (length flipflops.now) earlier.now) }
 {
     let key = numbered(alloc, b"flipflop", n)?;
     match value.as_table() {
@@ -205,8 +216,10 @@ pub(crate) fn flipflops(
     fields: &[NamedField],
     flipflops: &[Value],
 ) -> Result<Items<FlipFlop>, BoardRefusal>
-    ensures { Gives (λ fs. fs) result
+    ensures gives { Gives (λ fs. fs) result
         (each_flipflop width fields.now (data_of flipflops.now) [] 0 (data_of flipflops.now)) }
+    ensures count { IfOk result (λ fs. length fs ≡ length flipflops.now) }
+    ensures kept { IfOk result (FlipFlopsKeep width fields.now (length flipflops.now)) }
 {
     let mut done = Vec::new(alloc);
     for (n, value) in flipflops.iter().enumerate() {

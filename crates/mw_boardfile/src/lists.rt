@@ -1,10 +1,12 @@
 // Lists of values.
-ghost use Rattle.std.specs.Prelude.{◌≡◌, ◌<◌, Bool, IfSome, Result, length};
+ghost use Rattle.std.specs.Prelude.{◌≡◌, ◌<◌, Bool, IfOk, IfSome, OnOk, All, Ok, Result, length};
 ghost use Rattle.toml.specs.Data.{Data};
 ghost use Rattle.mw_base.specs.declared.cause.Cause.{Cause};
 ghost use Rattle.mw_base.specs.Reading.{Gives};
 ghost use Rattle.mw_boardfile.specs.Lists.{first_place, is_refused, none_refused, each_of};
 ghost use Rattle.mw_boardfile.specs.Lists.{list_faults, chosen_list};
+ghost use Rattle.mw_board.specs.Rules.{Verdict};
+ghost use Rattle.mw_boardfile.specs.Kept.{Kept, Keeps, AreChosen, ListKeeps};
 ghost use Rattle.mw_boardfile.specs.Values.{whole};
 ghost use Rattle.mw_boardfile.specs.Views.{data_of, Reads, Tests};
 
@@ -66,8 +68,12 @@ pub(crate) fn each<T: Drop, F: Fn(&Value) -> Result<T, Cause>>(
 ) -> Result<Items<T>, Refused<Fault>>
     requires { F.IsAlwaysCallable read.now }
     // What is so of every reader that the closure follows.
-    ensures { (reader : Data → Result T Cause) → Reads (F.post read.now) reader
+    ensures exact { (reader : Data → Result T Cause) → Reads (F.post read.now) reader
         → Gives (λ items. items) result (each_of reader 0 (data_of values.now)) }
+    ensures count { IfOk result (λ items. length items ≡ length values.now) }
+    // What is so of every rule that the closure keeps.
+    ensures kept { (rule : T → Verdict) → Keeps (F.post read.now) rule
+        → IfOk result (λ items. All (λ item. Kept (rule item)) items) }
 {
     let mut done = Vec::new(alloc);
     for (n, value) in values.iter().enumerate() {
@@ -88,8 +94,9 @@ fn check<T: Drop, F: Fn(&Value) -> Result<T, Cause>>(
 ) -> Result<(), Fault>
     requires { F.IsAlwaysCallable read.now }
     // What is so of every reader that the closure follows.
-    ensures { (reader : Data → Result T Cause) → Reads (F.post read.now) reader
+    ensures exact { (reader : Data → Result T Cause) → Reads (F.post read.now) reader
         → result ≡ list_faults reader fields.now control (data_of values.now) }
+    ensures kept { OnOk result (AreChosen fields.now control (length values.now)) }
 {
     none_refused(values, Cause::WrongKind, read)?;
     none_refused(values, Cause::BadNumber, read)?;
@@ -101,7 +108,8 @@ fn check<T: Drop, F: Fn(&Value) -> Result<T, Cause>>(
 
 /// The answer of a rule on a value as a whole.
 pub(crate) fn whole<T>(read: Result<T, Cause>) -> Result<T, Fault>
-    ensures { result ≡ whole read }
+    ensures exact { result ≡ whole read }
+    ensures came { IfOk result (λ x. read ≡ Ok x) }
 {
     match read {
         Ok(x) => Ok(x),
@@ -119,8 +127,11 @@ pub(crate) fn chosen_list<T: Drop, F: Fn(&Value) -> Result<T, Cause>>(
 ) -> Result<Items<T>, Refused<Fault>>
     requires { F.IsAlwaysCallable read.now }
     // What is so of every reader that the closure follows.
-    ensures { (reader : Data → Result T Cause) → Reads (F.post read.now) reader
+    ensures exact { (reader : Data → Result T Cause) → Reads (F.post read.now) reader
         → Gives (λ items. items) result (chosen_list reader fields.now control (data_of values.now)) }
+    // What is so of every rule that the closure keeps.
+    ensures kept { (rule : T → Verdict) → Keeps (F.post read.now) rule
+        → IfOk result (λ items. ListKeeps rule fields.now control items) }
 {
     match check(values, fields, control, read) {
         Ok(()) => each(alloc, values, read),

@@ -1,5 +1,5 @@
 // Dotted paths of keys, and refusals that name them.
-ghost use Rattle.std.specs.Prelude.{◌≡◌, ℕ, ◌++◌, ◌∷◌, [], List, IfOk, Result, Err};
+ghost use Rattle.std.specs.Prelude.{◌≡◌, ℕ, ◌++◌, ◌∷◌, [], List, IfOk, Result, Ok, Err};
 ghost use Rattle.mw_base.specs.Numbers.{decimal};
 ghost use Rattle.mw_base.specs.Reading.{Gives, Refuses};
 ghost use Rattle.mw_boardfile.specs.Values.{below, path, under, whole};
@@ -53,7 +53,8 @@ pub(crate) fn located(alloc: Global, key: &[u8], fault: Fault) -> BoardRefusal
 
 /// What is read under a key.
 pub(crate) fn under<T>(alloc: Global, key: &[u8], read: Result<T, Fault>) -> Result<T, BoardRefusal>
-    ensures { Gives (λ x. x) result (under key.now read) }
+    ensures gives { Gives (λ x. x) result (under key.now read) }
+    ensures came { IfOk result (λ x. read ≡ Ok x) }
 {
     match read {
         Ok(x) => Ok(x),
@@ -67,7 +68,8 @@ pub(crate) fn under_whole<T>(
     key: &[u8],
     read: Result<T, Cause>,
 ) -> Result<T, BoardRefusal>
-    ensures { Gives (λ x. x) result (under key.now (whole read)) }
+    ensures gives { Gives (λ x. x) result (under key.now (whole read)) }
+    ensures came { IfOk result (λ x. read ≡ Ok x) }
 {
     match read {
         Ok(x) => Ok(x),
@@ -82,8 +84,9 @@ pub(crate) fn under_list<T>(
     read: Result<Items<T>, Refused<Fault>>,
 ) -> Result<Items<T>, BoardRefusal>
     // Whatever it was to read.
-    ensures { (reading : Result (List T) Fault) → Gives (λ items. items) read reading
+    ensures gives { (reading : Result (List T) Fault) → Gives (λ items. items) read reading
         → Gives (λ items. items) result (under key.now reading) }
+    ensures came { IfOk result (λ items. read ≡ Ok items) }
 {
     match read {
         Ok(items) => Ok(items),

@@ -1,7 +1,8 @@
 // The reader of board files.
-ghost use Rattle.std.specs.Prelude.{◌≡◌, IfOk};
+ghost use Rattle.std.specs.Prelude.{◌≡◌, IfOk, Ok};
 ghost use Rattle.toml.specs.View.{table_view};
 ghost use Rattle.mw_base.specs.Reading.{Gives};
+ghost use Rattle.mw_board.specs.Check.{check_of};
 ghost use Rattle.mw_board.specs.Order.{AreInOrder};
 ghost use Rattle.mw_boardfile.specs.Board.{parts_of, board_of};
 
@@ -25,6 +26,7 @@ use toml::Table;
 fn parts(alloc: Global, document: &Table) -> Result<BoardParts, BoardRefusal>
     ensures gives { Gives (λ parts. parts) result (parts_of (table_view document.now)) }
     ensures order { IfOk result (λ parts. AreInOrder parts.fields) }
+    ensures kept { IfOk result (λ parts. check_of parts ≡ Ok tt) }
 {
     let sizes = sizes(alloc, document)?;
     let fields = fields(alloc, sizes.microword, document)?;

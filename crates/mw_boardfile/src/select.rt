@@ -1,11 +1,13 @@
 // select.LIST.
-ghost use Rattle.std.specs.Prelude.{◌≡◌, ◌∷◌, [], codes, None, IfOk, Result};
+ghost use Rattle.std.specs.Prelude.{◌≡◌, ◌∷◌, [], codes, length, None, IfOk, OnOk, Result};
 ghost use Rattle.toml.specs.Data.{Data};
 ghost use Rattle.toml.specs.View.{view, table_view};
 ghost use Rattle.mw_base.specs.declared.cause.Cause.{Cause};
 ghost use Rattle.mw_base.specs.Reading.{Gives};
 ghost use Rattle.mw_boardfile.specs.Board.{zero_alone, zero_list, given_list, list_or_zero, bits_of, sources_of, lists_of};
 ghost use Rattle.mw_boardfile.specs.Entries.{bit_in, carry_in_in, d_source_in};
+ghost use Rattle.mw_board.specs.Rules.{Verdict, bit_rule, carry_in_rule, d_source_rule};
+ghost use Rattle.mw_boardfile.specs.Kept.{Kept, Keeps, AreChosen, ListKeeps, ListsKeep};
 ghost use Rattle.mw_boardfile.specs.Views.{given, members, data_of, Reads};
 
 use crate::entries::{bit, carry_in, d_source};
@@ -21,10 +23,12 @@ use toml::{Table, Value};
 /// The rules of a list that isn't there, and so has one entry.
 #[tactic(auto, unfolding(crate::specs::Board::zero_alone))]
 fn zero_alone(fields: &[NamedField], control: Control) -> Result<(), Fault>
-    ensures { result ≡ zero_alone fields.now control }
+    ensures exact { result ≡ zero_alone fields.now control }
+    ensures kept { OnOk result (AreChosen fields.now control 1) }
 {
     whole(chosen_rule(control, 1))?;
-    whole(list_rule(fields, control, 1))
+    whole(list_rule(fields, control, 1))?;
+    Ok(())
 }
 
 /// A list of one entry.
@@ -44,7 +48,9 @@ fn zero_list<T: Drop>(
     control: Control,
     zero: T,
 ) -> Result<Items<T>, Refused<Fault>>
-    ensures { Gives (λ items. items) result (zero_list zero fields.now control) }
+    ensures exact { Gives (λ items. items) result (zero_list zero fields.now control) }
+    ensures kept { (rule : T → Verdict) → Kept (rule zero)
+        → IfOk result (λ items. ListKeeps rule fields.now control items) }
 {
     match zero_alone(fields, control) {
         Ok(()) => Ok(alone(alloc, zero)?),
@@ -62,8 +68,11 @@ fn given_list<T: Drop, F: Fn(&Value) -> Result<T, Cause>>(
 ) -> Result<Items<T>, Refused<Fault>>
     requires { F.IsAlwaysCallable read.now }
     // What is so of every reader that the closure follows.
-    ensures { (reader : Data → Result T Cause) → Reads (F.post read.now) reader
+    ensures exact { (reader : Data → Result T Cause) → Reads (F.post read.now) reader
         → Gives (λ items. items) result (given_list reader fields.now control (view value.now)) }
+    // What is so of every rule that the closure keeps.
+    ensures kept { (rule : T → Verdict) → Keeps (F.post read.now) rule
+        → IfOk result (λ items. ListKeeps rule fields.now control items) }
 {
     match list(value) {
         Ok(values) => chosen_list(alloc, values, fields, control, read),
@@ -82,8 +91,11 @@ fn list_or_zero<T: Drop, F: Fn(&Value) -> Result<T, Cause>>(
 ) -> Result<Items<T>, Refused<Fault>>
     requires { F.IsAlwaysCallable read.now }
     // What is so of every reader that the closure follows.
-    ensures { (reader : Data → Result T Cause) → Reads (F.post read.now) reader
+    ensures exact { (reader : Data → Result T Cause) → Reads (F.post read.now) reader
         → Gives (λ items. items) result (list_or_zero reader zero fields.now control (given value.entry)) }
+    // What is so of every rule that the closure keeps.
+    ensures kept { (rule : T → Verdict) → Keeps (F.post read.now) rule → Kept (rule zero)
+        → IfOk result (λ items. ListKeeps rule fields.now control items) }
 {
     match value {
         Some(value) => given_list(alloc, fields, control, value, read),
@@ -100,8 +112,9 @@ fn carry_ins(
     control: Control,
     select: Option<&Table>,
 ) -> Result<Items<Bit>, BoardRefusal>
-    ensures { Gives (λ bits. bits) result
+    ensures gives { Gives (λ bits. bits) result
         (bits_of (carry_in_in width (data_of flipflops.now)) fields.now control (members select.entry) (codes "carry_in")) }
+    ensures kept { IfOk result (ListKeeps (carry_in_rule width (length flipflops.now)) fields.now control) }
 {
     let value = member_of(select, "carry_in");
     let bits = list_or_zero(
@@ -125,8 +138,9 @@ fn bits(
     select: Option<&Table>,
     name: &str,
 ) -> Result<Items<Bit>, BoardRefusal>
-    ensures { Gives (λ bits. bits) result
+    ensures gives { Gives (λ bits. bits) result
         (bits_of (bit_in width (data_of flipflops.now)) fields.now control (members select.entry) name.now) }
+    ensures kept { IfOk result (ListKeeps (bit_rule width (length flipflops.now)) fields.now control) }
 {
     let value = member_of(select, name);
     let key = below(alloc, b"select", name.as_bytes())?;
@@ -150,8 +164,10 @@ fn sources(
     control: Control,
     select: Option<&Table>,
 ) -> Result<Items<DSource>, BoardRefusal>
-    ensures { Gives (λ sources. sources) result
+    ensures gives { Gives (λ sources. sources) result
         (sources_of (d_source_in width fields.now (data_of flipflops.now)) fields.now control (members select.entry)) }
+    ensures kept { IfOk result
+        (ListKeeps (d_source_rule width (length fields.now) (length flipflops.now)) fields.now control) }
 {
     let value = member_of(select, "d");
     let sources = list_or_zero(
@@ -190,8 +206,9 @@ pub(crate) fn lists(
     control: Points,
     document: &Table,
 ) -> Result<BoardLists, BoardRefusal>
-    ensures { Gives (λ lists. lists) result
+    ensures gives { Gives (λ lists. lists) result
         (lists_of width fields.now (data_of flipflops.now) control (table_view document.now)) }
+    ensures kept { IfOk result (ListsKeep width fields.now (length flipflops.now) control) }
 {
     let select = under_whole(alloc, b"select", table_or_none(member(document, "select")))?;
     let carry_in = carry_ins(alloc, width, fields, flipflops, control.carry_in, select)?;

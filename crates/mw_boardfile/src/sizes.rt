@@ -1,10 +1,12 @@
 // version, width, microword, address, fill, unset and vector.
-ghost use Rattle.std.specs.Prelude.{◌≡◌, ◌<◌, ◌≤◌};
+ghost use Rattle.std.specs.Prelude.{◌≡◌, ◌<◌, ◌≤◌, IfOk};
 ghost use Rattle.toml.specs.View.{view, table_view};
 ghost use Rattle.mw_base.specs.Reading.{Gives};
 ghost use Rattle.mw_boardfile.specs.Board.{sizes_of};
 ghost use Rattle.mw_boardfile.specs.Sizes.{version_in, width_in, microword_in, address_in};
 ghost use Rattle.mw_boardfile.specs.Sizes.{word_in, fill_in, unset_in, vector_in};
+ghost use Rattle.mw_board.specs.Rules.{width_rule, microword_rule, address_rule, word_rule, vector_rule};
+ghost use Rattle.mw_boardfile.specs.Kept.{Kept, SizesKeep};
 ghost use Rattle.mw_boardfile.specs.Views.{given};
 
 use crate::fault::BoardRefusal;
@@ -35,7 +37,8 @@ pub(crate) struct BoardSizes {
 /// version to vector.
 #[tactic(auto, unfolding(crate::specs::Board::sizes_of))]
 pub(crate) fn sizes(alloc: Global, document: &Table) -> Result<BoardSizes, BoardRefusal>
-    ensures { Gives (λ sizes. sizes) result (sizes_of (table_view document.now)) }
+    ensures gives { Gives (λ sizes. sizes) result (sizes_of (table_view document.now)) }
+    ensures kept { IfOk result SizesKeep }
 {
     under_whole(alloc, b"version", version(member(document, "version")))?;
     let width = under_whole(alloc, b"width", width(member(document, "width")))?;
@@ -78,7 +81,8 @@ fn version(value: Option<&Value>) -> Result<u64, Cause>
 /// width: 4 to 32 bits, a multiple of 4.
 #[tactic(auto, unfolding(crate::specs::Sizes::width_in))]
 fn width(value: Option<&Value>) -> Result<u8, Cause>
-    ensures { result ≡ width_in (given value.entry) }
+    ensures exact { result ≡ width_in (given value.entry) }
+    ensures kept { IfOk result (λ width. Kept (width_rule width)) }
 {
     let width = natural(required(value)?)?;
     width_rule(width)?;
@@ -88,7 +92,8 @@ fn width(value: Option<&Value>) -> Result<u8, Cause>
 /// microword: 1 to 128 bits.
 #[tactic(auto, unfolding(crate::specs::Sizes::microword_in))]
 fn microword(value: Option<&Value>) -> Result<u8, Cause>
-    ensures { result ≡ microword_in (given value.entry) }
+    ensures exact { result ≡ microword_in (given value.entry) }
+    ensures kept { IfOk result (λ microword. Kept (microword_rule microword)) }
 {
     let microword = natural(required(value)?)?;
     microword_rule(microword)?;
@@ -98,7 +103,8 @@ fn microword(value: Option<&Value>) -> Result<u8, Cause>
 /// address: 1 to 16 bits, and no more than the width.
 #[tactic(auto, unfolding(crate::specs::Sizes::address_in))]
 fn address(width: u8, value: Option<&Value>) -> Result<u8, Cause>
-    ensures { result ≡ address_in width (given value.entry) }
+    ensures exact { result ≡ address_in width (given value.entry) }
+    ensures kept { IfOk result (λ address. Kept (address_rule width address)) }
 {
     let address = natural(required(value)?)?;
     address_rule(width, address)?;
@@ -108,7 +114,8 @@ fn address(width: u8, value: Option<&Value>) -> Result<u8, Cause>
 /// A microword, as a text.
 #[tactic(auto, unfolding(crate::specs::Sizes::word_in))]
 fn word(microword: u8, value: &Value) -> Result<u128, Cause>
-    ensures { result ≡ word_in microword (view value.now) }
+    ensures exact { result ≡ word_in microword (view value.now) }
+    ensures kept { IfOk result (λ word. Kept (word_rule microword word)) }
 {
     let word = number_text(value)?;
     word_rule(microword, word)?;
@@ -118,15 +125,17 @@ fn word(microword: u8, value: &Value) -> Result<u128, Cause>
 /// fill: a microword.
 #[tactic(auto, unfolding(crate::specs::Sizes::fill_in))]
 fn fill(microword: u8, value: Option<&Value>) -> Result<u128, Cause>
-    ensures { result ≡ fill_in microword (given value.entry) }
+    ensures exact { result ≡ fill_in microword (given value.entry) }
+    ensures kept { IfOk result (λ fill. Kept (word_rule microword fill)) }
 {
     word(microword, required(value)?)
 }
 
 /// unset: a microword; 0 where it isn't there.
-#[tactic(auto, unfolding(crate::specs::Sizes::unset_in))]
+#[tactic(auto, using(crate::proofs::Kept::zero_fits), unfolding(crate::specs::Sizes::unset_in))]
 fn unset(microword: u8, value: Option<&Value>) -> Result<u128, Cause>
-    ensures { result ≡ unset_in microword (given value.entry) }
+    ensures exact { result ≡ unset_in microword (given value.entry) }
+    ensures kept { IfOk result (λ unset. Kept (word_rule microword unset)) }
 {
     match value {
         Some(value) => word(microword, value),
@@ -135,9 +144,10 @@ fn unset(microword: u8, value: Option<&Value>) -> Result<u128, Cause>
 }
 
 /// vector: a control address; 0 where it isn't there.
-#[tactic(auto, unfolding(crate::specs::Sizes::vector_in))]
+#[tactic(auto, unfolding(crate::specs::Sizes::vector_in, mw_board::specs::Rules::vector_rule))]
 fn vector(value: Option<&Value>) -> Result<u16, Cause>
-    ensures { result ≡ vector_in (given value.entry) }
+    ensures exact { result ≡ vector_in (given value.entry) }
+    ensures kept { IfOk result (λ vector. Kept (vector_rule vector)) }
 {
     match value {
         Some(value) => {

@@ -1,17 +1,21 @@
 // Keys that the format doesn't have.
 ghost use Rattle.std.specs.Prelude.{◌≡◌, ◌++◌, codes, IfOk};
+ghost use Rattle.std.specs.List.{list_any};
+ghost use Rattle.std.specs.Str.{bytes_eq};
+ghost use Rattle.mw_board.specs.Points.{name_of};
 ghost use Rattle.toml.specs.Data.{get_member};
 ghost use Rattle.toml.specs.View.{table_view};
 ghost use Rattle.mw_base.specs.Numbers.{decimal};
 ghost use Rattle.mw_base.specs.Reading.{Gives};
-ghost use Rattle.mw_boardfile.specs.Unknown.{file_keys, flipflop_keys, control_keys, select_keys, map_keys, keys_at};
+ghost use Rattle.mw_boardfile.specs.Unknown.{keys_at};
 ghost use Rattle.mw_boardfile.specs.Unknown.{is_one_of, lesser, with_key, with_members, with_table, table_at};
 ghost use Rattle.mw_boardfile.specs.Unknown.{with_flipflops, flipflops_at, unknown_key, known_or_fault};
 ghost use Rattle.mw_boardfile.specs.Views.{given, data_of};
 
 use crate::fault::{BoardRefusal, KeyFault};
 use crate::values::member;
-use mw_base::{Cause, Name, NoMemory, Refused, append_decimal};
+use mw_base::{Cause, Name, NoMemory, Refused, append_decimal, is_one_of};
+use mw_board::Point;
 use std::alloc::Global;
 use toml::{Table, Value};
 
@@ -30,86 +34,48 @@ enum Place {
     Map,
 }
 
-/// Whether a key is one of a file.
-fn is_file_key(key: &str) -> bool
-    ensures { result ≡ is_one_of file_keys key.now }
-{
-    matches!(
-        key,
-        "version"
-            | "width"
-            | "microword"
-            | "address"
-            | "fill"
-            | "unset"
-            | "vector"
-            | "fields"
-            | "flipflop"
-            | "control"
-            | "select"
-            | "map"
-    )
-}
+/// The keys of a file.
+const FILE_KEYS: [&[u8]; 12] = [
+    b"version",
+    b"width",
+    b"microword",
+    b"address",
+    b"fill",
+    b"unset",
+    b"vector",
+    b"fields",
+    b"flipflop",
+    b"control",
+    b"select",
+    b"map",
+];
 
-/// Whether a key is one of a flip-flop.
-fn is_flipflop_key(key: &str) -> bool
-    ensures { result ≡ is_one_of flipflop_keys key.now }
-{
-    matches!(key, "name" | "control" | "load")
-}
+/// The keys of a flip-flop.
+const FLIPFLOP_KEYS: [&[u8]; 3] = [b"name", b"control", b"load"];
 
-/// Whether a key is a control point.
-fn is_control_key(key: &str) -> bool
-    ensures { result ≡ is_one_of control_keys key.now }
-{
-    matches!(
-        key,
-        "alu_source"
-            | "alu_function"
-            | "alu_destination"
-            | "a_address"
-            | "b_address"
-            | "sequencer"
-            | "branch"
-            | "test_disable"
-            | "polarity"
-            | "ci"
-            | "rld"
-            | "mar_load"
-            | "ir_load"
-            | "memory_write"
-            | "out"
-            | "carry_in"
-            | "d"
-            | "condition"
-            | "link"
-    )
-}
+/// The lists.
+const SELECT_KEYS: [&[u8]; 5] = [b"carry_in", b"condition", b"ram_link", b"q_link", b"d"];
 
-/// Whether a key is a list.
-fn is_select_key(key: &str) -> bool
-    ensures { result ≡ is_one_of select_keys key.now }
-{
-    matches!(key, "carry_in" | "condition" | "ram_link" | "q_link" | "d")
-}
+/// The keys of the map.
+const MAP_KEYS: [&[u8]; 3] = [b"low", b"bits", b"entries"];
 
-/// Whether a key is one of the map.
-fn is_map_key(key: &str) -> bool
-    ensures { result ≡ is_one_of map_keys key.now }
+/// Whether one of the control points has the key.
+fn is_point(points: &[Point], key: &[u8]) -> bool
+    ensures { result ≡ list_any (λ point. bytes_eq key.now (name_of point)) points.now }
 {
-    matches!(key, "low" | "bits" | "entries")
+    points.iter().any(|point| key == point.name().as_bytes())
 }
 
 /// Whether a key is one that the format has at this place.
-fn is_known(place: Place, key: &str) -> bool
+fn is_known(place: Place, key: &[u8]) -> bool
     ensures { result ≡ is_one_of (keys_at place) key.now }
 {
     match place {
-        Place::File => is_file_key(key),
-        Place::FlipFlop => is_flipflop_key(key),
-        Place::Control => is_control_key(key),
-        Place::Select => is_select_key(key),
-        Place::Map => is_map_key(key),
+        Place::File => is_one_of(&FILE_KEYS, key),
+        Place::FlipFlop => is_one_of(&FLIPFLOP_KEYS, key),
+        Place::Control => is_point(&Point::ALL, key),
+        Place::Select => is_one_of(&SELECT_KEYS, key),
+        Place::Map => is_one_of(&MAP_KEYS, key),
     }
 }
 
@@ -148,7 +114,7 @@ fn with_key(
 ) -> Result<Option<Name>, NoMemory>
     ensures { IfOk result (λ now. now ≡ with_key (keys_at place) prefix.now key.now least) }
 {
-    if is_known(place, key) {
+    if is_known(place, key.as_bytes()) {
         return Ok(least);
     }
     let path = behind(alloc, prefix, key)?;

@@ -1,5 +1,5 @@
 -- What is in range: words, what a list's control chooses, and the flip-flops as a number.
-use Rattle.std.proofs.Common.{◌≡◌, ℕ, suc, ◌+◌, ◌*◌, ◌%◌, ◌^◌, ◌<◌, ◌≤◌, List, [], ◌∷◌, length, get_or, drop, bit_and, ◌-◌, Bool, true, false, inl, inr, refl, sym, ap, ◌∙◌, subst, add-one, drop-cons, arith}
+use Rattle.std.proofs.Common.{◌≡◌, ℕ, ◌+◌, ◌*◌, ◌%◌, ◌^◌, ◌<◌, ◌≤◌, List, [], ◌∷◌, length, get_or, drop, bit_and, ◌-◌, Bool, true, false, inl, inr, refl, sym, ap, ◌∙◌, subst, arith}
 use Rattle.std.specs.List.{All}
 use Rattle.std.proofs.Math.Pow.{pow_mono}
 use Rattle.std.proofs.lemmas.Bool.{cases_lt}
@@ -7,6 +7,7 @@ use Rattle.std.proofs.lemmas.List.{get_or_past, drop_all}
 use Rattle.std.proofs.lemmas.Grind.{common_steps}
 use Rattle.std.proofs.lemmas.Nat.{and_mask, one_shl, pow_pos, shl_whole, pow-add}
 use Rattle.mw_base.specs.Words.{num}
+use Rattle.mw_base.proofs.Lists.{next}
 use Rattle.mw_alu.specs.declared.answer.AluOut.{AluOut}
 use Rattle.mw_board.specs.declared.flipflop.FlipFlop.{FlipFlop}
 use Rattle.mw_board.specs.declared.parts.BoardParts.{BoardParts}
@@ -63,8 +64,7 @@ pub one_more_flip : (board : BoardParts) (m : Microword) (answer : AluOut) (s : 
     → flips + num (flip_of board m n f answer s given) * 2 ^ n + 2 ^ (n + 1) * flips_from board m answer s given (n + 1) (drop (n + 1) fs) ≡ total
 unfolding flips_from
 one_more_flip board m answer s given fs f n flips total within is so_far =
-    let next : drop n fs ≡ f ∷ drop (n + 1) fs = rw (add-one) (drop-cons fs n f within ∙ ap (λ (x : FlipFlop). x ∷ drop (suc n) fs) (sym is)) in
-    let taken : flips_from board m answer s given n (drop n fs) ≡ num (flip_of board m n f answer s given) + 2 * flips_from board m answer s given (n + 1) (drop (n + 1) fs) = rw next refl in
+    let taken : flips_from board m answer s given n (drop n fs) ≡ num (flip_of board m n f answer s given) + 2 * flips_from board m answer s given (n + 1) (drop (n + 1) fs) = rw (next fs n f within is) refl in
     let all : flips + 2 ^ n * (num (flip_of board m n f answer s given) + 2 * flips_from board m answer s given (n + 1) (drop (n + 1) fs)) ≡ total = rw taken at so_far in
     let power = twice n in
     rw power (omega (arith, all))

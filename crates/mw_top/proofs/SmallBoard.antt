@@ -26,7 +26,7 @@ unfolding board_of flipflops_check flipflops_from flipflops_rule
 flipflops_keep bundle = refl
 
 points_keep : (bundle : BundleData) → points_check (board_of bundle) ≡ Ok tt
-unfolding board_of small_fields small_points points_check point_rule control_rule
+unfolding board_of small_fields small_points points_check each_from point_rule control_rule
 points_keep bundle = refl
 
 lists_keep : (bundle : BundleData) → lists_check (board_of bundle) ≡ Ok tt

@@ -1,7 +1,7 @@
 use Rattle.std.proofs.Common.{◌≡◌, drop}
 use Rattle.mw_asm.specs.Bits.{no_bits}
 use Rattle.mw_asm.specs.ItemBits.{bits_of}
-use Rattle.mw_asm.specs.Views.{names_seen}
+use Rattle.mw_base.specs.Named.{names_seen}
 use Rattle.mw_asm.proofs.item_bits.bits_of.Given as goal
 
 abbrev pub invariant-loop-item : goal.invariant-loop-item

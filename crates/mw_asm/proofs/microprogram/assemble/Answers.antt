@@ -1,16 +1,11 @@
 use Rattle.std.proofs.Common.{◌≡◌, length, ap, ◌∙◌, Ok, rules}
 use Rattle.std.proofs.lemmas.List.{length-map}
-use Rattle.mw_base.specs.Lines.{lines_of}
 use Rattle.mw_asm.specs.declared.assembled.Assembled.{Assembled}
 use Rattle.mw_asm.specs.Microprogram.{store_of}
 use Rattle.mw_asm.specs.Views.{known_seen}
 use Rattle.mw_asm.proofs.Inside.{first_pass_right}
-use Rattle.mw_asm.proofs.LineSteps.{all_short}
 use Rattle.mw_asm.proofs.Stores.{store_right}
 use Rattle.mw_asm.proofs.microprogram.assemble.Goals as goal
-
-pub first_pass-requires-clause-lines : goal.first_pass-requires-clause-lines
-first_pass-requires-clause-lines c = all_short 1 0 (lines_of c.args.text.now) c.in_ok-tokens.tokens.items c.in_ok-tokens.ensures.exact
 
 pub second_pass-requires : goal.second_pass-requires
 second_pass-requires c =

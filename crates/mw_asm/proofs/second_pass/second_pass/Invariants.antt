@@ -1,6 +1,6 @@
 use Rattle.std.proofs.Common.{◌≡◌, drop, length}
 use Rattle.mw_asm.specs.Microprogram.{second_pass}
-use Rattle.mw_asm.specs.Views.{names_seen}
+use Rattle.mw_base.specs.Named.{names_seen}
 use Rattle.mw_asm.proofs.second_pass.second_pass.Given as goal
 
 abbrev pub invariant-loop-word : goal.invariant-loop-word

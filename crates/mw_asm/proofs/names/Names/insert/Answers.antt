@@ -1,5 +1,0 @@
-use Rattle.mw_asm.proofs.Maps.{one_more}
-use Rattle.mw_asm.proofs.names.Names.insert.Goals as goal
-
-pub returns : goal.returns
-returns c = one_more c.args.self.now.meanings c.insert.new.self c.args.name.now c.args.meaning c.in_ok-insert.ensures.updates
