@@ -1,0 +1,4 @@
+pub mod Files
+pub mod Laws
+pub mod Plan
+pub mod Shelf
