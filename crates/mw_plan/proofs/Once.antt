@@ -11,12 +11,14 @@ use Rattle.mw_plan.proofs.Plans.{refused_is_not_done, done_is_not_refused}
 IsBegun : List (List ℕ) → List (List ℕ) → Type 0
 IsBegun front whole = (rest : List (List ℕ)) × (whole ≡ front ++ rest)
 
-longer : (first second : List ℕ) (front whole : List (List ℕ)) → first ≡ second → IsBegun front whole → IsBegun (first ∷ front) (second ∷ whole)
+longer : (first second : List ℕ) (front whole : List (List ℕ)) → first ≡ second → IsBegun front whole
+    → IsBegun (first ∷ front) (second ∷ whole)
 unfolding IsBegun
 longer first second front whole same begun = (begun.0, ap₂ (λ (x : List ℕ) (xs : List (List ℕ)). x ∷ xs) (sym same) begun.1)
 
 -- of contents that are told and contents that were read of the same files the ones begin the others
-one_begins : (shelf : ShelfView) (names told read : List (List ℕ)) → AreTold shelf names told → AreRead shelf names read → IsBegun told read ⊎ IsBegun read told
+one_begins : (shelf : ShelfView) (names told read : List (List ℕ)) → AreTold shelf names told
+    → AreRead shelf names read → IsBegun told read ⊎ IsBegun read told
 unfolding IsBegun
 one_begins shelf names [] read are_told are_read = inl (read, refl)
 one_begins shelf names (bytes ∷ told) [] are_told are_read = inr (bytes ∷ told, refl)
@@ -29,10 +31,12 @@ one_begins shelf (name ∷ names) (bytes ∷ told) (other ∷ read) are_told are
     ]
 
 -- what a plan is left with after files, said of the same files
-at_files : {F A : Type 0} (plan left : Plan F A) (files others : List (List ℕ)) → others ≡ files → after plan others ≡ Some left → after plan files ≡ Some left
+at_files : {F A : Type 0} (plan left : Plan F A) (files others : List (List ℕ)) → others ≡ files
+    → after plan others ≡ Some left → after plan files ≡ Some left
 at_files plan left files others same is = rw same at is
 
-pub ends_once : {F A : Type 0} (plan : Plan F A) (shelf : ShelfView) (names told read : List (List ℕ)) (x : A) (fault : FileFault F) → EndsOnce plan shelf names told read x fault
+pub ends_once : {F A : Type 0} (plan : Plan F A) (shelf : ShelfView) (names told read : List (List ℕ)) (x : A)
+    (fault : FileFault F) → EndsOnce plan shelf names told read x fault
 unfolding IsBegun
 ends_once plan shelf names told read x fault = record {
   refused_once = λ are_told refuses ends. elim (one_begins shelf names told read are_told ends.read) [

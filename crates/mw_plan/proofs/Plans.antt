@@ -41,22 +41,26 @@ done_is_not_refused (file next) (bytes ∷ front) rest x fault is also = done_is
 -- ---- what the contents of one file come to
 
 -- contents that are too long
-pub long_is_refused : {F G X A : Type 0} (kind : G → F) (reader : List ℕ → Result X G) (rest : X → Plan F A) (bytes : List ℕ)
+pub long_is_refused : {F G X A : Type 0} (kind : G → F) (reader : List ℕ → Result X G) (rest : X → Plan F A)
+    (bytes : List ℕ)
     → MOST_BYTES < length bytes → (read_by kind reader bytes >>= rest) ≡ refused TooLong
 long_is_refused kind reader rest bytes many =
     let test : nat_lt MOST_BYTES (length bytes) ≡ true = grind (arith, nat_tests) in
     rw test refl
 
 -- contents that a reader accepts
-pub accepted_goes_on : {F G X A : Type 0} (kind : G → F) (reader : List ℕ → Result X G) (rest : X → Plan F A) (bytes : List ℕ) (x : X)
+pub accepted_goes_on : {F G X A : Type 0} (kind : G → F) (reader : List ℕ → Result X G) (rest : X → Plan F A)
+    (bytes : List ℕ) (x : X)
     → length bytes ≤ MOST_BYTES → reader bytes ≡ Ok x → (read_by kind reader bytes >>= rest) ≡ rest x
 accepted_goes_on kind reader rest bytes x few is =
     let test : nat_lt MOST_BYTES (length bytes) ≡ false = grind (arith, nat_tests) in
     rw (test, is) refl
 
 -- contents that a reader refuses
-pub faulty_is_refused : {F G X A : Type 0} (kind : G → F) (reader : List ℕ → Result X G) (rest : X → Plan F A) (bytes : List ℕ) (fault : G) (seen : F)
-    → length bytes ≤ MOST_BYTES → reader bytes ≡ Err fault → seen ≡ kind fault → (read_by kind reader bytes >>= rest) ≡ refused (At seen)
+pub faulty_is_refused : {F G X A : Type 0} (kind : G → F) (reader : List ℕ → Result X G) (rest : X → Plan F A)
+    (bytes : List ℕ) (fault : G) (seen : F)
+    → length bytes ≤ MOST_BYTES → reader bytes ≡ Err fault → seen ≡ kind fault
+    → (read_by kind reader bytes >>= rest) ≡ refused (At seen)
 faulty_is_refused kind reader rest bytes fault seen few is sees =
     let test : nat_lt MOST_BYTES (length bytes) ≡ false = grind (arith, nat_tests) in
     rw (test, is, sees) refl

@@ -14,8 +14,10 @@ later_still first then now since more = record {
 }
 
 -- the contents of one more file were read
-read_more : (shelf : ShelfView) (names contents : List (List ℕ)) (name bytes : List ℕ) → slice_get names (length contents) ≡ Some name
-    → AreRead shelf names contents → IfSome (shelf.told name) (λ whole. bytes ≡ whole) → AreRead shelf names (contents ++ bytes ∷ [])
+read_more : (shelf : ShelfView) (names contents : List (List ℕ)) (name bytes : List ℕ)
+    → slice_get names (length contents) ≡ Some name
+    → AreRead shelf names contents → IfSome (shelf.told name) (λ whole. bytes ≡ whole)
+    → AreRead shelf names (contents ++ bytes ∷ [])
 read_more shelf [] [] name bytes named read is = absurd cc
 read_more shelf [] (whole ∷ contents) name bytes named read is = absurd read
 read_more shelf (first ∷ names) [] name bytes named read is =
@@ -24,8 +26,10 @@ read_more shelf (first ∷ names) [] name bytes named read is =
 read_more shelf (first ∷ names) (whole ∷ contents) name bytes named read is = (read.0, read_more shelf names contents name bytes named read.1 is)
 
 -- one more file of a plan was read, at a later view of the shelf
-pub left_more : {F A : Type 0} (plan : Plan F A) (first then : ShelfView) (files : FilesRead) (next : List ℕ → Plan F A) (name bytes : List ℕ) (left : Plan F A)
-    → IsLater first then → IsLeft plan first files (file next) → next_name files ≡ Some name → IfSome (then.told name) (λ whole. bytes ≡ whole)
+pub left_more : {F A : Type 0} (plan : Plan F A) (first then : ShelfView) (files : FilesRead)
+    (next : List ℕ → Plan F A) (name bytes : List ℕ) (left : Plan F A)
+    → IsLater first then → IsLeft plan first files (file next) → next_name files ≡ Some name
+    → IfSome (then.told name) (λ whole. bytes ≡ whole)
     → next bytes ≡ left → IsLeft plan first (record files { contents = files.contents ++ bytes ∷ [] }) left
 left_more plan first then files next name bytes left since stood named told is = record {
   read = read_more first files.names files.contents name bytes named stood.read (rw (sym (since.kept name)) told);
@@ -33,7 +37,8 @@ left_more plan first then files next name bytes left since stood named told is =
 }
 
 -- the contents of a file are kept behind those of the files before it
-pub kept_more : (files old new : FilesRead) (bytes : List ℕ) (contents : List (List ℕ)) → old ≡ files → new ≡ record old { contents = contents }
+pub kept_more : (files old new : FilesRead) (bytes : List ℕ) (contents : List (List ℕ)) → old ≡ files
+    → new ≡ record old { contents = contents }
     → contents ≡ old.contents ++ bytes ∷ [] → new ≡ record files { contents = files.contents ++ bytes ∷ [] }
 kept_more files old new bytes contents was is more =
     is ∙ ap (λ (c : List (List ℕ)). record old { contents = c }) more

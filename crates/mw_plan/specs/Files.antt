@@ -20,35 +20,41 @@ abbrev pub next_name : FilesRead → Option (List ℕ)
 next_name files = slice_get files.names (length files.contents)
 
 -- the contents were read, and this is what is left of the plan after them
-pub record IsLeft {F A : Type 0} (plan : Plan F A) (shelf : ShelfView) (files : FilesRead) (left : Plan F A) : Type 0 where
+pub record IsLeft {F A : Type 0} (plan : Plan F A) (shelf : ShelfView) (files : FilesRead)
+    (left : Plan F A) : Type 0 where
   pub read : AreRead shelf files.names files.contents
   pub left_is : after plan files.contents ≡ Some left
 
 -- the plan asks for this file next
-pub record IsNext {F A : Type 0} (plan : Plan F A) (shelf : ShelfView) (files : FilesRead) (name : List ℕ) : Type 0 where
+pub record IsNext {F A : Type 0} (plan : Plan F A) (shelf : ShelfView) (files : FilesRead)
+    (name : List ℕ) : Type 0 where
   pub next : List ℕ → Plan F A
   pub left : IsLeft plan shelf files (file next)
   pub name_is : next_name files ≡ Some name
 
 -- this file was read too, and is refused for this fault
-pub record IsRefused {F A : Type 0} (plan : Plan F A) (shelf : ShelfView) (files : FilesRead) (name : List ℕ) (fault : FileFault F) : Type 0 where
+pub record IsRefused {F A : Type 0} (plan : Plan F A) (shelf : ShelfView) (files : FilesRead) (name : List ℕ)
+    (fault : FileFault F) : Type 0 where
   pub last : List ℕ
   pub left : IsLeft plan shelf (record files { contents = files.contents ++ last ∷ [] }) (refused fault)
   pub name_is : next_name files ≡ Some name
 
 -- how the next file stops a plan: its count of faults rose, or it is refused, unless memory ran out
 abbrev pub Stops : {F A : Type 0} → Plan F A → ShelfView → ShelfView → FilesRead → Stop F → Type 0
-Stops plan first now files stops.ReadFault = (name : List ℕ) × IsNext plan first files name × Rose (first.faults name) (now.faults name)
+Stops plan first now files stops.ReadFault =
+    (name : List ℕ) × IsNext plan first files name × Rose (first.faults name) (now.faults name)
 Stops plan first now files (stops.Refused fault) = (name : List ℕ) × IsRefused plan first files name fault
 Stops plan first now files stops.NoMemory = Unit {0}
 
 -- a value was made with which the plan goes on by `rest`, or the next file stops it
-abbrev pub Comes : {F A X : Type 0} → (X → Plan F A) → Plan F A → ShelfView → ShelfView → FilesRead → Result X (Stop F) → Type 0
+abbrev pub Comes : {F A X : Type 0} → (X → Plan F A) → Plan F A → ShelfView → ShelfView → FilesRead
+    → Result X (Stop F) → Type 0
 Comes rest plan first now files (Ok x) = IsLeft plan first files (rest x)
 Comes rest plan first now files (Err stop) = Stops plan first now files stop
 
 -- what a plan has come to by a call, since a first view of the shelf
-pub record Follows {F A X : Type 0} (rest : X → Plan F A) (plan : Plan F A) (first now : ShelfView) (files : FilesRead) (result : Result X (Stop F)) : Type 0 where
+pub record Follows {F A X : Type 0} (rest : X → Plan F A) (plan : Plan F A) (first now : ShelfView)
+    (files : FilesRead) (result : Result X (Stop F)) : Type 0 where
   pub since : IsLater first now
   pub comes : Comes rest plan first now files result
 
@@ -58,7 +64,8 @@ Ends plan first now files result = Follows done plan first now files result
 
 -- each call of a closure that returns gives what the reader gives
 abbrev pub Reads : {G X : Type 0} → (Bor (List ℕ) → Result X (Refused G) → Type 0) → (List ℕ → Result X G) → Type 0
-Reads {G} {X} returns reader = (bytes : Bor (List ℕ)) (result : Result X (Refused G)) → returns bytes result → Gives (λ x. x) result (reader bytes.now)
+Reads {G} {X} returns reader =
+    (bytes : Bor (List ℕ)) (result : Result X (Refused G)) → returns bytes result → Gives (λ x. x) result (reader bytes.now)
 
 -- each fault that is converted is seen as one of this kind
 abbrev pub Converts : {F G : Type 0} → (G → F → Type 0) → (G → F) → Type 0

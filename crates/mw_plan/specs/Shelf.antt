@@ -19,7 +19,8 @@ pub record IsLater (first now : ShelfView) : Type 0 where
 -- contents that were read of the first so many files, in order: where the shelf tells any of a file, they are these
 abbrev pub AreRead : ShelfView → List (List ℕ) → List (List ℕ) → Type 0
 AreRead shelf names [] = Unit {0}
-AreRead shelf (name ∷ names) (bytes ∷ contents) = IfSome (shelf.told name) (λ whole. bytes ≡ whole) × AreRead shelf names contents
+AreRead shelf (name ∷ names) (bytes ∷ contents) =
+    IfSome (shelf.told name) (λ whole. bytes ≡ whole) × AreRead shelf names contents
 AreRead shelf [] (bytes ∷ contents) = ⊥
 
 -- the shelf tells these contents of the first so many files, in order

@@ -1,5 +1,7 @@
 // The files of a command, one after another.
-ghost use Rattle.std.specs.Prelude.{◌≡◌, ◌+◌, ◌<◌, List, ℕ, [], Result, Some, length, map, string_bytes, OnOk};
+ghost use Rattle.std.specs.Prelude.{◌≡◌, ◌+◌, ◌<◌, ◌≤◌, List, ℕ, [], Result, Some, length, map, string_bytes, OnOk};
+ghost use Rattle.std.specs.Borrow.{Bor};
+ghost use Rattle.mw_outside.specs.declared.read.TheConstants.{MOST_BYTES};
 ghost use Rattle.mw_plan.specs.Files.{IsLeft, Follows, Reads, Converts, next_name};
 ghost use Rattle.mw_plan.specs.Plan.{Plan, first_by};
 ghost use Rattle.mw_plan.specs.Shelf.{ShelfView, IsLater, shown};
@@ -25,7 +27,10 @@ impl<'a, W, F> Model for Files<'a, W, F> {
 
     ghost Value = { FilesRead };
 
-    ghost view = { λ files. record { names = map string_bytes files.names.now; contents = map (λ v. v.items) files.contents.items } };
+    ghost view = { λ files. record {
+      names = map string_bytes files.names.now;
+      contents = map (λ v. v.items) files.contents.items;
+    } };
 }
 
 impl<'a, W, F> Files<'a, W, F> {
@@ -49,8 +54,8 @@ impl<'a, W, F> Files<'a, W, F> {
         self.names[self.contents.len()].as_str()
     }
 
-    /// Reads the next file by a reader, and keeps its contents where they are accepted. A plan whose next file is read so
-    /// goes on with what the reader makes of it, unless
+    /// Reads the next file by a reader, and keeps its contents where they are accepted. The reader is given at most
+    /// 1,048,576 bytes. A plan whose next file is read so goes on with what the reader makes of it, unless
     ///
     /// - `ReadFault`: the shelf failed, so the file's count of faults rose;
     /// - `Refused`: the file is too long, or the reader refuses it;
@@ -62,7 +67,7 @@ impl<'a, W, F> Files<'a, W, F> {
         read: R,
     ) -> Result<T, Stop<F>>
         requires more { length self.old.contents < length self.old.names }
-        requires callable { R.IsAlwaysCallable read }
+        requires callable { (bytes : Bor (List ℕ)) → length bytes.now ≤ MOST_BYTES → R.pre read bytes }
         ensures follows { (kind : G → F) (reader : List ℕ → Result T G) → Converts G.converts kind → Reads (R.post read) reader
             → (plan : Plan F W) (rest : T → Plan F W) (first : ShelfView)
             → IsLater first (shown S.Shelf shelf.old) → IsLeft plan first self.old (first_by kind reader rest)
