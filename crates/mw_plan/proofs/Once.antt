@@ -1,7 +1,6 @@
 -- No plan is both done with files and refuses one of them.
-use Rattle.std.proofs.Common.{◌≡◌, ℕ, List, [], ◌∷◌, ◌++◌, Some, ◌⊎◌, inl, inr, refl, sym, ap, ap₂, ◌∙◌}
+use Rattle.std.proofs.Common.{◌≡◌, ℕ, List, [], ◌∷◌, ◌++◌, Some, ◌⊎◌, inl, inr, refl, sym, ap₂}
 use Rattle.mw_plan.specs.declared.fault.FileFault.{FileFault}
-use Rattle.mw_plan.specs.Files.{FilesRead, IsLeft}
 use Rattle.mw_plan.specs.Laws.{EndsOnce}
 use Rattle.mw_plan.specs.Plan.{Plan, done, refused, after}
 use Rattle.mw_plan.specs.Shelf.{ShelfView, AreRead, AreTold}

@@ -1,7 +1,7 @@
 -- One file more, and what is known of files that were read.
-use Rattle.std.proofs.Common.{◌≡◌, ℕ, zero, suc, ◌<◌, ◌≤◌, List, [], ◌∷◌, ◌++◌, length, Option, Some, None, IfSome, refl, ap, arith, sym, ◌∙◌}
+use Rattle.std.proofs.Common.{◌≡◌, ℕ, zero, suc, ◌<◌, List, [], ◌∷◌, ◌++◌, length, Option, Some, None, IfSome, refl, ap, arith, sym, ◌∙◌}
 use Rattle.std.specs.Prelude.{slice_get}
-use Rattle.mw_plan.specs.Plan.{Plan, file, after}
+use Rattle.mw_plan.specs.Plan.{Plan, file}
 use Rattle.mw_plan.specs.Files.{FilesRead, next_name, IsLeft}
 use Rattle.mw_plan.specs.Shelf.{ShelfView, IsLater, AreRead}
 use Rattle.mw_plan.proofs.Plans.{after_one}

@@ -4,7 +4,7 @@ use Rattle.std.proofs.Common.{◌≡◌, ℕ, zero, suc, ◌<◌, suc-le-suc, le
 use Rattle.mw_plan.specs.declared.fault.Stop.{Stop}
 use Rattle.mw_plan.specs.Plan.{Plan, done, after}
 use Rattle.mw_plan.specs.Files.{FilesRead, IsLeft, Follows, Ends}
-use Rattle.mw_plan.specs.Shelf.{ShelfView, IsLater, AreRead}
+use Rattle.mw_plan.specs.Shelf.{ShelfView, IsLater}
 
 -- a view is as late as itself
 pub at_first : (first : ShelfView) → IsLater first first

@@ -2,8 +2,8 @@
 use Rattle.std.specs.Prelude.{◌≡◌, List, ℕ, Some}
 use Rattle.mw_plan.specs.declared.fault.FileFault.{FileFault}
 use Rattle.mw_plan.specs.Plan.{Plan, done, refused, after}
-use Rattle.mw_plan.specs.Shelf.{ShelfView, AreRead, AreTold}
-use Rattle.mw_plan.specs.Files.{FilesRead, IsLeft}
+use Rattle.mw_plan.specs.Shelf.{ShelfView, AreTold}
+use Rattle.mw_plan.specs.Files.{IsLeft}
 
 -- Where a shelf tells contents that a plan refuses, it is not done with any that are read; where it is done with what is told, it
 -- refuses none that are read.

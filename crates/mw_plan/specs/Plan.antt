@@ -1,5 +1,5 @@
 -- What a command makes of its files, which it reads one after another.
-use Rattle.std.specs.Prelude.{◌≡◌, ℕ, nat_lt, List, [], ◌∷◌, length, Option, Some, None, Result, Ok, Err, if◌then◌else◌}
+use Rattle.std.specs.Prelude.{ℕ, nat_lt, List, [], ◌∷◌, length, Option, Some, None, Result, Ok, Err, if◌then◌else◌}
 use Rattle.mw_outside.specs.declared.read.TheConstants.{MOST_BYTES}
 use Rattle.mw_plan.specs.declared.fault.FileFault.{FileFault}
 use Rattle.mw_plan.specs.declared.fault.FileFault.TheVariants.{TooLong, At}

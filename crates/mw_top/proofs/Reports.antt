@@ -1,23 +1,18 @@
 -- From what the files of a request come to, to the report that its status permits.
-use Rattle.std.proofs.Common.{◌≡◌, ◌<◌, ℕ, List, length, true, Bool, Option, Some, None, Ok, Err, refl, ap, subst, sym, ◌∙◌}
-use Rattle.mw_plan.specs.declared.fault.FileFault.{FileFault}
-use Rattle.mw_plan.specs.declared.fault.Stop.TheVariants as stops
-use Rattle.mw_plan.specs.Files.{FilesRead, Ends, IsNext, IsRefused, IsLeft, next_name}
+use Rattle.std.proofs.Common.{◌≡◌, ℕ, List, true, Option, Some, None, Ok, refl, ap, subst}
+use Rattle.mw_plan.specs.Files.{FilesRead, Ends, IsLeft}
 use Rattle.mw_plan.specs.Plan.{done}
-use Rattle.mw_plan.proofs.Steps.{next_is_within}
 use Rattle.mw_top.specs.declared.commands.Work.{Work}
 use Rattle.mw_top.specs.declared.commands.Work.TheVariants.{Comparison, Assembly}
 use Rattle.mw_top.specs.declared.difference.Difference.{Difference}
-use Rattle.mw_top.specs.declared.fault.Fault.{Fault}
 use Rattle.mw_top.specs.declared.status.Status.{Status}
 use Rattle.mw_top.specs.declared.status.Status.TheVariants.{Done, Differs, Unknown, Usage, Refused, ReadFault, WriteFault, NoMemory}
-use Rattle.mw_top.specs.Answer.{is_worked, IsWorked, IsReport, IsEnd}
+use Rattle.mw_top.specs.Answer.{is_worked, IsWorked, IsReport}
 use Rattle.mw_top.specs.Bundle.Job.{job_of}
-use Rattle.mw_top.specs.Call.{Call, Took}
+use Rattle.mw_top.specs.Call.{Call}
 use Rattle.mw_top.specs.Commands.Compare.{compare_status}
 use Rattle.mw_top.specs.Commands.Table.{plan_of, IsAnswer}
 use Rattle.mw_top.specs.Differs.{difference_of}
-use Rattle.mw_top.specs.Report.{fault_line, refusal_line}
 use Rattle.mw_top.specs.Request.{RequestData, request_of, files_of}
 
 -- ---- what was made is answered by a status of work that was done

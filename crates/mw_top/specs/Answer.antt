@@ -1,7 +1,7 @@
 -- What a call of the bench is answered with: the report of each status, and how the call ends.
-use Rattle.std.specs.Prelude.{◌≡◌, ◌⊎◌, ℕ, List, Option, Some, None, Bool, true, false}
+use Rattle.std.specs.Prelude.{◌≡◌, ◌⊎◌, ℕ, List, Some, None, Bool, true, false}
 use Rattle.mw_plan.specs.declared.fault.FileFault.{FileFault}
-use Rattle.mw_plan.specs.Files.{FilesRead, IsLeft, IsNext, IsRefused}
+use Rattle.mw_plan.specs.Files.{IsLeft, IsNext, IsRefused}
 use Rattle.mw_plan.specs.Plan.{done}
 use Rattle.mw_top.specs.declared.commands.Work.{Work}
 use Rattle.mw_top.specs.declared.fault.Fault.{Fault}

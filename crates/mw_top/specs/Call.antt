@@ -54,5 +54,5 @@ ShelfFailed call file = Rose (call.shelf_before.faults file) (call.shelf_now.fau
 -- the shelf failed at none of the files that the words ask for, and the sink did not fail
 pub record NothingFailed (call : Call) : Type 0 where
   pub shelf : (request : RequestData) → request_of call.words ≡ Some request → (file : List ℕ)
-    → Contains request.files file → ¬ ShelfFailed call file
+      → Contains request.files file → ¬ ShelfFailed call file
   pub sink : ¬ SinkFailed call

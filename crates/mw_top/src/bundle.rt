@@ -18,15 +18,14 @@ mod start;
 mod values;
 
 pub use compare::compare_bundle;
+use document::read_document;
 pub use parts::{Assignment, Link};
 pub use refusal::BundleRefusal;
 pub use start::starts_are_one;
-
-use document::read_document;
-use values::NO_BUNDLE;
 use std::alloc::Global;
 use std::marker::Model;
 use toml::Table;
+use values::NO_BUNDLE;
 
 /// One start of a board and of a described machine, with the microprogram of the one and the
 /// assignments of the other.

@@ -56,11 +56,7 @@ fn append_place(alloc: Global, report: &mut Vec<u8>, line: u32, column: u32) -> 
 
 /// Appends where and why a reader refuses a file.
 #[tactic(auto, unfolding(crate::specs::Report::reader_text))]
-fn append_reader_fault(
-    alloc: Global,
-    report: &mut Vec<u8>,
-    fault: &Fault,
-) -> Result<(), NoMemory>
+fn append_reader_fault(alloc: Global, report: &mut Vec<u8>, fault: &Fault) -> Result<(), NoMemory>
     ensures { OnOk result (report.new.items ≡ report.old.items ++ reader_text fault.now) }
 {
     match fault {

@@ -10,10 +10,10 @@ ghost use Rattle.mw_top.specs.Differs.{Start, line_difference, difference_at, di
 
 use crate::bundle::Bundle;
 use crate::bundle::board::small_board;
-use crate::difference::{Difference, event_difference, memory_difference, pointer_difference};
 use crate::bundle::machine::{MacState, step};
 use crate::bundle::parts::Link;
 use crate::bundle::start::completed;
+use crate::difference::{Difference, event_difference, memory_difference, pointer_difference};
 use mw_base::{Items, NoMemory};
 use mw_board::Store;
 use mw_cycle::{Env, Run, State, Whole, run_to_boundary};

@@ -1,4 +1,4 @@
-use Rattle.std.proofs.Common.{Err, List, ℕ, ◌∷◌, [], ◌++◌, refl, map, ap, ◌∙◌}
+use Rattle.std.proofs.Common.{Err, List, ℕ, refl, map, ap, ◌∙◌}
 use Rattle.std.specs.Global.{Vec}
 use Rattle.std.proofs.lemmas.List.{map-append}
 use Rattle.mw_outside.specs.declared.read.TheConstants.{MOST_BYTES}

@@ -17,6 +17,7 @@ use Rattle.mw_top.proofs.commands.asm.assembly.Goals as goal
 -- what follows the microprogram, and what follows the board
 abbrev after_microprogram : BoardParts → Assembled → Plan Fault Work
 after_microprogram board assembled = done (Assembly board assembled)
+
 abbrev after_board : BoardParts → Plan Fault Work
 after_board board = first_by Text (store_of board) (after_microprogram board)
 
@@ -27,7 +28,7 @@ returns-in_err-board-clause-ends g c =
     let first = shown g.S.Shelf c.args.shelf.now in
     stops after_board asm_plan first _ _ _ c.from_residual.result (rw (sym error.2) error.1)
     (c.in_err-board.ensures.follows Board board_of (λ fault seen is. is)
-        (λ bytes result is. search rules) asm_plan after_board first (at_first first)
+    (λ bytes result is. search rules) asm_plan after_board first (at_first first)
     (all_left asm_plan first c.args.files.now c.requires.none_read))
 
 pub next-requires-2-clause-callable : goal.next-requires-2-clause-callable
@@ -37,15 +38,15 @@ pub returns-in_err-assembled-clause-ends : goal.returns-in_err-assembled-clause-
 unfolding asm_plan
 returns-in_err-assembled-clause-ends g c =
     let error = err_from_is_err_and c.from_residual-in_err-assembled.result
-        c.from_residual-in_err-assembled.ensures.1 in
+    c.from_residual-in_err-assembled.ensures.1 in
     let first = shown g.S.Shelf c.args.shelf.now in
     let board = c.in_ok-board.ensures.follows Board board_of (λ fault seen is. is)
-        (λ bytes result is. search rules) asm_plan after_board first (at_first first)
-        (all_left asm_plan first c.args.files.now c.requires.none_read) in
+    (λ bytes result is. search rules) asm_plan after_board first (at_first first)
+    (all_left asm_plan first c.args.files.now c.requires.none_read) in
     stops (after_microprogram c.in_ok-board.board) asm_plan first _ _ _ c.from_residual-in_err-assembled.result
     (rw (sym error.2) error.1)
     (c.in_err-assembled.ensures.follows Text (store_of c.in_ok-board.board) (λ fault seen is. is)
-        (λ bytes result is. search rules) asm_plan
+    (λ bytes result is. search rules) asm_plan
     (after_microprogram c.in_ok-board.board) first board.since board.comes)
 
 pub returns-clause-ends : goal.returns-clause-ends
@@ -53,9 +54,9 @@ unfolding asm_plan
 returns-clause-ends g c =
     let first = shown g.S.Shelf c.args.shelf.now in
     let board = c.in_ok-board.ensures.follows Board board_of (λ fault seen is. is)
-        (λ bytes result is. search rules) asm_plan after_board first (at_first first)
-        (all_left asm_plan first c.args.files.now c.requires.none_read) in
+    (λ bytes result is. search rules) asm_plan after_board first (at_first first)
+    (all_left asm_plan first c.args.files.now c.requires.none_read) in
     ends (after_microprogram c.in_ok-board.board) asm_plan first _ _ c.in_ok-assembled.assembled _ refl
     (c.in_ok-assembled.ensures.follows Text (store_of c.in_ok-board.board) (λ fault seen is. is)
-        (λ bytes result is. search rules) asm_plan
+    (λ bytes result is. search rules) asm_plan
     (after_microprogram c.in_ok-board.board) first board.since board.comes)

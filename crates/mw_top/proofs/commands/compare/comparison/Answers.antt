@@ -22,7 +22,7 @@ returns-in_err-bundle-clause-ends g c =
     let first = shown g.S.Shelf c.args.shelf.now in
     stops after_bundle compare_plan first _ _ _ c.from_residual.result (rw (sym error.2) error.1)
     (c.in_err-bundle.ensures.follows Bundle read_bundle_of (λ fault seen is. is)
-        (λ bytes result is. search rules) compare_plan after_bundle first (at_first first)
+    (λ bytes result is. search rules) compare_plan after_bundle first (at_first first)
     (all_left compare_plan first c.args.files.now c.requires.none_read))
 
 pub returns-clause-ends : goal.returns-clause-ends
@@ -31,5 +31,5 @@ returns-clause-ends g c =
     let first = shown g.S.Shelf c.args.shelf.now in
     ends after_bundle compare_plan first _ _ c.in_ok-bundle.bundle _ refl
     (c.in_ok-bundle.ensures.follows Bundle read_bundle_of (λ fault seen is. is)
-        (λ bytes result is. search rules) compare_plan after_bundle first (at_first first)
+    (λ bytes result is. search rules) compare_plan after_bundle first (at_first first)
     (all_left compare_plan first c.args.files.now c.requires.none_read))
