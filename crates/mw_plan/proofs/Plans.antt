@@ -1,42 +1,38 @@
 -- Laws of plans.
-use Rattle.std.proofs.Common.{◌≡◌, ℕ, ◌<◌, ◌≤◌, nat_lt, true, false, List, [], ◌∷◌, ◌++◌, length, Some, Result, Ok, Err, refl, ap, arith}
+use Rattle.std.proofs.Common.{◌≡◌, ℕ, ◌<◌, ◌≤◌, nat_lt, true, false, List, [], ◌∷◌, ◌++◌, length, Some, Result, Ok, Err, refl, sym, ap, ◌∙◌, arith}
 use Rattle.std.proofs.lemmas.Bool.Decides.{nat_tests}
 use Rattle.mw_outside.specs.declared.read.TheConstants.{MOST_BYTES}
 use Rattle.mw_plan.specs.declared.fault.FileFault.{FileFault}
 use Rattle.mw_plan.specs.declared.fault.FileFault.TheVariants.{TooLong, At}
 use Rattle.mw_plan.specs.Plan.{Plan, done, refused, file, ◌>>=◌, read_by, after}
 
--- what is left after files of these contents, and one more
-pub after_one : {F A : Type 0} (plan : Plan F A) (seen : List (List ℕ)) (bytes : List ℕ) (next : List ℕ → Plan F A)
-    → after plan seen ≡ Some (file next) → after plan (seen ++ bytes ∷ []) ≡ Some (next bytes)
-after_one (done x) [] bytes next is = absurd cc
-after_one (refused fault) [] bytes next is = absurd cc
-after_one {F} {A} (file given) [] bytes next is = let same : given ≡ next = cc in ap (λ (n : List ℕ → Plan F A). Some (n bytes)) same
-after_one (done x) (b ∷ rest) bytes next is = absurd cc
-after_one (refused fault) (b ∷ rest) bytes next is = absurd cc
-after_one (file given) (b ∷ rest) bytes next is = after_one (given b) rest bytes next is
+-- what is left after some files, and then after more
+pub after_more : {F A : Type 0} (plan left : Plan F A) (front rest : List (List ℕ)) → after plan front ≡ Some left
+    → after plan (front ++ rest) ≡ after left rest
+after_more {F} {A} plan left [] rest is = let same : plan ≡ left = cc in ap (λ (p : Plan F A). after p rest) same
+after_more (done x) left (bytes ∷ front) rest is = absurd cc
+after_more (refused fault) left (bytes ∷ front) rest is = absurd cc
+after_more (file next) left (bytes ∷ front) rest is = after_more (next bytes) left front rest is
+
+refused_stays : {F A : Type 0} (rest : List (List ℕ)) (x : A) (fault : FileFault F) → after (refused fault) rest ≡ Some (done x) → ⊥
+refused_stays [] x fault is = cc
+refused_stays (bytes ∷ rest) x fault is = cc
+
+done_stays : {F A : Type 0} (rest : List (List ℕ)) (x : A) (fault : FileFault F) → after (done x) rest ≡ Some (refused fault) → ⊥
+done_stays [] x fault is = cc
+done_stays (bytes ∷ rest) x fault is = cc
 
 -- no plan is done with files of which the first so many are refused
 pub refused_is_not_done : {F A : Type 0} (plan : Plan F A) (front rest : List (List ℕ)) (x : A) (fault : FileFault F)
     → after plan front ≡ Some (refused fault) → after plan (front ++ rest) ≡ Some (done x) → ⊥
-refused_is_not_done plan [] [] x fault is also = cc
-refused_is_not_done (done y) [] (bytes ∷ rest) x fault is also = absurd cc
-refused_is_not_done (refused f) [] (bytes ∷ rest) x fault is also = absurd cc
-refused_is_not_done (file next) [] (bytes ∷ rest) x fault is also = absurd cc
-refused_is_not_done (done y) (bytes ∷ front) rest x fault is also = absurd cc
-refused_is_not_done (refused f) (bytes ∷ front) rest x fault is also = absurd cc
-refused_is_not_done (file next) (bytes ∷ front) rest x fault is also = refused_is_not_done (next bytes) front rest x fault is also
+refused_is_not_done plan front rest x fault is also =
+    refused_stays rest x fault (sym (after_more plan (refused fault) front rest is) ∙ also)
 
 -- no plan refuses files with the first so many of which it is done
 pub done_is_not_refused : {F A : Type 0} (plan : Plan F A) (front rest : List (List ℕ)) (x : A) (fault : FileFault F)
     → after plan front ≡ Some (done x) → after plan (front ++ rest) ≡ Some (refused fault) → ⊥
-done_is_not_refused plan [] [] x fault is also = cc
-done_is_not_refused (done y) [] (bytes ∷ rest) x fault is also = absurd cc
-done_is_not_refused (refused f) [] (bytes ∷ rest) x fault is also = absurd cc
-done_is_not_refused (file next) [] (bytes ∷ rest) x fault is also = absurd cc
-done_is_not_refused (done y) (bytes ∷ front) rest x fault is also = absurd cc
-done_is_not_refused (refused f) (bytes ∷ front) rest x fault is also = absurd cc
-done_is_not_refused (file next) (bytes ∷ front) rest x fault is also = done_is_not_refused (next bytes) front rest x fault is also
+done_is_not_refused plan front rest x fault is also =
+    done_stays rest x fault (sym (after_more plan (done x) front rest is) ∙ also)
 
 -- ---- what the contents of one file come to
 

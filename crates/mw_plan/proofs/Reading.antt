@@ -4,7 +4,7 @@ use Rattle.std.specs.Prelude.{slice_get}
 use Rattle.mw_plan.specs.Plan.{Plan, file}
 use Rattle.mw_plan.specs.Files.{FilesRead, next_name, IsLeft}
 use Rattle.mw_plan.specs.Shelf.{ShelfView, IsLater, AreRead}
-use Rattle.mw_plan.proofs.Plans.{after_one}
+use Rattle.mw_plan.proofs.Plans.{after_more}
 
 -- a view that is later than a later one
 pub later_still : (first then now : ShelfView) → IsLater first then → IsLater then now → IsLater first now
@@ -33,7 +33,7 @@ pub left_more : {F A : Type 0} (plan : Plan F A) (first then : ShelfView) (files
     → next bytes ≡ left → IsLeft plan first (record files { contents = files.contents ++ bytes ∷ [] }) left
 left_more plan first then files next name bytes left since stood named told is = record {
   read = read_more first files.names files.contents name bytes named stood.read (rw (sym (since.kept name)) told);
-  left_is = after_one plan files.contents bytes next stood.left_is ∙ ap Some is;
+  left_is = after_more plan (file next) files.contents (bytes ∷ []) stood.left_is ∙ ap Some is;
 }
 
 -- the contents of a file are kept behind those of the files before it

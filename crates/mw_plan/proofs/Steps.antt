@@ -3,7 +3,8 @@ use Rattle.std.specs.Prelude.{Contains, slice_get}
 use Rattle.std.proofs.Common.{◌≡◌, ℕ, zero, suc, ◌<◌, suc-le-suc, length, List, [], ◌∷◌, Some, Result, Ok, Err, refl, ap, subst, arith}
 use Rattle.mw_plan.specs.declared.fault.Stop.{Stop}
 use Rattle.mw_plan.specs.Plan.{Plan, done, after}
-use Rattle.mw_plan.specs.Files.{FilesRead, IsLeft, Follows, Ends}
+use Rattle.mw_plan.specs.Files.{FilesRead, IsLeft}
+use Rattle.mw_plan.specs.Steps.{Follows, Ends}
 use Rattle.mw_plan.specs.Shelf.{ShelfView, IsLater}
 
 -- a view is as late as itself

@@ -2,7 +2,8 @@
 ghost use Rattle.std.specs.Prelude.{◌≡◌, ◌+◌, ◌<◌, ◌≤◌, List, ℕ, [], Result, Some, length, map, string_bytes, OnOk};
 ghost use Rattle.std.specs.Borrow.{Bor};
 ghost use Rattle.mw_outside.specs.declared.read.TheConstants.{MOST_BYTES};
-ghost use Rattle.mw_plan.specs.Files.{IsLeft, Follows, Reads, Converts, next_name};
+ghost use Rattle.mw_plan.specs.Files.{IsLeft, next_name};
+ghost use Rattle.mw_plan.specs.Steps.{Follows, Reads, Converts};
 ghost use Rattle.mw_plan.specs.Plan.{Plan, first_by};
 ghost use Rattle.mw_plan.specs.Shelf.{ShelfView, IsLater, shown};
 

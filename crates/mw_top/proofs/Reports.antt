@@ -1,6 +1,7 @@
 -- From what the files of a request come to, to the report that its status permits.
 use Rattle.std.proofs.Common.{◌≡◌, ℕ, List, true, Option, Some, None, Ok, refl, ap, subst}
-use Rattle.mw_plan.specs.Files.{FilesRead, Ends, IsLeft}
+use Rattle.mw_plan.specs.Files.{FilesRead, IsLeft}
+use Rattle.mw_plan.specs.Steps.{Ends}
 use Rattle.mw_plan.specs.Plan.{done}
 use Rattle.mw_top.specs.declared.commands.Work.{Work}
 use Rattle.mw_top.specs.declared.commands.Work.TheVariants.{Comparison, Assembly}

@@ -1,6 +1,6 @@
 // The commands: what each makes of its files, and what is answered then.
 ghost use Rattle.std.specs.Prelude.{◌≡◌, [], IfOk, length};
-ghost use Rattle.mw_plan.specs.Files.{Ends};
+ghost use Rattle.mw_plan.specs.Steps.{Ends};
 ghost use Rattle.mw_plan.specs.Shelf.{shown};
 ghost use Rattle.mw_top.specs.Commands.Table.{plan_of, IsAnswer};
 ghost use Rattle.mw_top.specs.Request.{row_of};

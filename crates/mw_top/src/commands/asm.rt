@@ -1,6 +1,6 @@
 // asm: a board file, and a microprogram for its board.
 ghost use Rattle.std.specs.Prelude.{◌≡◌, [], IfOk, length};
-ghost use Rattle.mw_plan.specs.Files.{Ends};
+ghost use Rattle.mw_plan.specs.Steps.{Ends};
 ghost use Rattle.mw_plan.specs.Shelf.{shown};
 ghost use Rattle.mw_top.specs.Commands.Asm.{asm_plan, IsListing};
 

@@ -1,6 +1,6 @@
 // compare: a bundle, whose one start is compared.
 ghost use Rattle.std.specs.Prelude.{◌≡◌, ◌++◌, [], IfOk, OnOk, length};
-ghost use Rattle.mw_plan.specs.Files.{Ends};
+ghost use Rattle.mw_plan.specs.Steps.{Ends};
 ghost use Rattle.mw_plan.specs.Shelf.{shown};
 ghost use Rattle.mw_top.specs.Commands.Compare.{compare_plan, compare_status, compare_report, IsComparison};
 
