@@ -1,5 +1,5 @@
 -- Counts of faults: when a call may answer that it failed.
-use Rattle.std.specs.Prelude.{ℕ, ◌+◌, ◌-◌, ◌^◌, ◌≤◌, min}
+use Rattle.std.specs.Prelude.{◌≡◌, ℕ, ◌+◌, ◌-◌, ◌^◌, ◌<◌, ◌⊎◌, min}
 
 -- one more; a count of 64 bits stays at its last value
 abbrev pub one_more : ℕ → ℕ
@@ -7,4 +7,4 @@ one_more count = min (count + 1) (2 ^ 64 - 1)
 
 -- the count rose, or stands at its last value
 abbrev pub Rose : ℕ → ℕ → Type 0
-Rose before now = one_more before ≤ now
+Rose before now = (before < now) ⊎ (now ≡ 2 ^ 64 - 1)

@@ -8,11 +8,6 @@ pub record Gives (bytes : List ℕ) (at n : ℕ) (old new : List ℕ) : Type 0 w
   pub present : n ≤ length bytes - at
   pub end : n ≡ 0 → 0 < length old → length bytes ≤ at
 
--- these bytes are a front part of the contents
-pub record IsFront (front bytes : List ℕ) : Type 0 where
-  pub same : take (length front) bytes ≡ front
-  pub within : length front ≤ length bytes
-
 -- what was taken, where that is told, with more at its end
 abbrev pub with_more : Option (List ℕ) → List ℕ → Option (List ℕ)
 with_more taken more = option_map (λ (bytes : List ℕ). bytes ++ more) taken

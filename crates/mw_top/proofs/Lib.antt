@@ -1,13 +1,5 @@
-pub mod Lists
-pub mod Known
-pub mod Ranges
-pub mod Unlike
-pub mod SmallBoard
-pub mod Starts
-pub mod Shown
-pub mod Names
-pub mod Files
-pub mod Outcomes
-pub mod Commands
+pub mod Bundles
 pub mod Ends
-pub mod OneStart
+pub mod Names
+pub mod Reports
+pub mod Unlike

@@ -1,8 +1,6 @@
 -- The described machine: its state, one step of it, and its runs.
-use Rattle.std.specs.Prelude.{◌≡◌, ℕ, zero, suc, ◌+◌, ◌%◌, ◌^◌, ◌<◌, List, [], ◌++◌, Bool, length, slice_index, slice_set}
-use Rattle.std.specs.List.{fold}
+use Rattle.std.specs.Prelude.{◌≡◌, ℕ, zero, suc, ◌+◌, ◌^◌, ◌<◌, List, [], ◌++◌, Bool, length, slice_index}
 use Rattle.mw_base.specs.declared.event.Event.{Event}
-use Rattle.mw_top.specs.declared.parts.Assignment.{Assignment}
 
 -- the registers in their order, and the memory image
 pub record MachineState : Type 0 where
@@ -18,18 +16,6 @@ pub record Stepped : Type 0 where
 -- a described step: what becomes of a state with this request bit and the inputs from this number on
 abbrev pub DescribedStep : Type 0
 DescribedStep = MachineState → Bool → List ℕ → ℕ → Stepped
-
--- an assignment of a bundle: the target takes the sum of two registers, modulo 16
-abbrev pub assigned : List ℕ → Assignment → List ℕ
-assigned registers a = slice_set registers a.target ((slice_index registers a.left + slice_index registers a.right) % 16)
-
--- the step of a bundle's machine: its assignments in order; it makes no event and takes no input
-unfoldable pub bundle_step : List Assignment → DescribedStep
-bundle_step assignments s request inputs from = record {
-  state = record { registers = fold assigned s.registers assignments; memory = s.memory };
-  events = [];
-  taken = 0;
-}
 
 -- the run of k steps, where request gives the request bit of each: the state, the events in one list, and the inputs taken,
 -- which are numbered through all steps

@@ -1,10 +1,13 @@
 -- The texts of reports.
-use Rattle.std.specs.Prelude.{ℕ, List, [], ◌∷◌, ◌++◌, codes, Option, Some, None, slice_index_or}
+use Rattle.std.specs.Prelude.{ℕ, List, [], ◌∷◌, ◌++◌, codes, slice_index_or}
 use Rattle.mw_base.specs.Numbers.{hex, decimal}
 use Rattle.mw_base.specs.Causes.{number_of}
 use Rattle.mw_base.specs.declared.cause.Cause.{Cause}
-use Rattle.mw_top.specs.declared.fault.FileFault.{FileFault}
-use Rattle.mw_top.specs.declared.fault.FileFault.TheVariants.{Text, Board, Bundle}
+use Rattle.mw_base.specs.declared.cause.Cause.TheVariants.{FileTooLong}
+use Rattle.mw_plan.specs.declared.fault.FileFault.{FileFault}
+use Rattle.mw_plan.specs.declared.fault.FileFault.TheVariants.{TooLong, At}
+use Rattle.mw_top.specs.declared.fault.Fault.{Fault}
+use Rattle.mw_top.specs.declared.fault.Fault.TheVariants.{Text, Board, Bundle}
 use Rattle.mw_top.specs.declared.difference.Difference.{Difference}
 use Rattle.mw_top.specs.declared.difference.Difference.TheVariants.{Late, Event, StackPointer, Element, Memory}
 
@@ -24,14 +27,24 @@ fault_line file = line (codes "fault read " ++ file)
 abbrev pub cause_text : Cause → List ℕ
 cause_text cause = codes " cause " ++ decimal (number_of cause)
 
--- where and why a file is refused: a text at a line and a column, a board file at a key, and a bundle as a whole, at the key -
-unfoldable pub fault_text : FileFault → List ℕ
-fault_text (Text fault) = codes " line " ++ decimal fault.line ++ codes " column " ++ decimal fault.column ++ cause_text fault.cause
-fault_text (Board fault) = codes " key " ++ fault.key ++ cause_text fault.cause
-fault_text (Bundle cause) = codes " key -" ++ cause_text cause
+-- a line and a column of a text
+abbrev pub place_text : ℕ → ℕ → List ℕ
+place_text line column = codes " line " ++ decimal line ++ codes " column " ++ decimal column
+
+-- where and why a reader refuses a file: a text at a line and a column, a board file at a key, and a bundle as a whole, at
+-- the key -
+unfoldable pub reader_text : Fault → List ℕ
+reader_text (Text fault) = place_text fault.line fault.column ++ cause_text fault.cause
+reader_text (Board fault) = codes " key " ++ fault.key ++ cause_text fault.cause
+reader_text (Bundle cause) = codes " key -" ++ cause_text cause
+
+-- where and why a file is refused: one that is too long at line 0 and column 0, whatever its kind
+unfoldable pub fault_text : FileFault Fault → List ℕ
+fault_text TooLong = place_text 0 0 ++ cause_text FileTooLong
+fault_text (At fault) = reader_text fault
 
 -- a file that is refused
-abbrev pub refusal_line : List ℕ → FileFault → List ℕ
+abbrev pub refusal_line : List ℕ → FileFault Fault → List ℕ
 refusal_line file fault = line (codes "refused " ++ file ++ fault_text fault)
 
 -- the names of the elements of a board without flip-flops, by number
@@ -49,8 +62,3 @@ difference_text (Event n) = codes "event " ++ decimal n
 difference_text StackPointer = codes "element b.sp"
 difference_text (Element e) = codes "element " ++ slice_index_or element_names e []
 difference_text (Memory a) = codes "memory " ++ hex a
-
--- what compare prints for one step
-unfoldable pub compare_report : Option Difference → List ℕ
-compare_report None = line (codes "same 1")
-compare_report (Some difference) = line (codes "differs step 1") ++ line (codes "difference " ++ difference_text difference)

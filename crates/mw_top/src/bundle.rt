@@ -1,20 +1,31 @@
 // A bundle, and its reader.
 ghost use Rattle.std.specs.Prelude.{◌≡◌, ◌<◌, ◌≤◌, ◌^◌, All, AllPairs, ◌≢◌, IfOk, length};
-ghost use Rattle.mw_top.specs.Bundle.{IsBundle, IsAssignment, IsLink};
-ghost use Rattle.mw_top.specs.Bundle.{bundle_keys, has_bundle_keys_only, bundle_of, read_bundle_of};
+ghost use Rattle.mw_top.specs.Bundle.Form.{IsBundle, IsAssignment, IsLink};
+ghost use Rattle.mw_top.specs.Bundle.Form.{bundle_keys, has_bundle_keys_only, bundle_of, read_bundle_of};
 ghost use Rattle.mw_base.specs.Reading.{Gives};
 ghost use Rattle.std.specs.List.{list_any};
 ghost use Rattle.toml.specs.Data.{same_key};
 ghost use Rattle.toml.specs.View.{table_view};
 
-use crate::document::read_document;
-use crate::keys;
-use crate::parts::{Assignment, Link};
-use crate::refusal::BundleRefusal;
-use crate::values::NO_BUNDLE;
+mod board;
+mod compare;
+mod document;
+mod keys;
+mod machine;
+mod parts;
+mod refusal;
+mod start;
+mod values;
+
+pub use compare::compare_bundle;
+use document::read_document;
+pub use parts::{Assignment, Link};
+pub use refusal::BundleRefusal;
+pub use start::starts_are_one;
 use std::alloc::Global;
 use std::marker::Model;
 use toml::Table;
+use values::NO_BUNDLE;
 
 /// One start of a board and of a described machine, with the microprogram of the one and the
 /// assignments of the other.
@@ -29,7 +40,7 @@ pub struct Bundle {
 }
 
 impl Model for Bundle {
-    ghost use Rattle.mw_top.specs.Bundle.{BundleData, IsBundle};
+    ghost use Rattle.mw_top.specs.Bundle.Form.{BundleData, IsBundle};
 
     ghost Value = { BundleData };
 
@@ -130,7 +141,7 @@ fn has_bundle_keys_only(table: &Table) -> bool
 }
 
 /// The bundle that a document is.
-#[tactic(auto, unfolding(crate::specs::Bundle::bundle_of))]
+#[tactic(auto, unfolding(crate::specs::Bundle::Form::bundle_of))]
 fn bundle_from(alloc: Global, table: &Table) -> Result<Bundle, BundleRefusal>
     ensures exact { Gives (λ bundle. bundle) result (bundle_of (table_view table.now)) }
     ensures valid { IfOk result (λ bundle. IsBundle bundle) }
@@ -158,7 +169,7 @@ fn bundle_from(alloc: Global, table: &Table) -> Result<Bundle, BundleRefusal>
 /// The bundle that the bytes of a file spell, all of them. They are refused with cause 20 exactly where
 /// they are no TOML document, and with cause 90 exactly where they are one that is no bundle, unless
 /// memory runs out first.
-#[tactic(auto, unfolding(crate::specs::Bundle::read_bundle_of))]
+#[tactic(auto, unfolding(crate::specs::Bundle::Form::read_bundle_of))]
 pub fn read_bundle(alloc: Global, bytes: &[u8]) -> Result<Bundle, BundleRefusal>
     ensures exact { Gives (λ bundle. bundle) result (read_bundle_of bytes.now) }
     ensures valid { IfOk result (λ bundle. IsBundle bundle) }

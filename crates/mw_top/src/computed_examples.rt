@@ -1,6 +1,6 @@
 // Bundles of examples/bundle, computed on the definitions: each contract is what its bundle shows.
 ghost use Rattle.std.specs.Prelude.{◌≡◌, Some, None};
-ghost use Rattle.mw_top.specs.Examples.{bundle_same, bundle_element, bundle_late, shown_by_example};
+ghost use Rattle.mw_top.specs.Bundle.Examples.{bundle_same, bundle_element, bundle_late, shown_by_example};
 ghost use Rattle.mw_top.specs.declared.difference.Difference.TheVariants.{Late, Element};
 
 /// The bundle of examples/bundle/same.toml shows no difference.

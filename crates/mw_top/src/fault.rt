@@ -1,14 +1,11 @@
-// Why a file is refused, and how a file stops a command.
-ghost use Rattle.std.specs.Prelude.{◌≡◌};
-ghost use Rattle.mw_top.specs.Stops.{StopsAt};
-
-use mw_base::{Cause, Refused, TextFault};
+// Why a reader refuses a file.
+use mw_base::{Cause, TextFault};
 use mw_boardfile::KeyFault;
 
-/// The first fault of a file.
+/// The first fault that a reader finds in a file.
 #[derive(Drop)]
-pub(crate) enum FileFault {
-    /// A text's, at a line and a column; line 0 and column 0 where a file of any kind is too long.
+pub(crate) enum Fault {
+    /// A text's, at a line and a column.
     Text(TextFault),
     /// A board file's, at a key.
     Board(KeyFault),
@@ -16,53 +13,35 @@ pub(crate) enum FileFault {
     Bundle(Cause),
 }
 
-impl From<TextFault> for FileFault {
-    ghost use Rattle.mw_top.specs.declared.fault.FileFault.TheVariants.{Text};
+impl From<TextFault> for Fault {
+    ghost use Rattle.std.specs.Prelude.{◌≡◌};
+    ghost use Rattle.mw_top.specs.declared.fault.Fault.TheVariants.{Text};
 
-    ghost from_gives = { λ fault placed. placed ≡ Text fault };
+    ghost from_gives = { λ fault seen. seen ≡ Text fault };
 
-    fn from(fault: TextFault) -> FileFault {
-        FileFault::Text(fault)
+    fn from(fault: TextFault) -> Fault {
+        Fault::Text(fault)
     }
 }
 
-impl From<KeyFault> for FileFault {
-    ghost use Rattle.mw_top.specs.declared.fault.FileFault.TheVariants.{Board};
+impl From<KeyFault> for Fault {
+    ghost use Rattle.std.specs.Prelude.{◌≡◌};
+    ghost use Rattle.mw_top.specs.declared.fault.Fault.TheVariants.{Board};
 
-    ghost from_gives = { λ fault placed. placed ≡ Board fault };
+    ghost from_gives = { λ fault seen. seen ≡ Board fault };
 
-    fn from(fault: KeyFault) -> FileFault {
-        FileFault::Board(fault)
+    fn from(fault: KeyFault) -> Fault {
+        Fault::Board(fault)
     }
 }
 
-impl From<Cause> for FileFault {
-    ghost use Rattle.mw_top.specs.declared.fault.FileFault.TheVariants.{Bundle};
+impl From<Cause> for Fault {
+    ghost use Rattle.std.specs.Prelude.{◌≡◌};
+    ghost use Rattle.mw_top.specs.declared.fault.Fault.TheVariants.{Bundle};
 
-    ghost from_gives = { λ cause placed. placed ≡ Bundle cause };
+    ghost from_gives = { λ cause seen. seen ≡ Bundle cause };
 
-    fn from(cause: Cause) -> FileFault {
-        FileFault::Bundle(cause)
-    }
-}
-
-/// Why a file gives a command nothing to work on.
-#[derive(Drop)]
-pub(crate) enum Stop {
-    /// The file can't be read.
-    ReadFault,
-    /// The file is refused.
-    Refused(FileFault),
-    /// Memory ran out.
-    NoMemory,
-}
-
-/// How a reader's refusal stops a command.
-pub(crate) fn stop_at<F: Into<FileFault>>(refused: Refused<F>) -> Stop
-    ensures { StopsAt F.converts refused result }
-{
-    match refused {
-        Refused::At(fault) => Stop::Refused(fault.into()),
-        Refused::NoMemory => Stop::NoMemory,
+    fn from(cause: Cause) -> Fault {
+        Fault::Bundle(cause)
     }
 }

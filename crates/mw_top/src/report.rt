@@ -1,17 +1,19 @@
 // The texts of reports.
 ghost use Rattle.std.specs.Prelude.{◌≡◌, ◌++◌, [], map, slice_index_or, OnOk};
-ghost use Rattle.mw_top.specs.Report.{line, usage_line, fault_line, cause_text, fault_text, refusal_line, element_names, difference_text, compare_report};
+ghost use Rattle.mw_top.specs.Report.{line, usage_line, fault_line, cause_text, place_text, reader_text, fault_text, refusal_line};
+ghost use Rattle.mw_top.specs.Report.{element_names, difference_text};
 
 use crate::difference::Difference;
-use crate::fault::FileFault;
+use crate::fault::Fault;
 use mw_base::{Cause, NoMemory, append_decimal, append_hex};
+use mw_plan::FileFault;
 use std::alloc::Global;
 
 const USAGE: &[u8] =
     b"usage: mw_bench COMMAND FILES [--nodes N] [--paths P] [--steps K] [--cycles C] [--parts]";
 
 /// Appends a line.
-fn append_line(report: &mut Vec<u8>, text: &[u8]) -> Result<(), NoMemory>
+pub(crate) fn append_line(report: &mut Vec<u8>, text: &[u8]) -> Result<(), NoMemory>
     ensures { OnOk result (report.new.items ≡ report.old.items ++ line text.now) }
 {
     report.extend_from_slice(text)?;
@@ -42,28 +44,53 @@ fn append_cause(alloc: Global, report: &mut Vec<u8>, cause: Cause) -> Result<(),
     append_decimal(alloc, report, u64::from(cause.number()))
 }
 
-/// Appends where and why a file is refused.
-#[tactic(auto, unfolding(crate::specs::Report::fault_text))]
-fn append_place(alloc: Global, report: &mut Vec<u8>, fault: &FileFault) -> Result<(), NoMemory>
-    ensures { OnOk result (report.new.items ≡ report.old.items ++ fault_text fault.now) }
+/// Appends a line and a column of a text.
+fn append_place(alloc: Global, report: &mut Vec<u8>, line: u32, column: u32) -> Result<(), NoMemory>
+    ensures { OnOk result (report.new.items ≡ report.old.items ++ place_text line column) }
+{
+    report.extend_from_slice(b" line ")?;
+    append_decimal(alloc, report, u64::from(line))?;
+    report.extend_from_slice(b" column ")?;
+    append_decimal(alloc, report, u64::from(column))
+}
+
+/// Appends where and why a reader refuses a file.
+#[tactic(auto, unfolding(crate::specs::Report::reader_text))]
+fn append_reader_fault(alloc: Global, report: &mut Vec<u8>, fault: &Fault) -> Result<(), NoMemory>
+    ensures { OnOk result (report.new.items ≡ report.old.items ++ reader_text fault.now) }
 {
     match fault {
-        FileFault::Text(fault) => {
-            report.extend_from_slice(b" line ")?;
-            append_decimal(alloc, report, u64::from(fault.line))?;
-            report.extend_from_slice(b" column ")?;
-            append_decimal(alloc, report, u64::from(fault.column))?;
+        Fault::Text(fault) => {
+            append_place(alloc, report, fault.line, fault.column)?;
             append_cause(alloc, report, fault.cause)
         }
-        FileFault::Board(fault) => {
+        Fault::Board(fault) => {
             report.extend_from_slice(b" key ")?;
             report.extend_from_slice(fault.key.as_slice())?;
             append_cause(alloc, report, fault.cause)
         }
-        FileFault::Bundle(cause) => {
+        Fault::Bundle(cause) => {
             report.extend_from_slice(b" key -")?;
             append_cause(alloc, report, *cause)
         }
+    }
+}
+
+/// Appends where and why a file is refused.
+#[tactic(auto, unfolding(crate::specs::Report::fault_text))]
+fn append_file_fault(
+    alloc: Global,
+    report: &mut Vec<u8>,
+    fault: &FileFault<Fault>,
+) -> Result<(), NoMemory>
+    ensures { OnOk result (report.new.items ≡ report.old.items ++ fault_text fault.now) }
+{
+    match fault {
+        FileFault::TooLong => {
+            append_place(alloc, report, 0, 0)?;
+            append_cause(alloc, report, Cause::FileTooLong)
+        }
+        FileFault::At(fault) => append_reader_fault(alloc, report, fault),
     }
 }
 
@@ -72,13 +99,13 @@ pub(crate) fn append_refusal(
     alloc: Global,
     report: &mut Vec<u8>,
     file: &str,
-    fault: &FileFault,
+    fault: &FileFault<Fault>,
 ) -> Result<(), NoMemory>
     ensures { OnOk result (report.new.items ≡ report.old.items ++ refusal_line file.now fault.now) }
 {
     report.extend_from_slice(b"refused ")?;
     report.extend_from_slice(file.as_bytes())?;
-    append_place(alloc, report, fault)?;
+    append_file_fault(alloc, report, fault)?;
     append_line(report, b"")
 }
 
@@ -108,7 +135,7 @@ fn element_name(element: u32) -> &'static str
 
 /// Appends a difference.
 #[tactic(auto, unfolding(crate::specs::Report::difference_text))]
-fn append_difference(
+pub(crate) fn append_difference(
     alloc: Global,
     report: &mut Vec<u8>,
     difference: Difference,
@@ -132,24 +159,4 @@ fn append_difference(
         }
     }
     Ok(())
-}
-
-/// Appends what a comparison of one step shows.
-#[tactic(auto, unfolding(crate::specs::Report::compare_report))]
-pub(crate) fn append_comparison(
-    alloc: Global,
-    report: &mut Vec<u8>,
-    shown: Option<Difference>,
-) -> Result<(), NoMemory>
-    ensures { OnOk result (report.new.items ≡ report.old.items ++ compare_report shown) }
-{
-    match shown {
-        None => append_line(report, b"same 1"),
-        Some(difference) => {
-            append_line(report, b"differs step 1")?;
-            report.extend_from_slice(b"difference ")?;
-            append_difference(alloc, report, difference)?;
-            append_line(report, b"")
-        }
-    }
 }

@@ -1,6 +1,6 @@
 // What the words of a command line ask for.
 ghost use Rattle.std.specs.Prelude.{◌≡◌, ◌==◌, ◌&&◌, IsTrue, map, length, option_map, string_bytes, Some, IfSome};
-ghost use Rattle.mw_top.specs.Request.{command_of, file_count, is_file_word, with_files, request_of, data_of};
+ghost use Rattle.mw_top.specs.Request.{command_of, row_of, is_file_word, with_files, request_of, data_of};
 ghost use Rattle.std.specs.List.{list_all};
 
 /// What the bench can do.
@@ -21,24 +21,43 @@ pub struct Request<'a> {
     pub files: &'a [String],
 }
 
-fn command_of(word: &str) -> Option<Command>
-    ensures { result ≡ command_of word.now }
-{
-    match word {
-        "compare" => Some(Command::Compare),
-        "asm" => Some(Command::Asm),
-        _ => None,
+/// What the words say of a command.
+#[derive(Clone, Copy)]
+struct Row {
+    /// The word that stands for it.
+    word: &'static str,
+    /// How many files it has.
+    files: usize,
+}
+
+impl Command {
+    /// The commands.
+    const ALL: [Command; 2] = [Command::Compare, Command::Asm];
+
+    /// The row of the command.
+    fn row(self) -> Row
+        ensures word { result.word.now ≡ (row_of self).word }
+        ensures files { result.files ≡ (row_of self).files }
+    {
+        match self {
+            Command::Compare => Row {
+                word: "compare",
+                files: 1,
+            },
+            Command::Asm => Row {
+                word: "asm",
+                files: 2,
+            },
+        }
     }
 }
 
-/// How many files the command has.
-fn file_count(command: Command) -> usize
-    ensures { result ≡ file_count command }
+fn command_of(word: &str) -> Option<Command>
+    ensures { result ≡ command_of word.now }
 {
-    match command {
-        Command::Compare => 1,
-        Command::Asm => 2,
-    }
+    Command::ALL
+        .into_iter()
+        .find(|command| command.row().word == word)
 }
 
 fn is_file_word(word: &str) -> bool
@@ -54,16 +73,17 @@ fn are_file_words(words: &[String]) -> bool
 }
 
 fn are_files_of(command: Command, words: &[String]) -> bool
-    ensures exact { result ≡ ((length words.now == file_count command) && list_all (λ word. is_file_word (string_bytes word)) words.now) }
-    ensures count { IsTrue result → length words.now ≡ file_count command }
+    ensures exact { result ≡ ((length words.now == (row_of command).files)
+        && list_all (λ word. is_file_word (string_bytes word)) words.now) }
+    ensures count { IsTrue result → length words.now ≡ (row_of command).files }
 {
-    words.len() == file_count(command) && are_file_words(words)
+    words.len() == command.row().files && are_file_words(words)
 }
 
 /// The command with its files, where there are exactly as many.
 fn with_files(command: Command, files: &[String]) -> Option<Request<'_>>
     ensures exact { option_map data_of result ≡ with_files (map string_bytes files.now) (Some command) }
-    ensures count { IfSome result (λ request. length request.files.now ≡ file_count request.command) }
+    ensures count { IfSome result (λ request. length request.files.now ≡ (row_of request.command).files) }
 {
     if are_files_of(command, files) {
         Some(Request { command, files })
@@ -76,7 +96,7 @@ fn with_files(command: Command, files: &[String]) -> Option<Request<'_>>
 #[tactic(auto, unfolding(crate::specs::Request::request_of))]
 pub fn read_words(words: &[String]) -> Option<Request<'_>>
     ensures exact { option_map data_of result ≡ request_of (map string_bytes words.now) }
-    ensures count { IfSome result (λ request. length request.files.now ≡ file_count request.command) }
+    ensures count { IfSome result (λ request. length request.files.now ≡ (row_of request.command).files) }
 {
     match words {
         [] => None,

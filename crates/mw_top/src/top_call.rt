@@ -1,18 +1,23 @@
 // The top call: all that the program does.
-ghost use Rattle.std.specs.Prelude.{◌≡◌, ◌≢◌, ◌≤◌, ◌⊎◌, List, ℕ, [], ◌∷◌, Option, None, Some, true, Contains, IfOk, map, length, string_bytes};
-ghost use Rattle.mw_outside.specs.Causes.{Rose};
-ghost use Rattle.mw_top.specs.Answer.{AreTold, IsRefusal, IsReport, IsWorked, IsRefused, IsReadFault, IsFirstReadFault, TookPart, is_worked};
-ghost use Rattle.mw_top.specs.Ending.{IsAccepted, IsEnd, NoneRose, Took};
+ghost use Rattle.std.specs.Prelude.{◌≡◌, ◌≢◌, ◌≤◌, ◌⊎◌, List, ℕ, [], ◌∷◌, None, Some, true, Contains, IfOk, map, length, string_bytes};
+ghost use Rattle.mw_plan.specs.declared.fault.FileFault.{FileFault};
+ghost use Rattle.mw_plan.specs.Plan.{done, refused, after};
+ghost use Rattle.mw_plan.specs.Shelf.{ShelfView, AreTold, IsLater, shown};
+ghost use Rattle.mw_top.specs.declared.commands.Work.{Work};
+ghost use Rattle.mw_top.specs.declared.fault.Fault.{Fault};
+ghost use Rattle.mw_top.specs.Answer.{IsEnd, IsReport, IsWorked, IsRefusal, IsReadFault, TookPart, is_worked};
+ghost use Rattle.mw_top.specs.Call.{Call, SinkView, NothingFailed, SinkFailed, Took, call_of, sink_shown};
+ghost use Rattle.mw_top.specs.Commands.Table.{plan_of};
 ghost use Rattle.mw_top.specs.Report.{usage_line};
-ghost use Rattle.mw_top.specs.Request.{RequestData, data_of, file_count, request_of};
+ghost use Rattle.mw_top.specs.Request.{RequestData, data_of, request_of, row_of};
 
-use crate::assembly::assemble_files;
-use crate::comparison::compare_file;
-use crate::outcome::{Outcome, usage};
-use crate::request::{Command, Request, read_words};
+use crate::commands::{answered, made};
+use crate::outcome::{Outcome, refused, unread, usage};
+use crate::request::{Request, read_words};
 use crate::status::Status;
 use mw_base::NoMemory;
 use mw_outside::{Shelf, Sink, write_all};
+use mw_plan::{Files, Stop};
 use std::alloc::Global;
 
 /// Does the work of a request.
@@ -21,25 +26,27 @@ fn answer<S: Shelf>(
     request: &Request<'_>,
     shelf: &mut S,
 ) -> Result<Outcome, NoMemory>
-    requires { length request.now.files.now ≡ file_count request.now.command }
-    ensures report { (words : List (List ℕ)) → request_of words ≡ Some (data_of request.now) → IfOk result (λ outcome.
-        IsReport (S.told shelf.old) (S.faults shelf.old) (S.faults shelf.new) words outcome.status outcome.report.items) }
-    ensures kept { (name : List ℕ) → S.told shelf.new name ≡ S.told shelf.old name }
-    ensures later { (name : List ℕ) → S.faults shelf.old name ≤ S.faults shelf.new name }
+    requires { length request.now.files.now ≡ (row_of request.now.command).files }
+    ensures report { (call : Call) → request_of call.words ≡ Some (data_of request.now)
+        → call.shelf_before ≡ shown S.Shelf shelf.old → call.shelf_now ≡ shown S.Shelf shelf.new
+        → IfOk result (λ outcome. IsReport call outcome.status outcome.report.items) }
+    ensures later { IsLater (shown S.Shelf shelf.old) (shown S.Shelf shelf.new) }
 {
-    let files = request.files;
-    match request.command {
-        Command::Compare => compare_file(alloc, files[0].as_str(), shelf),
-        Command::Asm => assemble_files(alloc, files[0].as_str(), files[1].as_str(), shelf),
+    let mut files = Files::new(alloc, request.files);
+    match made(alloc, request.command, shelf, &mut files) {
+        Ok(work) => answered(alloc, &work),
+        Err(Stop::ReadFault) => unread(alloc, files.next_name()),
+        Err(Stop::Refused(fault)) => refused(alloc, files.next_name(), &fault),
+        Err(Stop::NoMemory) => Err(NoMemory),
     }
 }
 
 /// Does the work that the words ask for.
 fn work<S: Shelf>(alloc: Global, words: &[String], shelf: &mut S) -> Result<Outcome, NoMemory>
-    ensures report { IfOk result (λ outcome.
-        IsReport (S.told shelf.old) (S.faults shelf.old) (S.faults shelf.new) (map string_bytes words.now) outcome.status outcome.report.items) }
-    ensures kept { (name : List ℕ) → S.told shelf.new name ≡ S.told shelf.old name }
-    ensures later { (name : List ℕ) → S.faults shelf.old name ≤ S.faults shelf.new name }
+    ensures report { (call : Call) → call.words ≡ map string_bytes words.now
+        → call.shelf_before ≡ shown S.Shelf shelf.old → call.shelf_now ≡ shown S.Shelf shelf.new
+        → IfOk result (λ outcome. IsReport call outcome.status outcome.report.items) }
+    ensures later { IsLater (shown S.Shelf shelf.old) (shown S.Shelf shelf.new) }
 {
     match read_words(words) {
         Some(request) => answer(alloc, &request, shelf),
@@ -49,9 +56,8 @@ fn work<S: Shelf>(alloc: Global, words: &[String], shelf: &mut S) -> Result<Outc
 
 /// Writes the report, and answers with its status or that it could not be written.
 fn write_report<K: Sink>(out: &mut K, outcome: &Outcome) -> Status
-    ensures end { (told : List ℕ → Option (List ℕ)) (before now : List ℕ → ℕ) (words : List (List ℕ))
-        → IsReport told before now words outcome.now.status outcome.now.report.items
-        → IsEnd told before now words (K.faults out.old) (K.faults out.new) (K.taken out.old) (K.taken out.new) result }
+    ensures end { (call : Call) → IsReport call outcome.now.status outcome.now.report.items
+        → call.sink_before ≡ sink_shown K.Sink out.old → call.sink_now ≡ sink_shown K.Sink out.new → IsEnd call result }
     ensures later { K.faults out.old ≤ K.faults out.new }
 {
     match write_all(out, &outcome.report) {
@@ -62,9 +68,8 @@ fn write_report<K: Sink>(out: &mut K, outcome: &Outcome) -> Status
 
 /// Ends a call: writes what its work ended with, unless memory ran out.
 fn end<K: Sink>(out: &mut K, worked: Result<Outcome, NoMemory>) -> Status
-    ensures end { (told : List ℕ → Option (List ℕ)) (before now : List ℕ → ℕ) (words : List (List ℕ))
-        → IfOk worked (λ outcome. IsReport told before now words outcome.status outcome.report.items)
-        → IsEnd told before now words (K.faults out.old) (K.faults out.new) (K.taken out.old) (K.taken out.new) result }
+    ensures end { (call : Call) → IfOk worked (λ outcome. IsReport call outcome.status outcome.report.items)
+        → call.sink_before ≡ sink_shown K.Sink out.old → call.sink_now ≡ sink_shown K.Sink out.new → IsEnd call result }
     ensures later { K.faults out.old ≤ K.faults out.new }
 {
     match worked {
@@ -85,60 +90,49 @@ pub fn bench<S: Shelf, K: Sink>(
     out: &mut K,
 ) -> Status
     // `Usage`: the words are no request, and the usage line was taken.
-    ensures usage { result ≡ Status.Usage → (request_of (map string_bytes words.now) ≡ None)
-        × Took (K.taken out.old) (K.taken out.new) usage_line }
+    ensures usage { let call = call_of S.Shelf K.Sink words.now shelf.old shelf.new out.old out.new in
+        result ≡ Status.Usage → (request_of call.words ≡ None) × Took call usage_line }
 
     // Words that are no request have no other end, but for a write fault and want of memory.
-    ensures usage_due { request_of (map string_bytes words.now) ≡ None
-        → Contains (Status.Usage ∷ Status.WriteFault ∷ Status.NoMemory ∷ []) result }
+    ensures usage_due { let call = call_of S.Shelf K.Sink words.now shelf.old shelf.new out.old out.new in
+        request_of call.words ≡ None → Contains (Status.Usage ∷ Status.WriteFault ∷ Status.NoMemory ∷ []) result }
 
     // `Done`, `Differs`, `Unknown`: the work was done, and its report was taken.
-    ensures answer { is_worked result ≡ true → (report : List ℕ)
-        × IsWorked (S.told shelf.old) (map string_bytes words.now) result report
-        × Took (K.taken out.old) (K.taken out.new) report }
+    ensures answer { let call = call_of S.Shelf K.Sink words.now shelf.old shelf.new out.old out.new in
+        is_worked result ≡ true → (report : List ℕ) × IsWorked call result report × Took call report }
 
     // Good words and good files are not refused.
-    ensures answer_due { (request : RequestData) (contents : List (List ℕ))
-        → request_of (map string_bytes words.now) ≡ Some request
-        → AreTold (S.told shelf.old) request.files contents → IsAccepted request.command contents
+    ensures answer_due { let call = call_of S.Shelf K.Sink words.now shelf.old shelf.new out.old out.new in
+        (request : RequestData) (contents : List (List ℕ)) (work : Work) → request_of call.words ≡ Some request
+        → AreTold call.shelf_before request.files contents → after (plan_of request.command) contents ≡ Some (done work)
         → (result ≢ Status.Usage) × (result ≢ Status.Refused) }
 
     // `Refused`: a file is refused, and the line that says so was taken.
-    ensures refused { result ≡ Status.Refused → (report : List ℕ)
-        × IsRefused (S.told shelf.old) (map string_bytes words.now) report
-        × Took (K.taken out.old) (K.taken out.new) report }
+    ensures refused { let call = call_of S.Shelf K.Sink words.now shelf.old shelf.new out.old out.new in
+        result ≡ Status.Refused → (report : List ℕ) × IsRefusal call report × Took call report }
 
     // Files that are refused have no other end, but for the faults and want of memory.
-    ensures refused_due { (request : RequestData) (contents : List (List ℕ)) (report : List ℕ)
-        → request_of (map string_bytes words.now) ≡ Some request
-        → AreTold (S.told shelf.old) request.files contents
-        → IsRefusal request.command request.files contents report
+    ensures refused_due { let call = call_of S.Shelf K.Sink words.now shelf.old shelf.new out.old out.new in
+        (request : RequestData) (contents : List (List ℕ)) (fault : FileFault Fault) → request_of call.words ≡ Some request
+        → AreTold call.shelf_before request.files contents
+        → after (plan_of request.command) contents ≡ Some (refused fault)
         → Contains (Status.Refused ∷ Status.ReadFault ∷ Status.WriteFault ∷ Status.NoMemory ∷ []) result }
 
-    // `ReadFault`: the shelf failed at one of the files, and the line that says so was taken.
-    ensures read_fault { result ≡ Status.ReadFault → (report : List ℕ)
-        × IsReadFault (S.faults shelf.old) (S.faults shelf.new) (map string_bytes words.now) report
-        × Took (K.taken out.old) (K.taken out.new) report }
-
-    // A file is read only after those before it: where the shelf failed at one, they were read, and are accepted.
-    ensures read_in_order { result ≡ Status.ReadFault → (report : List ℕ)
-        × IsFirstReadFault (S.told shelf.old) (S.faults shelf.old) (S.faults shelf.new) (map string_bytes words.now) report
-        × Took (K.taken out.old) (K.taken out.new) report }
+    // `ReadFault`: the files before one were read and accepted, the shelf failed at it, and the line that says so was taken.
+    ensures read_in_order { let call = call_of S.Shelf K.Sink words.now shelf.old shelf.new out.old out.new in
+        result ≡ Status.ReadFault → (report : List ℕ) × IsReadFault call report × Took call report }
 
     // `WriteFault`: the sink failed, and a front part of a report was taken.
-    ensures write_fault { result ≡ Status.WriteFault → Rose (K.faults out.old) (K.faults out.new)
-        × TookPart (S.told shelf.old) (S.faults shelf.old) (S.faults shelf.new)
-        (map string_bytes words.now) (K.taken out.old) (K.taken out.new) }
+    ensures write_fault { let call = call_of S.Shelf K.Sink words.now shelf.old shelf.new out.old out.new in
+        result ≡ Status.WriteFault → SinkFailed call × TookPart call }
 
     // `NoMemory`: nothing was taken, or a front part of a report.
-    ensures no_memory { result ≡ Status.NoMemory → (K.taken out.new ≡ K.taken out.old)
-        ⊎ TookPart (S.told shelf.old) (S.faults shelf.old) (S.faults shelf.new)
-        (map string_bytes words.now) (K.taken out.old) (K.taken out.new) }
+    ensures no_memory { let call = call_of S.Shelf K.Sink words.now shelf.old shelf.new out.old out.new in
+        result ≡ Status.NoMemory → (call.sink_now.taken ≡ call.sink_before.taken) ⊎ TookPart call }
 
     // Where neither the shelf nor the sink fails, only memory can keep the work from its end.
-    ensures complete { NoneRose (S.faults shelf.old) (S.faults shelf.new) (map string_bytes words.now)
-        → ¬ Rose (K.faults out.old) (K.faults out.new)
-        → Contains (Status.Done ∷ Status.Differs ∷ Status.Unknown ∷ Status.Usage ∷ Status.Refused
+    ensures complete { let call = call_of S.Shelf K.Sink words.now shelf.old shelf.new out.old out.new in
+        NothingFailed call → Contains (Status.Done ∷ Status.Differs ∷ Status.Unknown ∷ Status.Usage ∷ Status.Refused
         ∷ Status.NoMemory ∷ []) result }
 
     // The files are as before, and no count of faults fell.

@@ -1,5 +1,5 @@
 use Rattle.toml.specs.View.{table_view}
-use Rattle.mw_top.proofs.Ranges.{bundle_ok}
+use Rattle.mw_top.proofs.Bundles.Ranges.{bundle_ok}
 use Rattle.mw_top.proofs.bundle.bundle_from.Goals as goal
 
 pub invariant_of-result : goal.invariant_of-result

@@ -1,5 +1,5 @@
 use Rattle.std.proofs.Common.{codes, refl}
-use Rattle.mw_top.proofs.Known.{same_key_other}
+use Rattle.mw_top.proofs.Bundles.Known.{same_key_other}
 use Rattle.mw_top.proofs.bundle.is_bundle_key.Goals as goal
 
 pub returns-in_default : goal.returns-in_default

@@ -1,7 +1,7 @@
 use Rattle.std.proofs.Common.{refl}
 use Rattle.mw_cycle.proofs.OnLiterals.{cycle_on_literals}
-use Rattle.mw_top.specs.Machine.{bundle_step}
-use Rattle.mw_top.specs.BundleJob.{small_fields, small_points, board_of}
+use Rattle.mw_top.specs.Bundle.Step.{bundle_step}
+use Rattle.mw_top.specs.Bundle.Job.{small_fields, small_points, board_of}
 use Rattle.mw_top.specs.Differs.{difference_at, step_of, difference_of}
 use Rattle.mw_top.proofs.computed_examples.late_is_late.Goals as goal
 

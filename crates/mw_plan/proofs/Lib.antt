@@ -1,0 +1,4 @@
+pub mod Plans
+pub mod Reading
+pub mod Once
+pub mod Steps

@@ -1,0 +1,94 @@
+// The files of a command, one after another.
+ghost use Rattle.std.specs.Prelude.{◌≡◌, ◌+◌, ◌<◌, ◌≤◌, List, ℕ, [], Result, Some, length, map, string_bytes, OnOk};
+ghost use Rattle.std.specs.Borrow.{Bor};
+ghost use Rattle.mw_outside.specs.declared.read.TheConstants.{MOST_BYTES};
+ghost use Rattle.mw_plan.specs.Files.{IsLeft, next_name};
+ghost use Rattle.mw_plan.specs.Steps.{Follows, Reads, Converts};
+ghost use Rattle.mw_plan.specs.Plan.{Plan, first_by};
+ghost use Rattle.mw_plan.specs.Shelf.{ShelfView, IsLater, shown};
+
+use crate::fault::{FileFault, Stop};
+use mw_base::Refused;
+use mw_outside::{ReadRefusal, Shelf, read_whole};
+use std::alloc::Global;
+use std::marker::{Model, PhantomData};
+
+/// The files of a command: their names in order, and the contents of the first so many, which were read and accepted.
+/// `W` is what commands make of their files, and `F` is what readers refuse a file for.
+#[derive(Drop)]
+pub struct Files<'a, W, F> {
+    names: &'a [String],
+    contents: Vec<Vec<u8>>,
+    plan: PhantomData<(W, F)>,
+}
+
+impl<'a, W, F> Model for Files<'a, W, F> {
+    ghost use Rattle.std.specs.Prelude.{map, string_bytes};
+    ghost use Rattle.mw_plan.specs.Files.{FilesRead};
+
+    ghost Value = { FilesRead };
+
+    ghost view = { λ files. record {
+      names = map string_bytes files.names.now;
+      contents = map (λ v. v.items) files.contents.items;
+    } };
+}
+
+impl<'a, W, F> Files<'a, W, F> {
+    /// Files of which none was read yet.
+    pub fn new(alloc: Global, names: &'a [String]) -> Files<'a, W, F>
+        ensures names { result.names ≡ map string_bytes names.now }
+        ensures none { result.contents ≡ [] }
+    {
+        Files {
+            names,
+            contents: Vec::new(alloc),
+            plan: PhantomData,
+        }
+    }
+
+    /// The name of the file that comes next, which is the one that stopped the command.
+    pub fn next_name(&self) -> &'a str
+        requires { length self.now.contents < length self.now.names }
+        ensures { next_name self.now ≡ Some result.now }
+    {
+        self.names[self.contents.len()].as_str()
+    }
+
+    /// Reads the next file by a reader, and keeps its contents where they are accepted. The reader is given at most
+    /// 1,048,576 bytes. A plan whose next file is read so goes on with what the reader makes of it, unless
+    ///
+    /// - `ReadFault`: the shelf failed, so the file's count of faults rose;
+    /// - `Refused`: the file is too long, or the reader refuses it;
+    /// - `NoMemory`: memory ran out.
+    pub fn next<S: Shelf, T: Drop, G: Into<F>, R: Fn(&[u8]) -> Result<T, Refused<G>>>(
+        &mut self,
+        alloc: Global,
+        shelf: &mut S,
+        read: R,
+    ) -> Result<T, Stop<F>>
+        requires more { length self.old.contents < length self.old.names }
+        requires callable { (bytes : Bor (List ℕ)) → length bytes.now ≤ MOST_BYTES → R.pre read bytes }
+        ensures follows { (kind : G → F) (reader : List ℕ → Result T G) → Converts G.converts kind → Reads (R.post read) reader
+            → (plan : Plan F W) (rest : T → Plan F W) (first : ShelfView)
+            → IsLater first (shown S.Shelf shelf.old) → IsLeft plan first self.old (first_by kind reader rest)
+            → Follows rest plan first (shown S.Shelf shelf.new) self.new result }
+        ensures names { self.new.names ≡ self.old.names }
+        ensures one_more { OnOk result (length self.new.contents ≡ length self.old.contents + 1) }
+    {
+        let bytes = match read_whole(alloc, shelf, self.next_name()) {
+            Ok(bytes) => bytes,
+            Err(ReadRefusal::Fault) => return Err(Stop::ReadFault),
+            Err(ReadRefusal::TooLong) => return Err(Stop::Refused(FileFault::TooLong)),
+            Err(ReadRefusal::NoMemory) => return Err(Stop::NoMemory),
+        };
+        match read(&bytes) {
+            Ok(x) => {
+                self.contents.push(bytes)?;
+                Ok(x)
+            }
+            Err(Refused::At(fault)) => Err(Stop::Refused(FileFault::At(fault.into()))),
+            Err(Refused::NoMemory) => Err(Stop::NoMemory),
+        }
+    }
+}

@@ -1,0 +1,65 @@
+-- From what the files of a request come to, to the report that its status permits.
+use Rattle.std.proofs.Common.{◌≡◌, ℕ, List, true, Option, Some, None, Ok, refl, ap, subst}
+use Rattle.mw_plan.specs.Files.{FilesRead, IsLeft}
+use Rattle.mw_plan.specs.Steps.{Ends}
+use Rattle.mw_plan.specs.Plan.{done}
+use Rattle.mw_top.specs.declared.commands.Work.{Work}
+use Rattle.mw_top.specs.declared.commands.Work.TheVariants.{Comparison, Assembly}
+use Rattle.mw_top.specs.declared.difference.Difference.{Difference}
+use Rattle.mw_top.specs.declared.status.Status.{Status}
+use Rattle.mw_top.specs.declared.status.Status.TheVariants.{Done, Differs, Unknown, Usage, Refused, ReadFault, WriteFault, NoMemory}
+use Rattle.mw_top.specs.Answer.{is_worked, IsWorked, IsReport}
+use Rattle.mw_top.specs.Bundle.Job.{job_of}
+use Rattle.mw_top.specs.Call.{Call}
+use Rattle.mw_top.specs.Commands.Compare.{compare_status}
+use Rattle.mw_top.specs.Commands.Table.{plan_of, IsAnswer}
+use Rattle.mw_top.specs.Differs.{difference_of}
+use Rattle.mw_top.specs.Request.{RequestData, request_of, files_of}
+
+-- ---- what was made is answered by a status of work that was done
+
+compared_is_worked : (shown : Option Difference) → is_worked (compare_status shown) ≡ true
+compared_is_worked None = refl
+compared_is_worked (Some difference) = refl
+
+answer_is_worked : (work : Work) (status : Status) (report : List ℕ) → IsAnswer work status report
+    → is_worked status ≡ true
+answer_is_worked (Comparison bundle) status report answer =
+    rw answer.status_is (compared_is_worked (difference_of (job_of bundle) answer.start))
+answer_is_worked (Assembly board assembled) status report answer = rw answer.status_is refl
+
+-- the report of work that was done
+worked_is_report : (call : Call) (status : Status) (report : List ℕ) → is_worked status ≡ true
+    → IsWorked call status report → IsReport call status report
+worked_is_report call Done report is worked = worked
+worked_is_report call Differs report is worked = worked
+worked_is_report call Unknown report is worked = worked
+worked_is_report call Usage report is worked = absurd cc
+worked_is_report call Refused report is worked = absurd cc
+worked_is_report call ReadFault report is worked = absurd cc
+worked_is_report call WriteFault report is worked = absurd cc
+worked_is_report call NoMemory report is worked = absurd cc
+
+-- ---- the files of a request
+
+-- the files of a request
+of_request : (request : RequestData) (files : FilesRead) → files.names ≡ request.files
+    → files ≡ files_of request files.contents
+of_request request files names = ap (λ (ns : List (List ℕ)). record files { names = ns }) names
+
+-- what was made of them is answered
+pub is_answered : (call : Call) (request : RequestData) (files : FilesRead) (work : Work) (status : Status)
+    (report : List ℕ)
+    → request_of call.words ≡ Some request → files.names ≡ request.files
+    → Ends (plan_of request.command) call.shelf_before call.shelf_now files (Ok work) → IsAnswer work status report
+    → IsReport call status report
+is_answered call request files work status report requested names ends answer =
+    worked_is_report call status report (answer_is_worked work status report answer) (record {
+      request = request;
+      requested = requested;
+      contents = files.contents;
+      work = work;
+      made = subst (λ (fs : FilesRead). IsLeft (plan_of request.command) call.shelf_before fs (done work))
+          (of_request request files names) ends.comes;
+      answer = answer;
+    })

@@ -1,0 +1,11 @@
+use Rattle.std.proofs.Common.{◌∙◌}
+use Rattle.std.proofs.lemmas.Result.{IfOk-weaker}
+use Rattle.mw_top.specs.Request.{data_of}
+use Rattle.mw_top.proofs.Reports.{is_answered}
+use Rattle.mw_top.proofs.top_call.answer.Goals as goal
+
+pub returns-in-Ok-clause-report : goal.returns-in-Ok-clause-report
+returns-in-Ok-clause-report g c = λ call requested before now.
+    IfOk-weaker c.answered.result _ _ (λ outcome answer.
+    is_answered call (data_of c.args.request.now) c.made.new.files c.in-Ok.work outcome.status outcome.report.items requested
+    (c.in-Ok.ensures.names ∙ c.new-files.ensures.names) (rw (before, now) c.in-Ok.ensures.ends) answer) c.answered.ensures

@@ -1,0 +1,4 @@
+-- The commands: what each makes of its files, and what is answered then.
+pub mod Asm
+pub mod Compare
+pub mod Table

@@ -1,0 +1,57 @@
+// The commands: what each makes of its files, and what is answered then.
+ghost use Rattle.std.specs.Prelude.{◌≡◌, [], IfOk, length};
+ghost use Rattle.mw_plan.specs.Steps.{Ends};
+ghost use Rattle.mw_plan.specs.Shelf.{shown};
+ghost use Rattle.mw_top.specs.Commands.Table.{plan_of, IsAnswer};
+ghost use Rattle.mw_top.specs.Request.{row_of};
+
+mod asm;
+mod compare;
+
+use crate::bundle::Bundle;
+use crate::fault::Fault;
+use crate::outcome::Outcome;
+use crate::request::Command;
+use mw_asm::Assembled;
+use mw_base::NoMemory;
+use mw_board::Board;
+use mw_outside::Shelf;
+use mw_plan::{Files, Stop};
+use std::alloc::Global;
+
+/// What the commands make of their files.
+#[derive(Drop)]
+pub(crate) enum Work {
+    /// A start that is compared.
+    Comparison(Bundle),
+    /// A board, and what a microprogram is assembled to for it.
+    Assembly(Board, Assembled),
+}
+
+/// Reads the files of a command, and makes of them what its plan says.
+pub(crate) fn made<S: Shelf>(
+    alloc: Global,
+    command: Command,
+    shelf: &mut S,
+    files: &mut Files<'_, Work, Fault>,
+) -> Result<Work, Stop<Fault>>
+    requires counted { length files.old.names ≡ (row_of command).files }
+    requires none_read { files.old.contents ≡ [] }
+    ensures ends { Ends (plan_of command) (shown S.Shelf shelf.old) (shown S.Shelf shelf.new) files.new result }
+    ensures names { files.new.names ≡ files.old.names }
+{
+    match command {
+        Command::Compare => compare::comparison(alloc, shelf, files),
+        Command::Asm => asm::assembly(alloc, shelf, files),
+    }
+}
+
+/// Answers with what a command made of its files.
+pub(crate) fn answered(alloc: Global, work: &Work) -> Result<Outcome, NoMemory>
+    ensures { IfOk result (λ outcome. IsAnswer work.now outcome.status outcome.report.items) }
+{
+    match work {
+        Work::Comparison(bundle) => compare::compared(alloc, bundle),
+        Work::Assembly(board, assembled) => asm::listed(alloc, board, assembled),
+    }
+}

@@ -1,0 +1,49 @@
+// asm: a board file, and a microprogram for its board.
+ghost use Rattle.std.specs.Prelude.{◌≡◌, [], IfOk, length};
+ghost use Rattle.mw_plan.specs.Steps.{Ends};
+ghost use Rattle.mw_plan.specs.Shelf.{shown};
+ghost use Rattle.mw_top.specs.Commands.Asm.{asm_plan, IsListing};
+
+use super::Work;
+use crate::fault::Fault;
+use crate::outcome::Outcome;
+use crate::status::Status;
+use mw_asm::{Assembled, assemble, listing};
+use mw_base::NoMemory;
+use mw_board::Board;
+use mw_boardfile::read_board;
+use mw_outside::Shelf;
+use mw_plan::{Files, Stop};
+use std::alloc::Global;
+
+/// Assembles the microprogram for the board.
+#[tactic(auto, unfolding(crate::specs::Commands::Asm::asm_plan))]
+pub(super) fn assembly<S: Shelf>(
+    alloc: Global,
+    shelf: &mut S,
+    files: &mut Files<'_, Work, Fault>,
+) -> Result<Work, Stop<Fault>>
+    requires two { length files.old.names ≡ 2 }
+    requires none_read { files.old.contents ≡ [] }
+    ensures ends { Ends asm_plan (shown S.Shelf shelf.old) (shown S.Shelf shelf.new) files.new result }
+    ensures names { files.new.names ≡ files.old.names }
+{
+    let board = files.next(alloc, shelf, |bytes| read_board(alloc, bytes))?;
+    let assembled = files.next(alloc, shelf, |bytes| assemble(alloc, &board, bytes))?;
+    Ok(Work::Assembly(board, assembled))
+}
+
+/// Lists what was assembled.
+pub(super) fn listed(
+    alloc: Global,
+    board: &Board,
+    assembled: &Assembled,
+) -> Result<Outcome, NoMemory>
+    ensures { IfOk result (λ outcome. IsListing board.now assembled.now outcome.status outcome.report.items) }
+{
+    let report = listing(alloc, board, assembled)?;
+    Ok(Outcome {
+        status: Status::Done,
+        report,
+    })
+}
