@@ -1,7 +1,12 @@
 pub mod FirstLines
 pub mod Glyphs
-pub mod Names
+pub mod LineReads
+pub mod Lists
+pub mod Maps
 pub mod Orders
 pub mod Padded
+pub mod Results
+pub mod Spellings
+pub mod Steps
 pub mod Stretches
 pub mod Totals

@@ -1,5 +1,5 @@
 -- Tokens of one stretch of a text and of the next.
-use Rattle.std.proofs.Common.{◌≡◌, ℕ, zero, suc, ◌+◌, ◌-◌, ◌<◌, ◌≤◌, List, [], ◌∷◌, ◌++◌, take, drop, length, slice_index, refl, ap, arith, append_assoc, append-nil}
+use Rattle.std.proofs.Common.{◌≡◌, ℕ, zero, suc, ◌+◌, ◌-◌, ◌<◌, ◌≤◌, List, [], ◌∷◌, ◌++◌, take, drop, length, slice_index, refl, ap, arith, append-nil}
 use Rattle.std.proofs.lemmas.List.{take_all, length-drop, drop-drop, drop_all}
 use Rattle.std.specs.Prelude.{Result, Ok, Err}
 use Rattle.mw_base.specs.declared.cause.Cause.{Cause}
@@ -9,13 +9,10 @@ use Rattle.mw_base.specs.declared.piece.Piece.{Piece}
 use Rattle.mw_base.specs.declared.refusal.Refused.{Refused}
 use Rattle.mw_base.specs.declared.refusal.Refused.TheVariants.{At, NoMemory}
 use Rattle.mw_base.specs.Lines.{lines_of, content}
-use Rattle.mw_base.specs.Reading.{Fails}
+use Rattle.mw_base.specs.Reading.{with_front, Fails}
 use Rattle.mw_base.specs.Pieces.{piece_at}
-use Rattle.mw_base.specs.Tokens.{before, both, line_tokens, fault_at, token_at, tokens_from, lines_tokens}
-
-pub before_twice : (a b : List Token) (read : Result (List Token) TextFault) → before (a ++ b) read ≡ before a (before b read)
-before_twice a b (Ok tokens) = ap Ok (append_assoc a b tokens)
-before_twice a b (Err fault) = refl
+use Rattle.mw_base.specs.Tokens.{both, line_tokens, fault_at, token_at, tokens_from, lines_tokens}
+use Rattle.mw_base.proofs.Lists.{with_front_twice}
 
 -- the bytes that the piece before takes are passed over
 pub passed_over : (number start at covered : ℕ) (line : List ℕ) → covered ≤ length line → tokens_from number start at covered line ≡ tokens_from number start (at + covered) 0 (drop covered line)
@@ -27,7 +24,7 @@ passed_over number start at (suc covered) (c ∷ rest) h =
     rw (← e) (passed_over number start (at + 1) covered rest (omega arith))
 
 -- a piece at the front, and what follows it
-front_read : (number start at : ℕ) (rest : List ℕ) (piece : Piece) → piece_at (slice_index rest 0) rest ≡ Ok piece → 1 ≤ piece.length → piece.length ≤ length rest → tokens_from number start at 0 rest ≡ before (token_at number start at piece.kind piece.length) (tokens_from number start (at + piece.length) 0 (drop piece.length rest))
+front_read : (number start at : ℕ) (rest : List ℕ) (piece : Piece) → piece_at (slice_index rest 0) rest ≡ Ok piece → 1 ≤ piece.length → piece.length ≤ length rest → tokens_from number start at 0 rest ≡ with_front (token_at number start at piece.kind piece.length) (tokens_from number start (at + piece.length) 0 (drop piece.length rest))
 unfolding tokens_from
 front_read number start at [] piece is least most = absurd (omega arith)
 front_read number start at (c ∷ rest) piece is least most =
@@ -51,7 +48,7 @@ pub rest_is : (line : List ℕ) (at : ℕ) → rest_of line at ≡ drop at line
 rest_is line at = take_all (length line - at) (drop at line) (omega (arith, length-drop at line))
 
 -- a piece at a place of a line, and what follows it
-pub piece_read : (number start at : ℕ) (line : List ℕ) (piece : Piece) → at < length line → piece_at (slice_index (rest_of line at) 0) (rest_of line at) ≡ Ok piece → 1 ≤ piece.length → piece.length ≤ length (rest_of line at) → tokens_from number start at 0 (drop at line) ≡ before (token_at number start at piece.kind piece.length) (tokens_from number start (at + piece.length) 0 (drop (at + piece.length) line))
+pub piece_read : (number start at : ℕ) (line : List ℕ) (piece : Piece) → at < length line → piece_at (slice_index (rest_of line at) 0) (rest_of line at) ≡ Ok piece → 1 ≤ piece.length → piece.length ≤ length (rest_of line at) → tokens_from number start at 0 (drop at line) ≡ with_front (token_at number start at piece.kind piece.length) (tokens_from number start (at + piece.length) 0 (drop (at + piece.length) line))
 piece_read number start at line piece inside is least most =
     let at_front = rw (rest_is line at) at is in
     let inside_front = rw (rest_is line at) at most in
@@ -64,30 +61,34 @@ piece_fails number start at line cause inside is =
     front_fails number start at (drop at line) cause (omega (arith, length-drop at line)) at_front
 
 -- a line is read to its end
-pub line_done : (front : List Token) (number start at : ℕ) (line : List ℕ) → length line ≤ at → before front (tokens_from number start at 0 (drop at line)) ≡ Ok front
+pub line_done : (front : List Token) (number start at : ℕ) (line : List ℕ) → length line ≤ at → with_front front (tokens_from number start at 0 (drop at line)) ≡ Ok front
 unfolding tokens_from
 line_done front number start at line past = let over = drop_all at line past in rw over (ap Ok (append-nil front))
 
-both_read : (old new : List Token) (first later : Result (List Token) TextFault) → Ok new ≡ before old first → before old (both first later) ≡ before new later
-both_read old new (Ok front) later read = let joined : new ≡ old ++ front = cc in rw (joined, before_twice) refl
+both_read : (old new : List Token) (first later : Result (List Token) TextFault) → Ok new ≡ with_front old first → with_front old (both first later) ≡ with_front new later
+both_read old new (Ok front) later read = let joined : new ≡ old ++ front = cc in rw (joined, with_front_twice old front later) refl
 both_read old new (Err fault) later read = cc
 
+-- the first line of what is left of a text, and the lines after it
+pub lines_left : (text line : List ℕ) (start : ℕ) → lines_of (rest_of text start) ≡ line ∷ lines_of (drop (length line) (rest_of text start)) → lines_of (drop start text) ≡ line ∷ lines_of (drop (start + length line) text)
+lines_left text line start first =
+    let cut = rw (rest_is text start) at first in
+    rw (← drop-drop (length line) start text) cut
+
 -- a line, and the lines after it
-pub lines_read : (old new : List Token) (number start : ℕ) (text line : List ℕ) → lines_of (rest_of text start) ≡ line ∷ lines_of (drop (length line) (rest_of text start)) → Ok new ≡ before old (line_tokens number start (content line)) → before old (lines_tokens number start (lines_of (drop start text))) ≡ before new (lines_tokens (number + 1) (start + length line) (lines_of (drop (start + length line) text)))
+pub lines_read : (old new : List Token) (number start : ℕ) (text line : List ℕ) → lines_of (rest_of text start) ≡ line ∷ lines_of (drop (length line) (rest_of text start)) → Ok new ≡ with_front old (line_tokens number start (content line)) → with_front old (lines_tokens number start (lines_of (drop start text))) ≡ with_front new (lines_tokens (number + 1) (start + length line) (lines_of (drop (start + length line) text)))
 unfolding lines_tokens
 lines_read old new number start text line first read =
-    let cut = rw (rest_is text start) at first in
-    rw (cut, drop-drop (length line) start text) (both_read old new (line_tokens number start (content line)) (lines_tokens (number + 1) (start + length line) (lines_of (drop (start + length line) text))) read)
+    rw (lines_left text line start first) (both_read old new (line_tokens number start (content line)) (lines_tokens (number + 1) (start + length line) (lines_of (drop (start + length line) text))) read)
 
 -- a line that is refused
-pub lines_refused : (refusal : Refused TextFault) (old : List Token) (number start : ℕ) (text line : List ℕ) → lines_of (rest_of text start) ≡ line ∷ lines_of (drop (length line) (rest_of text start)) → Fails refusal (line_tokens number start (content line)) → Fails refusal (before old (lines_tokens number start (lines_of (drop start text))))
+pub lines_refused : (refusal : Refused TextFault) (old : List Token) (number start : ℕ) (text line : List ℕ) → lines_of (rest_of text start) ≡ line ∷ lines_of (drop (length line) (rest_of text start)) → Fails refusal (line_tokens number start (content line)) → Fails refusal (with_front old (lines_tokens number start (lines_of (drop start text))))
 unfolding lines_tokens
 lines_refused NoMemory old number start text line first fails = tt
 lines_refused (At fault) old number start text line first fails =
-    let cut = rw (rest_is text start) at first in
-    rw (cut, fails) refl
+    rw (lines_left text line start first, fails) refl
 
 -- all lines are read
-pub lines_done : (front : List Token) (number start : ℕ) (text : List ℕ) → length text ≤ start → before front (lines_tokens number start (lines_of (drop start text))) ≡ Ok front
+pub lines_done : (front : List Token) (number start : ℕ) (text : List ℕ) → length text ≤ start → with_front front (lines_tokens number start (lines_of (drop start text))) ≡ Ok front
 unfolding lines_tokens lines_of
 lines_done front number start text past = let over = drop_all start text past in rw over (ap Ok (append-nil front))

@@ -1,9 +1,16 @@
 pub mod Causes
+pub mod Cursors
 pub mod Lines
 pub mod Literals
+pub mod Named
 pub mod Names
 pub mod Numbers
 pub mod Pieces
+pub mod Places
 pub mod Reading
+pub mod Signs
+pub mod Steps
+pub mod Symbols
+pub mod TokenLines
 pub mod Tokens
 pub mod Words

@@ -1,5 +1,5 @@
 -- What readers give: a value, or the first fault of what they read.
-use Rattle.std.specs.Prelude.{◌≡◌, Result, Ok, Err}
+use Rattle.std.specs.Prelude.{◌≡◌, List, ◌++◌, Result, Ok, Err}
 use Rattle.mw_base.specs.declared.refusal.Refused.{Refused}
 use Rattle.mw_base.specs.declared.refusal.Refused.TheVariants.{At, NoMemory}
 
@@ -8,6 +8,10 @@ infixl 10 ◌>>=◌
 abbrev pub ◌>>=◌ : {A B F : Type 0} → Result A F → (A → Result B F) → Result B F
 (Ok x) >>= f = f x
 (Err fault) >>= f = Err fault
+
+-- some items before those that are read
+abbrev pub with_front : {A F : Type 0} → List A → Result (List A) F → Result (List A) F
+with_front front read = read >>= λ rest. Ok (front ++ rest)
 
 -- the refusal of a call is the fault that reading gives, unless memory ran out
 abbrev pub Fails : {Y F : Type 0} → Refused F → Result Y F → Type 0

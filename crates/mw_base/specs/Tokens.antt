@@ -1,5 +1,5 @@
 -- The tokens of a text, or the first fault of its bytes by place.
-use Rattle.std.specs.Prelude.{ℕ, zero, suc, ◌+◌, ◌-◌, ◌<◌, ◌≤◌, List, [], ◌∷◌, ◌++◌, if◌then◌else◌, nat_le, Option, Some, None, Result, Ok, Err, length, take, drop, All, AllPairs}
+use Rattle.std.specs.Prelude.{ℕ, zero, suc, ◌+◌, ◌-◌, ◌<◌, ◌≤◌, List, [], ◌∷◌, if◌then◌else◌, nat_le, Option, Some, None, Result, Ok, Err, length, take, drop, All, AllPairs}
 use Rattle.mw_base.specs.declared.cause.Cause.{Cause}
 use Rattle.mw_base.specs.declared.cause.Cause.TheVariants.{LineTooLong}
 use Rattle.mw_base.specs.declared.refusal.TextFault.{TextFault}
@@ -8,15 +8,11 @@ use Rattle.mw_base.specs.declared.token.Token.{Token}
 use Rattle.mw_base.specs.declared.piece.Piece.{Piece}
 use Rattle.mw_base.specs.Lines.{lines_of, content}
 use Rattle.mw_base.specs.Pieces.{piece_at, Spells}
-
--- some tokens before what is read after them
-abbrev pub before : List Token → Result (List Token) TextFault → Result (List Token) TextFault
-before front (Ok tokens) = Ok (front ++ tokens)
-before front (Err fault) = Err fault
+use Rattle.mw_base.specs.Reading.{with_front}
 
 -- what is read of one stretch and then of the next
 abbrev pub both : Result (List Token) TextFault → Result (List Token) TextFault → Result (List Token) TextFault
-both (Ok front) back = before front back
+both (Ok front) back = with_front front back
 both (Err fault) back = Err fault
 
 -- a fault at place `at`, from 0, of a line
@@ -30,7 +26,7 @@ token_at number start at (Some kind) n = record { kind = kind; line = number; co
 
 -- the tokens of a piece, and of what follows once its bytes are passed over
 abbrev pub piece_then : ℕ → ℕ → ℕ → Result Piece Cause → (ℕ → Result (List Token) TextFault) → Result (List Token) TextFault
-piece_then number start at (Ok piece) later = before (token_at number start at piece.kind piece.length) (later (piece.length - 1))
+piece_then number start at (Ok piece) later = with_front (token_at number start at piece.kind piece.length) (later (piece.length - 1))
 piece_then number start at (Err cause) later = Err (fault_at number at cause)
 
 -- the tokens of a line from place `at` on, left to right, each as long as it can be; the first `covered` bytes belong to the piece before

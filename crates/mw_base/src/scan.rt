@@ -2,8 +2,8 @@
 ghost use Rattle.std.specs.Prelude.{◌≡◌, ℕ, List, Result, ◌+◌, ◌<◌, ◌≤◌, ◌^◌, ◌∷◌, ◌++◌, IfOk, IfErr, OnOk, Ok, Some, length, take, drop};
 ghost use Rattle.mw_base.specs.Lines.{lines_of, before_feed, content};
 ghost use Rattle.mw_base.specs.Pieces.{Spells};
-ghost use Rattle.mw_base.specs.Reading.{Fails, Gives};
-ghost use Rattle.mw_base.specs.Tokens.{before, fault_at, token_at, tokens_from, line_tokens, of_long_line, tokens_of, slice, InOrder};
+ghost use Rattle.mw_base.specs.Reading.{with_front, Fails, Gives};
+ghost use Rattle.mw_base.specs.Tokens.{fault_at, token_at, tokens_from, line_tokens, of_long_line, tokens_of, slice, InOrder};
 
 use crate::cause::Cause;
 use crate::piece::{Piece, piece_at};
@@ -54,7 +54,7 @@ pub fn content(line: &[u8]) -> &[u8]
 }
 
 /// The column, from 1, of a place of a line, from 0.
-fn column_of(at: usize) -> u32
+pub(crate) fn column_of(at: usize) -> u32
     requires { at + 1 < 2 ^ 32 }
     ensures { result ≡ at + 1 }
 {
@@ -110,8 +110,8 @@ fn push_piece(
 ) -> Result<usize, Refusal>
     requires inside { at < length line.now }
     requires short { start + length line.now < 2 ^ 32 }
-    ensures goes { IfOk result (λ next. before tokens.new.items (tokens_from number start next 0 (drop next line.now))
-        ≡ before tokens.old.items (tokens_from number start at 0 (drop at line.now))) }
+    ensures goes { IfOk result (λ next. with_front tokens.new.items (tokens_from number start next 0 (drop next line.now))
+        ≡ with_front tokens.old.items (tokens_from number start at 0 (drop at line.now))) }
     ensures ordered { (text : List ℕ) → slice text start (start + length line.now) ≡ line.now → InOrder text (start + at) tokens.old.items
         → IfOk result (λ next. InOrder text (start + next) tokens.new.items) }
     ensures on { IfOk result (λ next. (at < next) × (next ≤ length line.now)) }
@@ -134,7 +134,7 @@ fn push_pieces(
     line: &[u8],
 ) -> Result<(), Refusal>
     requires short { start + length line.now < 2 ^ 32 }
-    ensures pushed { OnOk result (Ok tokens.new.items ≡ before tokens.old.items (tokens_from number start 0 0 line.now)) }
+    ensures pushed { OnOk result (Ok tokens.new.items ≡ with_front tokens.old.items (tokens_from number start 0 0 line.now)) }
     ensures ordered { (text : List ℕ) → slice text start (start + length line.now) ≡ line.now → InOrder text start tokens.old.items
         → OnOk result (InOrder text (start + length line.now) tokens.new.items) }
     ensures refused { IfErr result (λ refusal. Fails refusal (tokens_from number start 0 0 line.now)) }
@@ -162,11 +162,17 @@ fn of_long_line(number: u32, refusal: Refusal) -> Refusal
 
 /// Reads a line, which has this number and begins at this place of the text.
 #[tactic(auto, unfolding(crate::specs::Tokens::line_tokens))]
-fn push_line(tokens: &mut Vec<Token>, number: u32, start: usize, line: &[u8]) -> Result<(), Refusal>
+pub(crate) fn push_line(
+    tokens: &mut Vec<Token>,
+    number: u32,
+    start: usize,
+    line: &[u8],
+) -> Result<(), Refusal>
     requires short { start + length line.now < 2 ^ 32 }
-    ensures pushed { OnOk result (Ok tokens.new.items ≡ before tokens.old.items (line_tokens number start line.now)) }
+    ensures pushed { OnOk result (Ok tokens.new.items ≡ with_front tokens.old.items (line_tokens number start line.now)) }
     ensures ordered { (text : List ℕ) → slice text start (start + length line.now) ≡ line.now → InOrder text start tokens.old.items
         → OnOk result (InOrder text (start + length line.now) tokens.new.items) }
+    ensures within { OnOk result (length line.now ≤ 4096) }
     ensures refused { IfErr result (λ refusal. Fails refusal (line_tokens number start line.now)) }
 {
     let read = push_pieces(tokens, number, start, line);

@@ -1,6 +1,6 @@
 use Rattle.std.proofs.Common.{◌≡◌, ◌∙◌, sym, refl}
 use Rattle.mw_base.specs.declared.token.Kind.TheVariants.{Name}
-use Rattle.mw_base.proofs.Names.{name_spelled}
+use Rattle.mw_base.proofs.Spellings.{name_spelled}
 use Rattle.mw_base.proofs.piece.piece_at.Goals as goal
 
 pub returns-in_default-clause-spelled : goal.returns-in_default-clause-spelled
