@@ -2,7 +2,11 @@
 #![tactic(auto)]
 
 mod expr;
+mod follow;
 mod laws;
+mod parse;
+mod placed;
+mod reductions;
 mod shape;
 mod values;
 mod width;
