@@ -1,4 +1,5 @@
 pub mod Accepted
+pub mod Firsts
 pub mod Joins
 pub mod Parts
 pub mod Trees

@@ -1,6 +1,8 @@
+pub mod Faults
 pub mod Grammar
 pub mod Parts
 pub mod Placed
+pub mod Plain
 pub mod Tree
 pub mod Values
 pub mod Widths

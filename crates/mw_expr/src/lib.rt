@@ -1,7 +1,9 @@
 //! Expressions over the elements of a shape and a memory: their trees, widths and values.
 #![tactic(auto)]
 
+mod build;
 mod expr;
+mod faults;
 mod follow;
 mod laws;
 mod parse;

@@ -8,13 +8,13 @@ use crate::shape::Shape;
 use mw_base::Cause;
 
 /// The widest word.
-const WIDEST: u8 = 32;
+pub(crate) const WIDEST: u8 = 32;
 
 /// How deep an expression may be.
 const DEEPEST: u8 = 64;
 
 /// A width where a rule holds, which is 1 to 32 bits.
-fn width_if(rule: bool, width: u8) -> Option<u8>
+pub(crate) fn width_if(rule: bool, width: u8) -> Option<u8>
     ensures { result ≡ width_if rule width }
 {
     if rule && 1 <= width && width <= WIDEST {
@@ -50,7 +50,7 @@ fn constant_width(number: u32, bits: u8) -> Option<u8>
     width_if(u64::from(number) < 1u64 << width, width)
 }
 
-fn part_width(whole: u8, high: u8, low: u8) -> Option<u8>
+pub(crate) fn part_width(whole: u8, high: u8, low: u8) -> Option<u8>
     ensures { result ≡ part_width high low (Some whole) }
 {
     if low <= high && high < whole {
