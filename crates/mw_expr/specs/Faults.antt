@@ -1,6 +1,5 @@
 -- What is at fault in a grammatical expression: each fault at its token. The answer is the least of them.
-use Rattle.std.specs.Prelude.{ℕ, zero, suc, ◌+◌, ◌-◌, ◌<◌, ◌^◌, min, List, [], ◌∷◌, ◌++◌, length, Bool, true, false, not, ◌&&◌, ◌||◌, nat_le, nat_lt, ◌==◌, if◌then◌else◌, Option, Some, None, is_some, unwrap_or, slice_get}
-use Rattle.mw_base.specs.declared.cause.Cause.{Cause}
+use Rattle.std.specs.Prelude.{ℕ, zero, suc, ◌+◌, ◌^◌, min, List, [], ◌∷◌, ◌++◌, Bool, true, false, not, ◌&&◌, ◌||◌, nat_le, nat_lt, ◌==◌, if◌then◌else◌, Option, Some, None, slice_get}
 use Rattle.mw_base.specs.declared.cause.Cause.TheVariants.{TooWide, UnknownElement, WidthsDiffer, TooDeep}
 use Rattle.mw_base.specs.declared.cursor.Numeral.{Numeral}
 use Rattle.mw_base.specs.declared.refusal.TextFault.{TextFault}

@@ -1,9 +1,8 @@
 -- The grammar of expressions, one token at a time. From weakest to strongest: the choice, which groups to the right; the signs between
 -- two operands, which group to the left; the prefix; the suffixes; the operands.
-use Rattle.std.specs.Prelude.{◌≡◌, ℕ, ◌+◌, List, [], ◌∷◌, ◌++◌, codes, length, Bool, true, false, not, ◌==◌, nat_le, nat_lt, if◌then◌else◌, Option, Some, None, option_map, ok_or, position, Result, Ok, Err}
+use Rattle.std.specs.Prelude.{ℕ, List, [], ◌∷◌, ◌++◌, codes, Bool, ◌==◌, nat_le, nat_lt, if◌then◌else◌, Option, Some, None, option_map, ok_or, position, Result}
 use Rattle.std.specs.List.{list_any}
 use Rattle.std.specs.Str.{bytes_eq}
-use Rattle.mw_base.specs.declared.cursor.Numeral.{Numeral}
 use Rattle.mw_base.specs.declared.refusal.TextFault.{TextFault}
 use Rattle.mw_base.specs.declared.sign.Sign.{Sign as SignOf}
 use Rattle.mw_base.specs.declared.sign.Sign.TheVariants as signs
@@ -15,7 +14,7 @@ use Rattle.mw_base.specs.Reading.{◌>>=◌}
 use Rattle.mw_base.specs.Symbols.{spelled, symbol_of, is_sign}
 use Rattle.mw_expr.specs.declared.expr.Pair2.{Pair2}
 use Rattle.mw_expr.specs.declared.expr.Pair2.TheVariants.{And, Or, Xor, Add, Sub, Same, Differs, Less}
-use Rattle.mw_expr.specs.Placed.{Placed, named, constant, complement, pair, choice, part, join, widened, memory, group, Parts, parts_of, Open, nothing, complementing, pairing, choosing, otherwise, grouping, joining, widening, reading, Awaits, an_operand, a_dot, a_member, a_bracket, a_parenthesis, a_hash, a_width, a_high, a_colon, a_low, a_close, a_new_width, a_widen_end, a_sign, State}
+use Rattle.mw_expr.specs.Placed.{Placed, named, constant, complement, pair, choice, part, join, widened, memory, group, parts_of, Open, nothing, complementing, pairing, choosing, otherwise, grouping, joining, widening, reading, Awaits, an_operand, a_dot, a_member, a_bracket, a_parenthesis, a_hash, a_width, a_high, a_colon, a_low, a_close, a_new_width, a_widen_end, a_sign, State}
 
 -- what the words of a text mean: the names of the elements, whether elements are NAME . NAME, else NAME, and whether there is a memory
 pub record Meaning : Type 0 where
@@ -208,12 +207,19 @@ tree_from m cursor s (token ∷ rest) = do
 abbrev pub beginning : State
 beginning = state an_operand nothing
 
--- the words over the elements of these names and a memory of such addresses: elements are NAME . NAME where a name has a dot
+abbrev pub has_dot : List ℕ → Bool
+has_dot name = list_any (λ c. c == 46) name
+
+-- elements are NAME . NAME where a name has a dot, else NAME
+abbrev pub is_dotted : List (List ℕ) → Bool
+is_dotted names = list_any (λ name. has_dot name) names
+
+-- the words over the elements of these names and a memory with addresses of so many bits
 abbrev pub meaning_of : List ℕ → List (List ℕ) → (address : ℕ) → Meaning
 meaning_of text names address = record {
   text = text;
   names = names;
-  is_dotted = list_any (λ name. list_any (λ c. c == 46) name) names;
+  is_dotted = is_dotted names;
   has_memory = nat_lt 0 address;
 }
 

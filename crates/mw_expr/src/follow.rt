@@ -84,7 +84,10 @@ fn name_begins(meaning: Meaning, token: Token, name: &[u8], below: Open) -> Opti
     } else if meaning.is_dotted {
         awaiting(Awaits::Dot(token), below)
     } else {
-        let element = Placed::Element(token, number_of(meaning.names, spelled(meaning.text, token)));
+        let element = Placed::Element(
+            token,
+            number_of(meaning.names, spelled(meaning.text, token)),
+        );
         awaiting(Awaits::Sign(element), below)
     }
 }
@@ -372,7 +375,9 @@ pub(crate) fn follows(
             Some(most) => Ok(awaiting(Awaits::Colon(from, tree, most), open)),
             None => Ok(None),
         },
-        Awaits::Colon(from, tree, most) => part_follows(alloc, meaning, token, symbol, from, tree, most, open),
+        Awaits::Colon(from, tree, most) => part_follows(
+            alloc, meaning, token, symbol, from, tree, most, open,
+        ),
         Awaits::Low(from, tree, most) => match number_in(symbol) {
             Some(least) => Ok(awaiting(Awaits::Close(from, tree, most, least), open)),
             None => Ok(None),

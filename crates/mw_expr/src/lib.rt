@@ -10,12 +10,14 @@ mod parse;
 mod placed;
 mod reductions;
 mod shape;
+mod text;
 mod values;
 mod width;
 
 pub use expr::{Expr, Pair2};
 pub use laws::{parts_have_widths, widths_are_by_rule};
 pub use shape::Shape;
+pub use text::parse_expr;
 pub use values::value;
 pub use width::width_of;
 

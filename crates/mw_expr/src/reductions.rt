@@ -96,7 +96,10 @@ pub(crate) fn reduce(
                 Ok(Reduced { tree, below })
             }
         }
-        Open::Nothing => Ok(Reduced { tree, below: Open::Nothing }),
+        Open::Nothing => Ok(Reduced {
+            tree,
+            below: Open::Nothing,
+        }),
         Open::Choose(token, condition, below) => {
             let below = Open::Choose(token, condition, below);
             Ok(Reduced { tree, below })

@@ -1,4 +1,4 @@
-use Rattle.std.proofs.Common.{◌≡◌, ◌+◌, List, ◌∷◌, map, drop, arith, rules, ap, ◌∙◌, sym}
+use Rattle.std.proofs.Common.{◌≡◌, ◌+◌, map, drop, arith, rules, ap, ◌∙◌, sym}
 use Rattle.std.specs.Prelude.{Some, not, ◌&&◌, ◌||◌, nat_le}
 use Rattle.mw_base.proofs.Lists as lists
 use Rattle.mw_expr.specs.declared.placed.Placed.{the_lemmas}
@@ -34,8 +34,8 @@ check-returns-in-Two-clause-faults t c =
     let second = rw c.deref-in-Two-2.ensures at c.check-other.ensures.width in
     let breaks = rw (c.pair_breaks.ensures, first, second) at c.note_broken.ensures in
     rw seen (after_four _ _ _ _ _ (deep left c.in-Two.token) (faults s (below left) (placed c.in-Two.a.value)) (faults s (below left) (placed c.in-Two.b.value))
-      (broken (pair_breaks (seen_width s (placed c.in-Two.a.value)) (seen_width s (placed c.in-Two.b.value))) c.in-Two.token)
-      c.note_deep-in-Two.ensures a b breaks)
+    (broken (pair_breaks (seen_width s (placed c.in-Two.a.value)) (seen_width s (placed c.in-Two.b.value))) c.in-Two.token)
+    c.note_deep-in-Two.ensures a b breaks)
 
 pub check-returns-in-Choose-clause-faults : goal.check-returns-in-Choose-clause-faults
 check-returns-in-Choose-clause-faults t c =
@@ -50,9 +50,9 @@ check-returns-in-Choose-clause-faults t c =
     let second = rw c.deref-in-Choose-3.ensures at c.check-other-in-Choose.ensures.width in
     let breaks = rw (c.choice_breaks.ensures, chosen_by, first, second) at c.note_broken-in-Choose.ensures in
     rw seen (after_five _ _ _ _ _ _ (deep left c.in-Choose.token) (faults s (below left) (placed c.in-Choose.condition.value))
-      (faults s (below left) (placed c.in-Choose.a.value)) (faults s (below left) (placed c.in-Choose.b.value))
-      (broken (is_other 1 (seen_width s (placed c.in-Choose.condition.value)) || pair_breaks (seen_width s (placed c.in-Choose.a.value)) (seen_width s (placed c.in-Choose.b.value))) c.in-Choose.token)
-      c.note_deep-in-Choose.ensures condition a b breaks)
+    (faults s (below left) (placed c.in-Choose.a.value)) (faults s (below left) (placed c.in-Choose.b.value))
+    (broken (is_other 1 (seen_width s (placed c.in-Choose.condition.value)) || pair_breaks (seen_width s (placed c.in-Choose.a.value)) (seen_width s (placed c.in-Choose.b.value))) c.in-Choose.token)
+    c.note_deep-in-Choose.ensures condition a b breaks)
 
 pub check-returns-in-Part-clause-faults : goal.check-returns-in-Part-clause-faults
 check-returns-in-Part-clause-faults t c =
@@ -63,8 +63,8 @@ check-returns-in-Part-clause-faults t c =
     let width = rw c.deref-in-Part.ensures at c.check-whole.ensures.width in
     let breaks = rw (c.part_breaks.ensures, width) at c.note_broken-in-Part.ensures in
     rw seen (after_three _ _ _ _ (deep left c.in-Part.token) (faults s (below left) (placed c.in-Part.e.value))
-      (broken (part_breaks c.in-Part.high c.in-Part.low (seen_width s (placed c.in-Part.e.value))) c.in-Part.token)
-      c.note_deep-in-Part.ensures e breaks)
+    (broken (part_breaks c.in-Part.high c.in-Part.low (seen_width s (placed c.in-Part.e.value))) c.in-Part.token)
+    c.note_deep-in-Part.ensures e breaks)
 
 pub check-returns-in-Widen-clause-faults : goal.check-returns-in-Widen-clause-faults
 check-returns-in-Widen-clause-faults t c =
@@ -75,8 +75,8 @@ check-returns-in-Widen-clause-faults t c =
     let width = rw c.deref-in-Widen.ensures at c.check-narrow.ensures.width in
     let breaks = rw (c.widen_breaks.ensures, width) at c.note_broken-in-Widen.ensures in
     rw seen (after_three _ _ _ _ (deep left c.in-Widen.token) (faults s (below left) (placed c.in-Widen.e.value))
-      (broken (not (nat_le 1 c.in-Widen.width && nat_le c.in-Widen.width 32) || is_past c.in-Widen.width (seen_width s (placed c.in-Widen.e.value))) c.in-Widen.token)
-      c.note_deep-in-Widen.ensures e breaks)
+    (broken (not (nat_le 1 c.in-Widen.width && nat_le c.in-Widen.width 32) || is_past c.in-Widen.width (seen_width s (placed c.in-Widen.e.value))) c.in-Widen.token)
+    c.note_deep-in-Widen.ensures e breaks)
 
 pub check-returns-in-Memory-clause-faults : goal.check-returns-in-Memory-clause-faults
 check-returns-in-Memory-clause-faults t c =
@@ -87,8 +87,8 @@ check-returns-in-Memory-clause-faults t c =
     let width = rw c.deref-in-Memory.ensures at c.check-address.ensures.width in
     let breaks = rw (c.is_other.ensures, width) at c.note_broken-in-Memory.ensures in
     rw seen (after_three _ _ _ _ (deep left c.in-Memory.token) (faults s (below left) (placed c.in-Memory.e.value))
-      (broken (is_other s.address (seen_width s (placed c.in-Memory.e.value))) c.in-Memory.token)
-      c.note_deep-in-Memory.ensures e breaks)
+    (broken (is_other s.address (seen_width s (placed c.in-Memory.e.value))) c.in-Memory.token)
+    c.note_deep-in-Memory.ensures e breaks)
 
 pub check-returns-in-Join-clause-faults : goal.check-returns-in-Join-clause-faults
 check-returns-in-Join-clause-faults t c =
@@ -99,8 +99,8 @@ check-returns-in-Join-clause-faults t c =
     let width = rw c.deref-in-Join.ensures.value at c.check_parts-whole.ensures.width in
     let breaks = rw (c.is_past.ensures, width) at c.note_broken-in-Join.ensures in
     rw seen (after_three _ _ _ _ (deep left c.in-Join.token) (faults_in s (below left) (parts_of (map placed c.in-Join.parts.items)))
-      (broken (is_past 32 (seen_total s (Some 0) (parts_of (map placed c.in-Join.parts.items)))) c.in-Join.token)
-      c.note_deep-in-Join.ensures parts breaks)
+    (broken (is_past 32 (seen_total s (Some 0) (parts_of (map placed c.in-Join.parts.items)))) c.in-Join.token)
+    c.note_deep-in-Join.ensures parts breaks)
 
 pub check_parts-loop-part-preserved : goal.check_parts-loop-part-preserved
 check_parts-loop-part-preserved t c =

@@ -1,4 +1,4 @@
-use Rattle.std.proofs.Common.{◌≡◌, ℕ, List, [], ◌∷◌, ◌++◌, ap, ◌∙◌, append_assoc}
+use Rattle.std.proofs.Common.{[], ◌∷◌, ◌++◌, ap, ◌∙◌, append_assoc}
 use Rattle.mw_expr.specs.Grammar.{number_of}
 use Rattle.mw_expr.proofs.follow.number_of_dotted.Goals as goal
 
