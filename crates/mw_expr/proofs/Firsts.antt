@@ -1,0 +1,25 @@
+-- The first of faults that stand one after another.
+use Rattle.std.proofs.Common.{◌≡◌, List, [], ◌∷◌, ◌++◌, refl, ap, ◌∙◌, sym}
+use Rattle.std.specs.Prelude.{Option}
+use Rattle.mw_base.specs.declared.refusal.TextFault.{TextFault}
+use Rattle.mw_expr.specs.Faults.{first_of, first_in}
+
+pub first_in_append : (first : Option TextFault) (front back : List TextFault) → first_in first (front ++ back) ≡ first_in (first_in first front) back
+first_in_append first [] back = refl
+first_in_append first (fault ∷ front) back = first_in_append (first_of first fault) front back
+
+-- the first fault after two lists of faults, one after the other, after three, four and five
+pub after_two : (f g h : Option TextFault) (a b : List TextFault) → g ≡ first_in f a → h ≡ first_in g b → h ≡ first_in f (a ++ b)
+after_two f g h a b one two = two ∙ ap (λ x. first_in x b) one ∙ sym (first_in_append f a b)
+
+pub after_three : (f g h i : Option TextFault) (a b c : List TextFault) → g ≡ first_in f a → h ≡ first_in g b → i ≡ first_in h c → i ≡ first_in f (a ++ (b ++ c))
+after_three f g h i a b c one two three = after_two f g i a (b ++ c) one (after_two g h i b c two three)
+
+pub after_four : (f g h i j : Option TextFault) (a b c d : List TextFault) → g ≡ first_in f a → h ≡ first_in g b → i ≡ first_in h c → j ≡ first_in i d
+    → j ≡ first_in f (a ++ (b ++ (c ++ d)))
+after_four f g h i j a b c d one two three four = after_two f g j a (b ++ (c ++ d)) one (after_three g h i j b c d two three four)
+
+pub after_five : (f g h i j k : Option TextFault) (a b c d e : List TextFault) → g ≡ first_in f a → h ≡ first_in g b → i ≡ first_in h c → j ≡ first_in i d
+    → k ≡ first_in j e → k ≡ first_in f (a ++ (b ++ (c ++ (d ++ e))))
+after_five f g h i j k a b c d e one two three four five =
+    after_two f g k a (b ++ (c ++ (d ++ e))) one (after_four g h i j k b c d e two three four five)

@@ -1,0 +1,13 @@
+use Rattle.std.proofs.Common.{◌≡◌, true, ◌++◌, map, drop}
+use Rattle.mw_expr.specs.Tree.{view, trees_of}
+use Rattle.mw_expr.specs.Placed.{placed, parts_of}
+use Rattle.mw_expr.specs.Plain.{plain, plain_parts, are_small}
+use Rattle.mw_expr.proofs.build.+build.Given as goal
+
+abbrev pub invariant-build_all-loop-part : goal.invariant-build_all-loop-part
+invariant-build_all-loop-part l =
+    let rest = drop l.part-index l.parts in
+    record {
+      small : are_small (parts_of (map placed rest)) ≡ true;
+      told : trees_of (map view l.made.items ++ map (λ part. plain (placed part)) rest) ≡ plain_parts (parts_of (map placed l.parts));
+    }

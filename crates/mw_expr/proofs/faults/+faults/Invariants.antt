@@ -1,0 +1,12 @@
+use Rattle.std.proofs.Common.{◌≡◌, Some, map, drop}
+use Rattle.mw_expr.specs.Placed.{placed, parts_of}
+use Rattle.mw_expr.specs.Faults.{seen_total, faults_in, first_in}
+use Rattle.mw_expr.proofs.faults.+faults.Given as goal
+
+abbrev pub invariant-check_parts-loop-part : goal.invariant-check_parts-loop-part
+invariant-check_parts-loop-part l =
+    let rest = parts_of (map placed (drop l.part-index l.parts)) in
+    record {
+      width : seen_total l.shape l.whole rest ≡ seen_total l.shape (Some 0) (parts_of (map placed l.parts));
+      faults : first_in l.first (faults_in l.shape l.left rest) ≡ first_in l.initial.first (faults_in l.shape l.left (parts_of (map placed l.parts)));
+    }

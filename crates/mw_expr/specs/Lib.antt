@@ -1,0 +1,10 @@
+pub mod Faults
+pub mod Grammar
+pub mod Parts
+pub mod Placed
+pub mod Plain
+pub mod Text
+pub mod Tree
+pub mod Values
+pub mod Widths
+pub mod Words

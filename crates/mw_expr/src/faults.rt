@@ -1,0 +1,300 @@
+// What is at fault in a grammatical expression.
+ghost use Rattle.std.specs.Prelude.{◌≡◌, Option, Some, true, map, not, nat_le, ◌&&◌, ◌||◌};
+ghost use Rattle.mw_expr.specs.Widths.{width_if, part_width};
+ghost use Rattle.mw_expr.specs.Placed.{placed, parts_of};
+ghost use Rattle.mw_expr.specs.Faults.{named_width, same_width, seen_pair, seen_choice, beside, within_32, seen_width, seen_total, pair_breaks, is_other, part_breaks, is_past, deep, below, broken, unknown, constant_faults, faults, faults_in, is_before, first_of, first_in, first_fault};
+
+use crate::expr::Pair2;
+use crate::placed::Placed;
+use crate::shape::Shape;
+use crate::width::{WIDEST, part_width};
+use mw_base::{Cause, Numeral, TextFault, Token, fault_on};
+
+/// How many levels may stand below a whole expression.
+const LEVELS_BELOW: u8 = 64;
+
+/// Whether a fault stands before another, or at its place with a lesser number.
+fn is_before(a: TextFault, b: TextFault) -> bool
+    ensures { result ≡ is_before a b }
+{
+    a.line < b.line
+        || (a.line == b.line
+            && (a.column < b.column
+                || (a.column == b.column && a.cause.number() < b.cause.number())))
+}
+
+/// Keeps the first of a fault and what was the first before it.
+fn note(first: &mut Option<TextFault>, fault: TextFault)
+    ensures { first.new ≡ first_of first.old fault }
+{
+    match *first {
+        Some(other) if !is_before(fault, other) => {}
+        _ => *first = Some(fault),
+    }
+}
+
+fn note_deep(first: &mut Option<TextFault>, left: Option<u8>, token: Token)
+    ensures { first.new ≡ first_in first.old (deep left token) }
+{
+    match left {
+        Some(0) => note(first, fault_on(token, Cause::TooDeep)),
+        _ => {}
+    }
+}
+
+fn note_broken(first: &mut Option<TextFault>, breaks: bool, token: Token)
+    ensures { first.new ≡ first_in first.old (broken breaks token) }
+{
+    if breaks {
+        note(first, fault_on(token, Cause::WidthsDiffer));
+    }
+}
+
+fn note_unknown(first: &mut Option<TextFault>, width: Option<u8>, token: Token)
+    ensures { first.new ≡ first_in first.old (unknown width token) }
+{
+    match width {
+        Some(_) => {}
+        None => note(first, fault_on(token, Cause::UnknownElement)),
+    }
+}
+
+fn note_constant(first: &mut Option<TextFault>, number: Numeral, hash: Token, width: u128)
+    ensures { first.new ≡ first_in first.old (constant_faults number hash width) }
+{
+    if 1 <= width && width <= u128::from(WIDEST) {
+        if number.value >= 1u128 << width {
+            note(first, fault_on(number.token, Cause::TooWide));
+        }
+    } else {
+        note(first, fault_on(hash, Cause::WidthsDiffer));
+    }
+}
+
+/// How many levels may stand below a part.
+fn below(left: Option<u8>) -> Option<u8>
+    ensures { result ≡ below left }
+{
+    match left {
+        Some(levels) => levels.checked_sub(1),
+        None => None,
+    }
+}
+
+fn named_width(shape: &Shape, number: Option<usize>) -> Option<u8>
+    ensures { result ≡ named_width shape.now number }
+{
+    shape.widths.as_slice().get(number?).copied()
+}
+
+/// The width that a text names, if it is 1 to 32.
+fn given_width(width: u128) -> Option<u8>
+    ensures { result ≡ width_if true width }
+{
+    if 1 <= width && width <= u128::from(WIDEST) {
+        Some(width as u8)
+    } else {
+        None
+    }
+}
+
+fn same_width(a: Option<u8>, b: Option<u8>) -> Option<u8>
+    ensures { result ≡ same_width a b }
+{
+    let first = a?;
+    let second = b?;
+    if first == second { Some(first) } else { None }
+}
+
+fn seen_pair(op: Pair2, a: Option<u8>, b: Option<u8>) -> Option<u8>
+    ensures { result ≡ seen_pair op a b }
+{
+    match op {
+        Pair2::And | Pair2::Or | Pair2::Xor | Pair2::Add | Pair2::Sub => same_width(a, b),
+        Pair2::Same | Pair2::Differs | Pair2::Less => Some(1),
+    }
+}
+
+fn seen_choice(condition: Option<u8>, a: Option<u8>, b: Option<u8>) -> Option<u8>
+    ensures { result ≡ seen_choice condition a b }
+{
+    if condition? == 1 {
+        same_width(a, b)
+    } else {
+        None
+    }
+}
+
+fn seen_part(high: u128, low: u128, whole: Option<u8>) -> Option<u8>
+    ensures { result ≡ part_width high low whole }
+{
+    let whole = whole?;
+    if low <= high && high < u128::from(whole) {
+        part_width(whole, high as u8, low as u8)
+    } else {
+        None
+    }
+}
+
+fn beside(a: Option<u8>, b: Option<u8>) -> Option<u8>
+    ensures { result ≡ beside a b }
+{
+    let whole = u16::from(a?) + u16::from(b?);
+    Some(whole.min(33) as u8)
+}
+
+fn within_32(width: Option<u8>) -> Option<u8>
+    ensures { result ≡ within_32 width }
+{
+    let width = width?;
+    if width <= WIDEST { Some(width) } else { None }
+}
+
+fn pair_breaks(a: Option<u8>, b: Option<u8>) -> bool
+    ensures { result ≡ pair_breaks a b }
+{
+    match (a, b) {
+        (Some(a), Some(b)) => a != b,
+        _ => false,
+    }
+}
+
+fn is_other(width: u8, seen: Option<u8>) -> bool
+    ensures { result ≡ is_other width seen }
+{
+    match seen {
+        Some(seen) => seen != width,
+        None => false,
+    }
+}
+
+fn choice_breaks(condition: Option<u8>, a: Option<u8>, b: Option<u8>) -> bool
+    ensures { result ≡ (is_other 1 condition || pair_breaks a b) }
+{
+    is_other(1, condition) || pair_breaks(a, b)
+}
+
+fn part_breaks(high: u128, low: u128, whole: Option<u8>) -> bool
+    ensures { result ≡ part_breaks high low whole }
+{
+    match whole {
+        Some(whole) => !(low <= high && high < u128::from(whole)),
+        None => !(low <= high && high < u128::from(WIDEST)),
+    }
+}
+
+fn is_past(most: u128, seen: Option<u8>) -> bool
+    ensures { result ≡ is_past most seen }
+{
+    match seen {
+        Some(seen) => most < u128::from(seen),
+        None => false,
+    }
+}
+
+fn widen_breaks(width: u128, seen: Option<u8>) -> bool
+    ensures { result ≡ (not (nat_le 1 width && nat_le width 32) || is_past width seen) }
+{
+    given_width(width).is_none() || is_past(width, seen)
+}
+
+/// The width that an expression has for what is around it. Keeps the first of its faults.
+#[cycle(faults)]
+fn check(
+    shape: &Shape,
+    left: Option<u8>,
+    tree: &Placed,
+    first: &mut Option<TextFault>,
+) -> Option<u8>
+    ensures width { result ≡ seen_width shape.now (placed tree.now) }
+    ensures faults { first.new ≡ first_in first.old (faults shape.now left (placed tree.now)) }
+{
+    match tree {
+        Placed::Element(token, number) => {
+            note_deep(first, left, *token);
+            let width = named_width(shape, *number);
+            note_unknown(first, width, *token);
+            width
+        }
+        Placed::Con(number, hash, bits) => {
+            note_deep(first, left, number.token);
+            note_constant(first, *number, *hash, *bits);
+            given_width(*bits)
+        }
+        Placed::Not(token, e) => {
+            note_deep(first, left, *token);
+            check(shape, below(left), e, first)
+        }
+        Placed::Two(op, token, a, b) => {
+            note_deep(first, left, *token);
+            let one = check(shape, below(left), a, first);
+            let other = check(shape, below(left), b, first);
+            note_broken(first, pair_breaks(one, other), *token);
+            seen_pair(*op, one, other)
+        }
+        Placed::Choose(token, condition, a, b) => {
+            note_deep(first, left, *token);
+            let chosen_by = check(shape, below(left), condition, first);
+            let one = check(shape, below(left), a, first);
+            let other = check(shape, below(left), b, first);
+            note_broken(first, choice_breaks(chosen_by, one, other), *token);
+            seen_choice(chosen_by, one, other)
+        }
+        Placed::Part(token, high, low, e) => {
+            note_deep(first, left, *token);
+            let whole = check(shape, below(left), e, first);
+            note_broken(first, part_breaks(*high, *low, whole), *token);
+            seen_part(*high, *low, whole)
+        }
+        Placed::Join(token, parts) => {
+            note_deep(first, left, *token);
+            let whole = check_parts(shape, below(left), parts, first);
+            note_broken(first, is_past(32, whole), *token);
+            within_32(whole)
+        }
+        Placed::Widen(token, width, e) => {
+            note_deep(first, left, *token);
+            let narrow = check(shape, below(left), e, first);
+            note_broken(first, widen_breaks(*width, narrow), *token);
+            given_width(*width)
+        }
+        Placed::Memory(token, e) => {
+            note_deep(first, left, *token);
+            let address = check(shape, below(left), e, first);
+            note_broken(first, is_other(shape.address, address), *token);
+            Some(shape.word)
+        }
+        Placed::Group(token, e) => {
+            note_deep(first, left, *token);
+            check(shape, below(left), e, first)
+        }
+    }
+}
+
+/// The width of the parts of a join together, where 33 stands for all that pass 32 bits. Keeps the first of their faults.
+#[cycle(faults)]
+fn check_parts(
+    shape: &Shape,
+    left: Option<u8>,
+    parts: &[Placed],
+    first: &mut Option<TextFault>,
+) -> Option<u8>
+    ensures width { result ≡ seen_total shape.now (Some 0) (parts_of (map placed parts.now)) }
+    ensures faults { first.new ≡ first_in first.old (faults_in shape.now left (parts_of (map placed parts.now))) }
+{
+    let mut whole = Some(0);
+    for part in parts {
+        let width = check(shape, left, part, first);
+        whole = beside(whole, width);
+    }
+    whole
+}
+
+/// The first fault of an expression, if it has one.
+pub(crate) fn first_fault(shape: &Shape, tree: &Placed) -> Option<TextFault>
+    ensures { result ≡ first_fault shape.now (placed tree.now) }
+{
+    let mut first = None;
+    let _width = check(shape, Some(LEVELS_BELOW), tree, &mut first);
+    first
+}

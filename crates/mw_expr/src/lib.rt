@@ -1,0 +1,25 @@
+//! Expressions over the elements of a shape and a memory: their trees, widths and values.
+#![tactic(auto)]
+
+mod build;
+mod expr;
+mod faults;
+mod follow;
+mod laws;
+mod parse;
+mod placed;
+mod reductions;
+mod shape;
+mod text;
+mod values;
+mod width;
+
+pub use expr::{Expr, Pair2};
+pub use laws::{parts_have_widths, widths_are_by_rule};
+pub use shape::Shape;
+pub use text::parse_expr;
+pub use values::value;
+pub use width::width_of;
+
+#[cfg(test)]
+mod tests;
