@@ -1,15 +1,16 @@
 #!/usr/bin/env python3
-"""Assembles microprograms, or says why they are refused, to see that the tables which the tests of `asm` read are right.
+"""Assembles microprograms, or says why they are refused, to see that the rows of `asm` are right.
 
 It states the format of microprograms anew, as the manual has it, and uses nothing of the crates. Board files are taken
 as right.
 
-    microprogram_table.py check FILE..       the rows of these files' tables that have another report
+    microprogram_table.py check FILE..       the rows of `asm b m` in these files that have another report
     microprogram_table.py asm BOARD MICRO    the report of these files
 """
-import re
 import sys
 import tomllib
+
+from rows import read
 
 BASES = {"0o": 8, "0x": 16, "0b": 2}
 RESERVED = ("equ", "def", "org")
@@ -35,7 +36,7 @@ class Line:
         self.tokens = []
         at = 0
         while at < len(content) and content[at:at + 1] != b";":
-            if at >= 4096:
+            if at > 4096:
                 self.refuse(4097, 4)
             c = content[at]
             if c in b" \t":
@@ -224,38 +225,23 @@ def report(board, text, name="m"):
         return f"refused {name} {refused}\n"
 
 
-def unquoted(text):
-    """What a byte string of Rust's stands for."""
-    text = re.sub(r"\\\n\s*", "", text)
-    escapes = {"n": "\n", "t": "\t", "r": "\r", "\\": "\\", '"': '"'}
-    chars = re.sub(r"\\(x(..)|.)", lambda found: chr(int(found[2], 16)) if found[2] else escapes[found[1]], text)
-    return chars.encode("latin-1")
-
-
-def tables(path):
-    """The constants of a file, each with its byte strings."""
-    with open(path, encoding="utf-8") as file:
-        for name, kind, value in re.findall(r"pub const (\w+): ([^=]+?) = (.*?);\n(?=\n|$)", file.read(), re.S):
-            yield name, kind, [unquoted(text) for text in re.findall(r'\bb"((?:[^"\\]|\\.)*)"', value, re.S)]
+def wanted(row):
+    """What a row of `asm` has to report; nothing where its board or its length is refused, which isn't looked at here."""
+    files = row["files"]
+    told = row["report"].startswith((b"refused b", b"fault")) or row["report"].endswith(b"cause 5\n")
+    return None if told else report(files["b"].decode(), files["m"]).encode()
 
 
 def unlike(paths):
-    """The rows of these files' tables whose report is another one than theirs, and how many rows there are."""
-    found, rows, boards = [], 0, {}
+    """The rows of these files whose report is another one than theirs, and how many rows there are."""
+    found, count = [], 0
     for path in paths:
-        for name, kind, texts in tables(path):
-            boards[name] = b"".join(texts)
-            size = kind.count("&[u8]")
-            if name == "BOARDS" or "(" not in kind:
-                continue
-            head = boards["SMALL"] if size == 2 else boards["BYTE" if name == "OTHER_FIELDS" else "KEYS"]
-            for at in range(0, len(texts), size):
-                rows += 1
-                board = head + (texts[at] if size == 3 else b"")
-                answer = report(board.decode(), texts[at + size - 2])
-                if answer.encode() != texts[at + size - 1]:
-                    found.append(f"{name} row {at // size + 1}: {answer}")
-    return found, rows
+        for row in read(path):
+            if row.get("$") == "asm b m" and wanted(row) is not None:
+                count += 1
+                if wanted(row) != row["report"]:
+                    found.append(f"{path} {row['name']}: {wanted(row).decode()}")
+    return found, count
 
 
 def main():

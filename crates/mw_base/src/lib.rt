@@ -29,5 +29,3 @@ pub use width::{Width, bit, mask};
 
 #[cfg(test)]
 mod tests;
-#[cfg(test)]
-mod token_tests;

@@ -1,5 +1,3 @@
-mod one_slice;
-
 use super::*;
 use mw_alu::{AluOut, Pins};
 use mw_base::{Width, mask};
@@ -10,23 +8,12 @@ const NOP_OF_D_AND_A: u16 = 0o105;
 
 const FUNCTION: u16 = 0o010;
 
-const NO_PINS: Pins = Pins {
-    ram_high: false,
-    ram_low: false,
-    q_high: false,
-    q_low: false,
-};
-
 /// Carry, overflow, zero and sign as four bits.
 fn flags(out: AluOut) -> u32 {
     u32::from(out.carry) << 3
         | u32::from(out.overflow) << 2
         | u32::from(out.zero) << 1
         | u32::from(out.sign)
-}
-
-fn digit(number: u32) -> u8 {
-    b"0123456789ABCDEF"[(number % 16) as usize]
 }
 
 #[test]
@@ -66,29 +53,6 @@ fn ramqd_shifts(rt: HostRuntime) -> Result<(), Fail> {
     assert!(rt; out.write_b && out.write_q);
     assert_eq!(rt; (out.b, out.q), (1, 10));
     Ok(())
-}
-
-#[test]
-fn functions_of_one_slice(rt: HostRuntime) {
-    for (row, wanted) in one_slice::ROWS.chunks(3).enumerate() {
-        let function = (row / 512 % 8) as u16;
-        let (r, s) = ((row / 32 % 16) as u8, (row / 2 % 16) as u8);
-        let ins = NOP_OF_D_AND_A + function * FUNCTION;
-        let mut slice = Slice {
-            regs: [s; 16],
-            q: 0,
-        };
-        let out = slice.step(ins, 7, 0, r, row % 2 == 1, NO_PINS);
-        let flags = u32::from(out.carry) << 3
-            | u32::from(out.overflow) << 2
-            | u32::from(out.zero) << 1
-            | u32::from(out.sign);
-        let group = u32::from(out.g) << 1 | u32::from(out.p);
-        let got = [digit(u32::from(out.f)), digit(flags), digit(group)];
-        assert_eq!(rt; got.as_slice(), wanted, "at row {row}");
-        assert_eq!(rt; out.y, out.f, "at row {row}");
-    }
-    assert_eq!(rt; one_slice::ROWS.len(), 12288);
 }
 
 #[test]
