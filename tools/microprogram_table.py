@@ -5,12 +5,13 @@ It states the format of microprograms anew, as the manual has it, and uses nothi
 as right.
 
     microprogram_table.py check FILE..       the rows of `asm b m` in these files that have another report
+    microprogram_table.py store              rows whose words fill the store
     microprogram_table.py asm BOARD MICRO    the report of these files
 """
 import sys
 import tomllib
 
-from rows import read
+from rows import file_lines, read, row_lines, text_lines
 
 BASES = {"0o": 8, "0x": 16, "0b": 2}
 RESERVED = ("equ", "def", "org")
@@ -244,7 +245,31 @@ def unlike(paths):
     return found, count
 
 
+BYTE = """\
+version = 1
+width = 4
+microword = 8
+address = 4
+fill = "0"
+fields.a = [0, 4]
+"""
+
+
+def print_store():
+    print("# Stores of 4,096 words, and one word more, printed by tools/microprogram_table.py.")
+    words = 4096 * b"a=1\n"
+    for name, text in (("a store that is full", words), ("a word past the store", words + b"a=1\n"),
+                       ("a word that stands in a full store", words + b"org 7\na=0\n")):
+        given = ["$ asm b m"] + file_lines("b", BYTE.encode()) + ["file m", "* 4096 a=1\\n"] + text_lines(text[len(words):])
+        ends = report(BYTE, text)
+        status = 4 if ends.startswith("refused") else 0
+        print("\n".join([""] + row_lines(name, given, f"status {status}", ends.encode())))
+
+
 def main():
+    if sys.argv[1:] == ["store"]:
+        print_store()
+        return
     if sys.argv[1:2] == ["asm"] and len(sys.argv) == 4:
         with open(sys.argv[2], encoding="utf-8") as board, open(sys.argv[3], "rb") as text:
             print(report(board.read(), text.read(), sys.argv[3]), end="")

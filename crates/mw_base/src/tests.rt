@@ -85,6 +85,8 @@ fn names_and_lists(rt: HostRuntime) -> Result<(), Fail> {
     let list = Items::from_vec(Vec::from_slice(rt.alloc(), &[3, 1, 2])?);
     assert_eq!(rt; list.as_slice(), [3, 1, 2].as_slice());
     assert_eq!(rt; list.into_vec().as_slice(), [3, 1, 2].as_slice());
+    let copied = Items::from_slice(rt.alloc(), &[4, 5])?;
+    assert_eq!(rt; copied.as_slice(), [4, 5].as_slice());
     Ok(())
 }
 

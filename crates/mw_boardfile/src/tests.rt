@@ -4,34 +4,11 @@ use mw_board::{Bit, Board, Control, DFrom, DSource};
 use std::alloc::Global;
 use std::test::Fail;
 
-/// A small board.
-const SMALL: &[u8] = b"version = 1\n\
-    width = 4\n\
-    microword = 36\n\
-    fill = \"0\"\n\
-    address = 4\n\
-    [fields]\n\
-    src = [0, 3]\n\
-    fun = [3, 3]\n\
-    dst = [6, 3]\n\
-    a = [9, 4]\n\
-    b = [13, 4]\n\
-    cin = [17, 1]\n\
-    seq = [18, 4]\n\
-    br = [22, 12]\n\
-    off = [34, 1]\n\
-    [control]\n\
-    alu_source = \"src\"\n\
-    alu_function = \"fun\"\n\
-    alu_destination = \"dst\"\n\
-    a_address = \"a\"\n\
-    b_address = \"b\"\n\
-    carry_in = \"cin\"\n\
-    sequencer = \"seq\"\n\
-    branch = \"br\"\n\
-    test_disable = \"off\"\n\
-    [select]\n\
-    carry_in = [\"zero\", \"one\"]\n";
+/// A board of three fields, whose names don't stand in byte order.
+const SMALL: &[u8] = b"version = 1\nwidth = 4\nmicroword = 20\naddress = 4\nfill = \"0\"\n\
+    fields.src = [0, 3]\nfields.br = [7, 12]\nfields.a = [3, 4]\n\
+    control.alu_source = 'src'\ncontrol.a_address = 'a'\ncontrol.branch = 'br'\n\
+    select.carry_in = ['one']\n";
 
 /// The board that the bytes are.
 fn board_of(alloc: Global, bytes: &[u8]) -> Result<Board, Fail> {
@@ -42,12 +19,13 @@ fn board_of(alloc: Global, bytes: &[u8]) -> Result<Board, Fail> {
 fn small_board(rt: HostRuntime) -> Result<(), Fail> {
     let board = board_of(rt.alloc(), SMALL)?;
     let parts = board.parts();
-    assert_eq!(rt; (parts.width, parts.microword, parts.address), (4, 36, 4));
-    assert_eq!(rt; parts.control.alu_source, Control::Field(8));
-    assert_eq!(rt; parts.control.branch, Control::Field(2));
+    assert_eq!(rt; (parts.width, parts.microword, parts.address), (4, 20, 4));
+    assert_eq!(rt; parts.control.alu_source, Control::Field(2));
+    assert_eq!(rt; parts.control.branch, Control::Field(1));
+    assert_eq!(rt; parts.control.a_address, Control::Field(0));
     assert_eq!(rt; parts.control.polarity, Control::Fixed(0));
     assert_eq!(rt; parts.control.ci, Control::Fixed(1));
-    assert_eq!(rt; parts.carry_in.as_slice(), [Bit::Zero, Bit::One].as_slice());
+    assert_eq!(rt; parts.carry_in.as_slice(), [Bit::One].as_slice());
     assert_eq!(rt; parts.q_link.as_slice(), [Bit::Zero].as_slice());
     assert_eq!(rt; parts.map_entries.as_slice().len(), 0);
     Ok(())
@@ -58,18 +36,9 @@ fn small_board(rt: HostRuntime) -> Result<(), Fail> {
 fn fields_in_byte_order(rt: HostRuntime) -> Result<(), Fail> {
     let board = board_of(rt.alloc(), SMALL)?;
     let fields = board.parts().fields.as_slice();
-    assert_eq!(rt; fields.len(), 9);
-    for (named, (name, low, width)) in fields.iter().zip([
-        ("a", 9, 4),
-        ("b", 13, 4),
-        ("br", 22, 12),
-        ("cin", 17, 1),
-        ("dst", 6, 3),
-        ("fun", 3, 3),
-        ("off", 34, 1),
-        ("seq", 18, 4),
-        ("src", 0, 3),
-    ]) {
+    assert_eq!(rt; fields.len(), 3);
+    for (named, (name, low, width)) in fields.iter().zip([("a", 3, 4), ("br", 7, 12), ("src", 0, 3)]) {
+
         assert_eq!(rt; named.name.as_slice(), name.as_bytes());
         assert_eq!(rt; (named.field.low, named.field.width), (low, width));
     }

@@ -1,7 +1,6 @@
 ghost use Rattle.std.specs.Prelude.{◌<◌};
 
 use super::*;
-use mw_base::{append_decimal, append_hex};
 use mw_outside::{MemoryShelf, MemorySink};
 use std::alloc::Global;
 use std::test::Fail;
@@ -176,79 +175,5 @@ fn each_byte_fails(rt: HostRuntime) -> Result<(), Fail> {
             "put {number} fails"
         );
     }
-    Ok(())
-}
-
-/// A board with a microword of 128 bits in four fields, and the word that no line sets.
-const WIDE: &[u8] = b"version = 1\nwidth = 16\naddress = 12\nmicroword = 128\nfill = \"0\"\n\
-    unset = \"0x00000000FFFFFFFF0000000000000000\"\n\
-    [fields]\n\
-    at = [0, 32]\n\
-    rest = [32, 32]\n\
-    next = [96, 12]\n";
-
-const DIGITS: [u8; 16] = *b"0123456789ABCDEF";
-
-/// Appends a number below 4,096 in three digits.
-fn push_address(text: &mut Vec<u8>, address: u32) -> Result<(), Fail> {
-    for power in [256, 16, 1] {
-        text.push(DIGITS[(address / power % 16) as usize])?;
-    }
-    Ok(())
-}
-
-/// A word for each address from the last to the first: its own address, what is left to 4,095, and the label of the next one.
-fn whole_store(alloc: Global) -> Result<Vec<u8>, Fail> {
-    let mut text = Vec::new(alloc);
-    for down in 0..4096u32 {
-        let at = 4095 - down;
-        text.extend_from_slice(b"org ")?;
-        append_decimal(alloc, &mut text, u64::from(at))?;
-        text.extend_from_slice(b"\nL")?;
-        append_decimal(alloc, &mut text, u64::from(at))?;
-        text.extend_from_slice(b": at=")?;
-        append_hex(alloc, &mut text, u128::from(at))?;
-        text.extend_from_slice(b", rest=")?;
-        append_decimal(alloc, &mut text, u64::from(down))?;
-        text.extend_from_slice(b", next=L")?;
-        append_decimal(alloc, &mut text, u64::from((at + 1) % 4096))?;
-        text.push(b'\n')?;
-    }
-    Ok(text)
-}
-
-/// Its listing.
-fn whole_listing(alloc: Global) -> Result<Vec<u8>, Fail> {
-    let mut text = Vec::new(alloc);
-    for at in 0..4096u32 {
-        push_address(&mut text, at)?;
-        text.extend_from_slice(b" 00000")?;
-        push_address(&mut text, (at + 1) % 4096)?;
-        text.extend_from_slice(b"FFFFFFFF00000")?;
-        push_address(&mut text, 4095 - at)?;
-        text.extend_from_slice(b"00000")?;
-        push_address(&mut text, at)?;
-        text.extend_from_slice(b" L")?;
-        append_decimal(alloc, &mut text, u64::from(at))?;
-        text.push(b'\n')?;
-    }
-    Ok(text)
-}
-
-#[test]
-fn whole_stores(rt: HostRuntime) -> Result<(), Fail> {
-    let mut text = whole_store(rt.alloc())?;
-    let wanted = whole_listing(rt.alloc())?;
-    assert!(rt; reports(rt.alloc(), WIDE, &text, &wanted)?);
-    // The next address is taken.
-    text.extend_from_slice(b"at=0")?;
-    assert!(rt;
-        reports(
-            rt.alloc(),
-            WIDE,
-            &text,
-            b"refused m line 8193 column 1 cause 35\n"
-        )?
-    );
     Ok(())
 }
