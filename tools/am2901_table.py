@@ -1,16 +1,18 @@
 #!/usr/bin/env python3
-"""Prints what an Am2901 of four bits answers, as the constant of a test.
+"""Prints what an Am2901 of four bits answers, as rows, one for each function.
 
 The functions are stated here anew, from the Data Book's table, on Python's whole numbers. Overflow is taken by its
 meaning: a sum overflows where it is no signed number of four bits. G and P are taken by theirs: four bits generate a
 carry where they carry out with no carry in, and propagate one where no bit of both addends is 0.
 
-    am2901_table.py alu      two digits a row: F; carry, overflow, zero, sign
-    am2901_table.py slice    three digits a row: F; carry, overflow, zero, sign; G, P
+    am2901_table.py alu      two digits an answer: F; carry, overflow, zero, sign
+    am2901_table.py slice    three digits an answer: F; carry, overflow, zero, sign; G, P
 
-Rows stand in the order of the function, then R, then S, then the carry in. A line has one function and one R.
+A line has one R, and its answers stand in the order of S, then of the carry in.
 """
 import sys
+
+from rows import row_lines
 
 BITS = 4
 WORDS = 1 << BITS
@@ -63,19 +65,19 @@ def digits(kind, name, r, s, carry_in):
     return f"{f:X}{flags:X}" + (f"{group:X}" if kind == "slice" else "")
 
 
+def report(kind, name):
+    lines = ["".join(digits(kind, name, r, s, c) for s in range(WORDS) for c in (0, 1)) for r in range(WORDS)]
+    answers = WORDS * WORDS * 2
+    last = f"carry and overflow are defined in {answers if name in SUMS else 0}" if kind == "alu" else f"Y is F in {answers}"
+    return "\n".join(lines + [last]) + "\n"
+
+
 def main():
     kind = sys.argv[1]
-    width = {"alu": "Two", "slice": "Three"}[kind]
-    columns = {"alu": "F; carry, overflow, zero, sign", "slice": "F; carry, overflow, zero, sign; G, P"}[kind]
-    print("// What an Am2901 of four bits answers, printed by tools/am2901_table.py.")
-    print()
-    print(f"/// {width} digits a row: {columns}. Rows stand in the order of the function, then R, S and the carry in.")
-    print('pub const ROWS: &[u8] = b"\\')
-    for name in CODES:
-        for r in range(WORDS):
-            row = "".join(digits(kind, name, r, s, c) for s in range(WORDS) for c in (0, 1))
-            print(row + "\\")
-    print('";')
+    what = {"alu": "the whole word of four bits", "slice": "one slice"}[kind]
+    print(f"# What {what} answers, printed by tools/am2901_table.py.")
+    for code, name in enumerate(CODES):
+        print("\n".join([""] + row_lines(f"{name} of {what}", [f"call {kind} function={code}"], "gives", report(kind, name).encode())))
 
 
 main()

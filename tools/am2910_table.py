@@ -1,5 +1,5 @@
 #!/usr/bin/env python3
-"""Prints what an Am2910 answers to each of its instructions, as the constant of a test.
+"""Prints what an Am2910 answers to each of its instructions, as rows.
 
 The Data Book's table is stated here anew, by mnemonic: for each instruction, where the test fails and where it passes,
 the source of the next address, the move of the stack, and the effect on the counter R. bundle_table.py takes it from here.
@@ -8,9 +8,9 @@ PC is 0x200, R is 0 or 7, D is 0x123, an empty stack reads 0xABC, the carry into
 0x101 to 0x105, from the bottom, none, two or five are on it.
 
 Rows stand in the order of the instruction's code, then of the test (it fails, it passes), then of R (0, 7), then of the
-words on the stack (0, 2, 5). A row has the next address, R, the words on the stack, and the place at which PC was
-pushed, from 0 at the bottom; 5 where it wasn't.
+words on the stack (0, 2, 5).
 """
+from rows import row_lines
 
 DEPTH = 5
 PC, D, EMPTY = 0x200, 0x123, 0xABC
@@ -50,32 +50,42 @@ def effect(name, passed, r):
     return table[name][passed].split()
 
 
-def row(name, passed, r, count):
+def stepped(name, passed, r, count):
+    """The next address, and the sequencer after it as a text."""
     source, stack, counter = effect(name, passed, r)
     top = WORDS[count - 1] if count else EMPTY
     following = {"0": 0, "PC": PC, "D": D, "R": r, "F": top}[source]
-    place = DEPTH
+    words = list(WORDS)
     if stack == "PUSH":
         # A push on a full stack writes over its top.
-        place = min(count, DEPTH - 1)
+        words[min(count, DEPTH - 1)] = PC
         count = min(count + 1, DEPTH)
     elif stack == "POP":
         count = max(count - 1, 0)
     elif stack == "CLEAR":
         count = 0
     r = {"HOLD": r, "LOAD": D, "DEC": r - 1}[counter]
-    return following, r, count, place
+    return f"next={following:x} {sequencer(following + 1, r, count, words)}"
+
+
+def sequencer(pc, r, count, words):
+    return f"pc={pc:x} r={r:x} sp={count} stack=" + ",".join(f"{word:x}" for word in words)
+
+
+def rows():
+    for code, name in enumerate(TABLE):
+        for passed in (0, 1):
+            for r in (0, 7):
+                for count in (0, 2, 5):
+                    title = f"{name} where the test {'passes' if passed else 'fails'}, R is {r} and {count} words are on the stack"
+                    given = f"call step ins={code:x} pass={passed} d={D:x} ci=1 rld=0 noise={EMPTY:x} {sequencer(PC, r, count, WORDS)}"
+                    yield row_lines(title, [given], "gives", (stepped(name, passed, r, count) + "\n").encode())
 
 
 def print_rows():
-    rows = [row(name, passed, r, count)
-            for name in TABLE for passed in (False, True) for r in (0, 7) for count in (0, 2, 5)]
-    print("// What each instruction answers, printed by tools/am2910_table.py: the next address, R, how many words are on the")
-    print("// stack, and the place at which PC was pushed.")
-    print(f"pub const ROWS: [(u16, u16, u8, usize); {len(rows)}] = [")
-    for following, r, count, place in rows:
-        print(f"    (0x{following:03X}, 0x{r:03X}, {count}, {place}),")
-    print("];")
+    print("# What each instruction of the Am2910 answers, printed by tools/am2910_table.py.")
+    for lines in rows():
+        print("\n".join([""] + lines))
 
 
 if __name__ == "__main__":

@@ -1,17 +1,18 @@
 #!/usr/bin/env python3
-"""Prints a table of bundles that the tests of `compare` read, as a constant: each bundle's lines and its report.
+"""Prints bundles and their reports, as rows.
 
 It states the Am2901 and the comparison anew, from the Data Book's tables, as am2910_table.py does the Am2910; it uses
 nothing of the crates.
 
     bundle_table.py bundles         bounds, branches, relations and assignments, all with words that add
     bundle_table.py instructions    every source, function, destination and sequencer code
-    bundle_table.py report FILE..   no table, but the reports of these bundles; it refuses no file that is none
+    bundle_table.py report FILE..   no rows, but the reports of these bundles; it refuses no file that is none
 """
 import sys
 import tomllib
 
 from am2910_table import DEPTH, TABLE, effect
+from rows import file_lines, row_lines
 
 # R and S. D is 0 in a bundle.
 SOURCES = ["A Q", "A B", "0 Q", "0 B", "0 A", "D A", "D Q", "D 0"]
@@ -251,24 +252,21 @@ INSTRUCTIONS = [
 ]
 
 
-def print_table(what, table):
-    print(f"// {what} and their reports, printed by tools/bundle_table.py.")
-    print(f"pub const CASES: [(&[u8], &[u8]); {len(table)}] = [")
-    for entry in table:
-        print("    (")
-        lines = text(entry).splitlines()
-        print('        b"' + "\\n\\\n        ".join(lines) + '\\n",')
-        print('        b"' + report(entry).replace("\n", "\\n") + '",')
-        print("    ),")
-    print("];")
+def print_rows(what, table):
+    print(f"# {what} and their reports, printed by tools/bundle_table.py.")
+    for number, entry in enumerate(table, 1):
+        ends = report(entry)
+        status = 0 if ends.startswith("same") else 1
+        given = ["$ compare t"] + file_lines("t", text(entry).encode())
+        print("\n".join([""] + row_lines(f"bundle {number}", given, f"status {status}", ends.encode())))
 
 
 if __name__ == "__main__":
     match sys.argv[1:]:
         case ["bundles"]:
-            print_table("Bundles", BUNDLES)
+            print_rows("Bundles", BUNDLES)
         case ["instructions"]:
-            print_table("Bundles of every instruction", INSTRUCTIONS)
+            print_rows("Bundles of every instruction", INSTRUCTIONS)
         case ["report", *names]:
             for name in names:
                 print(report(tomllib.loads(open(name).read())), end="")

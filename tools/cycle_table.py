@@ -1,13 +1,12 @@
 #!/usr/bin/env python3
-"""Prints a table of cycles of boards that tests read: board files, microwords and states, and what one cycle makes of them.
+"""Prints rows of cycles of boards: board files, microwords and states, and what one cycle makes of them.
 
 It states a board's cycle anew, from the tables of the parts and the format of board files, as bundle_table.py does a
 bundle; it uses nothing of the crates. cycle_cases.py has the boards and the cases. The boards that are modelled here are
 read from the very texts that are printed.
 
-    cycle_table.py boards     board files, stores of microwords, and states before a cycle
-    cycle_table.py cases      the cases, a table for each board
-    cycle_table.py --check    no table: random cycles keep a state's ranges, and the cases choose every entry of every list
+    cycle_table.py rows       the rows, for crates/mw_rows/data/cycles
+    cycle_table.py --check    no row: random cycles keep a state's ranges, and the cases choose every entry of every list
 """
 import random
 import sys
@@ -17,6 +16,7 @@ from dataclasses import dataclass, field, replace
 from am2910_table import DEPTH, TABLE, effect
 from bundle_table import DESTINATIONS, SOURCES
 from cycle_cases import BOARDS, CASES, STARTS
+from rows import file_lines, row_lines
 
 # The two words that a sum adds, and F of the other functions; `ones` is the word of ones.
 SUMS = {
@@ -255,81 +255,19 @@ def worked_out():
     return stores, rows
 
 
-def pairs(values, keys):
-    return "&[" + ", ".join(f"({key:{keys}}, {value:#x})" for key, value in values.items()) + "]"
-
-
-def print_boards():
-    stores, _ = worked_out()
-    print("//! Boards, microwords and states for the cases of cycles, printed by tools/cycle_table.py.")
-    print()
-    print("/// A state but for its control address: the number of its board; the registers that aren't 0; Q, `mar`, `ir` and")
-    print("/// the flip-flops; PC, R, the five stack words and the pointer; the memory words that aren't 0.")
-    print("pub type Start = (")
-    print("    usize,")
-    print("    &'static [(usize, u32)],")
-    print("    (u32, u32, u32, u16),")
-    print("    (u16, u16, [u16; 5], u8),")
-    print("    &'static [(usize, u32)],")
-    print(");")
-    print()
+def print_rows():
+    stores, rows = worked_out()
+    print("# Cycles, printed by tools/cycle_table.py: the state after a cycle, and its nets.")
     for width, text in BOARDS.items():
-        print(f'const BOARD_{width}: &[u8] = b"\\')
-        print(text.replace('"', '\\"').replace("\n", "\\n\\\n") + '";')
-        print()
-    print("/// The board files.")
-    print(f"pub const BOARDS: [&[u8]; {len(BOARDS)}] = [" + ", ".join(f"BOARD_{width}" for width in BOARDS) + "];")
-    print()
-    print("/// The store of each board.")
-    print(f"pub const STORES: [&[u128]; {len(BOARDS)}] = [")
-    for words in stores.values():
-        print("    &[\n" + "".join(f"        {word:#x},\n" for word in words) + "    ],")
-    print("];")
-    print()
-    print("/// States before a cycle.")
-    print(f"pub const STARTS: [Start; {len(STARTS)}] = [")
-    for number, (name, text) in enumerate(STARTS.items()):
-        state = State.read(text)
-        stack = ", ".join(f"{word:#x}" for word in state.stack)
-        print(f"    // {number}")
-        print("    (")
-        print(f"        {list(BOARDS).index(width_of(name))},")
-        print(f"        {pairs(state.regs, 'd')},")
-        print(f"        ({state.q:#x}, {state.mar:#x}, {state.ir:#x}, {state.flips:#x}),")
-        print(f"        ({state.pc:#x}, {state.r:#x}, [{stack}], {state.sp}),")
-        print(f"        {pairs(state.memory, '#x')},")
-        print("    ),")
-    print("];")
-
-
-def print_cases():
-    print("//! Cycles of the boards of `cycle_boards`, printed by tools/cycle_table.py.")
-    print()
-    print("/// A cycle: its name; the number in `STARTS` of the state before it; its control address, noise word, line and offered")
-    print("/// input; the state after it; its nets. In the two texts numbers are hexadecimal, but for N in `rN=`, a register.")
-    print("/// `r=` is the counter R, and `memA=` the memory word at A. Registers and memory words that are 0 aren't named.")
-    print("pub type Case = (")
-    print("    &'static str,")
-    print("    usize,")
-    print("    (u16, u16, bool, u32),")
-    print("    &'static str,")
-    print("    &'static str,")
-    print(");")
-    _, rows = worked_out()
-    for width in BOARDS:
-        chosen = [row for row in rows if width_of(row[1]) == width]
-        print()
-        print(f"/// The board of {width} bits.")
-        print(f"pub const CASES_{width}: [Case; {len(chosen)}] = [")
-        for name, start, at, (noise, line, offered), after, nets in chosen:
-            print("    (")
-            print(f'        "{name}",')
-            print(f"        {list(STARTS).index(start)},")
-            print(f"        ({at:#x}, {noise:#x}, {str(bool(line)).lower()}, {offered:#x}),")
-            print(f'        "{after}",')
-            print(f'        "{nets}",')
-            print("    ),")
-        print("];")
+        words = "".join(f"{word:x}\n" for word in stores[width])
+        print("\n".join(["", f"set board of {width} bits"] + file_lines("board", text.encode())
+                        + file_lines("store", words.encode())))
+        for name, start, at, (noise, line, offered), after, nets in rows:
+            if width_of(start) == width:
+                before = State.read(STARTS[start]).text(at)
+                given = [f"with board of {width} bits"] + file_lines("state", f"{before}\n".encode())
+                given += [f"call cycle noise={noise:x} line={line} input={offered:x}"]
+                print("\n".join([""] + row_lines(name, given, "gives", f"{after}\n{nets}\n".encode())))
 
 
 def in_range(board, at, state):
@@ -361,10 +299,8 @@ def check(runs=1000, cycles=8):
 
 if __name__ == "__main__":
     match sys.argv[1:]:
-        case ["boards"]:
-            print_boards()
-        case ["cases"]:
-            print_cases()
+        case ["rows"]:
+            print_rows()
         case ["--check"]:
             check()
         case _:

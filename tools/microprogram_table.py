@@ -1,15 +1,17 @@
 #!/usr/bin/env python3
-"""Assembles microprograms, or says why they are refused, to see that the tables which the tests of `asm` read are right.
+"""Assembles microprograms, or says why they are refused, to see that the rows of `asm` are right.
 
 It states the format of microprograms anew, as the manual has it, and uses nothing of the crates. Board files are taken
 as right.
 
-    microprogram_table.py check FILE..       the rows of these files' tables that have another report
+    microprogram_table.py check FILE..       the rows of `asm b m` in these files that have another report
+    microprogram_table.py store              rows whose words fill the store
     microprogram_table.py asm BOARD MICRO    the report of these files
 """
-import re
 import sys
 import tomllib
+
+from rows import file_lines, read, row_lines, text_lines
 
 BASES = {"0o": 8, "0x": 16, "0b": 2}
 RESERVED = ("equ", "def", "org")
@@ -35,7 +37,7 @@ class Line:
         self.tokens = []
         at = 0
         while at < len(content) and content[at:at + 1] != b";":
-            if at >= 4096:
+            if at > 4096:
                 self.refuse(4097, 4)
             c = content[at]
             if c in b" \t":
@@ -224,41 +226,50 @@ def report(board, text, name="m"):
         return f"refused {name} {refused}\n"
 
 
-def unquoted(text):
-    """What a byte string of Rust's stands for."""
-    text = re.sub(r"\\\n\s*", "", text)
-    escapes = {"n": "\n", "t": "\t", "r": "\r", "\\": "\\", '"': '"'}
-    chars = re.sub(r"\\(x(..)|.)", lambda found: chr(int(found[2], 16)) if found[2] else escapes[found[1]], text)
-    return chars.encode("latin-1")
-
-
-def tables(path):
-    """The constants of a file, each with its byte strings."""
-    with open(path, encoding="utf-8") as file:
-        for name, kind, value in re.findall(r"pub const (\w+): ([^=]+?) = (.*?);\n(?=\n|$)", file.read(), re.S):
-            yield name, kind, [unquoted(text) for text in re.findall(r'\bb"((?:[^"\\]|\\.)*)"', value, re.S)]
+def wanted(row):
+    """What a row of `asm` has to report; nothing where its board or its length is refused, which isn't looked at here."""
+    files = row["files"]
+    told = row["report"].startswith((b"refused b", b"fault")) or row["report"].endswith(b"cause 5\n")
+    return None if told else report(files["b"].decode(), files["m"]).encode()
 
 
 def unlike(paths):
-    """The rows of these files' tables whose report is another one than theirs, and how many rows there are."""
-    found, rows, boards = [], 0, {}
+    """The rows of these files whose report is another one than theirs, and how many rows there are."""
+    found, count = [], 0
     for path in paths:
-        for name, kind, texts in tables(path):
-            boards[name] = b"".join(texts)
-            size = kind.count("&[u8]")
-            if name == "BOARDS" or "(" not in kind:
-                continue
-            head = boards["SMALL"] if size == 2 else boards["BYTE" if name == "OTHER_FIELDS" else "KEYS"]
-            for at in range(0, len(texts), size):
-                rows += 1
-                board = head + (texts[at] if size == 3 else b"")
-                answer = report(board.decode(), texts[at + size - 2])
-                if answer.encode() != texts[at + size - 1]:
-                    found.append(f"{name} row {at // size + 1}: {answer}")
-    return found, rows
+        for row in read(path):
+            if row.get("$") == "asm b m" and wanted(row) is not None:
+                count += 1
+                if wanted(row) != row["report"]:
+                    found.append(f"{path} {row['name']}: {wanted(row).decode()}")
+    return found, count
+
+
+BYTE = """\
+version = 1
+width = 4
+microword = 8
+address = 4
+fill = "0"
+fields.a = [0, 4]
+"""
+
+
+def print_store():
+    print("# Stores of 4,096 words, and one word more, printed by tools/microprogram_table.py.")
+    words = 4096 * b"a=1\n"
+    for name, text in (("a store that is full", words), ("a word past the store", words + b"a=1\n"),
+                       ("a word that stands in a full store", words + b"org 7\na=0\n")):
+        given = ["$ asm b m"] + file_lines("b", BYTE.encode()) + ["file m", "* 4096 a=1\\n"] + text_lines(text[len(words):])
+        ends = report(BYTE, text)
+        status = 4 if ends.startswith("refused") else 0
+        print("\n".join([""] + row_lines(name, given, f"status {status}", ends.encode())))
 
 
 def main():
+    if sys.argv[1:] == ["store"]:
+        print_store()
+        return
     if sys.argv[1:2] == ["asm"] and len(sys.argv) == 4:
         with open(sys.argv[2], encoding="utf-8") as board, open(sys.argv[3], "rb") as text:
             print(report(board.read(), text.read(), sys.argv[3]), end="")

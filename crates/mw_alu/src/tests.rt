@@ -1,5 +1,3 @@
-mod four_bits;
-
 use super::*;
 use mw_base::{Width, mask};
 use std::test::Fail;
@@ -15,10 +13,6 @@ fn flags(out: AluOut) -> u32 {
         | u32::from(out.overflow) << 2
         | u32::from(out.zero) << 1
         | u32::from(out.sign)
-}
-
-fn digit(number: u32) -> u8 {
-    b"0123456789ABCDEF"[(number % 16) as usize]
 }
 
 #[test]
@@ -66,25 +60,6 @@ fn or_undefined_carry(rt: HostRuntime) -> Result<(), Fail> {
     let out = alu(width, 0o135, 15, 0, 0, 15, true);
     assert!(rt; !out.defined && !out.carry && !out.overflow);
     assert_eq!(rt; out.f, 15);
-    Ok(())
-}
-
-#[test]
-fn functions_of_four_bits(rt: HostRuntime) -> Result<(), Fail> {
-    let width = Width::new(4).ok_or("a width")?;
-    for (row, wanted) in four_bits::ROWS.chunks(2).enumerate() {
-        let function = (row / 512 % 8) as u16;
-        let (r, s) = ((row / 32 % 16) as u32, (row / 2 % 16) as u32);
-        let ins = NOP_OF_D_AND_A + function * FUNCTION;
-        let out = alu(width, ins, s, 0, 0, r, row % 2 == 1);
-        assert_eq!(rt;
-            [digit(out.f), digit(flags(out))].as_slice(),
-            wanted,
-            "at row {row}"
-        );
-        assert_eq!(rt; out.defined, function < 3, "at row {row}");
-    }
-    assert_eq!(rt; four_bits::ROWS.len(), 8192);
     Ok(())
 }
 

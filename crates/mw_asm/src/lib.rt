@@ -18,7 +18,3 @@ pub use microprogram::assemble;
 
 #[cfg(test)]
 mod computed_examples;
-#[cfg(test)]
-mod listing_tests;
-#[cfg(test)]
-mod tests;

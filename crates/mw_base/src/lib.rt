@@ -43,5 +43,3 @@ pub use width::{Width, bit, mask};
 mod line_tests;
 #[cfg(test)]
 mod tests;
-#[cfg(test)]
-mod token_tests;

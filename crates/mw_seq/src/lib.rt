@@ -8,6 +8,4 @@ pub use instruction::{AddressFrom, CounterMove, Effect, Instruction, StackMove};
 pub use sequencer::{DEPTH, Seq};
 
 #[cfg(test)]
-mod instruction_cases;
-#[cfg(test)]
 mod tests;

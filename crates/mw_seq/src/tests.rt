@@ -1,8 +1,6 @@
 ghost use Rattle.std.specs.Prelude.{◌<◌, ◌≤◌};
 
-use super::instruction_cases::ROWS;
 use super::*;
-use std::test::Fail;
 
 const RFCT: u8 = 8;
 
@@ -80,46 +78,4 @@ fn loads_from_the_direct_input(rt: HostRuntime) {
     let mut seq = sequencer(5, 3, 2, 1);
     assert_eq!(rt; seq.step(RFCT, false, 0x456, false, true, 0), 2);
     assert_eq!(rt; (seq.r, seq.pc, seq.sp), (0x456, 2, 1));
-}
-
-/// The words on the stack in the table: none, two, or all five.
-fn stack_count(number: u8) -> u8
-    ensures { result ≤ 5 }
-{
-    match number {
-        0 => 0,
-        1 => 2,
-        _ => 5,
-    }
-}
-
-#[test]
-fn table_of_instructions(rt: HostRuntime) -> Result<(), Fail> {
-    let words = [0x101, 0x102, 0x103, 0x104, 0x105];
-    let mut rows = ROWS.iter();
-    for ins in 0..16 {
-        for pass in [false, true] {
-            for counting in [false, true] {
-                for number in 0..3 {
-                    let mut seq = Seq {
-                        pc: 0x200,
-                        r: if counting { 7 } else { 0 },
-                        stack: words,
-                        sp: stack_count(number),
-                    };
-                    let next = seq.step(ins, pass, 0x123, true, false, 0xABC);
-                    let (following, r, sp, place) = *rows.next().ok_or("a row")?;
-                    let mut stack = words;
-                    if place < 5 {
-                        stack[place] = 0x200;
-                    }
-                    assert_eq!(rt; (next, seq.pc), (following, next + 1));
-                    assert_eq!(rt; (seq.r, seq.sp), (r, sp));
-                    assert_eq!(rt; seq.stack, stack);
-                }
-            }
-        }
-    }
-    assert!(rt; rows.next().is_none());
-    Ok(())
 }

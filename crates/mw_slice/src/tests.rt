@@ -1,21 +1,7 @@
-mod one_slice;
-
 use super::*;
 use mw_alu::{AluOut, Pins};
-use mw_base::{Width, mask};
+use mw_base::Width;
 use std::test::Fail;
-
-// Instructions by their codes: R is D and S is A in source 5, and nothing is written in destination 1.
-const NOP_OF_D_AND_A: u16 = 0o105;
-
-const FUNCTION: u16 = 0o010;
-
-const NO_PINS: Pins = Pins {
-    ram_high: false,
-    ram_low: false,
-    q_high: false,
-    q_low: false,
-};
 
 /// Carry, overflow, zero and sign as four bits.
 fn flags(out: AluOut) -> u32 {
@@ -23,10 +9,6 @@ fn flags(out: AluOut) -> u32 {
         | u32::from(out.overflow) << 2
         | u32::from(out.zero) << 1
         | u32::from(out.sign)
-}
-
-fn digit(number: u32) -> u8 {
-    b"0123456789ABCDEF"[(number % 16) as usize]
 }
 
 #[test]
@@ -65,48 +47,6 @@ fn ramqd_shifts(rt: HostRuntime) -> Result<(), Fail> {
     let out = sliced_shift(width, 0o400, 3, 4, pins);
     assert!(rt; out.write_b && out.write_q);
     assert_eq!(rt; (out.b, out.q), (1, 10));
-    Ok(())
-}
-
-#[test]
-fn functions_of_one_slice(rt: HostRuntime) {
-    for (row, wanted) in one_slice::ROWS.chunks(3).enumerate() {
-        let function = (row / 512 % 8) as u16;
-        let (r, s) = ((row / 32 % 16) as u8, (row / 2 % 16) as u8);
-        let ins = NOP_OF_D_AND_A + function * FUNCTION;
-        let mut slice = Slice {
-            regs: [s; 16],
-            q: 0,
-        };
-        let out = slice.step(ins, 7, 0, r, row % 2 == 1, NO_PINS);
-        let flags = u32::from(out.carry) << 3
-            | u32::from(out.overflow) << 2
-            | u32::from(out.zero) << 1
-            | u32::from(out.sign);
-        let group = u32::from(out.g) << 1 | u32::from(out.p);
-        let got = [digit(u32::from(out.f)), digit(flags), digit(group)];
-        assert_eq!(rt; got.as_slice(), wanted, "at row {row}");
-        assert_eq!(rt; out.y, out.f, "at row {row}");
-    }
-    assert_eq!(rt; one_slice::ROWS.len(), 12288);
-}
-
-#[test]
-fn corner_values(rt: HostRuntime) -> Result<(), Fail> {
-    for (bits, function, r, s, carry_in, f, wanted) in [
-        (8, 1, 0x00, 0x80, true, 0x80, 0b1001),
-        (16, 0, 0x8000, 0x8000, false, 0x0000, 0b1110),
-        (20, 0, 0x7FFFF, 0x00000, true, 0x80000, 0b0101),
-        (32, 2, 0x8000_0000, 0x7FFF_FFFF, true, 0x0000_0001, 0b1100),
-        (32, 5, 0xFFFF_0000, 0xF0F0_F0F0, true, 0x0000_F0F0, 0b0000),
-    ] {
-        let width = Width::new(bits).ok_or("a width")?;
-        let ins = NOP_OF_D_AND_A + function % 8 * FUNCTION;
-        assert!(rt; r <= mask(width) && s <= mask(width), "{r:#X} and {s:#X}");
-        assert!(rt; bits % 4 == 0, "{bits} bits");
-        let out = sliced(width, ins, s, 0, 0, r, carry_in);
-        assert_eq!(rt; (out.f, flags(out)), (f, wanted), "{r:#X} and {s:#X}");
-    }
     Ok(())
 }
 

@@ -95,19 +95,3 @@ fn bundle_push_sp(rt: HostRuntime) -> Result<(), Fail> {
         b"differs step 1\ndifference element b.sp\n",
     )
 }
-
-#[test]
-fn table_of_bundles(rt: HostRuntime) -> Result<(), Fail> {
-    for &(contents, report) in &bundle_cases::CASES {
-        check_report(&rt, rt.alloc(), contents, report)?;
-    }
-    Ok(())
-}
-
-#[test]
-fn table_of_instructions(rt: HostRuntime) -> Result<(), Fail> {
-    for &(contents, report) in &instruction_bundles::CASES {
-        check_report(&rt, rt.alloc(), contents, report)?;
-    }
-    Ok(())
-}

@@ -20,15 +20,7 @@ pub use status::Status;
 pub use top_call::bench;
 
 #[cfg(test)]
-mod asm_cases;
-#[cfg(test)]
-mod asm_refusals;
-#[cfg(test)]
 mod asm_tests;
-#[cfg(test)]
-mod asm_vectors;
-#[cfg(test)]
-mod bundle_cases;
 #[cfg(test)]
 mod call_tests;
 #[cfg(test)]
@@ -36,14 +28,6 @@ mod compare_tests;
 #[cfg(test)]
 mod computed_examples;
 #[cfg(test)]
-mod cycle_boards;
-#[cfg(test)]
-mod cycle_cases;
-#[cfg(test)]
 mod cycle_tests;
-#[cfg(test)]
-mod instruction_bundles;
-#[cfg(test)]
-mod order_tests;
 #[cfg(test)]
 mod tests;

@@ -1,0 +1,34 @@
+// Calls that no command shows yet.
+mod cycles;
+mod numbers;
+mod parts;
+mod texts;
+mod tokens;
+
+use crate::fault::{Fault, wrong};
+use crate::row::{File, contents_in};
+use std::alloc::Global;
+
+/// The contents of the file that a call reads.
+fn contents<'a>(files: &'a [File], name: &str) -> Result<&'a [u8], Fault> {
+    match contents_in(files, name) {
+        Some(contents) => Ok(contents),
+        None => Err(wrong("the call reads a file that isn't there")),
+    }
+}
+
+/// What a call gives. The first word is its name.
+pub fn made(alloc: Global, words: &[String], files: &[File]) -> Result<Vec<u8>, Fault> {
+    let [name, given @ ..] = words else {
+        return Err(wrong("no call"));
+    };
+    match name.as_str() {
+        "tokens" => tokens::read(alloc, contents(files, "text")?),
+        "number" => numbers::read(alloc, given),
+        "alu" => parts::alu_table(alloc, given),
+        "slice" => parts::slice_table(alloc, given),
+        "step" => parts::stepped(alloc, given),
+        "cycle" => cycles::run(alloc, given, files),
+        _ => Err(wrong("no such call")),
+    }
+}

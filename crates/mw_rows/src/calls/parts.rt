@@ -1,0 +1,136 @@
+// The parts of a board, one by one.
+ghost use Rattle.std.specs.Prelude.{◌<◌, IfOk};
+
+use crate::fault::{Fault, wrong};
+use crate::named::{address_of, bit_of, number_of, sequencer_of};
+use mw_alu::{AluOut, Pins, alu};
+use mw_base::Width;
+use mw_slice::{Slice, SliceOut};
+use std::alloc::Global;
+
+/// The instruction whose R is D and whose S is A, that writes nothing, by the code of its function.
+fn instruction(given: &[String]) -> Result<u16, Fault>
+    ensures { IfOk result (λ ins. ins < 512) }
+{
+    let function = number_of(given, "function")?;
+    if function < 8 && given.len() == 1 {
+        Ok(0o105 + function as u16 * 0o010)
+    } else {
+        Err(wrong("`function=` is a number below 8"))
+    }
+}
+
+fn digit(number: u32) -> u8 {
+    b"0123456789ABCDEF"[(number % 16) as usize]
+}
+
+/// F, and carry, overflow, zero and sign, a digit each.
+fn push_alu(line: &mut Vec<u8>, out: AluOut) -> Result<(), Fault> {
+    let flags = u32::from(out.carry) << 3
+        | u32::from(out.overflow) << 2
+        | u32::from(out.zero) << 1
+        | u32::from(out.sign);
+    line.push(digit(out.f))?;
+    line.push(digit(flags))?;
+    Ok(())
+}
+
+/// The same of one slice, and G and P as a third digit.
+fn push_slice(line: &mut Vec<u8>, out: SliceOut) -> Result<(), Fault> {
+    let flags = u32::from(out.carry) << 3
+        | u32::from(out.overflow) << 2
+        | u32::from(out.zero) << 1
+        | u32::from(out.sign);
+    line.push(digit(u32::from(out.f)))?;
+    line.push(digit(flags))?;
+    line.push(digit(u32::from(out.g) << 1 | u32::from(out.p)))?;
+    Ok(())
+}
+
+/// `call alu function=N`: a line for each R of four bits has, for each S and carry in, F and the flags as two digits. A
+/// last line says whether carry and overflow are defined, in the answer to zeros.
+pub fn alu_table(alloc: Global, given: &[String]) -> Result<Vec<u8>, Fault> {
+    let ins = instruction(given)?;
+    let Some(width) = Width::new(4) else {
+        return Err(wrong("no width"));
+    };
+    let mut report = Vec::new(alloc);
+    let mut defined = 0u64;
+    for r in 0..16u32 {
+        for s in 0..16u32 {
+            for carry_in in [false, true] {
+                let out = alu(width, ins, s, 0, 0, r, carry_in);
+                defined = defined.saturating_add(u64::from(out.defined));
+                push_alu(&mut report, out)?;
+            }
+        }
+        report.push(b'\n')?;
+    }
+    let last = format!(in alloc; "carry and overflow are defined in {defined}\n")?;
+    report.extend_from_slice(last.as_bytes())?;
+    Ok(report)
+}
+
+/// `call slice function=N`: the same of one slice, whose S is register 7, with G and P as a third digit. A last line says
+/// in how many answers Y is F.
+pub fn slice_table(alloc: Global, given: &[String]) -> Result<Vec<u8>, Fault> {
+    let ins = instruction(given)?;
+    let pins = Pins {
+        ram_high: false,
+        ram_low: false,
+        q_high: false,
+        q_low: false,
+    };
+    let mut report = Vec::new(alloc);
+    let mut same = 0u64;
+    for r in 0..16u8 {
+        for s in 0..16u8 {
+            for carry_in in [false, true] {
+                let mut slice = Slice {
+                    regs: [s; 16],
+                    q: 0,
+                };
+                let out = slice.step(ins, 7, 0, r, carry_in, pins);
+                same = same.saturating_add(u64::from(out.y == out.f));
+                push_slice(&mut report, out)?;
+            }
+        }
+        report.push(b'\n')?;
+    }
+    let last = format!(in alloc; "Y is F in {same}\n")?;
+    report.extend_from_slice(last.as_bytes())?;
+    Ok(report)
+}
+
+/// The code of an instruction of the sequencer.
+fn code(given: &[String]) -> Result<u8, Fault>
+    ensures { IfOk result (λ ins. ins < 16) }
+{
+    let number = number_of(given, "ins")?;
+    if number < 16 {
+        Ok(number as u8)
+    } else {
+        Err(wrong("`ins=` is a number below 16"))
+    }
+}
+
+/// `call step ins= pass= d= ci= rld= noise= pc= r= sp= stack=`: the next address, and the sequencer after it.
+pub fn stepped(alloc: Global, given: &[String]) -> Result<Vec<u8>, Fault> {
+    if given.len() != 10 {
+        return Err(wrong("`step` has ten numbers"));
+    }
+    let ins = code(given)?;
+    let pass = bit_of(given, "pass")?;
+    let d = address_of(given, "d")?;
+    let ci = bit_of(given, "ci")?;
+    let rld = bit_of(given, "rld")?;
+    let noise = address_of(given, "noise")?;
+    let mut seq = match sequencer_of(given) {
+        Ok(seq) => seq,
+        Err(fault) => return Err(fault),
+    };
+    let next = seq.step(ins, pass, d, ci, rld, noise);
+    let after = super::texts::sequencer(alloc, seq)?;
+    let line = format!(in alloc; "next={next:x} {after}\n")?;
+    Ok(Vec::from_slice(alloc, line.as_bytes())?)
+}

@@ -1,0 +1,115 @@
+// Numbers by name, as `pc=200 sp=2`: hexadecimal.
+ghost use Rattle.std.specs.Prelude.{◌<◌, ◌≤◌, ◌^◌, IfOk};
+
+use crate::fault::{Fault, wrong};
+use mw_seq::Seq;
+
+/// The text behind `NAME=` in the word of this name.
+pub fn text_of<'a>(words: &'a [String], name: &str) -> Result<&'a str, Fault> {
+    for word in words {
+        if let Some((left, right)) = word.split_once('=') {
+            if left == name {
+                return Ok(right);
+            }
+        }
+    }
+    Err(wrong("a name is missing"))
+}
+
+/// The number that a text spells.
+pub fn hexadecimal(text: &str) -> Result<u64, Fault> {
+    match u64::from_str_radix(text, 16) {
+        Ok(number) => Ok(number),
+        Err(_) => Err(wrong("no hexadecimal number")),
+    }
+}
+
+/// The number of a name.
+pub fn number_of(words: &[String], name: &str) -> Result<u64, Fault> {
+    hexadecimal(text_of(words, name)?)
+}
+
+/// A number of 32 bits.
+pub fn word(number: u64) -> Result<u32, Fault> {
+    match u32::try_from(number) {
+        Ok(number) => Ok(number),
+        Err(_) => Err(wrong("a number is too great")),
+    }
+}
+
+/// A number of 12 bits.
+pub fn address(number: u64) -> Result<u16, Fault>
+    ensures { IfOk result (λ address. address < 2 ^ 12) }
+{
+    if number < 4096 {
+        Ok(number as u16)
+    } else {
+        Err(wrong("no address"))
+    }
+}
+
+/// A number of 1 bit.
+pub fn bit(number: u64) -> Result<bool, Fault> {
+    match number {
+        0 => Ok(false),
+        1 => Ok(true),
+        _ => Err(wrong("no bit")),
+    }
+}
+
+/// The address of a name.
+pub fn address_of(words: &[String], name: &str) -> Result<u16, Fault>
+    ensures { IfOk result (λ address. address < 2 ^ 12) }
+{
+    let number = number_of(words, name)?;
+    address(number)
+}
+
+/// The bit of a name.
+pub fn bit_of(words: &[String], name: &str) -> Result<bool, Fault> {
+    bit(number_of(words, name)?)
+}
+
+/// An address of a list with commas between, by its place.
+fn listed(text: &str, place: usize) -> Result<u16, Fault>
+    ensures { IfOk result (λ address. address < 2 ^ 12) }
+{
+    match text.split(',').nth(place) {
+        Some(part) => {
+            let number = hexadecimal(part)?;
+            address(number)
+        }
+        None => Err(wrong("five addresses are wanted")),
+    }
+}
+
+/// The stack pointer of a name.
+fn pointer_of(words: &[String]) -> Result<u8, Fault>
+    ensures { IfOk result (λ pointer. pointer ≤ 5) }
+{
+    let number = number_of(words, "sp")?;
+    if number <= 5 {
+        Ok(number as u8)
+    } else {
+        Err(wrong("no stack pointer"))
+    }
+}
+
+/// The sequencer of `pc=`, `r=`, `sp=` and `stack=`, whose five words stand with commas between, the oldest first.
+pub fn sequencer_of(words: &[String]) -> Result<Seq, Fault> {
+    let pc = address_of(words, "pc")?;
+    let r = address_of(words, "r")?;
+    let sp = pointer_of(words)?;
+    let text = text_of(words, "stack")?;
+    let first = listed(text, 0)?;
+    let second = listed(text, 1)?;
+    let third = listed(text, 2)?;
+    let fourth = listed(text, 3)?;
+    let fifth = listed(text, 4)?;
+    Ok(Seq {
+        pc,
+        r,
+        stack: [first, second, third, fourth, fifth],
+        sp,
+    })
+}

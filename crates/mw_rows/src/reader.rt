@@ -1,0 +1,326 @@
+// Reads a file of rows.
+use crate::fault::{Fault, wrong};
+use crate::line::{Line, line_of};
+use crate::row::{Change, End, File, Row, Rows, Set, Work};
+use crate::spelled::{push_repeated, push_spelled, words_of};
+use std::alloc::Global;
+
+/// To what the next lines belong.
+#[derive(Clone, Copy, PartialEq, Eq)]
+enum Place {
+    /// Neither set nor row has begun.
+    Start,
+    /// A set, before its first file.
+    Set,
+    /// A file of a set.
+    SetFile,
+    /// A row, before its first file.
+    Row,
+    /// A file of a row.
+    RowFile,
+    /// The change of a row's file.
+    Change,
+    /// The report of a row.
+    Report,
+}
+
+/// What was read so far.
+#[derive(Drop)]
+struct Reader {
+    alloc: Global,
+    rows: Rows,
+    place: Place,
+}
+
+/// The number of a status.
+fn status_of(text: &str) -> Result<u8, Fault> {
+    match text.parse::<u8>() {
+        Ok(status) if status <= 7 => Ok(status),
+        _ => Err(wrong("no status")),
+    }
+}
+
+fn new_file(alloc: Global, name: &str) -> Result<File, Fault> {
+    Ok(File {
+        name: String::from_str(alloc, name)?,
+        contents: Vec::new(alloc),
+    })
+}
+
+impl Reader {
+    fn new(alloc: Global) -> Reader {
+        Reader {
+            alloc,
+            rows: Rows {
+                sets: Vec::new(alloc),
+                rows: Vec::new(alloc),
+            },
+            place: Place::Start,
+        }
+    }
+
+    /// The set at hand.
+    fn set(&mut self) -> Result<&mut Set, Fault> {
+        match self.rows.sets.last_mut() {
+            Some(set) => Ok(set),
+            None => Err(wrong("no set has begun")),
+        }
+    }
+
+    /// The row at hand, where it has no end yet.
+    fn row(&mut self) -> Result<&mut Row, Fault> {
+        if !matches!(self.place, Place::Row | Place::RowFile | Place::Change) {
+            return Err(wrong("this belongs into a row, before its end"));
+        }
+        match self.rows.rows.last_mut() {
+            Some(row) => Ok(row),
+            None => Err(wrong("no row has begun")),
+        }
+    }
+
+    /// The change at hand.
+    fn change(&mut self) -> Result<&mut Change, Fault> {
+        if self.place != Place::Change {
+            return Err(wrong("this belongs behind `change`"));
+        }
+        match &mut self.row()?.change {
+            Some(change) => Ok(change),
+            None => Err(wrong("no change has begun")),
+        }
+    }
+
+    /// The number of the set of a name.
+    fn set_number(&self, name: &str) -> Option<usize> {
+        self.rows
+            .sets
+            .iter()
+            .position(|set| set.name.as_str() == name)
+    }
+
+    /// Whether the row at hand has a file of this name.
+    fn has_file(&self, name: &str) -> bool {
+        match self.rows.rows.last() {
+            Some(row) => self.rows.contents(row, name).is_some(),
+            None => false,
+        }
+    }
+
+    /// Whether a set or row may begin or the text may end: what came before is whole.
+    fn end_of_part(&self) -> Result<(), Fault> {
+        match self.place {
+            Place::Start | Place::SetFile | Place::Report => Ok(()),
+            Place::Set => Err(wrong("the set above has no file")),
+            Place::Row | Place::RowFile | Place::Change => Err(wrong("the row above has no end")),
+        }
+    }
+
+    fn begin_set(&mut self, name: &str) -> Result<(), Fault> {
+        self.end_of_part()?;
+        if self.set_number(name).is_some() {
+            return Err(wrong("there is a set of this name"));
+        }
+        let set = Set {
+            name: String::from_str(self.alloc, name)?,
+            files: Vec::new(self.alloc),
+        };
+        self.rows.sets.push(set)?;
+        self.place = Place::Set;
+        Ok(())
+    }
+
+    fn begin_row(&mut self, name: &str, line: u64) -> Result<(), Fault> {
+        self.end_of_part()?;
+        let row = Row {
+            line,
+            name: String::from_str(self.alloc, name)?,
+            sets: Vec::new(self.alloc),
+            files: Vec::new(self.alloc),
+            change: None,
+            work: None,
+            end: None,
+            begins: false,
+        };
+        self.rows.rows.push(row)?;
+        self.place = Place::Row;
+        Ok(())
+    }
+
+    /// Whether a file of the set is one of the row at hand already.
+    fn shares_file(&self, number: usize) -> bool {
+        match self.rows.sets.get(number) {
+            Some(set) => set
+                .files
+                .iter()
+                .any(|file| self.has_file(file.name.as_str())),
+            None => false,
+        }
+    }
+
+    fn take_set(&mut self, name: &str) -> Result<(), Fault> {
+        let Some(number) = self.set_number(name) else {
+            return Err(wrong("no such set"));
+        };
+        if self.shares_file(number) {
+            return Err(wrong("a file of this set is there already"));
+        }
+        self.row()?.sets.push(number)?;
+        self.place = Place::Row;
+        Ok(())
+    }
+
+    fn begin_file(&mut self, name: &str) -> Result<(), Fault> {
+        let file = new_file(self.alloc, name)?;
+        if matches!(self.place, Place::Set | Place::SetFile) {
+            self.set()?.files.push(file)?;
+            self.place = Place::SetFile;
+            return Ok(());
+        }
+        if self.has_file(name) {
+            return Err(wrong("a file of this name is there already"));
+        }
+        self.row()?.files.push(file)?;
+        self.place = Place::RowFile;
+        Ok(())
+    }
+
+    fn begin_change(&mut self, name: &str) -> Result<(), Fault> {
+        if !self.has_file(name) {
+            return Err(wrong("no such file"));
+        }
+        let change = Change {
+            file: String::from_str(self.alloc, name)?,
+            without: Vec::new(self.alloc),
+            lines: Vec::new(self.alloc),
+            turned: false,
+        };
+        let row = self.row()?;
+        if row.change.is_some() {
+            return Err(wrong("a row has one change"));
+        }
+        row.change = Some(change);
+        self.place = Place::Change;
+        Ok(())
+    }
+
+    fn take_keys(&mut self, keys: &str) -> Result<(), Fault> {
+        let alloc = self.alloc;
+        let change = self.change()?;
+        for key in keys.split_whitespace() {
+            change.without.push(String::from_str(alloc, key)?)?;
+        }
+        Ok(())
+    }
+
+    fn take_work(&mut self, work: Work) -> Result<(), Fault> {
+        let row = self.row()?;
+        if row.work.is_some() {
+            return Err(wrong("a row has one call"));
+        }
+        row.work = Some(work);
+        self.place = Place::Row;
+        Ok(())
+    }
+
+    fn begin_end(&mut self, status: u8, begins: bool) -> Result<(), Fault> {
+        let report = Vec::new(self.alloc);
+        let row = self.row()?;
+        if row.work.is_none() {
+            return Err(wrong("the row has no call"));
+        }
+        row.end = Some(End { status, report });
+        row.begins = begins;
+        self.place = Place::Report;
+        Ok(())
+    }
+
+    /// To what a line of text is added.
+    fn text(&mut self) -> Result<&mut Vec<u8>, Fault> {
+        let rows = &mut self.rows;
+        let file = match self.place {
+            Place::SetFile => match rows.sets.last_mut() {
+                Some(set) => set.files.last_mut(),
+                None => None,
+            },
+            Place::RowFile => match rows.rows.last_mut() {
+                Some(row) => row.files.last_mut(),
+                None => None,
+            },
+            Place::Change => return self.change_text(),
+            Place::Report => return self.report_text(),
+            _ => None,
+        };
+        match file {
+            Some(file) => Ok(&mut file.contents),
+            None => Err(wrong("a text belongs to a file, a change or a report")),
+        }
+    }
+
+    fn change_text(&mut self) -> Result<&mut Vec<u8>, Fault> {
+        Ok(&mut self.change()?.lines)
+    }
+
+    fn report_text(&mut self) -> Result<&mut Vec<u8>, Fault> {
+        match self.rows.rows.last_mut() {
+            Some(row) => match &mut row.end {
+                Some(end) => Ok(&mut end.report),
+                None => Err(wrong("the row has no end")),
+            },
+            None => Err(wrong("no row has begun")),
+        }
+    }
+
+    fn take_text(&mut self, text: &str) -> Result<(), Fault> {
+        let bytes = self.text()?;
+        bytes.extend_from_slice(text.as_bytes())?;
+        bytes.push(b'\n')?;
+        Ok(())
+    }
+
+    fn take(&mut self, line: Line<'_>, number: u64) -> Result<(), Fault> {
+        match line {
+            Line::Nothing => Ok(()),
+            Line::Set(name) => self.begin_set(name),
+            Line::Row(name) => self.begin_row(name, number),
+            Line::With(name) => self.take_set(name),
+            Line::File(name) => self.begin_file(name),
+            Line::Change(name) => self.begin_change(name),
+            Line::Without(keys) => self.take_keys(keys),
+            Line::Turned => {
+                self.change()?.turned = true;
+                Ok(())
+            }
+            Line::Words(words) => self.take_work(Work::Bench(words_of(self.alloc, words)?)),
+            Line::Call(words) => self.take_work(Work::Call(words_of(self.alloc, words)?)),
+            Line::Status(status) => self.begin_end(status_of(status)?, false),
+            Line::Begins(status) => self.begin_end(status_of(status)?, true),
+            Line::Gives => self.begin_end(0, false),
+            Line::Text(text) => self.take_text(text),
+            Line::Spelled(text) => push_spelled(self.text()?, text),
+            Line::Repeated(text) => push_repeated(self.text()?, text),
+        }
+    }
+}
+
+/// Reads a file of rows.
+///
+/// # Errors
+///
+/// The first line that isn't what it has to be, and want of memory.
+pub fn rows_of(alloc: Global, text: &str) -> Result<Rows, Fault> {
+    let mut reader = Reader::new(alloc);
+    let mut number = 0u64;
+    for line in text.lines() {
+        number = number.saturating_add(1);
+        let taken = match line_of(line) {
+            Some(line) => reader.take(line, number),
+            None => Err(wrong("no such line")),
+        };
+        if let Err(fault) = taken {
+            return Err(fault.at(number));
+        }
+    }
+    match reader.end_of_part() {
+        Ok(()) => Ok(reader.rows),
+        Err(fault) => Err(fault.at(number)),
+    }
+}

@@ -1,0 +1,197 @@
+// Runs rows.
+ghost use Rattle.std.specs.Prelude.{◌<◌};
+
+use crate::calls::made;
+use crate::fault::{Fault, wrong};
+use crate::row::{Change, End, File, Row, Rows, Work};
+use mw_outside::{MemoryShelf, MemorySink};
+use mw_top::bench;
+use std::alloc::Global;
+
+/// Whether a line stands under one of these keys.
+fn is_under(keys: &[String], line: &str) -> bool {
+    for key in keys {
+        if let Some(rest) = line.strip_prefix(key.as_str()) {
+            if rest.starts_with(' ') || rest.starts_with('.') {
+                return true;
+            }
+        }
+    }
+    false
+}
+
+/// Bytes that are to be a text.
+fn text_of(bytes: &[u8]) -> Result<&str, Fault> {
+    match str::from_utf8(bytes) {
+        Ok(text) => Ok(text),
+        Err(_) => Err(wrong("a file that is changed is a text")),
+    }
+}
+
+/// A file's contents with a change.
+fn changed(
+    alloc: Global,
+    contents: &[u8],
+    change: &Change,
+    turned: bool,
+) -> Result<Vec<u8>, Fault> {
+    let mut lines = Vec::new(alloc);
+    for line in text_of(contents)?.lines() {
+        if !is_under(&change.without, line) {
+            lines.push(line)?;
+        }
+    }
+    for line in text_of(&change.lines)?.lines() {
+        lines.push(line)?;
+    }
+    if turned {
+        lines.reverse();
+    }
+    let mut text = Vec::new(alloc);
+    for line in lines.iter() {
+        text.extend_from_slice(line.as_bytes())?;
+        text.push(b'\n')?;
+    }
+    Ok(text)
+}
+
+fn push_file(
+    alloc: Global,
+    files: &mut Vec<File>,
+    row: &Row,
+    file: &File,
+    turned: bool,
+) -> Result<(), Fault> {
+    let contents = match &row.change {
+        Some(change) if change.file.as_str() == file.name.as_str() => {
+            changed(alloc, &file.contents, change, turned)?
+        }
+        _ => Vec::from_slice(alloc, &file.contents)?,
+    };
+    let name = String::from_str(alloc, file.name.as_str())?;
+    files.push(File { name, contents })?;
+    Ok(())
+}
+
+/// The files of a row.
+fn files_of(alloc: Global, rows: &Rows, row: &Row, turned: bool) -> Result<Vec<File>, Fault> {
+    let mut files = Vec::new(alloc);
+    for &number in &row.sets {
+        if let Some(set) = rows.sets.get(number) {
+            for file in &set.files {
+                push_file(alloc, &mut files, row, file, turned)?;
+            }
+        }
+    }
+    for file in &row.files {
+        push_file(alloc, &mut files, row, file, turned)?;
+    }
+    Ok(files)
+}
+
+/// How the bench ends with these words over these files.
+fn benched(alloc: Global, words: &[String], files: &[File]) -> Result<End, Fault> {
+    let mut shelf = MemoryShelf::new(alloc, 4096, &[])?;
+    let mut out = MemorySink::new(alloc, 4096, &[])?;
+    for file in files {
+        shelf.set(alloc, &file.name, &file.contents)?;
+    }
+    let status = bench(alloc, words, &mut shelf, &mut out);
+    Ok(End {
+        status: status.number(),
+        report: Vec::from_slice(alloc, out.bytes())?,
+    })
+}
+
+/// How a row ends over these files.
+fn ended(alloc: Global, row: &Row, files: &[File]) -> Result<End, Fault> {
+    match &row.work {
+        Some(Work::Bench(words)) => benched(alloc, words, files),
+        Some(Work::Call(words)) => Ok(End {
+            status: 0,
+            report: made(alloc, words, files)?,
+        }),
+        None => Err(wrong("the row has no call")),
+    }
+}
+
+/// Whether an end is as the row says.
+fn is_wanted(row: &Row, came: &End) -> bool {
+    match &row.end {
+        Some(wanted) if row.begins => {
+            came.status == wanted.status && came.report.starts_with(&wanted.report)
+        }
+        Some(wanted) => {
+            came.status == wanted.status && came.report.as_slice() == wanted.report.as_slice()
+        }
+        None => false,
+    }
+}
+
+/// Prints an end.
+fn print_end<R: Print + AllocGlobal>(rt: &R, which: &str, end: &End) -> Result<(), Fault> {
+    println!(rt; "  {which} status {}", end.status)?;
+    let report = String::from_utf8_lossy(rt.alloc(), &end.report)?;
+    for line in report.lines() {
+        println!(rt; "  | {line}")?;
+    }
+    Ok(())
+}
+
+/// Prints a row that ended otherwise: what was wanted, and what came.
+fn print_row<R: Print + AllocGlobal>(
+    rt: &R,
+    file: &str,
+    row: &Row,
+    came: &End,
+) -> Result<(), Fault> {
+    println!(rt; "{file} line {}: {}", row.line, row.name)?;
+    if let Some(wanted) = &row.end {
+        print_end(rt, "wanted", wanted)?;
+    }
+    print_end(rt, "came", came)
+}
+
+/// Runs a row, prints it where it ends otherwise, and answers whether it ends as it says.
+fn run_row<R: Print + AllocGlobal>(
+    rt: &R,
+    file: &str,
+    rows: &Rows,
+    row: &Row,
+    turned: bool,
+) -> Result<bool, Fault> {
+    let files = files_of(rt.alloc(), rows, row, turned)?;
+    let came = ended(rt.alloc(), row, &files)?;
+    let wanted = is_wanted(row, &came);
+    if !wanted {
+        print_row(rt, file, row, &came)?;
+    }
+    Ok(wanted)
+}
+
+/// Runs a row, with its change turned too where the row says so.
+fn run_both<R: Print + AllocGlobal>(
+    rt: &R,
+    file: &str,
+    rows: &Rows,
+    row: &Row,
+) -> Result<bool, Fault> {
+    let holds = run_row(rt, file, rows, row, false)?;
+    match &row.change {
+        Some(change) if holds && change.turned => run_row(rt, file, rows, row, true),
+        _ => Ok(holds),
+    }
+}
+
+/// Runs the rows of a file of this name, and answers how many of them end otherwise.
+pub fn run_rows<R: Print + AllocGlobal>(rt: &R, file: &str, rows: &Rows) -> Result<u64, Fault> {
+    let mut otherwise = 0u64;
+    for row in &rows.rows {
+        match run_both(rt, file, rows, row) {
+            Ok(true) => {}
+            Ok(false) => otherwise = otherwise.saturating_add(1),
+            Err(fault) => return Err(fault.at(row.line)),
+        }
+    }
+    Ok(otherwise)
+}

@@ -1,0 +1,148 @@
+#!/usr/bin/env python3
+"""Writes and reads files of rows, as docs/CONTRIBUTING.md has them and the crate mw_rows runs them.
+
+    rows.py cases FILE..    the rows of cases that are JSON, one a line: name, words, files, stdout, status
+    rows.py count FILE..    how many rows these files have
+
+Where the stdout of a case is null, its `lines` are what the report begins with.
+"""
+import json
+import re
+import sys
+
+ESCAPES = {"n": "\n", "t": "\t", "r": "\r", "\\": "\\"}
+# A byte that stands so many times and more is written with a count.
+LONG = 100
+
+
+def spelled(data):
+    """Bytes as a spelled text, which an editor shows and keeps."""
+    names = {ord(stands): f"\\{name}" for name, stands in ESCAPES.items()}
+    text = "".join(names.get(byte) or (chr(byte) if 0x20 <= byte < 0x7F else f"\\x{byte:02X}") for byte in data)
+    return text[:-1] + "\\x20" if text.endswith(" ") else text
+
+
+def unspelled(text):
+    """The bytes that a spelled text stands for."""
+    chars = re.sub(r"\\(x(..)|.)", lambda found: chr(int(found[2], 16)) if found[2] else ESCAPES[found[1]],
+                   text.encode().decode("latin-1"))
+    return chars.encode("latin-1")
+
+
+def line_of(part):
+    """A line that ends with a line feed, as it is where an editor keeps it."""
+    try:
+        text = part.decode()
+        plain = text.isprintable() and not text.endswith(" ")
+    except UnicodeDecodeError:
+        plain = False
+    if plain:
+        return f"| {text}" if text else "|"
+    return "\\ " + spelled(part + b"\n")
+
+
+def text_lines(data):
+    """The lines that spell some bytes."""
+    long = re.search(rb"(?s)(.)\1{%d,}" % (LONG - 1), data)
+    if long:
+        count = f"* {len(long[0])} {spelled(long[1])}"
+        return text_lines(data[:long.start()]) + [count] + text_lines(data[long.end():])
+    *parts, last = data.split(b"\n")
+    return [line_of(part) for part in parts] + (["\\ " + spelled(last)] if last else [])
+
+
+def word(text):
+    """A word of a command line, in quotation marks where it needs them."""
+    if re.fullmatch(r"[!#-~]+", text):
+        return text
+    return '"' + spelled(text.encode()).replace('"', "\\x22") + '"'
+
+
+def words_line(words):
+    return " ".join(["$"] + [word(text) for text in words])
+
+
+def file_lines(name, data):
+    return [f"file {name}"] + text_lines(data)
+
+
+def row_lines(name, given, end, report):
+    """A row: its name, its lines up to its end, the end, and the report."""
+    return [f"row {name}"] + given + [end] + text_lines(report)
+
+
+def case_lines(case):
+    given = [words_line(case["words"])]
+    for name, contents in case["files"].items():
+        given += file_lines(name, contents.encode())
+    if case["stdout"] is None:
+        return row_lines(case["name"], given, f"begins {case['status']}", case["lines"].encode())
+    return row_lines(case["name"], given, f"status {case['status']}", case["stdout"].encode())
+
+
+def added(contents, line):
+    """What a line of text adds to some contents."""
+    mark, _, text = line.partition(" ")
+    if mark == "|":
+        return contents + text.encode() + b"\n"
+    if mark == "*":
+        count, _, text = text.partition(" ")
+        return contents + int(count) * unspelled(text)
+    return contents + unspelled(text)
+
+
+def changed(contents, keys, lines):
+    """A file's contents without the lines under some keys, and with others behind them."""
+    kept = [line for line in contents.decode().splitlines() if not any(re.match(re.escape(key) + "[ .]", line) for key in keys)]
+    return "".join(line + "\n" for line in kept + lines.decode().splitlines()).encode()
+
+
+def read(path):
+    """The rows of a file, each as a dictionary: its name, words, files, end and report."""
+    sets, rows, texts, at = {}, [], {}, None
+    with open(path, encoding="utf-8") as file:
+        lines = file.read().split("\n")
+    for line in lines:
+        mark, _, rest = line.partition(" ")
+        if mark in ("|", "\\", "*"):
+            texts[at] = added(texts[at], line)
+        elif mark == "set":
+            texts = sets[rest] = {}
+        elif mark == "row":
+            texts = {}
+            rows.append({"name": rest, "files": texts, "keys": []})
+        elif mark == "with":
+            texts.update(sets[rest])
+        elif mark == "file":
+            texts[rest], at = b"", rest
+        elif mark in ("change", "status", "begins", "gives"):
+            at = "lines" if mark == "change" else "report"
+            texts = rows[-1]
+            texts |= {at: b"", mark: rest}
+        elif mark == "without":
+            rows[-1]["keys"] = rest.split()
+        elif mark in ("$", "call"):
+            rows[-1][mark] = rest
+    for row in rows:
+        if "change" in row:
+            name = row["change"]
+            row["files"][name] = changed(row["files"][name], row["keys"], row["lines"])
+    return rows
+
+
+def main():
+    match sys.argv[1:]:
+        case ["cases", *paths]:
+            for path in paths:
+                with open(path, encoding="utf-8") as lines:
+                    for line in lines:
+                        print("\n".join(case_lines(json.loads(line))) + "\n")
+        case ["count", *paths]:
+            for path in paths:
+                print(f"{path}: {len(read(path))} rows")
+        case _:
+            sys.exit(__doc__)
+
+
+if __name__ == "__main__":
+    main()
