@@ -37,8 +37,10 @@ fn fields_in_byte_order(rt: HostRuntime) -> Result<(), Fail> {
     let board = board_of(rt.alloc(), SMALL)?;
     let fields = board.parts().fields.as_slice();
     assert_eq!(rt; fields.len(), 3);
-    for (named, (name, low, width)) in fields.iter().zip([("a", 3, 4), ("br", 7, 12), ("src", 0, 3)]) {
-
+    for (named, (name, low, width)) in fields
+        .iter()
+        .zip([("a", 3, 4), ("br", 7, 12), ("src", 0, 3)])
+    {
         assert_eq!(rt; named.name.as_slice(), name.as_bytes());
         assert_eq!(rt; (named.field.low, named.field.width), (low, width));
     }
