@@ -108,7 +108,10 @@ fn which_texts_are_names(rt: HostRuntime) -> Result<(), Fail> {
 fn spelled_numbers(rt: HostRuntime) {
     assert_eq!(rt; number(b"0x3802c1"), Ok(0x38_02C1));
     assert_eq!(rt; number(b"1_000"), Err(Cause::BadNumber));
-    assert_eq!(rt; number(b"0x100000000000000000000000000000000"), Err(Cause::TooWide));
+    assert_eq!(rt;
+        number(b"0x100000000000000000000000000000000"),
+        Err(Cause::TooWide)
+    );
 }
 
 #[test]

@@ -1,11 +1,11 @@
 use super::*;
-use mw_base::{Cause, Refused};
-use mw_board::{Bit, Board, Control, DFrom, DSource};
+use mw_base::{Cause, Items, Refused};
+use mw_board::{Bit, Board, Control, DFrom, DSource, Store};
 use std::alloc::Global;
 use std::test::Fail;
 
 /// A board of three fields, whose names don't stand in byte order.
-const SMALL: &[u8] = b"version = 1\nwidth = 4\nmicroword = 20\naddress = 4\nfill = \"0\"\n\
+const SMALL: &[u8] = b"version = 1\nwidth = 4\nmicroword = 20\naddress = 4\nfill = \"0xF\"\n\
     fields.src = [0, 3]\nfields.br = [7, 12]\nfields.a = [3, 4]\n\
     control.alu_source = 'src'\ncontrol.a_address = 'a'\ncontrol.branch = 'br'\n\
     select.carry_in = ['one']\n";
@@ -31,14 +31,27 @@ fn small_board(rt: HostRuntime) -> Result<(), Fail> {
     Ok(())
 }
 
+/// Past the words of a store stands the fill word.
+#[test]
+fn store_of_words(rt: HostRuntime) -> Result<(), Fail> {
+    let board = board_of(rt.alloc(), SMALL)?;
+    let store = Store {
+        words: Items::from_slice(rt.alloc(), &[7, 8])?,
+    };
+    assert_eq!(rt; (store.word(&board, 1), store.word(&board, 2)), (8, 0xF));
+    Ok(())
+}
+
 /// The name, the lowest bit and the width of a board's fields.
 #[test]
 fn fields_in_byte_order(rt: HostRuntime) -> Result<(), Fail> {
     let board = board_of(rt.alloc(), SMALL)?;
     let fields = board.parts().fields.as_slice();
     assert_eq!(rt; fields.len(), 3);
-    for (named, (name, low, width)) in fields.iter().zip([("a", 3, 4), ("br", 7, 12), ("src", 0, 3)]) {
-
+    for (named, (name, low, width)) in fields
+        .iter()
+        .zip([("a", 3, 4), ("br", 7, 12), ("src", 0, 3)])
+    {
         assert_eq!(rt; named.name.as_slice(), name.as_bytes());
         assert_eq!(rt; (named.field.low, named.field.width), (low, width));
     }

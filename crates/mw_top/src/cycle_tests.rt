@@ -64,7 +64,12 @@ fn segment(rt: HostRuntime) -> Result<(), Fail> {
         inputs: Vec::new(rt.alloc()),
     };
     let start = State::new(rt.alloc(), &board)?;
-    let run = run_to_boundary(rt.alloc(), &Whole, &board, &store, start, &env, &[1], 3)?.ok_or("late")?;
-    assert_eq!(rt; (run.clock.cycle, run.state.at, run.events.len()), (2, 1, 2));
+    let run = run_to_boundary(rt.alloc(), &Whole, &board, &store, start, &env, &[1], 3)?.ok_or(
+        "late",
+    )?;
+    assert_eq!(rt;
+        (run.clock.cycle, run.state.at, run.events.len()),
+        (2, 1, 2)
+    );
     Ok(())
 }

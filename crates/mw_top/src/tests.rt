@@ -8,9 +8,7 @@ const SAME: &[u8] = b"bundle = 1\nwords = [0x3802C1, 0x4000C24C1]\nbound = 2\nre
 
 #[test]
 fn bundle_same(rt: HostRuntime) -> Result<(), Fail> {
-    let bundle = read_bundle(rt.alloc(), SAME)
-        .ok()
-        .ok_or("a bundle")?;
+    let bundle = read_bundle(rt.alloc(), SAME).ok().ok_or("a bundle")?;
     assert_eq!(rt; bundle.words(), [0x38_02C1, 0x4_000C_24C1].as_slice());
     assert_eq!(rt; bundle.bound(), 2);
     assert_eq!(rt; bundle.registers(), 3);
