@@ -30,9 +30,13 @@ pub struct State {
 }
 
 impl Model for State {
+    ghost use Rattle.mw_seq.specs.declared.sequencer.TheConstants.{DEPTH};
+    ghost use Rattle.mw_seq.specs.Sequencer.{IsSequencer};
     ghost use Rattle.mw_cycle.specs.State.{BoardState};
 
     ghost Value = { BoardState };
+
+    ghost invariant = { λ s. IsSequencer DEPTH s.seq };
 
     ghost view = { λ s. record { at = s.at; regs = s.regs; q = s.q; mar = s.mar; ir = s.ir; flips = s.flips; seq = s.seq; memory = s.memory.items } };
 }
@@ -64,6 +68,7 @@ fn have_bits(words: &[u32], bits: u8) -> bool
 }
 
 impl State {
+    ghost use Rattle.mw_seq.specs.Sequencer.{IsSequencer};
     ghost use Rattle.mw_cycle.specs.State.{Fits, are_words, is_sized, cleared};
 
     #[tactic(auto, unfolding(crate::specs::State::cleared, mw_board::specs::Depth::depth_of))]
@@ -115,7 +120,8 @@ impl State {
     /// Whether the addresses and the flip-flops are in their ranges, and the memory has each of its words.
     #[tactic(auto, unfolding(crate::specs::State::is_sized))]
     fn is_sized(&self, board: &Board) -> bool
-        ensures { result ≡ is_sized board.now self.now }
+        ensures exact { result ≡ is_sized board.now self.now }
+        ensures sequencer { IsSequencer 5 self.now.seq }
     {
         let parts = board.parts();
         let flipflops = parts.flipflop.as_slice().len() as u8;
@@ -130,8 +136,6 @@ impl State {
     pub fn fits(&self, board: &Board) -> bool
         ensures { IsTrue result ↔ Fits board.now self.now }
     {
-        // The sequencer is in its ranges whatever it holds, as this call says.
-        let _full = self.seq.full();
         self.are_words(board) & self.is_sized(board)
     }
 }
