@@ -1,0 +1,5 @@
+pub mod Accepted
+pub mod Joins
+pub mod Parts
+pub mod Trees
+pub mod Words

@@ -1,0 +1,12 @@
+// Laws of expressions.
+ghost use Rattle.mw_expr.specs.Parts.{PartsHaveWidths, WidthsAreByRule};
+
+/// The law of parts: where an expression has a width, so has each of its parts.
+pub fn parts_have_widths()
+    ensures { PartsHaveWidths }
+{}
+
+/// The law of widths: the width of an expression is the one that the rules of widths give, so what these ask of its parts holds.
+pub fn widths_are_by_rule()
+    ensures { WidthsAreByRule }
+{}
