@@ -147,25 +147,6 @@ mutual
       let shallow = neither _ _ shallow in
       both _ _ (act_right s levels act known.0 wide.0 shallow.0) (acts_right s levels rest known.1 wide.1 shallow.1)
 
-pub accepted_right : AcceptedAreRight
-unfolding is_within_limits are_ranges
-accepted_right m none =
-    let h = keeps m none in
-    let limits = and_parts _ _ h.limits in
-    let counts = and_parts _ _ limits.1 in
-    let sizes = and_parts _ _ counts.1 in
-    let ranges = and_parts _ _ h.ranges in
-    let elements = and_parts _ _ ranges.0 in
-    record {
-      registers = le_from _ _ limits.0;
-      temporaries = le_from _ _ counts.0;
-      statements = le_from _ _ sizes.0;
-      widths = λ i. all_within 1 32 m.shape.widths i elements.0;
-      address = at_most 1 m.shape.address 16 elements.1;
-      word = at_most 4 m.shape.word 32 ranges.1;
-      right = acts_right m.shape 64 m.acts h.known h.wide h.shallow;
-    }
-
 -- ---- a statement makes at most one event of its own
 
 mutual
@@ -180,5 +161,25 @@ mutual
   events_of_acts nothing = omega arith
   events_of_acts (next act rest) = omega (arith, events_of_act act, events_of_acts rest)
 
-pub few_events : (m : Description) → refusal_of m ≡ None → total Events m.acts ≤ 4096
-few_events m none = omega (arith, (accepted_right m none).statements, events_of_acts m.acts)
+-- ---- the law
+
+pub accepted_right : AcceptedAreRight
+unfolding is_within_limits are_ranges
+accepted_right m none =
+    let h = keeps m none in
+    let limits = and_parts _ _ h.limits in
+    let counts = and_parts _ _ limits.1 in
+    let sizes = and_parts _ _ counts.1 in
+    let statements : total Statements m.acts ≤ 4096 = le_from _ _ sizes.0 in
+    let ranges = and_parts _ _ h.ranges in
+    let elements = and_parts _ _ ranges.0 in
+    record {
+      registers = le_from _ _ limits.0;
+      temporaries = le_from _ _ counts.0;
+      statements = statements;
+      events = omega (arith, events_of_acts m.acts);
+      widths = λ i. all_within 1 32 m.shape.widths i elements.0;
+      address = at_most 1 m.shape.address 16 elements.1;
+      word = at_most 4 m.shape.word 32 ranges.1;
+      right = acts_right m.shape 64 m.acts h.known h.wide h.shallow;
+    }

@@ -1,5 +1,5 @@
 -- One step of a described machine: what a macro instruction means on numbers.
-use Rattle.std.specs.Prelude.{ℕ, ◌+◌, ◌-◌, ◌<◌, ◌^◌, List, [], ◌∷◌, ◌++◌, length, replicate, take, Bool, ◌==◌, if◌then◌else◌, slice_index, slice_set}
+use Rattle.std.specs.Prelude.{◌≡◌, ℕ, ◌+◌, ◌-◌, ◌<◌, ◌^◌, List, [], ◌∷◌, ◌++◌, length, replicate, take, Bool, ◌==◌, if◌then◌else◌, slice_index, slice_set}
 use Rattle.mw_base.specs.Words as words
 use Rattle.mw_base.specs.declared.event.Event.{Event}
 use Rattle.mw_base.specs.declared.event.Event.TheVariants.{Out, Taken}
@@ -77,3 +77,14 @@ step_of m state request inputs first = ended m (after_all m.shape inputs first m
 -- each input is a word of the memory's width
 abbrev pub AreInputs : Description → List ℕ → Type 0
 AreInputs m inputs = (i : ℕ) → slice_index inputs i < 2 ^ m.shape.word
+
+-- the state with these registers and this memory
+abbrev pub kept : (registers memory : List ℕ) → MachineState
+kept registers memory = record { registers = registers; memory = memory }
+
+-- a step leaves these registers and this memory, its events behind earlier ones, and has taken so many inputs
+pub record Leaves (m : Description) (before : MachineState) (request : Bool) (inputs : List ℕ) (first : ℕ) (earlier : List Event)
+    (registers memory : List ℕ) (now_events : List Event) (inputs_taken : ℕ) : Type 0 where
+  pub state : kept registers memory ≡ (step_of m before request inputs first).state
+  pub events : now_events ≡ earlier ++ (step_of m before request inputs first).events
+  pub taken : inputs_taken ≡ (step_of m before request inputs first).taken

@@ -4,7 +4,7 @@ use Rattle.mw_base.specs.declared.cause.Cause.{Cause}
 use Rattle.mw_expr.specs.declared.shape.Shape.{Shape}
 use Rattle.mw_expr.specs.Tree.{Tree}
 use Rattle.mw_expr.specs.Widths.{width_of}
-use Rattle.mw_macro.specs.declared.counts.Counted.TheVariants.{Statements}
+use Rattle.mw_macro.specs.declared.counts.Counted.TheVariants.{Statements, Events}
 use Rattle.mw_macro.specs.Counts.{total}
 use Rattle.mw_macro.specs.Machine.{Description}
 use Rattle.mw_macro.specs.Rules.{refusal_of}
@@ -33,6 +33,7 @@ pub record IsRight (m : Description) : Type 0 where
   pub registers : m.registers ≤ 128
   pub temporaries : length m.names - m.registers ≤ 128
   pub statements : total Statements m.acts ≤ 4096
+  pub events : total Events m.acts ≤ 4096
   pub widths : (i : ℕ) → slice_index m.shape.widths i ≤ 32
   pub address : m.shape.address ≤ 16
   pub word : m.shape.word ≤ 32

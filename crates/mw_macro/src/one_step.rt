@@ -1,14 +1,19 @@
 // One step of a described machine.
-ghost use Rattle.std.specs.Prelude.{◌≡◌, ℕ, ◌+◌, ◌<◌, ◌≤◌, ◌^◌, List, [], ◌∷◌, ◌++◌, true, length, map, slice_index, slice_set, vec_len, vec_capacity};
+ghost use Rattle.std.specs.Prelude.{◌≡◌, ℕ, ◌+◌, ◌-◌, ◌<◌, ◌≤◌, ◌^◌, List, [], ◌∷◌, ◌++◌, true, length, map, replicate, slice_index, slice_set, vec_len, vec_capacity};
+ghost use Rattle.mw_base.specs.Words as words;
 ghost use Rattle.mw_base.specs.declared.event.Event.TheVariants.{Out, Taken};
 ghost use Rattle.mw_expr.specs.Tree.{view};
 ghost use Rattle.mw_expr.specs.Values.{AreWords, IsImage, value};
 ghost use Rattle.mw_macro.specs.declared.counts.Counted.TheVariants.{Events};
-ghost use Rattle.mw_macro.specs.Counts.{count, total};
-ghost use Rattle.mw_macro.specs.DescribedStep.{now, after, after_all};
+ghost use Rattle.mw_macro.specs.Counts.{count, total, most_events};
+ghost use Rattle.mw_macro.specs.Described.{description_of};
+ghost use Rattle.mw_macro.specs.DescribedStep.{now, after, after_all, step_of, kept, Leaves, AreInputs};
 ghost use Rattle.mw_macro.specs.Right.{is_right, are_right};
+ghost use Rattle.mw_macro.specs.State.{Fits};
 ghost use Rattle.mw_macro.specs.Statements.{assign, write, put, take_in, act_of, acts};
 
+use crate::machine::Machine;
+use crate::state::MacState;
 use crate::statement::Statement;
 use mw_base::Event;
 use mw_expr::{Expr, Shape, value};
@@ -17,6 +22,7 @@ use mw_expr::{Expr, Shape, value};
 const MOST_ELEMENTS: usize = 257;
 
 /// What all statements of a step are given.
+#[derive(Clone, Copy)]
 struct Given<'a> {
     /// The widths of the elements and the memory.
     shape: &'a Shape,
@@ -196,4 +202,91 @@ fn run_all(
         so_far = run(statement, given, so_far, values, memory, events);
     }
     so_far
+}
+
+/// Zeros, and then a bit.
+fn end_with(values: &mut [u32], bit: bool)
+    requires { 1 ≤ length values.old }
+    ensures { (n : ℕ) → n + 1 ≡ length values.old → values.new ≡ replicate n 0 ++ words.num bit ∷ [] }
+{
+    let last = values.len() - 1;
+    values.fill(0);
+    values[last] = u32::from(bit);
+}
+
+/// The values of the elements before the first statement: those of the registers, 0 for each temporary, and the request.
+fn begin(values: &mut [u32], registers: &[u32], request: bool)
+    requires { length registers.now + 1 ≤ length values.old }
+    ensures { (n : ℕ) → length registers.now + n + 1 ≡ length values.old
+        → values.new ≡ registers.now ++ replicate n 0 ++ words.num request ∷ [] }
+{
+    let (front, rest) = values.split_at_mut(registers.len());
+    front.copy_from_slice(registers);
+    end_with(rest, request);
+}
+
+/// One step over the registers and the memory of a machine, with a place for the value of each element.
+fn step_over(
+    machine: &Machine,
+    given: &Given,
+    request: bool,
+    values: &mut [u32],
+    registers: &mut [u32],
+    memory: &mut [u32],
+    events: &mut Vec<Event>,
+) -> u32
+    requires shape { given.now.shape.now ≡ (description_of machine.now).shape }
+    requires count { length values.old ≡ length given.now.shape.now.widths }
+    requires fits { Fits (description_of machine.now) (kept registers.old memory.old) }
+    requires inputs_fit { AreInputs (description_of machine.now) given.now.inputs.now }
+    requires room { vec_len events.old + most_events (description_of machine.now) ≤ vec_capacity events.old }
+    requires within { given.now.first + most_events (description_of machine.now) < 2 ^ 64 }
+    ensures leaves { Leaves (description_of machine.now) (kept registers.old memory.old) request given.now.inputs.now given.now.first events.old.items
+        registers.new memory.new events.new.items result }
+    ensures fits { Fits (description_of machine.now) (kept registers.new memory.new) }
+    ensures capacity { vec_capacity events.old ≤ vec_capacity events.new }
+{
+    let _shape = machine.shape();
+    begin(values, registers, request);
+    let taken = run_all(machine.statements(), given, 0, values, memory, events);
+    registers.copy_from_slice(&values[..registers.len()]);
+    taken
+}
+
+/// One step of a machine from a state, with a request bit, that takes the inputs from the number `first` on. It changes the state, appends
+/// the step's events, and answers how many inputs it took. It takes no memory.
+///
+/// The state fits the machine and does so afterwards. An input is a word of the memory's width. There is room for `most_events` more
+/// events, and the numbers of the inputs that the step may take fit 64 bits. An expression reads all elements from one list, which lies
+/// on the stack, so `_temps` stays empty.
+pub fn step(
+    machine: &Machine,
+    state: &mut MacState,
+    request: bool,
+    inputs: &[u32],
+    first: u64,
+    _temps: &mut Vec<u32>,
+    events: &mut Vec<Event>,
+) -> u32
+    requires fits { Fits (description_of machine.now) state.old }
+    requires inputs_fit { AreInputs (description_of machine.now) inputs.now }
+    requires empty { _temps.old.items ≡ [] }
+    requires room { vec_len events.old + most_events (description_of machine.now) ≤ vec_capacity events.old }
+    requires within { first + most_events (description_of machine.now) < 2 ^ 64 }
+    ensures state { state.new ≡ (step_of (description_of machine.now) state.old request inputs.now first).state }
+    ensures fits { Fits (description_of machine.now) state.new }
+    ensures events { events.new.items ≡ events.old.items ++ (step_of (description_of machine.now) state.old request inputs.now first).events }
+    ensures capacity { vec_capacity events.old ≤ vec_capacity events.new }
+    ensures taken { result ≡ (step_of (description_of machine.now) state.old request inputs.now first).taken }
+    ensures empty { _temps.new.items ≡ [] }
+{
+    let shape = machine.shape();
+    let mut elements = [0; MOST_ELEMENTS];
+    let values = &mut elements[..shape.widths.as_slice().len()];
+    let given = Given {
+        shape,
+        inputs,
+        first,
+    };
+    step_over(machine, &given, request, values, &mut state.registers, &mut state.memory, events)
 }

@@ -6,7 +6,7 @@ use Rattle.mw_macro.specs.Counts.{total}
 use Rattle.mw_macro.specs.DescribedStep.{now, after_all}
 use Rattle.mw_macro.specs.Right.{are_right}
 use Rattle.mw_macro.specs.Statements.{acts}
-use Rattle.mw_macro.proofs.step.+runs.Given as goal
+use Rattle.mw_macro.proofs.one_step.+runs.Given as goal
 
 abbrev pub invariant-run_all-loop-statement : goal.invariant-run_all-loop-statement
 invariant-run_all-loop-statement l =

@@ -8,7 +8,7 @@ use Rattle.mw_macro.specs.declared.counts.Counted.TheVariants.{Events}
 use Rattle.mw_macro.specs.Counts.{count, total}
 use Rattle.mw_macro.specs.Right.{is_right, are_right}
 use Rattle.mw_macro.specs.Statements.{Acts, act_of, acts, choose}
-use Rattle.mw_macro.proofs.step.+runs.Goals as goal
+use Rattle.mw_macro.proofs.one_step.+runs.Goals as goal
 
 -- what an `if` that is right has
 lists_right : (s : Shape) (condition : Tree) (first second : Acts) → is_right s (choose condition first second) ≡ true
