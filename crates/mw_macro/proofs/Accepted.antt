@@ -1,6 +1,6 @@
 -- What an accepted machine has.
-use Rattle.std.proofs.Common.{◌≡◌, ℕ, zero, suc, ◌+◌, ◌-◌, ◌<◌, ◌≤◌, List, [], ◌∷◌, length, Bool, true, false, refl, ap, arith}
-use Rattle.std.specs.Prelude.{Option, Some, None, Result, Ok, Err, not, ◌&&◌, ◌||◌, nat_le, ◌==◌, if◌then◌else◌, slice_index}
+use Rattle.std.proofs.Common.{◌≡◌, ℕ, zero, suc, ◌-◌, ◌≤◌, List, [], ◌∷◌, length, Bool, true, false, refl, arith}
+use Rattle.std.specs.Prelude.{Option, Some, None, Ok, Err, not, ◌&&◌, ◌||◌, nat_le, ◌==◌, if◌then◌else◌, slice_index}
 use Rattle.std.specs.List.{list_all}
 use Rattle.std.proofs.lemmas.Bool.{and_parts}
 use Rattle.std.proofs.lemmas.Bool.Decides.{nat_tests}
@@ -12,8 +12,8 @@ use Rattle.mw_expr.specs.Widths.{width, is_known, depth, width_at, width_of}
 use Rattle.mw_macro.specs.declared.counts.Counted.TheVariants.{Statements, Events}
 use Rattle.mw_macro.specs.Counts.{count, total}
 use Rattle.mw_macro.specs.Machine.{Description}
-use Rattle.mw_macro.specs.Right.{is_asked, is_right, are_right, IsRight, AcceptedAreRight}
-use Rattle.mw_macro.specs.Rules.{is_within, is_within_limits, are_free, are_ranges, is_cause, width_fault, target_fault, fault_at, is_fault, has_fault, have_fault, is_free_of, refusal_of}
+use Rattle.mw_macro.specs.Right.{is_asked, is_right, are_right, AcceptedAreRight}
+use Rattle.mw_macro.specs.Rules.{is_within, is_within_limits, are_free, are_ranges, is_cause, fault_at, is_fault, has_fault, have_fault, is_free_of, refusal_of}
 use Rattle.mw_macro.specs.Statements.{Act, assign, write, put, take_in, choose, Acts, nothing, next}
 
 -- a rule before others, where none is broken

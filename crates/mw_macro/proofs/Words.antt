@@ -1,8 +1,7 @@
 -- Lists of words.
-use Rattle.std.proofs.Common.{◌≡◌, ℕ, zero, suc, ◌+◌, ◌<◌, ◌≤◌, ◌^◌, List, [], ◌∷◌, length, refl, ap, arith, ◌∙◌, sym}
-use Rattle.std.specs.Prelude.{replicate, slice_index, slice_set, ◌==◌, Bool, true, false, Result, Ok, Err, IsOk, IfOk, IsTrue, ◌↔◌}
+use Rattle.std.proofs.Common.{◌≡◌, ℕ, zero, suc, ◌<◌, ◌^◌, List, [], ◌∷◌, length, refl, arith, ◌∙◌}
+use Rattle.std.specs.Prelude.{replicate, slice_index, slice_set, Bool, true, Result, Ok, Err, IsOk, IfOk, IsTrue, ◌↔◌}
 use Rattle.std.proofs.lemmas.Bool.Decides.{nat_tests}
-use Rattle.std.proofs.lemmas.Grind.{common_steps}
 use Rattle.std.proofs.lemmas.List.{length-replicate}
 use Rattle.std.proofs.lemmas.Nat.{pow_pos}
 use Rattle.mw_base.specs.declared.cause.Cause.{Cause}
@@ -39,13 +38,14 @@ pub fits_if : (m : Description) (s : MachineState) (words : Bool) → length s.r
     → ((i : ℕ) → i < length s.registers → slice_index s.registers i < 2 ^ slice_index m.shape.widths i)
     → (IsTrue words ↔ ((i : ℕ) → i < length s.memory → slice_index s.memory i < 2 ^ m.shape.word)) → IsTrue words ↔ Fits m s
 fits_if m s words count size registers memory = (
-    (λ yes. record {
-      count = count;
-      registers = λ i below. registers i (omega arith);
-      size = size;
-      memory = words_everywhere s.memory m.shape.word (memory.0 yes);
-    }),
-    (λ fits. memory.1 (λ i below. fits.memory i)))
+  (λ yes. record {
+    count = count;
+    registers = λ i below. registers i (omega arith);
+    size = size;
+    memory = words_everywhere s.memory m.shape.word (memory.0 yes);
+  }),
+  (λ fits. memory.1 (λ i below. fits.memory i)),
+)
 
 -- a word put into a list is where it was put, and nowhere else
 pub set_below : (xs : List ℕ) (n v i most : ℕ) → slice_index xs i < most → v < most → slice_index (slice_set xs n v) i < most

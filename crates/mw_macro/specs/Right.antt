@@ -1,8 +1,7 @@
 -- What the statements of an accepted machine have.
-use Rattle.std.specs.Prelude.{◌≡◌, ℕ, ◌+◌, ◌-◌, ◌≤◌, length, Bool, true, false, ◌&&◌, nat_lt, ◌==◌, Option, None, Result, Ok, Err, slice_index}
+use Rattle.std.specs.Prelude.{◌≡◌, ℕ, ◌+◌, ◌-◌, ◌≤◌, length, Bool, true, false, ◌&&◌, nat_lt, ◌==◌, None, Result, Ok, Err, slice_index}
 use Rattle.mw_base.specs.declared.cause.Cause.{Cause}
 use Rattle.mw_expr.specs.declared.shape.Shape.{Shape}
-use Rattle.mw_expr.specs.Tree.{Tree}
 use Rattle.mw_expr.specs.Widths.{width_of}
 use Rattle.mw_macro.specs.declared.counts.Counted.TheVariants.{Statements, Events}
 use Rattle.mw_macro.specs.Counts.{total}

@@ -1,5 +1,5 @@
 -- The state of a described machine, and when it fits one.
-use Rattle.std.specs.Prelude.{◌≡◌, ℕ, ◌<◌, ◌^◌, List, length, replicate, slice_index, Bool, nat_lt, ◌==◌, ◌&&◌}
+use Rattle.std.specs.Prelude.{◌≡◌, ℕ, ◌<◌, ◌^◌, List, length, replicate, slice_index}
 use Rattle.mw_macro.specs.Machine.{Description}
 
 -- the registers and the memory's words

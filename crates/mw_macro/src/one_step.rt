@@ -288,5 +288,13 @@ pub fn step(
         inputs,
         first,
     };
-    step_over(machine, &given, request, values, &mut state.registers, &mut state.memory, events)
+    step_over(
+        machine,
+        &given,
+        request,
+        values,
+        &mut state.registers,
+        &mut state.memory,
+        events,
+    )
 }

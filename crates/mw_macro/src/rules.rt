@@ -153,7 +153,12 @@ fn is_fault(cause: Cause, shape: &Shape, asked: u8, expr: &Expr) -> bool
 fn width_at(shape: &Shape, element: u32) -> u8
     ensures { result ≡ slice_index shape.now.widths element }
 {
-    shape.widths.as_slice().get(element as usize).copied().unwrap_or(0)
+    shape
+        .widths
+        .as_slice()
+        .get(element as usize)
+        .copied()
+        .unwrap_or(0)
 }
 
 /// Whether a statement has this fault, in itself or in its lists, where so many `if`s may stand in one another.
@@ -205,7 +210,12 @@ fn have_fault(cause: Cause, shape: &Shape, levels: u8, statements: &[Statement])
 /// The least cause for which a machine is refused, if there is one. The number of statements is asked first, so that later visits go no
 /// deeper than its limit.
 #[tactic(auto, unfolding(crate::specs::Rules::refusal_of))]
-pub(crate) fn refusal(names: &[Name], registers: u32, shape: &Shape, statements: &[Statement]) -> Option<Cause>
+pub(crate) fn refusal(
+    names: &[Name],
+    registers: u32,
+    shape: &Shape,
+    statements: &[Statement],
+) -> Option<Cause>
     requires { registers ≤ length names.now }
     ensures { result ≡ refusal_of (described names.now registers shape.now (acts statements.now)) }
 {

@@ -1,4 +1,4 @@
-use Rattle.std.proofs.Common.{◌≡◌, ◌+◌, ◌<◌, ◌≤◌, ◌^◌, true, drop, vec_len}
+use Rattle.std.proofs.Common.{◌≡◌, ◌+◌, ◌≤◌, true, drop, vec_len}
 use Rattle.std.specs.Prelude.{vec_capacity}
 use Rattle.mw_expr.specs.Values.{AreWords, IsImage}
 use Rattle.mw_macro.specs.declared.counts.Counted.TheVariants.{Events}

@@ -1,4 +1,4 @@
-use Rattle.std.proofs.Common.{◌≡◌, ◌^◌, length, arith, rules, refl}
+use Rattle.std.proofs.Common.{◌≡◌, ◌^◌, length, arith, rules}
 use Rattle.mw_macro.specs.Described.{description_of}
 use Rattle.mw_macro.proofs.Words.{fits_if}
 use Rattle.mw_macro.proofs.state.MacState.fits.Goals as goal
@@ -14,5 +14,5 @@ returns-then-have_widths c =
     let count : length inside.registers.items ≡ m.registers = omega (arith, counted) in
     let size : length inside.memory.items ≡ 2 ^ m.shape.address = omega (arith, sized) in
     rw (← c.self.view_is)
-        (fits_if m (record { registers = inside.registers.items; memory = inside.memory.items }) c.have_bits.result count size
-        (registers.0 (search rules)) memory)
+    (fits_if m (record { registers = inside.registers.items; memory = inside.memory.items }) c.have_bits.result count size
+    (registers.0 (search rules)) memory)
