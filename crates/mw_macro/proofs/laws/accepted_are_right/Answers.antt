@@ -1,0 +1,5 @@
+use Rattle.mw_macro.proofs.Accepted.{accepted_right}
+use Rattle.mw_macro.proofs.laws.accepted_are_right.Goals as goal
+
+pub returns : goal.returns
+returns c = accepted_right

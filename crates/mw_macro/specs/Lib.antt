@@ -1,0 +1,9 @@
+pub mod Counts
+pub mod Described
+pub mod DescribedStep
+pub mod Laws
+pub mod Machine
+pub mod Right
+pub mod Rules
+pub mod State
+pub mod Statements

@@ -1,0 +1,43 @@
+-- What the statements of an accepted machine have.
+use Rattle.std.specs.Prelude.{◌≡◌, ℕ, ◌+◌, ◌-◌, ◌≤◌, length, Bool, true, false, ◌&&◌, nat_lt, ◌==◌, None, Result, Ok, Err, slice_index}
+use Rattle.mw_base.specs.declared.cause.Cause.{Cause}
+use Rattle.mw_expr.specs.declared.shape.Shape.{Shape}
+use Rattle.mw_expr.specs.Widths.{width_of}
+use Rattle.mw_macro.specs.declared.counts.Counted.TheVariants.{Statements, Events}
+use Rattle.mw_macro.specs.Counts.{total}
+use Rattle.mw_macro.specs.Machine.{Description}
+use Rattle.mw_macro.specs.Rules.{refusal_of}
+use Rattle.mw_macro.specs.Statements.{Act, assign, write, put, take_in, choose, Acts, nothing, next}
+
+-- a width that is the one asked for
+abbrev pub is_asked : (asked : ℕ) → Result ℕ Cause → Bool
+is_asked asked (Ok w) = w == asked
+is_asked asked (Err cause) = false
+
+-- each target is a register or a temporary, and each expression has the width that its place asks for
+abbrev mutual
+  pub is_right : Shape → Act → Bool
+  is_right s (assign target e) = nat_lt (target + 1) (length s.widths) && is_asked (slice_index s.widths target) (width_of s e)
+  is_right s (write address e) = is_asked s.address (width_of s address) && is_asked s.word (width_of s e)
+  is_right s (put e) = is_asked s.word (width_of s e)
+  is_right s (take_in target) = nat_lt (target + 1) (length s.widths) && (s.word == slice_index s.widths target)
+  is_right s (choose condition first second) = is_asked 1 (width_of s condition) && (are_right s first && are_right s second)
+
+  pub are_right : Shape → Acts → Bool
+  are_right s nothing = true
+  are_right s (next act rest) = is_right s act && are_right s rest
+
+-- what an accepted machine has: few elements and statements, widths in their ranges, and statements that are right
+pub record IsRight (m : Description) : Type 0 where
+  pub registers : m.registers ≤ 128
+  pub temporaries : length m.names - m.registers ≤ 128
+  pub statements : total Statements m.acts ≤ 4096
+  pub events : total Events m.acts ≤ 4096
+  pub widths : (i : ℕ) → slice_index m.shape.widths i ≤ 32
+  pub address : m.shape.address ≤ 16
+  pub word : m.shape.word ≤ 32
+  pub right : are_right m.shape m.acts ≡ true
+
+-- where a machine is accepted, its statements are right
+abbrev pub AcceptedAreRight : Type 0
+AcceptedAreRight = (m : Description) → refusal_of m ≡ None → IsRight m

@@ -1,0 +1,24 @@
+// Laws of described machines and their steps.
+ghost use Rattle.mw_macro.specs.Laws.{EventsAreFew, StepsTakeFromFirst, TakenAreEvents};
+ghost use Rattle.mw_macro.specs.Right.{AcceptedAreRight};
+
+/// The law of accepted machines: their elements and statements are few, their widths in range, each target is a register or a temporary,
+/// and each expression has the width that its place asks for.
+pub fn accepted_are_right()
+    ensures { AcceptedAreRight }
+{}
+
+/// The law of events: a step has no more events than its machine has `put` and `take` statements.
+pub fn events_are_few()
+    ensures { EventsAreFew }
+{}
+
+/// The law of taken inputs: a step takes as many inputs as its events say.
+pub fn taken_are_events()
+    ensures { TakenAreEvents }
+{}
+
+/// The law of first inputs: a step that takes inputs from a number on is the step from 0 over the inputs without those before it.
+pub fn steps_take_from_first()
+    ensures { StepsTakeFromFirst }
+{}

@@ -1,0 +1,16 @@
+//! Described machines: what a macro instruction means, on numbers.
+#![tactic(auto)]
+
+mod counts;
+mod laws;
+mod machine;
+mod one_step;
+mod rules;
+mod state;
+mod statement;
+
+pub use laws::{accepted_are_right, events_are_few, steps_take_from_first, taken_are_events};
+pub use machine::Machine;
+pub use one_step::step;
+pub use state::MacState;
+pub use statement::Statement;
