@@ -10,6 +10,7 @@ A definition without a comment of its own ends either with status 1.
 import pathlib
 import re
 import sys
+import textwrap
 
 TOP = pathlib.Path(__file__).resolve().parent.parent
 PAGE = TOP / "docs" / "DEFINITIONS.md"
@@ -20,11 +21,13 @@ MUTUAL = re.compile(r"(?:unfoldable |abbrev )?mutual$")
 BETWEEN = re.compile(r"infix|(?:unfoldable |abbrev )?mutual$")
 # How far the definitions of a `mutual` block stand in.
 INDENT = "  "
+WIDTH = 118
 INTRODUCTION = """\
 # The definitions
 
-What the contracts cite, crate by crate from the lowest up, and module by module. [PROVED.md](PROVED.md) says what is proved with
-them. `tools/definitions.py` makes this page from the comments that stand above the definitions in `specs/`.
+What the contracts cite, crate by crate from the lowest up, and module by module. [PROVED.md](PROVED.md) says what is
+proved with them. `tools/definitions.py` makes this page from the comments that stand above the definitions in
+`specs/`.
 """
 
 
@@ -60,6 +63,10 @@ def cell(text):
     return text.replace("|", "\\|")
 
 
+def paragraph(text):
+    return textwrap.fill(text, WIDTH, break_long_words=False, break_on_hyphens=False)
+
+
 def modules(crate):
     """The modules of a crate that have definitions: path, name, head and definitions."""
     specs = TOP / "crates" / crate / "specs"
@@ -76,7 +83,7 @@ def page():
         for number, (path, module, head, rows) in enumerate(modules(crate)):
             if number == 0:
                 parts.append(f"\n## `{crate}`\n")
-            parts.append(f"\n**`specs/{module}`**. {head}\n\n| Definition | Says |\n|---|---|\n")
+            parts.append(f"\n{paragraph(f'**`specs/{module}`**. {head}')}\n\n| Definition | Says |\n|---|---|\n")
             for line, name, text in rows:
                 parts.append(f"| `{name}` | {cell(text)} |\n")
                 if not text:
