@@ -49,12 +49,12 @@ def definitions(path):
             indent = ""
         if (match := COMMENT.match(line)) and match.group(1) in ("", indent):
             comment.append(match.group(2).strip())
-        elif head is None:
+            continue
+        if head is None:
             head, comment = " ".join(comment), []
-        elif (match := DEFINITION.match(line)) and match.group(1) == indent and match.group(2) != "mod":
+        if (match := DEFINITION.match(line)) and match.group(1) == indent and match.group(2) != "mod":
             rows.append((number, match.group(2), " ".join(comment)))
-            comment = []
-        elif not BETWEEN.match(line):
+        if not BETWEEN.match(line):
             comment = []
     return head or "", rows
 
