@@ -1,4 +1,5 @@
 // The keys of a board file by number, counted from 0, which is version, in their order.
+use crate::point::Point;
 
 /// width.
 pub(crate) const WIDTH: u8 = 1;
@@ -24,17 +25,17 @@ pub(crate) const CONTROL: u8 = 10;
 pub(crate) const LOAD: u8 = 11;
 /// control.alu_source, behind which the other points stand.
 pub(crate) const FIRST_POINT: u8 = 12;
-/// select.carry_in.
-pub(crate) const CARRY_IN: u8 = 31;
+/// select.carry_in, behind the points.
+pub(crate) const CARRY_IN: u8 = FIRST_POINT + Point::ALL.len() as u8;
 /// select.condition.
-pub(crate) const CONDITION: u8 = 32;
+pub(crate) const CONDITION: u8 = CARRY_IN + 1;
 /// select.ram_link.
-pub(crate) const RAM_LINK: u8 = 33;
+pub(crate) const RAM_LINK: u8 = CONDITION + 1;
 /// select.q_link.
-pub(crate) const Q_LINK: u8 = 34;
+pub(crate) const Q_LINK: u8 = RAM_LINK + 1;
 /// select.d.
-pub(crate) const D: u8 = 35;
-/// map.bits.
-pub(crate) const MAP_BITS: u8 = 37;
+pub(crate) const D: u8 = Q_LINK + 1;
+/// map.bits, behind map.low.
+pub(crate) const MAP_BITS: u8 = D + 2;
 /// map.entries.
-pub(crate) const MAP_ENTRIES: u8 = 38;
+pub(crate) const MAP_ENTRIES: u8 = MAP_BITS + 1;
