@@ -68,8 +68,8 @@ long_contents most None long =
 -- a count that rose since a later view rose since the first
 rose_since : (first then now : ℕ) → first ≤ then → Rose then now → Rose first now
 rose_since first then now later rose = elim rose [
-    | inl more ↦ inl (omega (arith, later, more))
-    | inr last ↦ inr last
+  | inl more ↦ inl (omega (arith, later, more))
+  | inr last ↦ inr last
 ]
 
 -- a file that can't be read whole stops the plan that asks for it
@@ -86,8 +86,7 @@ unread_stops plan first then now files next name refusals.Fault since left named
   rose_since _ _ _ (since.later name) (failed refl),
 )
 unread_stops plan first then now files next name refusals.TooLong since left named failed long refuses =
-    let last = long_contents MOST_BYTES _ (long refl) in
-    (
+    let last = long_contents MOST_BYTES _ (long refl) in (
       name,
       record {
         last = last.0;

@@ -19,7 +19,7 @@ not_answered : (call : Call) (status : Status) (report : List ℕ) (request : Re
 not_answered call status report request contents requested told refuses worked =
     let same : worked.request ≡ request = cc (worked.requested, requested) in
     let one = ends_once (plan_of request.command) call.shelf_before (files_of request worked.contents) contents
-        (refused refuses.0) (done worked.work) told refuses.1 tt (rw same at worked.made) tt in
+    (refused refuses.0) (done worked.work) told refuses.1 tt (rw same at worked.made) tt in
     cc one
 
 -- contents that are told and accepted are not refused
@@ -30,7 +30,7 @@ not_refused call request contents report requested told accepts refusal =
     let same : refusal.request ≡ request = cc (refusal.requested, requested) in
     let read = refusal.contents ++ refusal.refused.last ∷ [] in
     let one = ends_once (plan_of request.command) call.shelf_before (files_of request read) contents
-        (done accepts.0) (refused refusal.fault) told accepts.1 tt (rw same at refusal.refused.left) tt in
+    (done accepts.0) (refused refusal.fault) told accepts.1 tt (rw same at refusal.refused.left) tt in
     cc one
 
 -- the work was done
