@@ -6,4 +6,5 @@ pub mod Small
 pub mod Sound
 pub mod Strengths
 pub mod Trees
+pub mod Wide
 pub mod Words

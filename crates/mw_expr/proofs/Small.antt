@@ -54,7 +54,7 @@ pub width_if-most : (rule : Bool) (w v : ℕ) → width_if rule w ≡ Some v →
 width_if-most true w v is = grind (arith, nat_tests)
 width_if-most false w v is = cc
 
-named-most : (s : Shape) (number : Option ℕ) (w : ℕ) → IsShape s → named_width s number ≡ Some w → (w ≤ 32) × (1 ≤ w)
+pub named-most : (s : Shape) (number : Option ℕ) (w : ℕ) → IsShape s → named_width s number ≡ Some w → (w ≤ 32) × (1 ≤ w)
 named-most s None w shape is = cc
 named-most s (Some n) w shape is =
     let h = rw (get_or_from_slice_get s.widths n w w is) at (shape.widths n w (slice_get_within s.widths n w is)) in
