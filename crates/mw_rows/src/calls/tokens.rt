@@ -27,6 +27,11 @@ fn push_token(alloc: Global, report: &mut Vec<u8>, token: &Token) -> Result<(), 
     Ok(())
 }
 
+/// The lines of the tokens of a text, or of its first fault.
+///
+/// # Errors
+///
+/// A text of more than 1,048,576 bytes, which no file that is read has, and want of memory.
 pub fn read(alloc: Global, text: &[u8]) -> Result<Vec<u8>, Fault> {
     if text.len() > 1_048_576 {
         return Err(wrong("a text that is too long"));
