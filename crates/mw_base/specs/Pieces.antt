@@ -18,6 +18,7 @@ is_blank c = (c == 32) || (c == 9)
 abbrev pub signs : List ℕ
 signs = 61 ∷ 58 ∷ 44 ∷ 35 ∷ 43 ∷ 45 ∷ 38 ∷ 124 ∷ 94 ∷ 126 ∷ 40 ∷ 41 ∷ 91 ∷ 93 ∷ 123 ∷ 125 ∷ 63 ∷ 60 ∷ 46 ∷ []
 
+-- a byte that is a sign by itself
 abbrev pub is_sign : ℕ → Bool
 is_sign c = list_any (λ sign. sign == c) signs
 

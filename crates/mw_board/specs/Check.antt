@@ -32,10 +32,11 @@ at_key row verdict = placed row 0 0 verdict
 abbrev pub at_flipflop : ℕ → ℕ → Verdict → Checked
 at_flipflop row i verdict = placed row (number_16 i) 0 verdict
 
--- the rule of an entry of a list, and of one of a flip-flop's loads
+-- the rule of entry n of a list
 abbrev pub in_list : ℕ → ℕ → Verdict → Checked
 in_list row n verdict = placed row (number_16 n) 0 verdict
 
+-- the rule of entry n of flip-flop i's loads
 abbrev pub in_load : ℕ → ℕ → Verdict → Checked
 in_load i n verdict = placed load_key (number_16 i) (number_16 n) verdict
 
@@ -63,6 +64,7 @@ sizes_tests p =
     ∷ at_key vector_key (vector_rule p.vector)
     ∷ []
 
+-- the sizes and the words
 unfoldable pub sizes_check : BoardParts → Checked
 sizes_check p = all_of (sizes_tests p)
 
@@ -104,6 +106,7 @@ flipflops_check p = all_of (
 abbrev pub point_check : List NamedField → Points → ℕ → Point → Checked
 point_check fields control n point = at_key (first_point_key + n) (driver_rule fields point (driver_of control point))
 
+-- all control points
 unfoldable pub points_check : BoardParts → Checked
 points_check p = each_from (point_check p.fields p.control) 0 all_points
 
@@ -117,6 +120,7 @@ lists_tests p =
     ∷ list_check (in_list d_key) p.fields p.control.d (d_source_rule p.width (length p.fields) (length p.flipflop)) p.d
     ∷ []
 
+-- all lists
 unfoldable pub lists_check : BoardParts → Checked
 lists_check p = all_of (lists_tests p)
 

@@ -14,6 +14,7 @@ use Rattle.mw_expr.specs.Widths.{width_if, part_width}
 
 -- ---- the width that a part has for what is around it, where it has one
 
+-- an element that there is has its own width
 abbrev pub named_width : Shape → Option ℕ → Option ℕ
 named_width s None = None
 named_width s (Some n) = slice_get s.widths n
@@ -34,6 +35,7 @@ seen_pair Same a b = Some 1
 seen_pair Differs a b = Some 1
 seen_pair Less a b = Some 1
 
+-- what a condition of one bit chooses between is equally wide
 abbrev pub seen_choice : Option ℕ → Option ℕ → Option ℕ → Option ℕ
 seen_choice (Some c) a b = if c == 1 then same_width a b else None
 seen_choice None a b = None
@@ -43,6 +45,7 @@ abbrev pub beside : Option ℕ → Option ℕ → Option ℕ
 beside (Some a) (Some b) = Some (min (a + b) 33)
 beside a b = None
 
+-- a width of at most 32 bits
 abbrev pub within_32 : Option ℕ → Option ℕ
 within_32 (Some w) = if nat_le w 32 then Some w else None
 within_32 None = None
@@ -61,12 +64,14 @@ abbrev mutual
   seen_width s (memory token e) = Some s.word
   seen_width s (group token e) = seen_width s e
 
+  -- the widths of the parts of a join beside one another, behind those before them
   pub seen_total : Shape → Option ℕ → Parts → Option ℕ
   seen_total s before none = before
   seen_total s before (more tree rest) = seen_total s (beside before (seen_width s tree)) rest
 
 -- ---- rules of widths that are broken; they are asked of operands that have widths
 
+-- operands that aren't equally wide
 abbrev pub pair_breaks : Option ℕ → Option ℕ → Bool
 pair_breaks (Some a) (Some b) = not (a == b)
 pair_breaks a b = false
@@ -81,6 +86,7 @@ abbrev pub part_breaks : ℕ → ℕ → Option ℕ → Bool
 part_breaks high low (Some w) = not (nat_le low high && nat_lt high w)
 part_breaks high low None = not (nat_le low high && nat_lt high 32)
 
+-- a width that passes the most that is asked for
 abbrev pub is_past : ℕ → Option ℕ → Bool
 is_past most (Some w) = nat_lt most w
 is_past most None = false
@@ -97,9 +103,11 @@ abbrev pub below : Option ℕ → Option ℕ
 below (Some (suc n)) = Some n
 below other = None
 
+-- the fault of a rule of widths, at a token, where it is broken
 abbrev pub broken : Bool → Token → List TextFault
 broken breaks token = if breaks then fault_on token WidthsDiffer ∷ [] else []
 
+-- the fault of an element that isn't there, at its token
 abbrev pub unknown : Option ℕ → Token → List TextFault
 unknown (Some w) token = []
 unknown None token = fault_on token UnknownElement ∷ []
@@ -128,6 +136,7 @@ abbrev mutual
   faults s left (memory token e) = deep left token ++ (faults s (below left) e ++ broken (is_other s.address (seen_width s e)) token)
   faults s left (group token e) = deep left token ++ faults s (below left) e
 
+  -- the faults of the parts of a join, where so many levels may stand below it
   pub faults_in : Shape → Option ℕ → Parts → List TextFault
   faults_in s left none = []
   faults_in s left (more tree rest) = faults s left tree ++ faults_in s left rest

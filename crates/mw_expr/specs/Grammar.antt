@@ -31,6 +31,7 @@ number_of names name = position (λ other. bytes_eq other name) names
 abbrev pub element : Meaning → Token → Placed
 element m token = named token (number_of m.names (spelled m.text token))
 
+-- the element that NAME . NAME is
 abbrev pub dotted_element : Meaning → Token → Token → Placed
 dotted_element m owner name = named owner (number_of m.names (spelled m.text owner ++ 46 ∷ spelled m.text name))
 
@@ -64,6 +65,7 @@ reduced least tree (joining token parts below) = record { tree = tree; below = j
 reduced least tree (widening token below) = record { tree = tree; below = widening token below }
 reduced least tree (reading token below) = record { tree = tree; below = reading token below }
 
+-- what the next token can be, and what is open
 abbrev pub state : Awaits → Open → State
 state awaits below = record { awaits = awaits; open_now = below }
 
@@ -134,6 +136,7 @@ pair_follows (Some op) token tree below =
     let r = reduced (strength op) tree below in
     Some (state an_operand (pairing op token r.tree r.below))
 
+-- a `?` after what it asks: an operand follows
 abbrev pub choice_follows : Token → Reduced → Option State
 choice_follows token r = Some (state an_operand (choosing token r.tree r.below))
 
@@ -207,6 +210,7 @@ tree_from m cursor s (token ∷ rest) = do
 abbrev pub beginning : State
 beginning = state an_operand nothing
 
+-- a name with a dot in it
 abbrev pub has_dot : List ℕ → Bool
 has_dot name = list_any (λ c. c == 46) name
 

@@ -53,6 +53,7 @@ abbrev mutual
   reads_memory (widened e w) = reads_memory e
   reads_memory (memory address) = true
 
+  -- one of some trees reads the memory
   pub read_memory : Trees → Bool
   read_memory none = false
   read_memory (more tree rest) = reads_memory tree || read_memory rest

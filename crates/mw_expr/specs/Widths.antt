@@ -80,6 +80,7 @@ abbrev mutual
   width s (widened e w) = widened_width w (width s e)
   width s (memory address) = memory_width s.address s.word (width s address)
 
+  -- the widths of the parts of a join together
   pub total_width : Shape → Trees → Option ℕ
   total_width s none = Some 0
   total_width s (more tree rest) = added (width s tree) (total_width s rest)
@@ -97,6 +98,7 @@ abbrev mutual
   is_known n (widened e w) = is_known n e
   is_known n (memory address) = is_known n address
 
+  -- each element of some trees is one of the first n
   pub are_known : ℕ → Trees → Bool
   are_known n none = true
   are_known n (more tree rest) = is_known n tree && are_known n rest
@@ -114,6 +116,7 @@ abbrev mutual
   depth (widened e w) = depth e + 1
   depth (memory address) = depth address + 1
 
+  -- how deep the deepest of some trees is
   pub deepest : Trees → ℕ
   deepest none = 0
   deepest (more tree rest) = max (depth tree) (deepest rest)
