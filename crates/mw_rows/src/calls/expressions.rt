@@ -6,10 +6,11 @@ ghost use Rattle.std.specs.Prelude.{◌≡◌, ℕ, ◌<◌, ◌≤◌, ◌^◌,
 ghost use Rattle.mw_expr.specs.Text.{IsShape};
 ghost use Rattle.mw_expr.specs.Values.{AreWords, IsImage};
 
+use super::texts::push_refusal;
 use super::trees::push_tree;
 use crate::fault::{Fault, wrong};
 use crate::named::{hexadecimal, set_word, word};
-use mw_base::{Cause, Cursor, Items, Line, Name, Refusal, Refused, append_hex, lines};
+use mw_base::{Cause, Cursor, Items, Line, Name, append_hex, lines};
 use mw_expr::{Expr, Shape, parse_expr, value, width_of};
 use std::alloc::Global;
 
@@ -186,17 +187,6 @@ fn push_value(
     report.extend_from_slice(width.as_bytes())?;
     append_hex(alloc, report, u128::from(value))?;
     report.push(b'\n')?;
-    Ok(())
-}
-
-/// Appends the line of a refusal.
-fn push_refusal(alloc: Global, report: &mut Vec<u8>, refusal: Refusal) -> Result<(), Fault> {
-    let Refused::At(fault) = refusal else {
-        return Err(Fault::NoMemory);
-    };
-    let (line, column, cause) = (fault.line, fault.column, fault.cause.number());
-    let text = format!(in alloc; "refused line {line} column {column} cause {cause}\n")?;
-    report.extend_from_slice(text.as_bytes())?;
     Ok(())
 }
 

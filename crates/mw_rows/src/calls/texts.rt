@@ -1,9 +1,25 @@
-// States and nets as texts. Numbers are hexadecimal, but for N in `rN=`, a register; `memA=` is the memory word at A.
-// Registers and memory words that are 0 aren't named.
-use mw_base::Event;
+// Refusals, states and nets as texts. In states and nets numbers are hexadecimal, but for N in `rN=`, a register; `memA=` is the
+// memory word at A. Registers and memory words that are 0 aren't named.
+use crate::fault::Fault;
+use mw_base::{Event, Refusal, Refused};
 use mw_cycle::{Nets, State};
 use mw_seq::Seq;
 use std::alloc::{AllocError, Global};
+
+/// Appends the line of a refusal: its line, column and cause.
+///
+/// # Errors
+///
+/// Want of memory, also where that is why the text was refused.
+pub fn push_refusal(alloc: Global, report: &mut Vec<u8>, refusal: Refusal) -> Result<(), Fault> {
+    let Refused::At(fault) = refusal else {
+        return Err(Fault::NoMemory);
+    };
+    let (line, column, cause) = (fault.line, fault.column, fault.cause.number());
+    let text = format!(in alloc; "refused line {line} column {column} cause {cause}\n")?;
+    report.extend_from_slice(text.as_bytes())?;
+    Ok(())
+}
 
 /// A sequencer: `pc=`, `r=`, `sp=` and `stack=`, whose five words have commas between, the oldest first.
 ///

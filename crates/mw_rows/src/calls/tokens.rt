@@ -1,7 +1,8 @@
 // `call tokens`: reads the file `text`. A line for each token has its line and column, the places where it begins and ends
 // in the text, and what it is; or one line has the first fault.
+use super::texts::push_refusal;
 use crate::fault::{Fault, wrong};
-use mw_base::{Kind, Refused, Token, append_decimal, tokens};
+use mw_base::{Kind, Token, append_decimal, tokens};
 use std::alloc::Global;
 
 /// Appends a number and a blank.
@@ -43,12 +44,7 @@ pub fn read(alloc: Global, text: &[u8]) -> Result<Vec<u8>, Fault> {
                 push_token(alloc, &mut report, token)?;
             }
         }
-        Err(Refused::At(fault)) => {
-            let (line, column, cause) = (fault.line, fault.column, fault.cause.number());
-            let text = format!(in alloc; "refused line {line} column {column} cause {cause}\n")?;
-            report.extend_from_slice(text.as_bytes())?;
-        }
-        Err(Refused::NoMemory) => return Err(Fault::NoMemory),
+        Err(refusal) => push_refusal(alloc, &mut report, refusal)?,
     }
     Ok(report)
 }
