@@ -30,6 +30,15 @@ fn lines_as_a_grammar_reads_them(rt: HostRuntime) -> Result<(), Fail> {
         );
     }
 
+    let end = fault_on(number.token, Cause::BadValue);
+    let same = Cursor::from_tokens(text, first.tokens(), end);
+    assert!(rt; same.name(3).is_ok());
+    let early = same.sign(5, Sign::Dot).err().ok_or("no fault")?;
+    assert_eq!(rt;
+        (early.line, early.column, early.cause.number()),
+        (1, 11, 24)
+    );
+
     let last = Cursor::new(text, lines.last().ok_or("no line")?, Cause::BadSyntax);
     let mut labels = Names::new(rt.alloc());
     labels.insert(b"next".as_slice(), 4096u16)?;
