@@ -120,7 +120,9 @@ impl Reader {
         match self.section {
             Section::Start | Section::SetFile | Section::Report => Ok(()),
             Section::Set => Err(wrong("the set above has no file")),
-            Section::Row | Section::RowFile | Section::Change => Err(wrong("the row above has no end")),
+            Section::Row | Section::RowFile | Section::Change => Err(wrong(
+                "the row above has no end",
+            )),
         }
     }
 

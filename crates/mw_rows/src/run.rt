@@ -74,7 +74,12 @@ fn push_file(
 }
 
 /// The files of a row, with its change.
-fn files_of(alloc: Global, rows: &Rows, given: &RowFiles, turned: bool) -> Result<Vec<File>, Fault> {
+fn files_of(
+    alloc: Global,
+    rows: &Rows,
+    given: &RowFiles,
+    turned: bool,
+) -> Result<Vec<File>, Fault> {
     let mut files = Vec::new(alloc);
     for &number in &given.sets {
         if let Some(set) = rows.sets.get(number) {

@@ -1,7 +1,7 @@
-// `call expression NAME:WIDTH=VALUE .. mem:ADDRESS:WORD memA=WORD ..`: reads the file `text`, each line of which is an expression
-// over these elements and over a memory with so many bits of an address and of a word. Values, the memory's addresses and its
-// words are hexadecimal; those that aren't named are 0. A line for each expression has its tree, its width and its value, or
-// its first fault; or one line has the fault of the text's bytes.
+// `call expression NAME:WIDTH=VALUE .. mem:ADDRESS:WORD memA=WORD ..`: reads the file `text`, each line of which is an
+// expression over these elements and over a memory with so many bits of an address and of a word. Values, the memory's
+// addresses and its words are hexadecimal; those that aren't named are 0. A line for each expression has its tree, its
+// width and its value, or its first fault; or one line has the fault of the text's bytes.
 ghost use Rattle.std.specs.Prelude.{◌≡◌, ℕ, ◌<◌, ◌≤◌, ◌^◌, ◌↔◌, IsTrue, length, slice_index};
 ghost use Rattle.mw_expr.specs.Text.{IsShape};
 ghost use Rattle.mw_expr.specs.Values.{AreWords, IsImage};
@@ -115,7 +115,8 @@ fn has_bits(number: u32, bits: u8) -> bool
 
 /// Whether each width is 1 to 32 bits.
 fn are_widths(widths: &[u8]) -> bool
-    ensures { IsTrue result → (i : ℕ) → i < length widths.now → (1 ≤ slice_index widths.now i) × (slice_index widths.now i ≤ 32) }
+    ensures { IsTrue result → (i : ℕ) → i < length widths.now
+        → (1 ≤ slice_index widths.now i) × (slice_index widths.now i ≤ 32) }
 {
     for &width in widths {
         if width < 1 || width > 32 {
@@ -169,12 +170,7 @@ fn is_image(shape: &Shape, memory: &[u32]) -> bool
 }
 
 /// Appends an expression's tree, its width and its value.
-fn push_value(
-    alloc: Global,
-    report: &mut Vec<u8>,
-    given: &Given,
-    expr: &Expr,
-) -> Result<(), Fault>
+fn push_value(alloc: Global, report: &mut Vec<u8>, given: &Given, expr: &Expr) -> Result<(), Fault>
     requires values_fit { AreWords given.now.shape.now.widths given.now.values.now }
     requires memory_fits { IsImage given.now.shape.now given.now.memory.now }
 {
@@ -234,8 +230,8 @@ fn answers(alloc: Global, text: &[u8], given: &Given) -> Result<Vec<u8>, Fault>
 ///
 /// # Errors
 ///
-/// Words that the call doesn't have, a value or a word of the memory that doesn't fit its width, a text of more than 1,048,576
-/// bytes, and want of memory.
+/// Words that the call doesn't have, a value or a word of the memory that doesn't fit its width, a text of more than
+/// 1,048,576 bytes, and want of memory.
 pub fn read(alloc: Global, words: &[String], text: &[u8]) -> Result<Vec<u8>, Fault> {
     let mut taken = Words::new(alloc)?;
     for given in words {

@@ -22,10 +22,7 @@ fn instruction(given: &[String]) -> Result<u16, Fault>
 
 /// Carry, overflow, zero and sign as a digit, carry the highest bit.
 fn flags(carry: bool, overflow: bool, zero: bool, sign: bool) -> u128 {
-    u128::from(carry) << 3
-        | u128::from(overflow) << 2
-        | u128::from(zero) << 1
-        | u128::from(sign)
+    u128::from(carry) << 3 | u128::from(overflow) << 2 | u128::from(zero) << 1 | u128::from(sign)
 }
 
 /// F and the flags, a digit each.

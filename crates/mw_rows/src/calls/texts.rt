@@ -1,5 +1,5 @@
-// Refusals, states and nets as texts. In states and nets numbers are hexadecimal, but for N in `rN=`, a register; `memA=` is the
-// memory word at A. Registers and memory words that are 0 aren't named.
+// Refusals, states and nets as texts. In states and nets numbers are hexadecimal, but for N in `rN=`, a register;
+// `memA=` is the memory word at A. Registers and memory words that are 0 aren't named.
 use crate::fault::Fault;
 use mw_base::{Event, Refusal, Refused};
 use mw_cycle::{Nets, State};

@@ -25,8 +25,9 @@ fn push_name(text: &mut Vec<u8>, names: &[Name], number: u32) -> Result<(), Faul
     }
 }
 
-/// Appends an expression over elements of these names: an element's name, `VALUE#WIDTH`, or an operation of the form `(~ E)`,
-/// `(+ E E)` with any sign between two operands, `(? E E E)`, `([HI:LO] E)`, `({} E E ..)`, `(zext W E)` or `(mem E)`.
+/// Appends an expression over elements of these names: an element's name, `VALUE#WIDTH`, or an operation of the form
+/// `(~ E)`, `(+ E E)` with any sign between two operands, `(? E E E)`, `([HI:LO] E)`, `({} E E ..)`, `(zext W E)` or
+/// `(mem E)`.
 ///
 /// # Errors
 ///
