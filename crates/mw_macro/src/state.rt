@@ -47,7 +47,7 @@ fn have_widths(numbers: &[u32], widths: &[u8]) -> bool
 }
 
 /// Whether each number has no more than so many bits.
-fn have_bits(numbers: &[u32], bits: u8) -> bool
+pub(crate) fn have_bits(numbers: &[u32], bits: u8) -> bool
     requires { bits ≤ 32 }
     ensures { IsTrue result ↔ ((i : ℕ) → i < length numbers.now → slice_index numbers.now i < 2 ^ bits) }
 {
