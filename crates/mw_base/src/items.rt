@@ -1,6 +1,8 @@
 // Lists that contracts see as their items.
-ghost use Rattle.std.specs.Prelude.{◌≡◌, List};
+ghost use Rattle.std.specs.Prelude.{◌≡◌, List, IfOk};
 
+use crate::memory::NoMemory;
+use std::alloc::Global;
 use std::marker::Model;
 
 /// A list, seen as its items.
@@ -21,6 +23,21 @@ impl<T> Items<T> {
         ensures { result ≡ vec.items }
     {
         Items { vec }
+    }
+
+    /// The list of these items, copied.
+    ///
+    /// # Errors
+    ///
+    /// Memory ran out.
+    pub fn from_slice(alloc: Global, items: &[T]) -> Result<Items<T>, NoMemory>
+    where
+        T: Copy,
+        ensures { IfOk result (λ list. list ≡ items.now) }
+    {
+        Ok(Items {
+            vec: Vec::from_slice(alloc, items)?,
+        })
     }
 
     /// The vector of its items. It takes no memory.

@@ -61,6 +61,14 @@ pub struct DSource {
     pub mask: Option<u32>,
 }
 
+impl DSource {
+    /// D is 0.
+    pub const ZERO: DSource = DSource {
+        from: DFrom::Zero,
+        mask: None,
+    };
+}
+
 /// What a flip-flop takes at the edge.
 #[derive(Clone, Copy, Debug, PartialEq, Eq)]
 pub enum Load {

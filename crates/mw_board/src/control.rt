@@ -52,3 +52,28 @@ pub struct Points {
     /// Chooses the bits at the ends of both shifts.
     pub link: Control,
 }
+
+impl Points {
+    /// Where nothing drives a point: 0, and 1 into the microprogram counter.
+    pub const DEFAULT: Points = Points {
+        alu_source: Control::Fixed(0),
+        alu_function: Control::Fixed(0),
+        alu_destination: Control::Fixed(0),
+        a_address: Control::Fixed(0),
+        b_address: Control::Fixed(0),
+        sequencer: Control::Fixed(0),
+        branch: Control::Fixed(0),
+        test_disable: Control::Fixed(0),
+        polarity: Control::Fixed(0),
+        ci: Control::Fixed(1),
+        rld: Control::Fixed(0),
+        mar_load: Control::Fixed(0),
+        ir_load: Control::Fixed(0),
+        memory_write: Control::Fixed(0),
+        out: Control::Fixed(0),
+        carry_in: Control::Fixed(0),
+        d: Control::Fixed(0),
+        condition: Control::Fixed(0),
+        link: Control::Fixed(0),
+    };
+}

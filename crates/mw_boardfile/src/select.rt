@@ -154,16 +154,12 @@ fn sources(
         (sources_of (d_source_in width fields.now (data_of flipflops.now)) fields.now control (members select.entry)) }
 {
     let value = member_of(select, "d");
-    let zero = DSource {
-        from: DFrom::Zero,
-        mask: None,
-    };
     let sources = list_or_zero(
         alloc,
         fields,
         control,
         value,
-        zero,
+        DSource::ZERO,
         &|value| { d_source(width, fields, flipflops, value) },
     );
     under_list(alloc, b"select.d", sources)
