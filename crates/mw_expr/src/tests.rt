@@ -124,25 +124,3 @@ fn texts(rt: HostRuntime) -> Result<(), Fail> {
     assert_eq!(rt; refusal(alloc, b"1#0", &shape), at(1, Cause::TooWide));
     Ok(())
 }
-
-#[test]
-fn deep_lines(rt: HostRuntime) -> Result<(), Fail> {
-    let alloc = rt.alloc();
-    let shape = Shape {
-        widths: Items::from_vec(Vec::new(alloc)),
-        address: 0,
-        word: 0,
-    };
-    let opened = vec![in alloc; b'('; 4000]?;
-    assert_eq!(rt;
-        refusal(alloc, opened.as_slice(), &shape),
-        at(4001, Cause::BadSyntax)
-    );
-    let mut inverted = vec![in alloc; b'~'; 4000]?;
-    inverted.extend_from_slice(b"1#1")?;
-    assert_eq!(rt;
-        refusal(alloc, inverted.as_slice(), &shape),
-        at(65, Cause::TooDeep)
-    );
-    Ok(())
-}

@@ -1,5 +1,5 @@
 use Rattle.std.proofs.Common.{◌≡◌, ◌+◌, map, drop, arith, rules, ap, ◌∙◌, sym}
-use Rattle.std.specs.Prelude.{Some, not, ◌&&◌, ◌||◌, nat_le}
+use Rattle.std.specs.Prelude.{Some, ◌||◌}
 use Rattle.mw_base.proofs.Lists as lists
 use Rattle.mw_expr.specs.declared.placed.Placed.{the_lemmas}
 use Rattle.mw_expr.specs.Placed.{placed, parts_of, constant, complement, pair, choice, part, join, widened, memory, group}
