@@ -104,17 +104,19 @@ abbrev pub unknown : Option ℕ → Token → List TextFault
 unknown (Some w) token = []
 unknown None token = fault_on token UnknownElement ∷ []
 
--- a constant's width is 1 to 32, and its value fits it
-abbrev pub constant_faults : Numeral → Token → ℕ → List TextFault
-constant_faults number hash w =
-    if nat_le 1 w && nat_le w 32 then (if nat_lt number.value (2 ^ w) then [] else fault_on number.token TooWide ∷ [])
-    else fault_on hash WidthsDiffer ∷ []
+-- a width that isn't 1 to 32
+abbrev pub is_improper : ℕ → Bool
+is_improper w = not (nat_le 1 w && nat_le w 32)
+
+-- a value that doesn't fit its width
+abbrev pub too_wide : Numeral → ℕ → List TextFault
+too_wide number w = if nat_lt number.value (2 ^ w) then [] else fault_on number.token TooWide ∷ []
 
 -- the faults of an expression, where so many levels may stand below it
 abbrev mutual
   pub faults : Shape → Option ℕ → Placed → List TextFault
   faults s left (named token number) = deep left token ++ unknown (named_width s number) token
-  faults s left (constant number hash w) = deep left number.token ++ constant_faults number hash w
+  faults s left (constant number hash w) = deep left number.token ++ (too_wide number w ++ broken (is_improper w) hash)
   faults s left (complement token e) = deep left token ++ faults s (below left) e
   faults s left (pair op token a b) =
       deep left token ++ (faults s (below left) a ++ (faults s (below left) b ++ broken (pair_breaks (seen_width s a) (seen_width s b)) token))
@@ -124,7 +126,7 @@ abbrev mutual
   faults s left (part token high low e) = deep left token ++ (faults s (below left) e ++ broken (part_breaks high low (seen_width s e)) token)
   faults s left (join token parts) = deep left token ++ (faults_in s (below left) parts ++ broken (is_past 32 (seen_total s (Some 0) parts)) token)
   faults s left (widened token w e) =
-      deep left token ++ (faults s (below left) e ++ broken (not (nat_le 1 w && nat_le w 32) || is_past w (seen_width s e)) token)
+      deep left token ++ (faults s (below left) e ++ broken (is_improper w || is_past w (seen_width s e)) token)
   faults s left (memory token e) = deep left token ++ (faults s (below left) e ++ broken (is_other s.address (seen_width s e)) token)
   faults s left (group token e) = deep left token ++ faults s (below left) e
 
