@@ -11,12 +11,12 @@ use Rattle.mw_expr.specs.declared.expr.Pair2.TheVariants.{And, Or, Xor, Add, Sub
 use Rattle.mw_expr.specs.declared.shape.Shape.{Shape}
 use Rattle.mw_expr.specs.Placed.{Placed, named, constant, complement, pair, choice, part, join, widened, memory, group, Parts, none, more}
 use Rattle.mw_expr.specs.Plain.{is_small_number, is_small, are_small}
-use Rattle.mw_base.specs.declared.cause.Cause.TheVariants.{TooWide, WidthsDiffer}
+use Rattle.mw_base.specs.declared.cause.Cause.TheVariants.{TooWide}
 use Rattle.mw_base.specs.TokenLines.{fault_on}
 use Rattle.mw_expr.specs.Text.{IsShape}
 use Rattle.mw_expr.specs.Widths.{width_if, part_width}
 use Rattle.mw_expr.proofs.Words.{below_wider}
-use Rattle.mw_expr.specs.Faults.{named_width, same_width, seen_choice, within_32, seen_width, seen_total, pair_breaks, is_other, part_breaks, is_past, deep, below, broken, unknown, constant_faults, faults, faults_in, is_before, first_in, first_fault}
+use Rattle.mw_expr.specs.Faults.{named_width, same_width, seen_choice, within_32, seen_width, seen_total, pair_breaks, is_other, part_breaks, is_past, deep, below, broken, unknown, is_improper, too_wide, faults, faults_in, is_before, first_in, first_fault}
 
 -- ---- lists of faults
 
@@ -75,29 +75,25 @@ small_number s (Some n) token shape is = found (slice_get s.widths n) refl is
     found None e fault = cc
     found (Some w) e fault = let within = slice_get_within s.widths n w e in let few = shape.few in grind (arith, nat_tests)
 
-small_constant : (number : Numeral) (hash : Token) (w : ℕ) → constant_faults number hash w ≡ [] → (nat_lt number.value (2 ^ 32) && nat_lt w (2 ^ 8)) ≡ true
-small_constant number hash w is = wide (nat_le 1 w && nat_le w 32) refl is
-  where
-    fits : (b : Bool) → nat_lt number.value (2 ^ w) ≡ b → (if b then [] else fault_on number.token TooWide ∷ []) ≡ [] → number.value < 2 ^ w
-    fits true e is' = ltb-true _ _ e
-    fits false e is' = cc
+pub value_fits : (b : Bool) (number : Numeral) (w : ℕ) → nat_lt number.value (2 ^ w) ≡ b → (if b then [] else fault_on number.token TooWide ∷ []) ≡ []
+    → number.value < 2 ^ w
+value_fits true number w e is = ltb-true number.value (2 ^ w) e
+value_fits false number w e is = cc
 
-    wide : (b : Bool) → (nat_le 1 w && nat_le w 32) ≡ b
-        → (if b then (if nat_lt number.value (2 ^ w) then [] else fault_on number.token TooWide ∷ []) else fault_on hash WidthsDiffer ∷ []) ≡ []
-        → (nat_lt number.value (2 ^ 32) && nat_lt w (2 ^ 8)) ≡ true
-    wide true e is' =
-        let below = fits (nat_lt number.value (2 ^ w)) refl is' in
-        let most : w ≤ 32 = grind (arith, nat_tests) in
-        let fits_32 = below_wider number.value w 32 below most in
-        grind (arith, nat_tests)
-    wide false e is' = cc
+small_constant : (number : Numeral) (hash : Token) (w : ℕ) → too_wide number w ++ broken (is_improper w) hash ≡ [] → (nat_lt number.value (2 ^ 32) && nat_lt w (2 ^ 8)) ≡ true
+small_constant number hash w is =
+    let fits = value_fits (nat_lt number.value (2 ^ w)) number w refl (nil_front (too_wide number w) (broken (is_improper w) hash) is) in
+    let proper = not_broken (is_improper w) hash (nil_back (too_wide number w) (broken (is_improper w) hash) is) in
+    let most : w ≤ 32 = grind (arith, nat_tests) in
+    let below = below_wider number.value w 32 fits most in
+    grind (arith, nat_tests)
 
 small_part : (high low : ℕ) (e : Option ℕ) (token : Token) → ((w : ℕ) → e ≡ Some w → w ≤ 32) → broken (part_breaks high low e) token ≡ []
     → (nat_lt high (2 ^ 8) && nat_lt low (2 ^ 8)) ≡ true
 small_part high low (Some w) token most is = let no = not_broken _ token is in let at_most = most w refl in grind (arith, nat_tests)
 small_part high low None token most is = let no = not_broken _ token is in grind (arith, nat_tests)
 
-small_width : (w : ℕ) (past : Bool) (token : Token) → broken (not (nat_le 1 w && nat_le w 32) || past) token ≡ [] → nat_lt w (2 ^ 8) ≡ true
+small_width : (w : ℕ) (past : Bool) (token : Token) → broken (is_improper w || past) token ≡ [] → nat_lt w (2 ^ 8) ≡ true
 small_width w past token is = let no = not_broken _ token is in grind (arith, nat_tests)
 
 -- ---- the width that a part has is 1 to 32
@@ -136,7 +132,7 @@ seen-most s (group token e) w shape is = seen-most s e w shape is
 mutual
   pub small : (s : Shape) (levels : Option ℕ) (tree : Placed) → IsShape s → faults s levels tree ≡ [] → is_small tree ≡ true
   small s levels (named token number) shape is = small_number s number token shape (nil_back (deep levels token) (unknown (named_width s number) token) is)
-  small s levels (constant number hash w) shape is = small_constant number hash w (nil_back (deep levels number.token) (constant_faults number hash w) is)
+  small s levels (constant number hash w) shape is = small_constant number hash w (nil_back (deep levels number.token) (too_wide number w ++ broken (is_improper w) hash) is)
   small s levels (complement token e) shape is = small s (below levels) e shape (nil_back (deep levels token) (faults s (below levels) e) is)
   small s levels (pair op token a b) shape is =
       let fa = faults s (below levels) a in
@@ -167,7 +163,7 @@ mutual
       small_parts s (below levels) parts shape (nil_front all breaks (nil_back (deep levels token) (all ++ breaks) is))
   small s levels (widened token w e) shape is =
       let fe = faults s (below levels) e in
-      let breaks = broken (not (nat_le 1 w && nat_le w 32) || is_past w (seen_width s e)) token in
+      let breaks = broken (is_improper w || is_past w (seen_width s e)) token in
       let parts = nil_back (deep levels token) (fe ++ breaks) is in
       and_from _ _ (small s (below levels) e shape (nil_front fe breaks parts)) (small_width w _ token (nil_back fe breaks parts))
   small s levels (memory token e) shape is =

@@ -12,7 +12,7 @@ use Rattle.mw_base.specs.TokenLines.{fault_on}
 use Rattle.mw_expr.specs.declared.expr.Pair2.{Pair2}
 use Rattle.mw_expr.specs.declared.expr.Pair2.TheVariants.{And, Or, Xor, Add, Sub, Same, Differ, Less}
 use Rattle.mw_expr.specs.declared.shape.Shape.{Shape}
-use Rattle.mw_expr.specs.Faults.{named_width, seen_pair, seen_choice, within_32, seen_width, seen_total, pair_breaks, is_other, part_breaks, is_past, broken, unknown, constant_faults, faults, faults_in, first_fault}
+use Rattle.mw_expr.specs.Faults.{named_width, seen_pair, seen_choice, within_32, seen_width, seen_total, pair_breaks, is_other, part_breaks, is_past, broken, unknown, is_improper, too_wide, faults, faults_in, first_fault}
 use Rattle.mw_expr.specs.Grammar.{Meaning, tree_of}
 use Rattle.mw_expr.specs.Placed.{Placed, named, constant, complement, pair, choice, part, join, widened, memory, group, Parts, none, more, parts_of}
 use Rattle.mw_expr.specs.Plain.{plain, plain_parts}
@@ -20,7 +20,7 @@ use Rattle.mw_expr.specs.Syntax.{Begin, BeginParts, by_choice, by_pair, by_compl
 use Rattle.mw_expr.specs.Text.{IsShape}
 use Rattle.mw_expr.specs.Widths.{width_if, element_width, width_after, pair_width, choice_width, part_width, join_width, widened_width, memory_width, count, width, total_width, is_known, are_known, depth, deepest, width_of}
 use Rattle.mw_expr.proofs.Accepted.{of_width}
-use Rattle.mw_expr.proofs.Small.{no_first, nil_front, nil_back, not_broken, named-most}
+use Rattle.mw_expr.proofs.Small.{no_first, nil_front, nil_back, not_broken, value_fits, named-most}
 use Rattle.mw_expr.proofs.Sound.{is_read_by_rule}
 
 -- ---- each join has two parts or more
@@ -124,26 +124,20 @@ sees_element s k token (Some n) shape is = found (slice_get s.widths n) refl is
           shallow = omega arith;
         }
 
-sees_constant : (s : Shape) (k : ℕ) (number : Numeral) (hash : Token) (w : ℕ) → constant_faults number hash w ≡ [] → Sees s (suc k) (constant number hash w)
-sees_constant s k number hash w is = wide_or (nat_le 1 w && nat_le w 32) refl is
-  where
-    fits : nat_le 1 w && nat_le w 32 ≡ true → (b : Bool) → nat_lt number.value (2 ^ w) ≡ b → (if b then [] else fault_on number.token TooWide ∷ []) ≡ [] → Sees s (suc k) (constant number hash w)
-    fits in_range true e is' = record {
+sees_constant : (s : Shape) (k : ℕ) (number : Numeral) (hash : Token) (w : ℕ) → too_wide number w ++ broken (is_improper w) hash ≡ []
+    → Sees s (suc k) (constant number hash w)
+sees_constant s k number hash w is =
+    let fits = value_fits (nat_lt number.value (2 ^ w)) number w refl (nil_front (too_wide number w) (broken (is_improper w) hash) is) in
+    let proper = not_broken (is_improper w) hash (nil_back (too_wide number w) (broken (is_improper w) hash) is) in
+    record {
       w = w;
       known = refl;
-      wide = rw e (grind (arith, nat_tests));
+      wide = grind (arith, nat_tests);
       seen = grind (arith, nat_tests);
       least = grind (arith, nat_tests);
       most = grind (arith, nat_tests);
       shallow = omega arith;
     }
-    fits in_range false e is' = cc
-
-    wide_or : (b : Bool) → (nat_le 1 w && nat_le w 32) ≡ b
-        → (if b then (if nat_lt number.value (2 ^ w) then [] else fault_on number.token TooWide ∷ []) else fault_on hash WidthsDiffer ∷ []) ≡ []
-        → Sees s (suc k) (constant number hash w)
-    wide_or true e is' = fits e (nat_lt number.value (2 ^ w)) refl is'
-    wide_or false e is' = cc
 
 -- operands of a sign, of one width
 pair_sees : (op : Pair2) (a b : ℕ) → 1 ≤ a → a ≤ 32 → pair_breaks (Some a) (Some b) ≡ false
@@ -166,7 +160,7 @@ part_sees : (high low w : ℕ) → w ≤ 32 → part_breaks high low (Some w) �
     → (part_width high low (Some w) ≡ Some (high - low + 1)) × (1 ≤ high - low + 1) × (high - low + 1 ≤ 32)
 part_sees high low w most inside = (grind (arith, nat_tests), omega arith, grind (arith, nat_tests))
 
-widened_sees : (w v : ℕ) → (not (nat_le 1 w && nat_le w 32) || is_past w (Some v)) ≡ false
+widened_sees : (w v : ℕ) → (is_improper w || is_past w (Some v)) ≡ false
     → (widened_width w (Some v) ≡ Some w) × (width_if true w ≡ Some w) × (1 ≤ w) × (w ≤ 32)
 widened_sees w v holds = (grind (arith, nat_tests), grind (arith, nat_tests), grind (arith, nat_tests), grind (arith, nat_tests))
 
@@ -249,7 +243,7 @@ sees_join s k token parts hs two is =
     }
 
 sees_widened : (s : Shape) (k : ℕ) (token : Token) (w : ℕ) (e : Placed) → Sees s k e
-    → broken (not (nat_le 1 w && nat_le w 32) || is_past w (seen_width s e)) token ≡ [] → Sees s (suc k) (widened token w e)
+    → broken (is_improper w || is_past w (seen_width s e)) token ≡ [] → Sees s (suc k) (widened token w e)
 sees_widened s k token w e he is =
     let holds = rw he.seen at (not_broken _ token is) in
     let h = widened_sees w he.w holds in
@@ -296,7 +290,7 @@ mutual
       sees_join s k token parts (sees_parts s k parts shape (nil_front all breaks is) two.1) two.0 (nil_back all breaks is)
   sees s (suc k) (widened token w e) shape is two =
       let fe = faults s (Some k) e in
-      let breaks = broken (not (nat_le 1 w && nat_le w 32) || is_past w (seen_width s e)) token in
+      let breaks = broken (is_improper w || is_past w (seen_width s e)) token in
       sees_widened s k token w e (sees s k e shape (nil_front fe breaks is) two) (nil_back fe breaks is)
   sees s (suc k) (memory token e) shape is two =
       let fe = faults s (Some k) e in

@@ -112,17 +112,19 @@ abbrev pub unknown : Option ℕ → Token → List TextFault
 unknown (Some w) token = []
 unknown None token = fault_on token UnknownElement ∷ []
 
--- a constant's width is 1 to 32, and its value fits it
-abbrev pub constant_faults : Numeral → Token → ℕ → List TextFault
-constant_faults number hash w =
-    if nat_le 1 w && nat_le w 32 then (if nat_lt number.value (2 ^ w) then [] else fault_on number.token TooWide ∷ [])
-    else fault_on hash WidthsDiffer ∷ []
+-- a width that isn't 1 to 32
+abbrev pub is_improper : ℕ → Bool
+is_improper w = not (nat_le 1 w && nat_le w 32)
+
+-- a value that doesn't fit its width
+abbrev pub too_wide : Numeral → ℕ → List TextFault
+too_wide number w = if nat_lt number.value (2 ^ w) then [] else fault_on number.token TooWide ∷ []
 
 -- the faults of an expression, where there are so many levels from this one down
 abbrev mutual
   pub faults : Shape → Option ℕ → Placed → List TextFault
   faults s levels (named token number) = deep levels token ++ unknown (named_width s number) token
-  faults s levels (constant number hash w) = deep levels number.token ++ constant_faults number hash w
+  faults s levels (constant number hash w) = deep levels number.token ++ (too_wide number w ++ broken (is_improper w) hash)
   faults s levels (complement token e) = deep levels token ++ faults s (below levels) e
   faults s levels (pair op token a b) =
       deep levels token ++ (faults s (below levels) a ++ (faults s (below levels) b ++ broken (pair_breaks (seen_width s a) (seen_width s b)) token))
@@ -132,7 +134,7 @@ abbrev mutual
   faults s levels (part token high low e) = deep levels token ++ (faults s (below levels) e ++ broken (part_breaks high low (seen_width s e)) token)
   faults s levels (join token parts) = deep levels token ++ (faults_in s (below levels) parts ++ broken (is_past 32 (seen_total s (Some 0) parts)) token)
   faults s levels (widened token w e) =
-      deep levels token ++ (faults s (below levels) e ++ broken (not (nat_le 1 w && nat_le w 32) || is_past w (seen_width s e)) token)
+      deep levels token ++ (faults s (below levels) e ++ broken (is_improper w || is_past w (seen_width s e)) token)
   faults s levels (memory token e) = deep levels token ++ (faults s (below levels) e ++ broken (is_other s.address (seen_width s e)) token)
   faults s levels (group token e) = deep levels token ++ faults s (below levels) e
 

@@ -1,8 +1,8 @@
 // What is at fault in a grammatical expression.
-ghost use Rattle.std.specs.Prelude.{◌≡◌, Option, Some, true, map, not, nat_le, ◌&&◌, ◌||◌};
+ghost use Rattle.std.specs.Prelude.{◌≡◌, ◌^◌, nat_lt, Option, Some, true, map, ◌||◌};
 ghost use Rattle.mw_expr.specs.Widths.{width_if, part_width};
 ghost use Rattle.mw_expr.specs.Placed.{placed, parts_of};
-ghost use Rattle.mw_expr.specs.Faults.{named_width, same_width, seen_pair, seen_choice, beside, within_32, seen_width, seen_total, pair_breaks, is_other, part_breaks, is_past, deep, below, broken, unknown, constant_faults, faults, faults_in, is_before, first_of, first_in, first_fault};
+ghost use Rattle.mw_expr.specs.Faults.{named_width, same_width, seen_pair, seen_choice, beside, within_32, seen_width, seen_total, pair_breaks, is_other, part_breaks, is_past, deep, below, broken, unknown, is_improper, too_wide, faults, faults_in, is_before, first_of, first_in, first_fault};
 
 use crate::expr::Pair2;
 use crate::placed::Placed;
@@ -56,16 +56,30 @@ fn note_unknown(first: &mut Option<TextFault>, width: Option<u8>, token: Token)
     }
 }
 
-fn note_constant(first: &mut Option<TextFault>, number: Numeral, hash: Token, width: u128)
-    ensures { first.new ≡ first_in first.old (constant_faults number hash width) }
+/// Whether a value fits a width.
+#[tactic(auto, using(crate::proofs::Words::fits_wider))]
+fn fits(value: u128, width: u128) -> bool
+    ensures { result ≡ nat_lt value (2 ^ width) }
 {
-    if 1 <= width && width <= u128::from(WIDEST) {
-        if number.value >= 1u128 << width {
-            note(first, fault_on(number.token, Cause::TooWide));
-        }
-    } else {
-        note(first, fault_on(hash, Cause::WidthsDiffer));
+    if width >= 128 {
+        return true;
     }
+    value < 1u128 << width
+}
+
+fn note_too_wide(first: &mut Option<TextFault>, number: Numeral, width: u128)
+    ensures { first.new ≡ first_in first.old (too_wide number width) }
+{
+    if !fits(number.value, width) {
+        note(first, fault_on(number.token, Cause::TooWide));
+    }
+}
+
+/// Whether a width isn't 1 to 32.
+fn is_improper(width: u128) -> bool
+    ensures { result ≡ is_improper width }
+{
+    !(1 <= width && width <= u128::from(WIDEST))
 }
 
 /// How many levels there are from a part of it down.
@@ -88,10 +102,10 @@ fn named_width(shape: &Shape, number: Option<usize>) -> Option<u8>
 fn given_width(width: u128) -> Option<u8>
     ensures { result ≡ width_if true width }
 {
-    if 1 <= width && width <= u128::from(WIDEST) {
-        Some(width as u8)
-    } else {
+    if is_improper(width) {
         None
+    } else {
+        Some(width as u8)
     }
 }
 
@@ -190,9 +204,9 @@ fn is_past(most: u128, seen: Option<u8>) -> bool
 }
 
 fn widen_breaks(width: u128, seen: Option<u8>) -> bool
-    ensures { result ≡ (not (nat_le 1 width && nat_le width 32) || is_past width seen) }
+    ensures { result ≡ (is_improper width || is_past width seen) }
 {
-    given_width(width).is_none() || is_past(width, seen)
+    is_improper(width) || is_past(width, seen)
 }
 
 /// The width that an expression has for what is around it, where there are so many levels from this one down: 0 at level 65, none
@@ -216,7 +230,8 @@ fn check(
         }
         Placed::Con(number, hash, bits) => {
             note_deep(first, levels, number.token);
-            note_constant(first, *number, *hash, *bits);
+            note_too_wide(first, *number, *bits);
+            note_broken(first, is_improper(*bits), *hash);
             given_width(*bits)
         }
         Placed::Not(token, e) => {

@@ -19,7 +19,7 @@ pub use laws::{parts_have_widths, trees_are_by_rule, widths_are_by_rule};
 pub use shape::Shape;
 pub use text::parse_expr;
 pub use values::value;
-pub use width::width_of;
+pub use width::{DEEPEST, is_known, is_within_depth, width_by_rules, width_of};
 
 #[cfg(test)]
 mod tests;

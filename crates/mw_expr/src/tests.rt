@@ -121,5 +121,6 @@ fn texts(rt: HostRuntime) -> Result<(), Fail> {
         at(2, Cause::WidthsDiffer)
     );
     assert_eq!(rt; refusal(alloc, b"9#3 | 1#3", &shape), at(1, Cause::TooWide));
+    assert_eq!(rt; refusal(alloc, b"1#0", &shape), at(1, Cause::TooWide));
     Ok(())
 }

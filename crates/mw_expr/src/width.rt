@@ -11,7 +11,7 @@ use mw_base::Cause;
 pub(crate) const WIDEST: u8 = 32;
 
 /// How many levels an expression may have.
-pub(crate) const DEEPEST: u8 = 64;
+pub const DEEPEST: u8 = 64;
 
 /// A width where a rule holds, which is 1 to 32 bits.
 pub(crate) fn width_if(rule: bool, width: u8) -> Option<u8>
@@ -60,38 +60,40 @@ pub(crate) fn part_width(whole: u8, high: u8, low: u8) -> Option<u8>
     }
 }
 
-/// The width of an expression that keeps all the rules of widths.
+/// The width of an expression over a shape, 1 to 32 bits, where it keeps all the rules of widths, however deep it is; None where the
+/// widths of operands break their rule, a join has fewer than two parts, a constant doesn't fit its width, a width isn't 1 to 32 bits,
+/// or an element isn't one of the shape.
 #[cycle(widths)]
-fn width(expr: &Expr, shape: &Shape) -> Option<u8>
+pub fn width_by_rules(expr: &Expr, shape: &Shape) -> Option<u8>
     ensures exact { result ≡ width shape.now (view expr.now) }
     ensures range { IfSome result (λ w. (1 ≤ w) × (w ≤ 32)) }
 {
     match expr {
         Expr::Element(element) => element_width(shape, *element),
         Expr::Con(number, bits) => constant_width(*number, *bits),
-        Expr::Not(e) => width(e, shape),
+        Expr::Not(e) => width_by_rules(e, shape),
         Expr::Two(sign, a, b) => {
-            let left = width(a, shape)?;
-            let right = width(b, shape)?;
+            let left = width_by_rules(a, shape)?;
+            let right = width_by_rules(b, shape)?;
             width_if(left == right, sign.width_after(left))
         }
         Expr::Choose(condition, a, b) => {
-            let chosen_by = width(condition, shape)?;
-            let first = width(a, shape)?;
-            let second = width(b, shape)?;
+            let chosen_by = width_by_rules(condition, shape)?;
+            let first = width_by_rules(a, shape)?;
+            let second = width_by_rules(b, shape)?;
             width_if(chosen_by == 1 && first == second, first)
         }
         Expr::Part(e, high, low) => {
-            let whole = width(e, shape)?;
+            let whole = width_by_rules(e, shape)?;
             part_width(whole, *high, *low)
         }
         Expr::Join(parts) => joined_width(parts, shape),
         Expr::Widen(e, to) => {
-            let from = width(e, shape)?;
+            let from = width_by_rules(e, shape)?;
             width_if(from <= *to, *to)
         }
         Expr::Memory(address) => {
-            let bits = width(address, shape)?;
+            let bits = width_by_rules(address, shape)?;
             width_if(bits == shape.address, shape.word)
         }
     }
@@ -106,7 +108,7 @@ fn joined_width(parts: &[Expr], shape: &Shape) -> Option<u8>
 {
     let mut whole = 0u8;
     for part in parts {
-        whole += width(part, shape)?;
+        whole += width_by_rules(part, shape)?;
         if whole > WIDEST {
             return None;
         }
@@ -114,9 +116,9 @@ fn joined_width(parts: &[Expr], shape: &Shape) -> Option<u8>
     width_if(2 <= parts.len(), whole)
 }
 
-/// Whether each element of an expression is one of the shape.
+/// Whether each element that an expression names is one of the shape.
 #[cycle(known)]
-fn is_known(expr: &Expr, shape: &Shape) -> bool
+pub fn is_known(expr: &Expr, shape: &Shape) -> bool
     ensures { result ≡ is_known (length shape.now.widths) (view expr.now) }
 {
     match expr {
@@ -146,9 +148,9 @@ fn are_known(parts: &[Expr], shape: &Shape) -> bool
     true
 }
 
-/// Whether an expression is at most so deep.
+/// Whether an expression is at most so many levels deep: an element or a constant is one, an operation one more than its deepest part.
 #[cycle(depths)]
-fn is_within(expr: &Expr, levels: u8) -> bool
+pub fn is_within_depth(expr: &Expr, levels: u8) -> bool
     ensures { result ≡ nat_le (depth (view expr.now)) levels }
 {
     if levels == 0 {
@@ -157,24 +159,26 @@ fn is_within(expr: &Expr, levels: u8) -> bool
     let below = levels - 1;
     match expr {
         Expr::Element(_) | Expr::Con(..) => true,
-        Expr::Not(e) | Expr::Part(e, ..) | Expr::Widen(e, _) | Expr::Memory(e) => is_within(
+        Expr::Not(e) | Expr::Part(e, ..) | Expr::Widen(e, _) | Expr::Memory(e) => is_within_depth(
             e, below,
         ),
-        Expr::Two(_, a, b) => is_within(a, below) && is_within(b, below),
+        Expr::Two(_, a, b) => is_within_depth(a, below) && is_within_depth(b, below),
         Expr::Choose(condition, a, b) => {
-            is_within(condition, below) && is_within(a, below) && is_within(b, below)
+            is_within_depth(condition, below)
+                && is_within_depth(a, below)
+                && is_within_depth(b, below)
         }
-        Expr::Join(parts) => are_within(parts, below),
+        Expr::Join(parts) => are_within_depth(parts, below),
     }
 }
 
 /// Whether some expressions are at most so deep.
 #[cycle(depths)]
-fn are_within(parts: &[Expr], levels: u8) -> bool
+fn are_within_depth(parts: &[Expr], levels: u8) -> bool
     ensures { result ≡ nat_le (deepest (trees_of (map view parts.now))) levels }
 {
     for part in parts {
-        if !is_within(part, levels) {
+        if !is_within_depth(part, levels) {
             return false;
         }
     }
@@ -197,10 +201,10 @@ pub fn width_of(expr: &Expr, shape: &Shape) -> Result<u8, Cause>
     if !is_known(expr, shape) {
         return Err(Cause::UnknownElement);
     }
-    match width(expr, shape) {
+    match width_by_rules(expr, shape) {
         None => Err(Cause::WidthsDiffer),
         Some(width) => {
-            if is_within(expr, DEEPEST) {
+            if is_within_depth(expr, DEEPEST) {
                 Ok(width)
             } else {
                 Err(Cause::TooDeep)

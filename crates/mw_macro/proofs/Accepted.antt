@@ -1,5 +1,5 @@
 -- What an accepted machine has.
-use Rattle.std.proofs.Common.{◌≡◌, ℕ, zero, suc, ◌-◌, ◌≤◌, List, [], ◌∷◌, length, Bool, true, false, refl, arith}
+use Rattle.std.proofs.Common.{◌≡◌, ℕ, zero, suc, ◌-◌, ◌<◌, ◌≤◌, List, [], ◌∷◌, length, Bool, true, false, refl, arith}
 use Rattle.std.specs.Prelude.{Option, Some, None, Ok, Err, not, ◌&&◌, ◌||◌, nat_le, ◌==◌, if◌then◌else◌, slice_index}
 use Rattle.std.specs.List.{list_all}
 use Rattle.std.proofs.lemmas.Bool.{and_parts}
@@ -10,10 +10,11 @@ use Rattle.mw_expr.specs.declared.shape.Shape.{Shape}
 use Rattle.mw_expr.specs.Tree.{Tree}
 use Rattle.mw_expr.specs.Widths.{width, is_known, depth, width_at, width_of}
 use Rattle.mw_macro.specs.declared.counts.Counted.TheVariants.{Statements, Events}
+use Rattle.mw_macro.specs.declared.rules.Fault.TheVariants.{NoElement, OtherWidth, TooNested}
 use Rattle.mw_macro.specs.Counts.{count, total}
 use Rattle.mw_macro.specs.Machine.{Description}
-use Rattle.mw_macro.specs.Right.{is_asked, is_right, are_right, AcceptedAreRight}
-use Rattle.mw_macro.specs.Rules.{is_within, is_within_limits, are_free, are_ranges, is_cause, fault_at, is_fault, has_fault, have_fault, is_free_of, refusal_of}
+use Rattle.mw_macro.specs.Right.{IsBetween, is_asked, is_right, are_right, AcceptedAreRight}
+use Rattle.mw_macro.specs.Rules.{is_within, is_within_limits, are_free, are_ranges, is_width, is_fault, has_fault, have_fault, is_free_of, refusal_of}
 use Rattle.mw_macro.specs.Statements.{Act, assign, write, put, take_in, choose, Acts, nothing, next}
 
 -- a rule before others, where none is broken
@@ -33,10 +34,11 @@ unless false h = refl
 -- all the rules are kept
 record Keeps (m : Description) : Type 0 where
   pub limits : is_within_limits m ≡ true
+  pub names : are_free m.names ≡ true
   pub ranges : are_ranges m.shape ≡ true
-  pub known : have_fault UnknownElement m.shape 64 m.acts ≡ false
-  pub wide : have_fault WidthsDiffer m.shape 64 m.acts ≡ false
-  pub shallow : have_fault TooDeep m.shape 64 m.acts ≡ false
+  pub known : have_fault NoElement m.shape 64 m.acts ≡ false
+  pub wide : have_fault OtherWidth m.shape 64 m.acts ≡ false
+  pub shallow : have_fault TooNested m.shape 64 m.acts ≡ false
 
 keeps : (m : Description) → refusal_of m ≡ None → Keeps m
 unfolding refusal_of
@@ -44,58 +46,55 @@ keeps m none =
     let one = kept (is_within_limits m) TooMany _ none in
     let two = kept (are_free m.names) Twice _ one.1 in
     let three = kept (are_ranges m.shape) ValueTooWide _ two.1 in
-    let four = kept (is_free_of UnknownElement m) UnknownElement _ three.1 in
-    let five = kept (is_free_of WidthsDiffer m) WidthsDiffer _ four.1 in
-    let six = kept (is_free_of TooDeep m) TooDeep _ five.1 in
+    let four = kept (is_free_of NoElement m) UnknownElement _ three.1 in
+    let five = kept (is_free_of OtherWidth m) WidthsDiffer _ four.1 in
+    let six = kept (is_free_of TooNested m) TooDeep _ five.1 in
     record {
       limits = one.0;
+      names = two.0;
       ranges = three.0;
       known = unless _ four.0;
       wide = unless _ five.0;
       shallow = unless _ six.0;
     }
 
--- what numbers are where they lie in their ranges
-at_most : (low n high : ℕ) → is_within low n high ≡ true → n ≤ high
-at_most low n high within =
-    let h : nat_le n high ≡ true = (and_parts (nat_le low n) (nat_le n high) within).1 in
-    grind (arith, nat_tests)
-
-all_within : (low high : ℕ) (ws : List ℕ) (i : ℕ) → list_all (λ w. is_within low w high) ws ≡ true → slice_index ws i ≤ high
-all_within low high [] i all = omega arith
-all_within low high (w ∷ rest) zero all =
-    at_most low w high (and_parts (is_within low w high) (list_all (λ w. is_within low w high) rest) all).0
-all_within low high (w ∷ rest) (suc i) all =
-    all_within low high rest i (and_parts (is_within low w high) (list_all (λ w. is_within low w high) rest) all).1
-
 le_from : (n most : ℕ) → nat_le n most ≡ true → n ≤ most
 le_from n most h = grind (arith, nat_tests)
 
+-- what numbers are where they lie in their ranges
+between : (low n high : ℕ) → is_within low n high ≡ true → IsBetween low n high
+between low n high within =
+    let both = and_parts (nat_le low n) (nat_le n high) within in
+    (le_from _ _ both.0, le_from _ _ both.1)
+
+all_between : (low high : ℕ) (ws : List ℕ) (i : ℕ) → list_all (λ w. is_within low w high) ws ≡ true → i < length ws
+    → IsBetween low (slice_index ws i) high
+all_between low high [] i all inside = absurd (omega arith)
+all_between low high (w ∷ rest) zero all inside =
+    between low w high (and_parts (is_within low w high) (list_all (λ w. is_within low w high) rest) all).0
+all_between low high (w ∷ rest) (suc i) all inside =
+    all_between low high rest i (and_parts (is_within low w high) (list_all (λ w. is_within low w high) rest) all).1 (omega arith)
+
 -- ---- statements without faults are right
 
+holds : (a : Bool) → not a ≡ false → a ≡ true
+holds true h = refl
+holds false h = cc
+
 -- an expression with a width, not too deep
-shallow_right : (shallow : Bool) (w asked : ℕ)
-    → is_cause WidthsDiffer (fault_at asked (if shallow then Ok w else Err TooDeep)) ≡ false
-    → is_cause TooDeep (fault_at asked (if shallow then Ok w else Err TooDeep)) ≡ false
+shallow_right : (shallow : Bool) (w asked : ℕ) → not (w == asked) ≡ false → not shallow ≡ false
     → is_asked asked (if shallow then Ok w else Err TooDeep) ≡ true
-shallow_right true w asked wide deep = from (w == asked) refl
-  where
-    from : (same : Bool) → (w == asked) ≡ same → (w == asked) ≡ true
-    from true e = e
-    from false e = let h = rw e at wide in cc
+shallow_right true w asked wide deep = holds (w == asked) wide
 shallow_right false w asked wide deep = cc
 
-known_right : (known : Bool) (deep : ℕ) (w : Option ℕ) (asked : ℕ)
-    → is_cause UnknownElement (fault_at asked (if known then width_at deep w else Err UnknownElement)) ≡ false
-    → is_cause WidthsDiffer (fault_at asked (if known then width_at deep w else Err UnknownElement)) ≡ false
-    → is_cause TooDeep (fault_at asked (if known then width_at deep w else Err UnknownElement)) ≡ false
-    → is_asked asked (if known then width_at deep w else Err UnknownElement) ≡ true
+known_right : (known : Bool) (deep : ℕ) (w : Option ℕ) (asked : ℕ) → not known ≡ false → not (is_width asked w) ≡ false
+    → not (nat_le deep 64) ≡ false → is_asked asked (if known then width_at deep w else Err UnknownElement) ≡ true
 known_right true deep (Some w) asked known wide shallow = shallow_right (nat_le deep 64) w asked wide shallow
 known_right true deep None asked known wide shallow = cc
 known_right false deep w asked known wide shallow = cc
 
-expr_right : (s : Shape) (asked : ℕ) (e : Tree) → is_fault UnknownElement s asked e ≡ false → is_fault WidthsDiffer s asked e ≡ false
-    → is_fault TooDeep s asked e ≡ false → is_asked asked (width_of s e) ≡ true
+expr_right : (s : Shape) (asked : ℕ) (e : Tree) → is_fault NoElement s asked e ≡ false → is_fault OtherWidth s asked e ≡ false
+    → is_fault TooNested s asked e ≡ false → is_asked asked (width_of s e) ≡ true
 unfolding width_of
 expr_right s asked e known wide shallow = known_right (is_known (length s.widths) e) (depth e) (width s e) asked known wide shallow
 
@@ -103,34 +102,24 @@ both : (a b : Bool) → a ≡ true → b ≡ true → (a && b) ≡ true
 both true b first second = second
 both false b first second = cc
 
-target_right : (test : Bool) → is_cause UnknownElement (if test then None else Some UnknownElement) ≡ false → test ≡ true
-target_right true h = refl
-target_right false h = cc
-
-width_right : (same : Bool) → is_cause WidthsDiffer (if same then None else Some WidthsDiffer) ≡ false → same ≡ true
-width_right true h = refl
-width_right false h = cc
-
 mutual
-  act_right : (s : Shape) (levels : ℕ) (act : Act) → has_fault UnknownElement s levels act ≡ false → has_fault WidthsDiffer s levels act ≡ false
-      → has_fault TooDeep s levels act ≡ false → is_right s act ≡ true
+  act_right : (s : Shape) (levels : ℕ) (act : Act)
+      → has_fault NoElement s levels act ≡ false → has_fault OtherWidth s levels act ≡ false
+      → has_fault TooNested s levels act ≡ false → is_right s act ≡ true
   act_right s levels (assign target e) known wide shallow =
       let known = neither _ _ known in
-      let wide = neither _ _ wide in
-      let shallow = neither _ _ shallow in
-      both _ _ (target_right _ known.0) (expr_right s (slice_index s.widths target) e known.1 wide.1 shallow.1)
+      both _ _ (holds _ known.0) (expr_right s (slice_index s.widths target) e known.1 wide shallow)
   act_right s levels (write address e) known wide shallow =
       let known = neither _ _ known in
       let wide = neither _ _ wide in
       let shallow = neither _ _ shallow in
       both _ _ (expr_right s s.address address known.0 wide.0 shallow.0) (expr_right s s.word e known.1 wide.1 shallow.1)
   act_right s levels (put e) known wide shallow = expr_right s s.word e known wide shallow
-  act_right s levels (take_in target) known wide shallow =
-      both _ _ (target_right _ (neither _ _ known).0) (width_right _ (neither _ _ wide).1)
+  act_right s levels (take_in target) known wide shallow = both _ _ (holds _ (neither _ _ known).0) (holds _ wide)
   act_right s levels (choose condition first second) known wide shallow =
-      let known = neither _ _ (neither _ _ known).1 in
-      let wide = neither _ _ (neither _ _ wide).1 in
-      let shallow = neither _ _ (neither _ _ shallow).1 in
+      let known = neither (is_fault NoElement s 1 condition) _ known in
+      let wide = neither (is_fault OtherWidth s 1 condition) _ wide in
+      let shallow = neither (is_fault TooNested s 1 condition) _ (neither _ _ shallow).1 in
       let known_lists = neither _ _ known.1 in
       let wide_lists = neither _ _ wide.1 in
       let shallow_lists = neither _ _ shallow.1 in
@@ -138,8 +127,9 @@ mutual
       (both _ _ (acts_right s (levels - 1) first known_lists.0 wide_lists.0 shallow_lists.0)
       (acts_right s (levels - 1) second known_lists.1 wide_lists.1 shallow_lists.1))
 
-  acts_right : (s : Shape) (levels : ℕ) (all : Acts) → have_fault UnknownElement s levels all ≡ false → have_fault WidthsDiffer s levels all ≡ false
-      → have_fault TooDeep s levels all ≡ false → are_right s all ≡ true
+  acts_right : (s : Shape) (levels : ℕ) (all : Acts)
+      → have_fault NoElement s levels all ≡ false → have_fault OtherWidth s levels all ≡ false
+      → have_fault TooNested s levels all ≡ false → are_right s all ≡ true
   acts_right s levels nothing known wide shallow = refl
   acts_right s levels (next act rest) known wide shallow =
       let known = neither _ _ known in
@@ -170,16 +160,20 @@ accepted_right m none =
     let limits = and_parts _ _ h.limits in
     let counts = and_parts _ _ limits.1 in
     let sizes = and_parts _ _ counts.1 in
-    let statements : total Statements m.acts ≤ 4096 = le_from _ _ sizes.0 in
     let ranges = and_parts _ _ h.ranges in
     let elements = and_parts _ _ ranges.0 in
     record {
       registers = le_from _ _ limits.0;
       temporaries = le_from _ _ counts.0;
-      statements = statements;
-      events = omega (arith, events_of_acts m.acts);
-      widths = λ i. all_within 1 32 m.shape.widths i elements.0;
-      address = at_most 1 m.shape.address 16 elements.1;
-      word = at_most 4 m.shape.word 32 ranges.1;
+      statements = le_from _ _ sizes.0;
+      reads = le_from _ _ sizes.1;
+      names = h.names;
+      widths = λ i inside. all_between 1 32 m.shape.widths i elements.0 inside;
+      address = between 1 m.shape.address 16 elements.1;
+      word = between 4 m.shape.word 32 ranges.1;
       right = acts_right m.shape 64 m.acts h.known h.wide h.shallow;
     }
+
+-- an accepted machine has as few events as statements
+pub accepted_few : (m : Description) → refusal_of m ≡ None → total Events m.acts ≤ 4096
+accepted_few m none = omega (arith, events_of_acts m.acts, (accepted_right m none).statements)

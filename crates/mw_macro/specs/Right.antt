@@ -1,12 +1,12 @@
 -- What the statements of an accepted machine have.
-use Rattle.std.specs.Prelude.{◌≡◌, ℕ, ◌+◌, ◌-◌, ◌≤◌, length, Bool, true, false, ◌&&◌, nat_lt, ◌==◌, None, Result, Ok, Err, slice_index}
+use Rattle.std.specs.Prelude.{◌≡◌, ℕ, ◌+◌, ◌-◌, ◌<◌, ◌≤◌, length, Bool, true, false, ◌&&◌, nat_lt, ◌==◌, None, Result, Ok, Err, slice_index}
 use Rattle.mw_base.specs.declared.cause.Cause.{Cause}
 use Rattle.mw_expr.specs.declared.shape.Shape.{Shape}
 use Rattle.mw_expr.specs.Widths.{width_of}
-use Rattle.mw_macro.specs.declared.counts.Counted.TheVariants.{Statements, Events}
+use Rattle.mw_macro.specs.declared.counts.Counted.TheVariants.{Statements, Reads}
 use Rattle.mw_macro.specs.Counts.{total}
 use Rattle.mw_macro.specs.Machine.{Description}
-use Rattle.mw_macro.specs.Rules.{refusal_of}
+use Rattle.mw_macro.specs.Rules.{are_free, refusal_of}
 use Rattle.mw_macro.specs.Statements.{Act, assign, write, put, take_in, choose, Acts, nothing, next}
 
 -- a width that is the one asked for
@@ -28,15 +28,20 @@ abbrev mutual
   are_right s nothing = true
   are_right s (next act rest) = is_right s act && are_right s rest
 
--- what an accepted machine has: few elements and statements, widths in their ranges, and statements that are right
+-- a number lies between two others
+abbrev pub IsBetween : (low n high : ℕ) → Type 0
+IsBetween low n high = (low ≤ n) × (n ≤ high)
+
+-- what an accepted machine has: counts within their limits, names that are free, widths in their ranges, and statements that are right
 pub record IsRight (m : Description) : Type 0 where
   pub registers : m.registers ≤ 128
   pub temporaries : length m.names - m.registers ≤ 128
   pub statements : total Statements m.acts ≤ 4096
-  pub events : total Events m.acts ≤ 4096
-  pub widths : (i : ℕ) → slice_index m.shape.widths i ≤ 32
-  pub address : m.shape.address ≤ 16
-  pub word : m.shape.word ≤ 32
+  pub reads : total Reads m.acts ≤ 256
+  pub names : are_free m.names ≡ true
+  pub widths : (i : ℕ) → i < length m.shape.widths → IsBetween 1 (slice_index m.shape.widths i) 32
+  pub address : IsBetween 1 m.shape.address 16
+  pub word : IsBetween 4 m.shape.word 32
   pub right : are_right m.shape m.acts ≡ true
 
 -- where a machine is accepted, its statements are right

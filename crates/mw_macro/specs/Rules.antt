@@ -1,13 +1,14 @@
 -- The rules of described machines.
-use Rattle.std.specs.Prelude.{ℕ, ◌+◌, ◌-◌, List, [], ◌∷◌, codes, length, Bool, true, false, not, ◌&&◌, ◌||◌, nat_le, nat_lt, ◌==◌, bytes_eq, if◌then◌else◌, Option, Some, None, Result, Ok, Err, slice_index}
+use Rattle.std.specs.Prelude.{ℕ, ◌+◌, ◌-◌, List, [], ◌∷◌, codes, length, Bool, true, false, not, ◌&&◌, ◌||◌, nat_le, nat_lt, ◌==◌, bytes_eq, if◌then◌else◌, Option, Some, None, slice_index}
 use Rattle.std.specs.List.{list_all, list_any}
-use Rattle.mw_base.specs.Causes.{number_of}
 use Rattle.mw_base.specs.declared.cause.Cause.{Cause}
 use Rattle.mw_base.specs.declared.cause.Cause.TheVariants.{TooMany, Twice, ValueTooWide, UnknownElement, WidthsDiffer, TooDeep}
 use Rattle.mw_expr.specs.declared.shape.Shape.{Shape}
 use Rattle.mw_expr.specs.Tree.{Tree}
-use Rattle.mw_expr.specs.Widths.{width_of}
+use Rattle.mw_expr.specs.Widths.{width, is_known, depth}
 use Rattle.mw_macro.specs.declared.counts.Counted.TheVariants.{Statements, Reads}
+use Rattle.mw_macro.specs.declared.rules.Fault.{Fault}
+use Rattle.mw_macro.specs.declared.rules.Fault.TheVariants.{NoElement, OtherWidth, TooNested}
 use Rattle.mw_macro.specs.Counts.{total}
 use Rattle.mw_macro.specs.Machine.{Description}
 use Rattle.mw_macro.specs.Statements.{Act, assign, write, put, take_in, choose, Acts, nothing, next}
@@ -37,54 +38,54 @@ are_ranges s = list_all (λ w. is_within 1 w 32) s.widths && is_within 1 s.addre
 
 -- ---- faults in statements
 
--- the fault of a word of some bits where another number of bits is asked for
-abbrev pub width_fault : (asked w : ℕ) → Option Cause
-width_fault asked w = if w == asked then None else Some WidthsDiffer
+-- there is a width, and it is the one asked for
+abbrev pub is_width : (asked : ℕ) → Option ℕ → Bool
+is_width asked None = false
+is_width asked (Some w) = w == asked
 
--- the fault of an expression where a word of some bits is asked for
-abbrev pub fault_at : (asked : ℕ) → Result ℕ Cause → Option Cause
-fault_at asked (Ok w) = width_fault asked w
-fault_at asked (Err cause) = Some cause
+-- an expression names an element that there isn't; or its width isn't the one asked for, however deep it is; or it is more than 64 deep
+abbrev pub is_fault : Fault → Shape → (asked : ℕ) → Tree → Bool
+is_fault NoElement s asked e = not (is_known (length s.widths) e)
+is_fault OtherWidth s asked e = not (is_width asked (width s e))
+is_fault TooNested s asked e = not (nat_le (depth e) 64)
 
--- the fault of a target: it is a register or a temporary, and not the request, which is the last element
-abbrev pub target_fault : Shape → ℕ → Option Cause
-target_fault s target = if nat_lt (target + 1) (length s.widths) then None else Some UnknownElement
+-- a target is neither a register nor a temporary: there is none, or it is the request, which is the last element
+abbrev pub is_target_fault : Fault → Shape → (target : ℕ) → Bool
+is_target_fault NoElement s target = not (nat_lt (target + 1) (length s.widths))
+is_target_fault fault s target = false
 
--- the fault of an `if` inside so many others that so many more may stand in one another
-abbrev pub nesting_fault : (levels : ℕ) → Option Cause
-nesting_fault levels = if nat_le 1 levels then None else Some TooDeep
+-- an input of some bits isn't as wide as its target
+abbrev pub is_input_fault : Fault → (asked w : ℕ) → Bool
+is_input_fault OtherWidth asked w = not (w == asked)
+is_input_fault fault asked w = false
 
--- there is a fault, and this is its cause
-abbrev pub is_cause : Cause → Option Cause → Bool
-is_cause cause None = false
-is_cause cause (Some fault) = number_of fault == number_of cause
-
--- an expression has this fault where a word of some bits is asked for
-abbrev pub is_fault : Cause → Shape → (asked : ℕ) → Tree → Bool
-is_fault cause s asked e = is_cause cause (fault_at asked (width_of s e))
+-- an `if` stands inside so many others that no more may stand in one another
+abbrev pub is_nesting_fault : Fault → (levels : ℕ) → Bool
+is_nesting_fault TooNested levels = not (nat_le 1 levels)
+is_nesting_fault fault levels = false
 
 -- An act has this fault, in itself or in its lists, where so many `if`s may stand in one another. An assigned value is as wide as its
 -- target; what is written, put out or taken has the width of the memory's words, and an address that of its addresses; a condition has
 -- one bit.
 abbrev mutual
-  pub has_fault : Cause → Shape → (levels : ℕ) → Act → Bool
-  has_fault cause s levels (assign target e) = is_cause cause (target_fault s target) || is_fault cause s (slice_index s.widths target) e
-  has_fault cause s levels (write address e) = is_fault cause s s.address address || is_fault cause s s.word e
-  has_fault cause s levels (put e) = is_fault cause s s.word e
-  has_fault cause s levels (take_in target) =
-      is_cause cause (target_fault s target) || is_cause cause (width_fault (slice_index s.widths target) s.word)
-  has_fault cause s levels (choose condition first second) =
-      is_cause cause (nesting_fault levels)
-      || (is_fault cause s 1 condition || (have_fault cause s (levels - 1) first || have_fault cause s (levels - 1) second))
+  pub has_fault : Fault → Shape → (levels : ℕ) → Act → Bool
+  has_fault fault s levels (assign target e) = is_target_fault fault s target || is_fault fault s (slice_index s.widths target) e
+  has_fault fault s levels (write address e) = is_fault fault s s.address address || is_fault fault s s.word e
+  has_fault fault s levels (put e) = is_fault fault s s.word e
+  has_fault fault s levels (take_in target) =
+      is_target_fault fault s target || is_input_fault fault (slice_index s.widths target) s.word
+  has_fault fault s levels (choose condition first second) =
+      is_nesting_fault fault levels
+      || (is_fault fault s 1 condition || (have_fault fault s (levels - 1) first || have_fault fault s (levels - 1) second))
 
   -- one of some acts has this fault
-  pub have_fault : Cause → Shape → (levels : ℕ) → Acts → Bool
-  have_fault cause s levels nothing = false
-  have_fault cause s levels (next act rest) = has_fault cause s levels act || have_fault cause s levels rest
+  pub have_fault : Fault → Shape → (levels : ℕ) → Acts → Bool
+  have_fault fault s levels nothing = false
+  have_fault fault s levels (next act rest) = has_fault fault s levels act || have_fault fault s levels rest
 
 -- no act has this fault; 64 `if`s may stand in one another
-abbrev pub is_free_of : Cause → Description → Bool
-is_free_of cause m = not (have_fault cause m.shape 64 m.acts)
+abbrev pub is_free_of : Fault → Description → Bool
+is_free_of fault m = not (have_fault fault m.shape 64 m.acts)
 
 -- ---- the rules
 
@@ -103,9 +104,9 @@ rules_of m =
     rule (is_within_limits m) TooMany
     ∷ rule (are_free m.names) Twice
     ∷ rule (are_ranges m.shape) ValueTooWide
-    ∷ rule (is_free_of UnknownElement m) UnknownElement
-    ∷ rule (is_free_of WidthsDiffer m) WidthsDiffer
-    ∷ rule (is_free_of TooDeep m) TooDeep
+    ∷ rule (is_free_of NoElement m) UnknownElement
+    ∷ rule (is_free_of OtherWidth m) WidthsDiffer
+    ∷ rule (is_free_of TooNested m) TooDeep
     ∷ []
 
 -- the cause of the first rule that isn't kept

@@ -14,3 +14,6 @@ pub use machine::Machine;
 pub use one_step::step;
 pub use state::MacState;
 pub use statement::Statement;
+
+#[cfg(test)]
+mod tests;

@@ -2,15 +2,14 @@
 ghost use Rattle.std.specs.Prelude.{◌≡◌, ℕ, ◌≤◌, ◌<◌, ◌||◌, ◌-◌, List, Option, None, Some, not, length, bytes_eq, slice_index};
 ghost use Rattle.std.specs.List.{list_all, list_any};
 ghost use Rattle.mw_expr.specs.Tree.{view};
-ghost use Rattle.mw_expr.specs.Widths.{width_of};
 ghost use Rattle.mw_macro.specs.Machine.{described};
-ghost use Rattle.mw_macro.specs.Rules.{is_within_limits, is_reserved, are_free, is_within, are_ranges, is_cause, is_fault, width_fault, target_fault, nesting_fault, has_fault, have_fault, refusal_of};
+ghost use Rattle.mw_macro.specs.Rules.{is_within_limits, is_reserved, are_free, is_within, are_ranges, is_width, is_fault, is_target_fault, is_input_fault, is_nesting_fault, has_fault, have_fault, refusal_of};
 ghost use Rattle.mw_macro.specs.Statements.{act_of, acts};
 
 use crate::counts::{Counted, left_after};
 use crate::statement::Statement;
-use mw_base::{Cause, Name};
-use mw_expr::{Expr, Shape, width_of};
+use mw_base::{Cause, Name, is_one_of};
+use mw_expr::{DEEPEST, Expr, Shape, is_known, is_within_depth, width_by_rules};
 
 /// The most registers, and the most temporaries.
 const MOST_REGISTERS: usize = 128;
@@ -23,6 +22,17 @@ const MOST_READS: u32 = 256;
 
 /// How many `if`s may stand in one another.
 const MOST_LEVELS: u8 = 64;
+
+/// What may be wrong with statements, each with a cause of its own. More than one may hold of a machine, so each is asked apart.
+#[derive(Clone, Copy)]
+pub(crate) enum Fault {
+    /// An expression names an element that there isn't, or a target is neither a register nor a temporary.
+    NoElement,
+    /// An expression breaks a rule of widths, or a width isn't the one that its place asks for.
+    OtherWidth,
+    /// An expression is too deep, or too many `if`s stand in one another.
+    TooNested,
+}
 
 /// Whether a machine keeps the limits of its counts.
 #[tactic(auto, unfolding(crate::specs::Rules::is_within_limits))]
@@ -40,22 +50,15 @@ fn is_within_limits(names: &[Name], registers: u32, shape: &Shape, statements: &
 /// The names that aren't free for elements.
 const RESERVED: [&[u8]; 3] = [b"mem", b"zext", b"request"];
 
-/// Whether the name is one of these.
-fn is_among(names: &[&[u8]], name: &[u8]) -> bool
-    ensures { result ≡ list_any (λ other. bytes_eq name.now other.now) names.now }
-{
-    names.iter().any(|other| name == *other)
-}
-
 /// Whether a name isn't free for an element.
 fn is_reserved(name: &[u8]) -> bool
     ensures { result ≡ is_reserved name.now }
 {
-    is_among(&RESERVED, name)
+    is_one_of(&RESERVED, name)
 }
 
 /// Whether one of the names is this one.
-fn is_one_of(names: &[Name], name: &[u8]) -> bool
+fn stands_in(names: &[Name], name: &[u8]) -> bool
     ensures { result ≡ list_any (bytes_eq name.now) names.now }
 {
     names.iter().any(|other| name == other.as_slice())
@@ -67,7 +70,7 @@ fn are_free(names: &[Name]) -> bool
 {
     for (i, name) in names.iter().enumerate() {
         let name = name.as_slice();
-        if is_reserved(name) | is_one_of(&names[i + 1..], name) {
+        if is_reserved(name) | stands_in(&names[i + 1..], name) {
             return false;
         }
     }
@@ -98,55 +101,55 @@ fn are_ranges(shape: &Shape) -> bool
         & is_within(4, shape.word, 32)
 }
 
-/// Whether there is a fault, and this is its cause.
-fn is_cause(cause: Cause, fault: Option<Cause>) -> bool
-    ensures { result ≡ is_cause cause fault }
+/// Whether there is a width, and it is the one asked for.
+fn is_width(asked: u8, width: Option<u8>) -> bool
+    ensures { result ≡ is_width asked width }
 {
-    match fault {
+    match width {
         None => false,
-        Some(fault) => fault.number() == cause.number(),
-    }
-}
-
-fn width_fault(asked: u8, width: u8) -> Option<Cause>
-    ensures { result ≡ width_fault asked width }
-{
-    if width == asked {
-        None
-    } else {
-        Some(Cause::WidthsDiffer)
-    }
-}
-
-fn target_fault(shape: &Shape, target: u32) -> Option<Cause>
-    ensures { result ≡ target_fault shape.now target }
-{
-    if u64::from(target) + 1 < shape.widths.as_slice().len() as u64 {
-        None
-    } else {
-        Some(Cause::UnknownElement)
-    }
-}
-
-fn nesting_fault(levels: u8) -> Option<Cause>
-    ensures { result ≡ nesting_fault levels }
-{
-    if levels == 0 {
-        Some(Cause::TooDeep)
-    } else {
-        None
+        Some(width) => width == asked,
     }
 }
 
 /// Whether an expression has this fault where a word of some bits is asked for.
-fn is_fault(cause: Cause, shape: &Shape, asked: u8, expr: &Expr) -> bool
-    ensures { result ≡ is_fault cause shape.now asked (view expr.now) }
+fn is_fault(fault: Fault, shape: &Shape, asked: u8, expr: &Expr) -> bool
+    ensures { result ≡ is_fault fault shape.now asked (view expr.now) }
 {
-    let fault = match width_of(expr, shape) {
-        Ok(width) => width_fault(asked, width),
-        Err(cause) => Some(cause),
-    };
-    is_cause(cause, fault)
+    match fault {
+        Fault::NoElement => !is_known(expr, shape),
+        Fault::OtherWidth => !is_width(asked, width_by_rules(expr, shape)),
+        Fault::TooNested => !is_within_depth(expr, DEEPEST),
+    }
+}
+
+/// Whether a target has this fault.
+fn is_target_fault(fault: Fault, shape: &Shape, target: u32) -> bool
+    ensures { result ≡ is_target_fault fault shape.now target }
+{
+    match fault {
+        Fault::NoElement => u64::from(target) + 1 >= shape.widths.as_slice().len() as u64,
+        Fault::OtherWidth | Fault::TooNested => false,
+    }
+}
+
+/// Whether an input of some bits has this fault where a word of other bits is asked for.
+fn is_input_fault(fault: Fault, asked: u8, width: u8) -> bool
+    ensures { result ≡ is_input_fault fault asked width }
+{
+    match fault {
+        Fault::OtherWidth => width != asked,
+        Fault::NoElement | Fault::TooNested => false,
+    }
+}
+
+/// Whether an `if` has this fault where so many may still stand in one another.
+fn is_nesting_fault(fault: Fault, levels: u8) -> bool
+    ensures { result ≡ is_nesting_fault fault levels }
+{
+    match fault {
+        Fault::TooNested => levels == 0,
+        Fault::NoElement | Fault::OtherWidth => false,
+    }
 }
 
 /// The width of an element; 0 where there is none.
@@ -163,22 +166,22 @@ fn width_at(shape: &Shape, element: u32) -> u8
 
 /// Whether a statement has this fault, in itself or in its lists, where so many `if`s may stand in one another.
 #[cycle(faults)]
-fn has_fault(cause: Cause, shape: &Shape, levels: u8, statement: &Statement) -> bool
-    ensures { result ≡ has_fault cause shape.now levels (act_of statement.now) }
+fn has_fault(fault: Fault, shape: &Shape, levels: u8, statement: &Statement) -> bool
+    ensures { result ≡ has_fault fault shape.now levels (act_of statement.now) }
 {
     match statement {
         Statement::Assign { target, value } => {
-            is_cause(cause, target_fault(shape, *target))
-                || is_fault(cause, shape, width_at(shape, *target), value)
+            is_target_fault(fault, shape, *target)
+                || is_fault(fault, shape, width_at(shape, *target), value)
         }
         Statement::Write { address, value } => {
-            is_fault(cause, shape, shape.address, address)
-                || is_fault(cause, shape, shape.word, value)
+            is_fault(fault, shape, shape.address, address)
+                || is_fault(fault, shape, shape.word, value)
         }
-        Statement::Put(value) => is_fault(cause, shape, shape.word, value),
+        Statement::Put(value) => is_fault(fault, shape, shape.word, value),
         Statement::Take(target) => {
-            is_cause(cause, target_fault(shape, *target))
-                || is_cause(cause, width_fault(width_at(shape, *target), shape.word))
+            is_target_fault(fault, shape, *target)
+                || is_input_fault(fault, width_at(shape, *target), shape.word)
         }
         Statement::If {
             condition,
@@ -186,29 +189,29 @@ fn has_fault(cause: Cause, shape: &Shape, levels: u8, statement: &Statement) -> 
             second,
         } => {
             let inside = levels.saturating_sub(1);
-            is_cause(cause, nesting_fault(levels))
-                || is_fault(cause, shape, 1, condition)
-                || have_fault(cause, shape, inside, first)
-                || have_fault(cause, shape, inside, second)
+            is_nesting_fault(fault, levels)
+                || is_fault(fault, shape, 1, condition)
+                || have_fault(fault, shape, inside, first)
+                || have_fault(fault, shape, inside, second)
         }
     }
 }
 
 /// Whether one of some statements has this fault.
 #[cycle(faults)]
-fn have_fault(cause: Cause, shape: &Shape, levels: u8, statements: &[Statement]) -> bool
-    ensures { result ≡ have_fault cause shape.now levels (acts statements.now) }
+fn have_fault(fault: Fault, shape: &Shape, levels: u8, statements: &[Statement]) -> bool
+    ensures { result ≡ have_fault fault shape.now levels (acts statements.now) }
 {
     for statement in statements {
-        if has_fault(cause, shape, levels, statement) {
+        if has_fault(fault, shape, levels, statement) {
             return true;
         }
     }
     false
 }
 
-/// The least cause for which a machine is refused, if there is one. The number of statements is asked first, so that later visits go no
-/// deeper than its limit.
+/// The least cause for which a machine is refused, if there is one. The number of statements is asked first, so that later visits of
+/// statements in one another go no deeper than its limit; how deep a visit of an expression goes is the expression's own depth.
 #[tactic(auto, unfolding(crate::specs::Rules::refusal_of))]
 pub(crate) fn refusal(
     names: &[Name],
@@ -228,13 +231,13 @@ pub(crate) fn refusal(
     if !are_ranges(shape) {
         return Some(Cause::ValueTooWide);
     }
-    if have_fault(Cause::UnknownElement, shape, MOST_LEVELS, statements) {
+    if have_fault(Fault::NoElement, shape, MOST_LEVELS, statements) {
         return Some(Cause::UnknownElement);
     }
-    if have_fault(Cause::WidthsDiffer, shape, MOST_LEVELS, statements) {
+    if have_fault(Fault::OtherWidth, shape, MOST_LEVELS, statements) {
         return Some(Cause::WidthsDiffer);
     }
-    if have_fault(Cause::TooDeep, shape, MOST_LEVELS, statements) {
+    if have_fault(Fault::TooNested, shape, MOST_LEVELS, statements) {
         return Some(Cause::TooDeep);
     }
     None

@@ -35,7 +35,7 @@ fn has_bits(number: u32, bits: u8) -> bool
 /// Whether each number has no more bits than its width.
 fn have_widths(numbers: &[u32], widths: &[u8]) -> bool
     requires count { length numbers.now ≤ length widths.now }
-    requires most { (i : ℕ) → slice_index widths.now i ≤ 32 }
+    requires most { (i : ℕ) → i < length widths.now → slice_index widths.now i ≤ 32 }
     ensures { IsTrue result ↔ ((i : ℕ) → i < length numbers.now → slice_index numbers.now i < 2 ^ slice_index widths.now i) }
 {
     for (i, number) in numbers.iter().enumerate() {
@@ -47,7 +47,7 @@ fn have_widths(numbers: &[u32], widths: &[u8]) -> bool
 }
 
 /// Whether each number has no more than so many bits.
-fn have_bits(numbers: &[u32], bits: u8) -> bool
+pub(crate) fn have_bits(numbers: &[u32], bits: u8) -> bool
     requires { bits ≤ 32 }
     ensures { IsTrue result ↔ ((i : ℕ) → i < length numbers.now → slice_index numbers.now i < 2 ^ bits) }
 {

@@ -1,9 +1,9 @@
 use Rattle.std.proofs.Common.{◌≡◌, ◌+◌, map, drop, arith, rules, ap, ◌∙◌, sym}
-use Rattle.std.specs.Prelude.{Some, not, ◌&&◌, ◌||◌, nat_le}
+use Rattle.std.specs.Prelude.{Some, ◌||◌}
 use Rattle.mw_base.proofs.Lists as lists
 use Rattle.mw_expr.specs.declared.placed.Placed.{the_lemmas}
-use Rattle.mw_expr.specs.Placed.{placed, parts_of, complement, pair, choice, part, join, widened, memory, group}
-use Rattle.mw_expr.specs.Faults.{seen_width, seen_total, pair_breaks, is_other, part_breaks, is_past, deep, below, broken, faults, faults_in, first_in}
+use Rattle.mw_expr.specs.Placed.{placed, parts_of, constant, complement, pair, choice, part, join, widened, memory, group}
+use Rattle.mw_expr.specs.Faults.{seen_width, seen_total, pair_breaks, is_other, part_breaks, is_past, deep, below, broken, is_improper, too_wide, faults, faults_in, first_in}
 use Rattle.mw_expr.proofs.Firsts.{first_in_append, after_two, after_three, after_four, after_five}
 use Rattle.mw_expr.proofs.faults.+faults.Goals as goal
 
@@ -23,6 +23,15 @@ check-returns-in-Group-clause-faults t c =
     let e = rw (c.below-in-Group.ensures, c.deref-in-Group.ensures) at c.check-in-Group.ensures.faults in
     rw seen (after_two _ _ _ (deep levels c.in-Group.token) (faults s (below levels) (placed c.in-Group.e.value)) c.note_deep-in-Group.ensures e)
 
+pub check-returns-in-Con-clause-faults : goal.check-returns-in-Con-clause-faults
+check-returns-in-Con-clause-faults t c =
+    let levels = c.args.levels in
+    let number = c.in-Con.number in
+    let seen : placed c.args.tree.now ≡ constant number c.in-Con.hash c.in-Con.bits = rw c.in-Con.is (search (rules, the_lemmas)) in
+    let breaks = rw c.is_improper.ensures at c.note_broken.ensures in
+    rw seen (after_three _ _ _ _ (deep levels number.token) (too_wide number c.in-Con.bits) (broken (is_improper c.in-Con.bits) c.in-Con.hash)
+    c.note_deep-in-Con.ensures c.note_too_wide.ensures breaks)
+
 pub check-returns-in-Two-clause-faults : goal.check-returns-in-Two-clause-faults
 check-returns-in-Two-clause-faults t c =
     let levels = c.args.levels in
@@ -32,7 +41,7 @@ check-returns-in-Two-clause-faults t c =
     let b = rw (c.below-in-Two-2.ensures, c.deref-in-Two-2.ensures) at c.check-other.ensures.faults in
     let first = rw c.deref-in-Two.ensures at c.check-one.ensures.width in
     let second = rw c.deref-in-Two-2.ensures at c.check-other.ensures.width in
-    let breaks = rw (c.pair_breaks.ensures, first, second) at c.note_broken.ensures in
+    let breaks = rw (c.pair_breaks.ensures, first, second) at c.note_broken-in-Two.ensures in
     rw seen (after_four _ _ _ _ _ (deep levels c.in-Two.token) (faults s (below levels) (placed c.in-Two.a.value)) (faults s (below levels) (placed c.in-Two.b.value))
     (broken (pair_breaks (seen_width s (placed c.in-Two.a.value)) (seen_width s (placed c.in-Two.b.value))) c.in-Two.token)
     c.note_deep-in-Two.ensures a b breaks)
@@ -75,7 +84,7 @@ check-returns-in-Widen-clause-faults t c =
     let width = rw c.deref-in-Widen.ensures at c.check-narrow.ensures.width in
     let breaks = rw (c.widen_breaks.ensures, width) at c.note_broken-in-Widen.ensures in
     rw seen (after_three _ _ _ _ (deep levels c.in-Widen.token) (faults s (below levels) (placed c.in-Widen.e.value))
-    (broken (not (nat_le 1 c.in-Widen.width && nat_le c.in-Widen.width 32) || is_past c.in-Widen.width (seen_width s (placed c.in-Widen.e.value))) c.in-Widen.token)
+    (broken (is_improper c.in-Widen.width || is_past c.in-Widen.width (seen_width s (placed c.in-Widen.e.value))) c.in-Widen.token)
     c.note_deep-in-Widen.ensures e breaks)
 
 pub check-returns-in-Memory-clause-faults : goal.check-returns-in-Memory-clause-faults
