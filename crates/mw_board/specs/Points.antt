@@ -6,6 +6,7 @@ use Rattle.mw_board.specs.declared.control.Points.{Points}
 use Rattle.mw_board.specs.declared.point.Point.{Point}
 use Rattle.mw_board.specs.declared.point.Point.TheVariants.{AluSource, AluFunction, AluDestination, AAddress, BAddress, Sequencer, Branch, TestDisable, Polarity, Ci, Rld, MarLoad, IrLoad, MemoryWrite, Out, CarryIn, D, Condition, Link}
 
+-- the control points, in the order of their keys
 abbrev pub all_points : List Point
 all_points =
     AluSource ∷ AluFunction ∷ AluDestination ∷ AAddress ∷ BAddress ∷ Sequencer ∷ Branch

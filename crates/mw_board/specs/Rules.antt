@@ -115,6 +115,7 @@ abbrev pub driver_of_bits_rule : Option ℕ → List NamedField → Control → 
 driver_of_bits_rule (Some bits) fields driver = point_rule bits fields driver
 driver_of_bits_rule None fields driver = control_rule fields driver
 
+-- the rule of what drives a point
 abbrev pub driver_rule : List NamedField → Point → Control → Verdict
 driver_rule fields point driver = driver_of_bits_rule (bits_of point) fields driver
 

@@ -39,10 +39,12 @@ abbrev pub is_text : List ℕ → Option (List ℕ) → Bool
 is_text name None = false
 is_text name (Some text) = bytes_eq name text
 
+-- a value, if there is one, is this text
 abbrev pub is_text_at : List ℕ → Option Data → Bool
 is_text_at name None = false
 is_text_at name (Some value) = is_text name (as_str value)
 
+-- a table, if there is one, has this name
 abbrev pub is_named : List ℕ → Option Members → Bool
 is_named name None = false
 is_named name (Some table) = is_text_at name (get_member (codes "name") table)

@@ -61,9 +61,11 @@ loads_in width fields flipflops control given = do
 abbrev pub name_of : List ℕ → List FlipFlop → Members → Result (List ℕ) KeyFault
 name_of key earlier table = under (below key (codes "name")) (whole (name_in earlier (get_member (codes "name") table)))
 
+-- the control of a flip-flop, at its key
 abbrev pub control_of : List ℕ → List NamedField → Members → Result Control KeyFault
 control_of key fields table = under (below key (codes "control")) (whole (flip_control_in fields (get_member (codes "control") table)))
 
+-- the loads of a flip-flop, at their key
 abbrev pub loads_of : List ℕ → ℕ → List NamedField → List Data → Control → Members → Result (List Load) KeyFault
 loads_of key width fields flipflops control table =
     under (below key (codes "load")) (loads_in width fields flipflops control (get_member (codes "load") table))

@@ -8,18 +8,20 @@ use Rattle.toml.specs.Data.{Data, Items, Members, no_members, member, get_member
 use Rattle.mw_base.specs.declared.cause.Cause.TheVariants.{UnknownKey}
 use Rattle.mw_base.specs.Numbers.{decimal}
 use Rattle.mw_board.specs.Points.{all_points, name_of}
-use Rattle.mw_boardfile.specs.declared.unknown.Place.{Place}
-use Rattle.mw_boardfile.specs.declared.unknown.Place.TheVariants.{File, FlipFlop, Control, Select, Map}
+use Rattle.mw_boardfile.specs.declared.unknown.KeyTable.{KeyTable}
+use Rattle.mw_boardfile.specs.declared.unknown.KeyTable.TheVariants.{File, FlipFlop, Control, Select, Map}
 use Rattle.mw_boardfile.specs.declared.fault.KeyFault.{KeyFault}
 use Rattle.mw_boardfile.specs.Values.{values_of}
 
 -- ---- the keys of the format
 
+-- the keys of the file itself
 abbrev pub file_keys : List (List ℕ)
 file_keys =
     codes "version" ∷ codes "width" ∷ codes "microword" ∷ codes "address" ∷ codes "fill" ∷ codes "unset" ∷ codes "vector"
     ∷ codes "fields" ∷ codes "flipflop" ∷ codes "control" ∷ codes "select" ∷ codes "map" ∷ []
 
+-- the keys of a flip-flop
 abbrev pub flipflop_keys : List (List ℕ)
 flipflop_keys = codes "name" ∷ codes "control" ∷ codes "load" ∷ []
 
@@ -27,19 +29,21 @@ flipflop_keys = codes "name" ∷ codes "control" ∷ codes "load" ∷ []
 abbrev pub control_keys : List (List ℕ)
 control_keys = map name_of all_points
 
+-- the lists
 abbrev pub select_keys : List (List ℕ)
 select_keys = codes "carry_in" ∷ codes "condition" ∷ codes "ram_link" ∷ codes "q_link" ∷ codes "d" ∷ []
 
+-- the keys of the map
 abbrev pub map_keys : List (List ℕ)
 map_keys = codes "low" ∷ codes "bits" ∷ codes "entries" ∷ []
 
--- the keys that the format has at a place
-abbrev pub keys_at : Place → List (List ℕ)
-keys_at File = file_keys
-keys_at FlipFlop = flipflop_keys
-keys_at Control = control_keys
-keys_at Select = select_keys
-keys_at Map = map_keys
+-- the keys that the format has in such a table
+abbrev pub keys_of : KeyTable → List (List ℕ)
+keys_of File = file_keys
+keys_of FlipFlop = flipflop_keys
+keys_of Control = control_keys
+keys_of Select = select_keys
+keys_of Map = map_keys
 
 -- one of these keys
 abbrev pub is_one_of : List (List ℕ) → List ℕ → Bool
@@ -66,6 +70,7 @@ abbrev pub with_table : List (List ℕ) → List ℕ → Option Members → Opti
 with_table known prefix None least = least
 with_table known prefix (Some table) least = with_members known prefix table least
 
+-- a value that is a table, if it is one
 abbrev pub table_at : Option Data → Option Members
 table_at None = None
 table_at (Some value) = as_table value
@@ -80,10 +85,12 @@ with_flipflops n [] least = least
 with_flipflops n (value ∷ rest) least =
     with_flipflops (n + 1) rest (with_table flipflop_keys (codes "flipflop." ++ (decimal n ++ codes ".")) (as_table value) least)
 
+-- the values of a list, if there is one
 abbrev pub flipflops_in : Option Items → List Data
 flipflops_in None = []
 flipflops_in (Some items) = values_of items
 
+-- the entries of `flipflop`, where its value is a list
 abbrev pub flipflops_at : Option Data → List Data
 flipflops_at None = []
 flipflops_at (Some value) = flipflops_in (as_array value)

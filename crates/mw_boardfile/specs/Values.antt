@@ -47,6 +47,7 @@ abbrev pub kind : {A : Type 0} → Option A → Result A Cause
 kind (Some x) = Ok x
 kind None = Err WrongKind
 
+-- an integer that isn't negative, else cause 24
 abbrev pub not_negative : ℤ → Result ℕ Cause
 not_negative (pos n) = Ok n
 not_negative (negsuc n) = Err BadValue

@@ -111,6 +111,7 @@ direct_for Jmap board m s = map_of board s
 direct_for Cjv board m s = board.vector
 direct_for other board m s = m.branch
 
+-- what stands at the sequencer's direct input
 unfoldable pub direct_address : BoardParts → Microword → BoardState → ℕ
 direct_address board m s = direct_for (instruction_of m.sequencer) board m s
 

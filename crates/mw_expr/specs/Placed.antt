@@ -11,6 +11,7 @@ use Rattle.mw_expr.specs.declared.placed.Awaits.{Awaits as KeptAwaits}
 use Rattle.mw_expr.specs.declared.placed.Awaits.TheVariants as kept
 use Rattle.mw_expr.specs.declared.placed.State.{State as KeptState}
 
+-- an expression in a text, each operation with the token at which its faults stand
 mutual
   pub data Placed : Type 0 where
     named : Token → Option ℕ → Placed
@@ -29,6 +30,7 @@ mutual
     none : Parts
     more : Placed → Parts → Parts
 
+-- the parts of a join, from a list
 abbrev pub parts_of : List Placed → Parts
 parts_of [] = none
 parts_of (tree ∷ rest) = more tree (parts_of rest)
@@ -80,9 +82,11 @@ placed_level (Placed-F.Widen token width e) = widened token width e.value
 placed_level (Placed-F.Memory token e) = memory token e.value
 placed_level (Placed-F.Group token e) = group token e.value
 
+-- the tree that the code keeps, as one of definitions
 abbrev pub placed : Kept → Placed
 placed = fold-Placed Placed placed_level
 
+-- one level of what the code keeps open, what is below already seen
 abbrev pub open_level : Open-F Open → Open
 open_level Open-F.Nothing = nothing
 open_level (Open-F.Not token below) = complementing token below.value
@@ -94,9 +98,11 @@ open_level (Open-F.Join token parts below) = joining token (map placed parts.ite
 open_level (Open-F.Widen token below) = widening token below.value
 open_level (Open-F.Memory token below) = reading token below.value
 
+-- what the code keeps open, as definitions see it
 abbrev pub opened : KeptOpen → Open
 opened = fold-Open Open open_level
 
+-- what the next token can be, as definitions see it
 abbrev pub awaited : KeptAwaits → Awaits
 awaited kept.Operand = an_operand
 awaited (kept.Dot token) = a_dot token
@@ -113,5 +119,6 @@ awaited (kept.NewWidth token e) = a_new_width token (placed e)
 awaited (kept.WidenEnd token e n) = a_widen_end token (placed e) n
 awaited (kept.Sign e) = a_sign (placed e)
 
+-- what the code knows after some tokens, as definitions see it
 abbrev pub known : KeptState → State
 known state = record { awaits = awaited state.awaits; open_now = opened state.open }

@@ -3,6 +3,7 @@ use Rattle.std.specs.Prelude.{ℕ, ◌^◌, Bool, true, false, ◌&&◌, nat_lt,
 use Rattle.mw_expr.specs.Placed.{Placed, named, constant, complement, pair, choice, part, join, widened, memory, group, Parts, none, more}
 use Rattle.mw_expr.specs.Tree as trees
 
+-- the expression that a tree of a text is
 abbrev mutual
   pub plain : Placed → trees.Tree
   plain (named token number) = trees.element (unwrap_or number 0)
@@ -16,6 +17,7 @@ abbrev mutual
   plain (memory token e) = trees.memory (plain e)
   plain (group token e) = plain e
 
+  -- the expressions that some parts are
   pub plain_parts : Parts → trees.Trees
   plain_parts none = trees.none
   plain_parts (more tree rest) = trees.more (plain tree) (plain_parts rest)
@@ -39,6 +41,7 @@ abbrev mutual
   is_small (memory token e) = is_small e
   is_small (group token e) = is_small e
 
+  -- each number of some parts fits, and their elements are there
   pub are_small : Parts → Bool
   are_small none = true
   are_small (more tree rest) = is_small tree && are_small rest

@@ -4,6 +4,7 @@ use Rattle.mw_expr.specs.declared.expr.Pair2.{Pair2}
 use Rattle.mw_expr.specs.declared.expr.Expr.{Expr, fold-Expr}
 use Rattle.mw_expr.specs.declared.expr.Expr.TheOpen.{Expr-F}
 
+-- an expression
 mutual
   pub data Tree : Type 0 where
     element : ℕ → Tree
@@ -21,6 +22,7 @@ mutual
     none : Trees
     more : Tree → Trees → Trees
 
+-- the parts of a join, from a list
 abbrev pub trees_of : List Tree → Trees
 trees_of [] = none
 trees_of (tree ∷ rest) = more tree (trees_of rest)

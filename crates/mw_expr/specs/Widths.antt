@@ -3,7 +3,7 @@ use Rattle.std.specs.Prelude.{ℕ, ◌+◌, ◌-◌, ◌^◌, max, length, Bool,
 use Rattle.mw_base.specs.declared.cause.Cause.{Cause}
 use Rattle.mw_base.specs.declared.cause.Cause.TheVariants.{UnknownElement, WidthsDiffer, TooDeep}
 use Rattle.mw_expr.specs.declared.expr.Pair2.{Pair2}
-use Rattle.mw_expr.specs.declared.expr.Pair2.TheVariants.{And, Or, Xor, Add, Sub, Same, Differs, Less}
+use Rattle.mw_expr.specs.declared.expr.Pair2.TheVariants.{And, Or, Xor, Add, Sub, Same, Differ, Less}
 use Rattle.mw_expr.specs.declared.shape.Shape.{Shape}
 use Rattle.mw_expr.specs.Tree.{Tree, element, constant, complement, pair, choice, part, join, widened, memory, Trees, none, more}
 
@@ -24,7 +24,7 @@ width_after Xor w = w
 width_after Add w = w
 width_after Sub w = w
 width_after Same w = 1
-width_after Differs w = 1
+width_after Differ w = 1
 width_after Less w = 1
 
 -- both operands of a sign are equally wide
@@ -80,6 +80,7 @@ abbrev mutual
   width s (widened e w) = widened_width w (width s e)
   width s (memory address) = memory_width s.address s.word (width s address)
 
+  -- the widths of the parts of a join together
   pub total_width : Shape → Trees → Option ℕ
   total_width s none = Some 0
   total_width s (more tree rest) = added (width s tree) (total_width s rest)
@@ -97,6 +98,7 @@ abbrev mutual
   is_known n (widened e w) = is_known n e
   is_known n (memory address) = is_known n address
 
+  -- each element of some trees is one of the first n
   pub are_known : ℕ → Trees → Bool
   are_known n none = true
   are_known n (more tree rest) = is_known n tree && are_known n rest
@@ -114,6 +116,7 @@ abbrev mutual
   depth (widened e w) = depth e + 1
   depth (memory address) = depth address + 1
 
+  -- how deep the deepest of some trees is
   pub deepest : Trees → ℕ
   deepest none = 0
   deepest (more tree rest) = max (depth tree) (deepest rest)

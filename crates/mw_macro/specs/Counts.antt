@@ -19,6 +19,7 @@ abbrev mutual
   reads (widened e w) = reads e
   reads (memory address) = reads address + 1
 
+  -- how often some trees read the memory
   pub reads_in : Trees → ℕ
   reads_in none = 0
   reads_in (more tree rest) = reads tree + reads_in rest
@@ -54,6 +55,7 @@ abbrev mutual
   count what (take_in target) = own what (take_in target)
   count what (choose condition first second) = own what (choose condition first second) + (total what first + total what second)
 
+  -- what some acts count for together
   pub total : Counted → Acts → ℕ
   total what nothing = 0
   total what (next act rest) = count what act + total what rest

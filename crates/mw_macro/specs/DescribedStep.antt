@@ -17,6 +17,7 @@ pub record Now : Type 0 where
   pub events : List Event
   pub taken : ℕ
 
+-- these values and words, events and inputs taken
 abbrev pub now : (values memory : List ℕ) → List Event → ℕ → Now
 now values memory events taken = record { values = values; memory = memory; events = events; taken = taken }
 

@@ -13,6 +13,7 @@ pub record Description : Type 0 where
   pub shape : Shape
   pub acts : Acts
 
+-- the description of these parts
 abbrev pub described : List (List ℕ) → ℕ → Shape → Acts → Description
 described names registers shape acts = record { names = names; registers = registers; shape = shape; acts = acts }
 

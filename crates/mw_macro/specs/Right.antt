@@ -23,6 +23,7 @@ abbrev mutual
   is_right s (take_in target) = nat_lt (target + 1) (length s.widths) && (s.word == slice_index s.widths target)
   is_right s (choose condition first second) = is_asked 1 (width_of s condition) && (are_right s first && are_right s second)
 
+  -- each of some acts is right
   pub are_right : Shape → Acts → Bool
   are_right s nothing = true
   are_right s (next act rest) = is_right s act && are_right s rest

@@ -77,6 +77,7 @@ abbrev mutual
       is_cause cause (nesting_fault levels)
       || (is_fault cause s 1 condition || (have_fault cause s (levels - 1) first || have_fault cause s (levels - 1) second))
 
+  -- one of some acts has this fault
   pub have_fault : Cause → Shape → (levels : ℕ) → Acts → Bool
   have_fault cause s levels nothing = false
   have_fault cause s levels (next act rest) = has_fault cause s levels act || have_fault cause s levels rest
@@ -92,6 +93,7 @@ pub record Rule : Type 0 where
   pub kept : Bool
   pub cause : Cause
 
+-- a rule with the cause of its refusal
 abbrev pub rule : Bool → Cause → Rule
 rule kept cause = record { kept = kept; cause = cause }
 

@@ -4,6 +4,7 @@ use Rattle.mw_expr.specs.Tree.{Tree, view}
 use Rattle.mw_macro.specs.declared.statement.Statement.{Statement, fold-Statement}
 use Rattle.mw_macro.specs.declared.statement.Statement.TheOpen.{Statement-F}
 
+-- a statement
 mutual
   pub data Act : Type 0 where
     -- a register or a temporary gets a value
@@ -17,10 +18,12 @@ mutual
     -- the first acts where the condition is 1, else the second
     choose : (condition : Tree) (first second : Acts) → Act
 
+  -- statements, in their order
   pub data Acts : Type 0 where
     nothing : Acts
     next : Act → Acts → Acts
 
+-- statements, from a list
 abbrev pub acts_of : List Act → Acts
 acts_of [] = nothing
 acts_of (act ∷ rest) = next act (acts_of rest)
