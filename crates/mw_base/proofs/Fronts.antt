@@ -1,5 +1,5 @@
 -- The sign at the front of a line is spelled there.
-use Rattle.std.proofs.Common.{◌≡◌, ℕ, ◌≤◌, List, [], ◌∷◌, Bool, true, false, Option, Some, None, take, length, length-take, min, cond, refl, ap, sym, ◌∙◌, arith}
+use Rattle.std.proofs.Common.{◌≡◌, ℕ, ◌≤◌, List, [], ◌∷◌, Bool, true, false, Option, Some, None, take, length, length-take, min, cond, refl, ◌∙◌, arith}
 use Rattle.std.specs.Option.{option_or}
 use Rattle.std.specs.List.{find}
 use Rattle.std.specs.Str.{bytes_eq}
@@ -9,7 +9,8 @@ use Rattle.mw_base.specs.declared.sign.Sign.{Sign}
 use Rattle.mw_base.specs.Signs.{bytes_of, signs, sign_of, sign_at}
 
 -- what is found passes its test
-passes : {A : Type 0} (test : A → Bool) (x y : A) (b : Bool) (rest : Option A) → test y ≡ b → (rest ≡ Some x → test x ≡ true) → cond b (Some y) rest ≡ Some x → test x ≡ true
+passes : {A : Type 0} (test : A → Bool) (x y : A) (b : Bool) (rest : Option A) → test y ≡ b
+    → (rest ≡ Some x → test x ≡ true) → cond b (Some y) rest ≡ Some x → test x ≡ true
 passes test x y true rest is later found = let same : y ≡ x = cc in rw (← same) is
 passes test x y false rest is later found = later found
 
@@ -38,7 +39,8 @@ stands n line sign is =
       within = rw bytes (omega (arith, size));
     }
 
-either : (line : List ℕ) (sign : Sign) (two one : Option Sign) → sign_of (take 2 line) ≡ two → sign_of (take 1 line) ≡ one
+either : (line : List ℕ) (sign : Sign) (two one : Option Sign) → sign_of (take 2 line) ≡ two
+    → sign_of (take 1 line) ≡ one
     → option_or two one ≡ Some sign → StandsAt line sign
 either line sign (Some other) one first second is = stands 2 line sign (first ∙ is)
 either line sign None one first second is = stands 1 line sign (second ∙ is)

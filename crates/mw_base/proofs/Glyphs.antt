@@ -9,5 +9,6 @@ map-append f [] ys = refl
 map-append f (x ∷ xs) ys = ap (λ (zs : List ℕ). f x ∷ zs) (map-append f xs ys)
 
 -- the last glyph
-pub glyphs_step : (base n : ℕ) → 2 ≤ base → 0 < n → map glyph (digits_of base n) ≡ map glyph (digits_of base (n / base)) ++ glyph (n % base) ∷ []
+pub glyphs_step : (base n : ℕ) → 2 ≤ base → 0 < n
+    → map glyph (digits_of base n) ≡ map glyph (digits_of base (n / base)) ++ glyph (n % base) ∷ []
 glyphs_step base n b h = ap (map glyph) (digits_of_step base n b h) ∙ map-append glyph (digits_of base (n / base)) (n % base ∷ [])

@@ -1,5 +1,5 @@
 -- Tokens that spell what they are are names, numbers or signs.
-use Rattle.std.proofs.Common.{◌≡◌, ◌≢◌, ℕ, List, Option, Some, None, All}
+use Rattle.std.proofs.Common.{◌≢◌, ℕ, List, Option, Some, None}
 use Rattle.std.specs.Prelude.{IsSome}
 use Rattle.std.proofs.lemmas.List.Elements.{All-weaker}
 use Rattle.mw_base.specs.declared.sign.Sign.{Sign as SignOf}

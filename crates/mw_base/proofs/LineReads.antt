@@ -26,7 +26,8 @@ left_of text number start = lines_from number start (lines_of (drop start text))
 
 -- a line that is read
 pub goes_on : (old : List Line) (made : Line) (number start : ℕ) (text line : List ℕ) (total : Result (List Line) TextFault)
-    → IsFirst line text start → line_of number start (content line) ≡ Ok made → with_front old (left_of text number start) ≡ total
+    → IsFirst line text start → line_of number start (content line) ≡ Ok made
+    → with_front old (left_of text number start) ≡ total
     → with_front (old ++ made ∷ []) (left_of text (number + 1) (start + length line)) ≡ total
 unfolding lines_from
 goes_on old made number start text line total first reads so_far =
@@ -36,7 +37,8 @@ goes_on old made number start text line total first reads so_far =
 
 -- a line that is refused
 pub fails : (refusal : Refused TextFault) (old : List Line) (number start : ℕ) (text line : List ℕ) (total : Result (List Line) TextFault)
-    → IsFirst line text start → Fails refusal (line_of number start (content line)) → with_front old (left_of text number start) ≡ total
+    → IsFirst line text start → Fails refusal (line_of number start (content line))
+    → with_front old (left_of text number start) ≡ total
     → Fails refusal total
 unfolding lines_from
 fails NoMemory old number start text line total first faulty so_far = tt
@@ -45,7 +47,8 @@ fails (At fault) old number start text line total first faulty so_far =
     sym so_far ∙ rw here refl
 
 -- all lines are read
-pub all_read : (old : List Line) (number start : ℕ) (text : List ℕ) (total : Result (List Line) TextFault) → length text ≤ start
+pub all_read : (old : List Line) (number start : ℕ) (text : List ℕ) (total : Result (List Line) TextFault)
+    → length text ≤ start
     → with_front old (left_of text number start) ≡ total → total ≡ Ok old
 unfolding lines_from lines_of
 all_read old number start text total past so_far =

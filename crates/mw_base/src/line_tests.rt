@@ -30,15 +30,6 @@ fn lines_as_a_grammar_reads_them(rt: HostRuntime) -> Result<(), Fail> {
         );
     }
 
-    let end = fault_on(number.token, Cause::BadValue);
-    let same = Cursor::from_tokens(text, first.tokens(), end);
-    assert!(rt; same.name(3).is_ok());
-    let early = same.sign(5, Sign::Dot).err().ok_or("no fault")?;
-    assert_eq!(rt;
-        (early.line, early.column, early.cause.number()),
-        (1, 11, 24)
-    );
-
     let last = Cursor::new(text, lines.last().ok_or("no line")?, Cause::BadSyntax);
     let mut labels = Names::new(rt.alloc());
     labels.insert(b"next".as_slice(), 4096u16)?;
@@ -47,4 +38,24 @@ fn lines_as_a_grammar_reads_them(rt: HostRuntime) -> Result<(), Fail> {
         assert_eq!(rt; place.address(text, &labels).ok(), wanted);
     }
     Ok(())
+}
+
+#[test]
+fn tokens_given_to_a_cursor(rt: HostRuntime) {
+    let token = Token {
+        kind: Kind::Name,
+        line: 3,
+        column: 5,
+        start: 0,
+        end: 2,
+    };
+    let end = TextFault {
+        line: 3,
+        column: 7,
+        cause: Cause::BadValue,
+    };
+    let tokens = [token];
+    let given = Cursor::from_tokens(b"r0", &tokens, end);
+    assert_eq!(rt; given.name(0), Ok(token));
+    assert_eq!(rt; given.name(1), Err(end));
 }

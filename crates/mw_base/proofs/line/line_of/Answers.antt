@@ -1,4 +1,4 @@
-use Rattle.std.proofs.Common.{List, [], ◌++◌, append-nil}
+use Rattle.std.proofs.Common.{append-nil}
 use Rattle.mw_base.proofs.line.line_of.Goals as goal
 
 pub returns-clause-ordered : goal.returns-clause-ordered

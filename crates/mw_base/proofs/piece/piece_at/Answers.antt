@@ -1,7 +1,5 @@
-use Rattle.std.proofs.Common.{◌≡◌, ◌≤◌, ◌∙◌, length, sym, refl}
-use Rattle.std.specs.Prelude.{Some}
+use Rattle.std.proofs.Common.{◌≡◌, ◌∙◌, sym, refl}
 use Rattle.mw_base.specs.declared.token.Kind.TheVariants.{Name, Sign}
-use Rattle.mw_base.specs.Signs.{bytes_of, sign_at}
 use Rattle.mw_base.proofs.Fronts.{stands_at_front}
 use Rattle.mw_base.proofs.Spellings.{name_spelled}
 use Rattle.mw_base.proofs.piece.piece_at.Goals as goal

@@ -1,4 +1,4 @@
-use Rattle.std.proofs.Common.{◌+◌, arith, sym}
+use Rattle.std.proofs.Common.{◌+◌, arith}
 use Rattle.mw_base.proofs.Orders.{in_order_push}
 use Rattle.mw_base.proofs.scan.push_token.Goals as goal
 
