@@ -2,7 +2,6 @@
 use Rattle.std.proofs.Common.{◌≡◌, ℕ, ◌<◌, ◌≤◌, nat_lt, true, false, List, [], ◌∷◌, ◌++◌, length, Some, Result, Ok, Err, refl, sym, ap, ◌∙◌, arith}
 use Rattle.std.proofs.lemmas.Bool.Decides.{nat_tests}
 use Rattle.mw_outside.specs.declared.read.TheConstants.{MOST_BYTES}
-use Rattle.mw_plan.specs.declared.fault.FileFault.{FileFault}
 use Rattle.mw_plan.specs.declared.fault.FileFault.TheVariants.{TooLong, At}
 use Rattle.mw_plan.specs.Plan.{Plan, done, refused, file, IsOver, ◌>>=◌, read_by, after}
 
