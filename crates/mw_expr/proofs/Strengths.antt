@@ -1,6 +1,6 @@
 -- How strongly what stands open asks an operand to bind, and signs that are spelled alike.
-use Rattle.std.proofs.Common.{◌≡◌, ℕ, zero, suc, ◌≤◌, List, [], ◌∷◌, Bool, true, false, refl, ap, ◌∙◌, sym, arith}
-use Rattle.std.specs.Prelude.{Option, Some}
+use Rattle.std.proofs.Common.{◌≡◌, ℕ, zero, suc, ◌≤◌, List, true, refl, ap, ◌∙◌, sym, arith}
+use Rattle.std.specs.Prelude.{Some}
 use Rattle.std.specs.Str.{bytes_eq}
 use Rattle.std.proofs.lemmas.Slice.Eq.{bytes_eq-Decides}
 use Rattle.mw_base.specs.declared.sign.Sign.{Sign as SignOf}
@@ -14,7 +14,7 @@ use Rattle.mw_expr.specs.declared.expr.Pair2.{Pair2}
 use Rattle.mw_expr.specs.declared.expr.Pair2.TheVariants.{And, Or, Xor, Add, Sub, Same, Differ, Less}
 use Rattle.mw_expr.specs.Grammar.{Meaning, strength}
 use Rattle.mw_expr.specs.Placed.{Placed, Open, nothing, complementing, pairing, choosing, otherwise, grouping, joining, widening, reading}
-use Rattle.mw_expr.specs.Syntax.{prefix, suffix, Begin, by_choice, by_pair, by_complement, by_part, by_bit, by_constant, by_name, by_dotted_name, by_memory, by_group, by_join, by_widening}
+use Rattle.mw_expr.specs.Syntax.{prefix, Begin, by_choice, by_pair, by_complement, by_part, by_bit, by_constant, by_name, by_dotted_name, by_memory, by_group, by_join, by_widening}
 
 -- an operand of what is open binds at least so strongly
 abbrev pub floor : Open → ℕ

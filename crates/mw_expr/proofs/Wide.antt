@@ -1,6 +1,6 @@
 -- A whole expression at which nothing is at fault has a width.
-use Rattle.std.proofs.Common.{◌≡◌, ℕ, zero, suc, ◌+◌, ◌-◌, ◌<◌, ◌≤◌, ◌^◌, List, [], ◌∷◌, ◌++◌, length, length-append, Bool, true, false, refl, ap, ◌∙◌, sym, max, arith}
-use Rattle.std.specs.Prelude.{Option, Some, None, min, not, nat_le, nat_lt, ◌&&◌, ◌||◌, ◌==◌, if◌then◌else◌, slice_get, Ok, IsOk}
+use Rattle.std.proofs.Common.{◌≡◌, ℕ, zero, suc, ◌+◌, ◌-◌, ◌≤◌, ◌^◌, List, [], ◌∷◌, ◌++◌, length, Bool, true, false, refl, ap, ◌∙◌, sym, max, arith}
+use Rattle.std.specs.Prelude.{Option, Some, None, min, not, nat_le, nat_lt, ◌&&◌, ◌||◌, if◌then◌else◌, slice_get, Ok, IsOk}
 use Rattle.std.proofs.lemmas.Bool.{and_from}
 use Rattle.std.proofs.lemmas.Bool.Decides.{nat_tests}
 use Rattle.std.proofs.lemmas.Option.{slice_get_within}
@@ -18,7 +18,7 @@ use Rattle.mw_expr.specs.Placed.{Placed, named, constant, complement, pair, choi
 use Rattle.mw_expr.specs.Plain.{plain, plain_parts}
 use Rattle.mw_expr.specs.Syntax.{Begin, BeginParts, by_choice, by_pair, by_complement, by_part, by_bit, by_constant, by_name, by_dotted_name, by_memory, by_group, by_join, by_widening, first_part, next_part}
 use Rattle.mw_expr.specs.Text.{IsShape}
-use Rattle.mw_expr.specs.Widths.{width_if, element_width, width_after, pair_width, choice_width, part_width, join_width, widened_width, memory_width, count, width, total_width, is_known, are_known, depth, deepest, width_of}
+use Rattle.mw_expr.specs.Widths.{width_if, width_after, pair_width, choice_width, part_width, join_width, widened_width, memory_width, count, width, total_width, is_known, are_known, depth, deepest, width_of}
 use Rattle.mw_expr.proofs.Accepted.{of_width}
 use Rattle.mw_expr.proofs.Small.{no_first, nil_front, nil_back, not_broken, value_fits, named-most}
 use Rattle.mw_expr.proofs.Sound.{is_read_by_rule}

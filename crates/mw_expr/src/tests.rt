@@ -5,7 +5,8 @@ ghost use Rattle.mw_expr.specs.declared.expr.Pair2.TheVariants.{Sub};
 ghost use Rattle.mw_expr.specs.Tree.{view, pair, constant};
 
 use crate::{
-    Expr, Pair2, Shape, parse_expr, parts_have_widths, value, width_of, widths_are_by_rule,
+    Expr, Pair2, Shape, parse_expr, parts_have_widths, trees_are_by_rule, value, width_of,
+    widths_are_by_rule,
 };
 use mw_base::{Cause, Cursor, Items, Refusal, Refused, TextFault, lines};
 use std::alloc::{AllocError, Global};
@@ -53,6 +54,7 @@ fn values(rt: HostRuntime) -> Result<(), Fail> {
     };
     parts_have_widths();
     widths_are_by_rule();
+    trees_are_by_rule();
     let difference = difference(rt.alloc())?;
     assert_eq!(rt; width_of(&difference, &shape), Ok(4));
     assert_eq!(rt; value(&difference, &shape, &[], &[]), 12);
