@@ -236,13 +236,19 @@ impl Reader {
         let Some(begun) = self.begun.take() else {
             return Err(wrong("this belongs behind a row's call"));
         };
-        let Some(work) = begun.work else {
+        let Begun {
+            line,
+            name,
+            files,
+            work,
+        } = begun;
+        let Some(work) = work else {
             return Err(wrong("the row has no call"));
         };
         let row = Row {
-            line: begun.line,
-            name: begun.name,
-            files: begun.files,
+            line,
+            name,
+            files,
             work,
             end: End {
                 status,
