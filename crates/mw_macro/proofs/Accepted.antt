@@ -35,7 +35,7 @@ unless false h = refl
 record Keeps (m : Description) : Type 0 where
   pub limits : is_within_limits m ≡ true
   pub names : are_free m.names ≡ true
-  pub ranges : are_ranges m.shape ≡ true
+  pub ranges : are_ranges m.names m.shape ≡ true
   pub known : have_fault NoElement m.shape 64 m.acts ≡ false
   pub wide : have_fault OtherWidth m.shape 64 m.acts ≡ false
   pub shallow : have_fault TooNested m.shape 64 m.acts ≡ false
@@ -45,7 +45,7 @@ unfolding refusal_of
 keeps m none =
     let one = kept (is_within_limits m) TooMany _ none in
     let two = kept (are_free m.names) Twice _ one.1 in
-    let three = kept (are_ranges m.shape) ValueTooWide _ two.1 in
+    let three = kept (are_ranges m.names m.shape) ValueTooWide _ two.1 in
     let four = kept (is_free_of NoElement m) UnknownElement _ three.1 in
     let five = kept (is_free_of OtherWidth m) WidthsDiffer _ four.1 in
     let six = kept (is_free_of TooNested m) TooDeep _ five.1 in
@@ -161,15 +161,17 @@ accepted_right m none =
     let counts = and_parts _ _ limits.1 in
     let sizes = and_parts _ _ counts.1 in
     let ranges = and_parts _ _ h.ranges in
-    let elements = and_parts _ _ ranges.0 in
+    let addresses = and_parts _ _ ranges.0 in
+    let elements = and_parts _ _ addresses.0 in
     record {
       registers = le_from _ _ limits.0;
       temporaries = le_from _ _ counts.0;
       statements = le_from _ _ sizes.0;
       reads = le_from _ _ sizes.1;
       names = h.names;
-      widths = λ i inside. all_between 1 32 m.shape.widths i elements.0 inside;
-      address = between 1 m.shape.address 16 elements.1;
+      lengths = elements.0;
+      widths = λ i inside. all_between 1 32 m.shape.widths i elements.1 inside;
+      address = between 1 m.shape.address 16 addresses.1;
       word = between 4 m.shape.word 32 ranges.1;
       right = acts_right m.shape 64 m.acts h.known h.wide h.shallow;
     }

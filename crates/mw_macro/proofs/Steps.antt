@@ -123,13 +123,15 @@ either_same true a b c d one other = one
 either_same false a b c d one other = other
 
 mutual
-  act_from : (s : Shape) (inputs : List ℕ) (first : ℕ) (act : Act) (x : Now) → after s inputs first act x ≡ after s (drop first inputs) 0 act x
+  act_from : (s : Shape) (inputs : List ℕ) (first : ℕ) (act : Act) (x : Now)
+      → after s inputs first act x ≡ after s (drop first inputs) 0 act x
   act_from s inputs first (assign target e) x = refl
   act_from s inputs first (write address e) x = refl
   act_from s inputs first (put e) x = refl
   act_from s inputs first (take_in target) x =
       let from_zero : 0 + x.taken ≡ x.taken = omega arith in
-      let same : slice_index inputs (first + x.taken) ≡ slice_index (drop first inputs) (0 + x.taken) = rw from_zero (input_from inputs first x.taken) in
+      let same : slice_index inputs (first + x.taken) ≡ slice_index (drop first inputs) (0 + x.taken) =
+      rw from_zero (input_from inputs first x.taken) in
       ap (λ v. now (slice_set x.values target v) x.memory (x.events ++ Taken v ∷ []) (x.taken + 1)) same
   act_from s inputs first (choose condition one other) x =
       either_same (value s x.values x.memory condition == 1) _ _ _ _ (acts_from s inputs first one x) (acts_from s inputs first other x)
@@ -151,7 +153,8 @@ set_last zero v = refl
 set_last (suc n) v = ap (λ (xs : List ℕ). 0 ∷ xs) (set_last n v)
 
 -- zeros, and then a bit
-last_bit : (n : ℕ) (b : Bool) (ws : List ℕ) (i : ℕ) → slice_index ws n ≡ 1 → slice_index (replicate n 0 ++ words.num b ∷ []) i < 2 ^ slice_index ws i
+last_bit : (n : ℕ) (b : Bool) (ws : List ℕ) (i : ℕ) → slice_index ws n ≡ 1
+    → slice_index (replicate n 0 ++ words.num b ∷ []) i < 2 ^ slice_index ws i
 last_bit zero true [] zero one = cc
 last_bit zero false [] zero one = pow_pos 0
 last_bit zero true (w ∷ ws) zero one = rw one (omega arith)
@@ -162,15 +165,18 @@ last_bit (suc n) b [] (suc i) one = cc
 last_bit (suc n) b (w ∷ ws) (suc i) one = last_bit n b ws i one
 
 begun_each : (registers : List ℕ) (n : ℕ) (b : Bool) (ws : List ℕ) (i : ℕ)
-    → ((k : ℕ) → k < length registers → slice_index registers k < 2 ^ slice_index ws k) → slice_index ws (length registers + n) ≡ 1
+    → ((k : ℕ) → k < length registers → slice_index registers k < 2 ^ slice_index ws k)
+    → slice_index ws (length registers + n) ≡ 1
     → slice_index (registers ++ replicate n 0 ++ words.num b ∷ []) i < 2 ^ slice_index ws i
 begun_each [] n b ws i front one = last_bit n b ws i (let same : 0 + n ≡ n = omega arith in rw same at one)
 begun_each (x ∷ rest) n b [] i front one = cc
 begun_each (x ∷ rest) n b (w ∷ ws) zero front one = front 0 (omega arith)
 begun_each (x ∷ rest) n b (w ∷ ws) (suc i) front one =
-    begun_each rest n b ws i (λ k below. front (suc k) (omega arith)) (let same : suc (length rest) + n ≡ suc (length rest + n) = omega arith in rw same at one)
+    let same : suc (length rest) + n ≡ suc (length rest + n) = omega arith in
+    begun_each rest n b ws i (λ k below. front (suc k) (omega arith)) (rw same at one)
 
-begun_length : (registers : List ℕ) (n : ℕ) (b : Bool) → length (registers ++ replicate n 0 ++ words.num b ∷ []) ≡ length registers + n + 1
+begun_length : (registers : List ℕ) (n : ℕ) (b : Bool)
+    → length (registers ++ replicate n 0 ++ words.num b ∷ []) ≡ length registers + n + 1
 begun_length [] zero b = omega arith
 begun_length [] (suc n) b = omega (arith, begun_length [] n b)
 begun_length (x ∷ rest) n b = omega (arith, begun_length rest n b)
@@ -190,7 +196,8 @@ begun_words m state request formed fits =
 
 pub leaves : (m : Description) (state : MachineState) (request : Bool) (inputs : List ℕ) (first : ℕ) (earlier : List Event)
     (values memory : List ℕ) (events : List Event) (taken : ℕ)
-    → now values memory events taken ≡ after_all m.shape inputs first m.acts (now (begun m state request).values state.memory earlier 0)
+    → now values memory events taken
+    ≡ after_all m.shape inputs first m.acts (now (begun m state request).values state.memory earlier 0)
     → Leaves m state request inputs first earlier (take m.registers values) memory events taken
 unfolding step_of
 leaves m state request inputs first earlier values memory events taken told =

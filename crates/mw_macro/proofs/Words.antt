@@ -1,9 +1,12 @@
 -- Lists of words.
 use Rattle.std.proofs.Common.{◌≡◌, ℕ, zero, suc, ◌<◌, ◌^◌, List, [], ◌∷◌, length, refl, arith, ◌∙◌}
-use Rattle.std.specs.Prelude.{replicate, slice_index, slice_set, Bool, true, Result, Ok, Err, IsOk, IfOk, IsTrue, ◌↔◌}
+use Rattle.std.specs.Prelude.{replicate, slice_index, slice_set, nat_le, Bool, true, Result, Ok, Err, IsOk, IfOk, IsTrue, ◌↔◌}
+use Rattle.std.proofs.lemmas.Bool.{and_parts}
 use Rattle.std.proofs.lemmas.Bool.Decides.{nat_tests}
 use Rattle.std.proofs.lemmas.List.{length-replicate}
 use Rattle.std.proofs.lemmas.Nat.{pow_pos}
+use Rattle.std.specs.List.{list_all}
+use Rattle.mw_base.specs.Names.{is_name, is_spelled_as_name}
 use Rattle.mw_base.specs.declared.cause.Cause.{Cause}
 use Rattle.mw_expr.specs.declared.shape.Shape.{Shape}
 use Rattle.mw_expr.specs.Values.{AreWords, IsImage}
@@ -12,7 +15,8 @@ use Rattle.mw_macro.specs.Machine.{Description}
 use Rattle.mw_macro.specs.State.{MachineState, Fits, cleared}
 
 -- past the end of a list its words are 0
-pub words_everywhere : (xs : List ℕ) (w : ℕ) → ((i : ℕ) → i < length xs → slice_index xs i < 2 ^ w) → (i : ℕ) → slice_index xs i < 2 ^ w
+pub words_everywhere : (xs : List ℕ) (w : ℕ) → ((i : ℕ) → i < length xs → slice_index xs i < 2 ^ w) → (i : ℕ)
+    → slice_index xs i < 2 ^ w
 words_everywhere [] w each i = pow_pos w
 words_everywhere (x ∷ rest) w each zero = each 0 (omega arith)
 words_everywhere (x ∷ rest) w each (suc i) = words_everywhere rest w (λ k below. each (suc k) (omega arith)) i
@@ -34,9 +38,11 @@ cleared_fits m = record {
 }
 
 -- a state fits where its lists have their lengths and the numbers in them their widths
-pub fits_if : (m : Description) (s : MachineState) (words : Bool) → length s.registers ≡ m.registers → length s.memory ≡ 2 ^ m.shape.address
+pub fits_if : (m : Description) (s : MachineState) (words : Bool)
+    → length s.registers ≡ m.registers → length s.memory ≡ 2 ^ m.shape.address
     → ((i : ℕ) → i < length s.registers → slice_index s.registers i < 2 ^ slice_index m.shape.widths i)
-    → (IsTrue words ↔ ((i : ℕ) → i < length s.memory → slice_index s.memory i < 2 ^ m.shape.word)) → IsTrue words ↔ Fits m s
+    → (IsTrue words ↔ ((i : ℕ) → i < length s.memory → slice_index s.memory i < 2 ^ m.shape.word))
+    → IsTrue words ↔ Fits m s
 fits_if m s words count size registers memory = (
   (λ yes. record {
     count = count;
@@ -72,7 +78,8 @@ length_set [] n v = refl
 length_set (x ∷ rest) zero v = refl
 length_set (x ∷ rest) (suc n) v = omega (arith, length_set rest n v)
 
-pub set_words : (widths values : List ℕ) (n v : ℕ) → AreWords widths values → v < 2 ^ slice_index widths n → AreWords widths (slice_set values n v)
+pub set_words : (widths values : List ℕ) (n v : ℕ) → AreWords widths values → v < 2 ^ slice_index widths n
+    → AreWords widths (slice_set values n v)
 set_words widths values n v fits below = record {
   count = length_set values n v ∙ fits.count;
   each = λ i inside. set_each values widths n v i (fits.each i inside) below;
@@ -94,3 +101,13 @@ asked_below asked v (Ok w) h below =
     let same : w ≡ asked = grind (arith, nat_tests) in
     rw same at below
 asked_below asked v (Err cause) h below = cc
+
+-- a name is spelled as one
+pub spelled_all : (names : List (List ℕ)) → list_all is_name names ≡ true → list_all is_spelled_as_name names ≡ true
+unfolding is_name
+spelled_all [] h = refl
+spelled_all (name ∷ rest) h =
+    let both = and_parts (is_name name) (list_all is_name rest) h in
+    let spelled = (and_parts (is_spelled_as_name name) (nat_le (length name) 64) both.0).0 in
+    let others = spelled_all rest both.1 in
+    cc

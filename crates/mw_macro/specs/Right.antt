@@ -5,8 +5,8 @@ use Rattle.mw_expr.specs.declared.shape.Shape.{Shape}
 use Rattle.mw_expr.specs.Widths.{width_of}
 use Rattle.mw_macro.specs.declared.counts.Counted.TheVariants.{Statements, Reads}
 use Rattle.mw_macro.specs.Counts.{total}
-use Rattle.mw_macro.specs.Machine.{Description}
-use Rattle.mw_macro.specs.Rules.{are_free, refusal_of}
+use Rattle.mw_macro.specs.Machine.{Description, IsFormed}
+use Rattle.mw_macro.specs.Rules.{are_free, are_short, refusal_of}
 use Rattle.mw_macro.specs.Statements.{Act, assign, write, put, take_in, choose, Acts, nothing, next}
 
 -- a width that is the one asked for
@@ -32,13 +32,15 @@ abbrev mutual
 abbrev pub IsBetween : (low n high : ℕ) → Type 0
 IsBetween low n high = (low ≤ n) × (n ≤ high)
 
--- what an accepted machine has: counts within their limits, names that are free, widths in their ranges, and statements that are right
+-- what an accepted machine has: counts within their limits, names that are free and short, widths in their ranges, and statements that
+-- are right
 pub record IsRight (m : Description) : Type 0 where
   pub registers : m.registers ≤ 128
   pub temporaries : length m.names - m.registers ≤ 128
   pub statements : total Statements m.acts ≤ 4096
   pub reads : total Reads m.acts ≤ 256
   pub names : are_free m.names ≡ true
+  pub lengths : are_short m.names ≡ true
   pub widths : (i : ℕ) → i < length m.shape.widths → IsBetween 1 (slice_index m.shape.widths i) 32
   pub address : IsBetween 1 m.shape.address 16
   pub word : IsBetween 4 m.shape.word 32
@@ -47,3 +49,9 @@ pub record IsRight (m : Description) : Type 0 where
 -- where a machine is accepted, its statements are right
 abbrev pub AcceptedAreRight : Type 0
 AcceptedAreRight = (m : Description) → refusal_of m ≡ None → IsRight m
+
+-- what each machine that the code keeps is: formed as it has to be, accepted, and so right
+pub record IsMachine (m : Description) : Type 0 where
+  pub formed : IsFormed m
+  pub accepted : refusal_of m ≡ None
+  pub right : IsRight m

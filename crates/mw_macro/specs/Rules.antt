@@ -32,9 +32,14 @@ are_free (name ∷ rest) = not (is_reserved name) && (not (list_any (bytes_eq na
 abbrev pub is_within : (low n high : ℕ) → Bool
 is_within low n high = nat_le low n && nat_le n high
 
--- elements of 1 to 32 bits, addresses of 1 to 16, and words of 4 to 32
-unfoldable pub are_ranges : Shape → Bool
-are_ranges s = list_all (λ w. is_within 1 w 32) s.widths && is_within 1 s.address 16 && is_within 4 s.word 32
+-- names of at most 64 bytes
+abbrev pub are_short : List (List ℕ) → Bool
+are_short names = list_all (λ (name : List ℕ). nat_le (length name) 64) names
+
+-- short names, elements of 1 to 32 bits, addresses of 1 to 16, and words of 4 to 32
+unfoldable pub are_ranges : List (List ℕ) → Shape → Bool
+are_ranges names s =
+    are_short names && list_all (λ w. is_within 1 w 32) s.widths && is_within 1 s.address 16 && is_within 4 s.word 32
 
 -- ---- faults in statements
 
@@ -103,7 +108,7 @@ abbrev pub rules_of : Description → List Rule
 rules_of m =
     rule (is_within_limits m) TooMany
     ∷ rule (are_free m.names) Twice
-    ∷ rule (are_ranges m.shape) ValueTooWide
+    ∷ rule (are_ranges m.names m.shape) ValueTooWide
     ∷ rule (is_free_of NoElement m) UnknownElement
     ∷ rule (is_free_of OtherWidth m) WidthsDiffer
     ∷ rule (is_free_of TooNested m) TooDeep

@@ -2,8 +2,8 @@
 ghost use Rattle.mw_macro.specs.Laws.{EventsAreFew, StepsTakeFromFirst, TakenAreEvents};
 ghost use Rattle.mw_macro.specs.Right.{AcceptedAreRight};
 
-/// The law of accepted machines: their elements and statements are few, their widths in range, each target is a register or a temporary,
-/// and each expression has the width that its place asks for.
+/// The law of accepted machines: their elements, statements and memory reads are few, their names free and short, their widths in range,
+/// each target is a register or a temporary, and each expression has the width that its place asks for.
 pub fn accepted_are_right()
     ensures { AcceptedAreRight }
 {}

@@ -1,9 +1,7 @@
 // Described machines.
-ghost use Rattle.std.specs.Prelude.{◌≡◌, ◌+◌, ◌≤◌, length, slice_index, true, None};
-ghost use Rattle.std.specs.List.{list_all};
-ghost use Rattle.mw_base.specs.Names.{is_name};
+ghost use Rattle.std.specs.Prelude.{◌≡◌};
 ghost use Rattle.mw_macro.specs.Machine.{described};
-ghost use Rattle.mw_macro.specs.Rules.{refusal_of};
+ghost use Rattle.mw_macro.specs.Right.{IsMachine};
 ghost use Rattle.mw_macro.specs.Statements.{acts};
 
 use crate::counts::{Counted, left_after};
@@ -12,37 +10,36 @@ use crate::statement::Statement;
 use mw_base::{Cause, Name};
 use mw_expr::Shape;
 
-/// A described machine that keeps the rules of machines, seen by contracts as its description.
+/// A described machine that keeps the rules of machines, seen by contracts as its description. `is_machine` says of it that it is formed
+/// as it has to be, accepted, and what it has for that.
 #[derive(Drop)]
 pub struct Machine {
     names: Vec<Name>,
     registers: u32,
     shape: Shape,
     statements: Vec<Statement>,
-    ghost spelled: { list_all is_name names.items ≡ true },
-    ghost within: { registers ≤ length names.items },
-    ghost elements: { length shape.widths ≡ length names.items + 1 },
-    ghost request: { slice_index shape.widths (length names.items) ≡ 1 },
-    ghost accepted: { refusal_of (described names.items registers shape (acts statements.items)) ≡ None },
+    pub ghost is_machine: { IsMachine (described names.items registers shape (acts statements.items)) },
 }
 
 impl Machine {
-    ghost use Rattle.std.specs.Prelude.{◌^◌, IfOk, IfErr, Some};
+    ghost use Rattle.std.specs.Prelude.{◌^◌, IfOk, IfErr, None, Some};
     ghost use Rattle.mw_macro.specs.Counts.{most_events};
     ghost use Rattle.mw_macro.specs.Described.{description_of};
     ghost use Rattle.mw_macro.specs.Machine.{IsFormed};
-    ghost use Rattle.mw_macro.specs.Right.{IsRight};
+    ghost use Rattle.mw_macro.specs.Rules.{refusal_of};
 
     /// The machine with these elements and statements: the names of its registers and then of its temporaries, how many of them are
-    /// registers, the widths of the elements in this order, with 1 at the end for the request, and those of the memory.
+    /// registers, the widths of the elements in this order, with 1 at the end for the request, and those of the memory. Each name is
+    /// spelled as one: a letter or `_`, and then letters, digits or `_`.
     ///
     /// # Errors
     ///
     /// The least cause that holds: 14 where there are more than 128 registers, 128 temporaries, 4,096 statements or 256 memory reads;
-    /// 31 where a name is `mem`, `zext` or `request` or stands twice; 33 where an element isn't of 1 to 32 bits, an address of 1 to
-    /// 16 or a word of 4 to 32; 40 where an expression names no element, or a target is neither a register nor a temporary; 41 where
-    /// the widths of operands break their rule, or an expression or a target hasn't the width that its statement asks for; 42 where
-    /// an expression is more than 64 deep, or an `if` stands inside 64 others. What was handed in is dropped then.
+    /// 31 where a name is `mem`, `zext` or `request` or stands twice; 33 where a name is longer than 64 bytes, an element isn't of 1 to
+    /// 32 bits, an address of 1 to 16 or a word of 4 to 32; 40 where an expression names no element, or a target is neither a register
+    /// nor a temporary; 41 where the widths of operands break their rule, or an expression or a target hasn't the width that its
+    /// statement asks for; 42 where an expression is more than 64 deep, or an `if` stands inside 64 others. What was handed in is
+    /// dropped then.
     pub fn new(
         names: Vec<Name>,
         registers: u32,
@@ -50,9 +47,11 @@ impl Machine {
         statements: Vec<Statement>,
     ) -> Result<Machine, Cause>
         requires formed { IsFormed (described names.items registers shape (acts statements.items)) }
-        ensures ok { IfOk result (λ machine. description_of machine ≡ described names.items registers shape (acts statements.items)) }
+        ensures ok { IfOk result (λ machine.
+            description_of machine ≡ described names.items registers shape (acts statements.items)) }
         ensures accepted { IfOk result (λ machine. refusal_of (description_of machine) ≡ None) }
-        ensures err { IfErr result (λ cause. refusal_of (described names.items registers shape (acts statements.items)) ≡ Some cause) }
+        ensures err { IfErr result (λ cause.
+            refusal_of (described names.items registers shape (acts statements.items)) ≡ Some cause) }
     {
         match refusal(&names, registers, &shape, &statements) {
             Some(cause) => Err(cause),
@@ -81,10 +80,7 @@ impl Machine {
 
     /// The widths of its registers, its temporaries and, last, its request, and those of its memory.
     pub fn shape(&self) -> &Shape
-        ensures exact { result.now ≡ (description_of self.now).shape }
-        ensures formed { IsFormed (description_of self.now) }
-        ensures accepted { refusal_of (description_of self.now) ≡ None }
-        ensures right { IsRight (description_of self.now) }
+        ensures { result.now ≡ (description_of self.now).shape }
     {
         &self.shape
     }
@@ -108,7 +104,6 @@ impl Machine {
     pub(crate) fn memory_size(&self) -> usize
         ensures { result ≡ 2 ^ (description_of self.now).shape.address }
     {
-        let shape = self.shape();
-        1 << shape.address
+        1 << self.shape.address
     }
 }

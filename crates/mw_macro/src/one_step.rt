@@ -58,7 +58,8 @@ fn assign_value(given: &Given, target: u32, expr: &Expr, values: &mut [u32], mem
     requires right { is_right given.now.shape.now (assign target (view expr.now)) ≡ true }
     requires values_fit { AreWords given.now.shape.now.widths values.old }
     requires memory_fits { IsImage given.now.shape.now memory.now }
-    ensures exact { values.new ≡ slice_set values.old target (value given.now.shape.now values.old memory.now (view expr.now)) }
+    ensures exact { values.new
+        ≡ slice_set values.old target (value given.now.shape.now values.old memory.now (view expr.now)) }
     ensures fits { AreWords given.now.shape.now.widths values.new }
 {
     let assigned = value(expr, given.shape, values, memory);
@@ -70,7 +71,8 @@ fn write_word(given: &Given, address: &Expr, expr: &Expr, values: &[u32], memory
     requires right { is_right given.now.shape.now (write (view address.now) (view expr.now)) ≡ true }
     requires values_fit { AreWords given.now.shape.now.widths values.now }
     requires memory_fits { IsImage given.now.shape.now memory.old }
-    ensures exact { memory.new ≡ slice_set memory.old (value given.now.shape.now values.now memory.old (view address.now))
+    ensures exact { memory.new
+        ≡ slice_set memory.old (value given.now.shape.now values.now memory.old (view address.now))
         (value given.now.shape.now values.now memory.old (view expr.now)) }
     ensures fits { IsImage given.now.shape.now memory.new }
 {
@@ -85,7 +87,8 @@ fn put_word(given: &Given, expr: &Expr, values: &[u32], memory: &[u32], events: 
     requires values_fit { AreWords given.now.shape.now.widths values.now }
     requires memory_fits { IsImage given.now.shape.now memory.now }
     requires room { vec_len events.old < vec_capacity events.old }
-    ensures items { events.new.items ≡ events.old.items ++ Out (value given.now.shape.now values.now memory.now (view expr.now)) ∷ [] }
+    ensures items { events.new.items
+        ≡ events.old.items ++ Out (value given.now.shape.now values.now memory.now (view expr.now)) ∷ [] }
     ensures len { vec_len events.new ≡ vec_len events.old + 1 }
     ensures capacity { vec_capacity events.old ≤ vec_capacity events.new }
 {
@@ -101,7 +104,8 @@ fn take_word(given: &Given, target: u32, taken: u32, values: &mut [u32], events:
     requires room { vec_len events.old < vec_capacity events.old }
     ensures exact { values.new ≡ slice_set values.old target (slice_index given.now.inputs.now (given.now.first + taken)) }
     ensures fits { AreWords given.now.shape.now.widths values.new }
-    ensures items { events.new.items ≡ events.old.items ++ Taken (slice_index given.now.inputs.now (given.now.first + taken)) ∷ [] }
+    ensures items { events.new.items
+        ≡ events.old.items ++ Taken (slice_index given.now.inputs.now (given.now.first + taken)) ∷ [] }
     ensures len { vec_len events.new ≡ vec_len events.old + 1 }
     ensures capacity { vec_capacity events.old ≤ vec_capacity events.new }
 {
@@ -128,7 +132,8 @@ fn run(
     requires few { taken + count Events (act_of statement.now) ≤ 4096 }
     requires within { given.now.first + taken + count Events (act_of statement.now) < 2 ^ 64 }
     ensures exact { now values.new memory.new events.new.items result
-        ≡ after given.now.shape.now given.now.inputs.now given.now.first (act_of statement.now) (now values.old memory.old events.old.items taken) }
+        ≡ after given.now.shape.now given.now.inputs.now given.now.first (act_of statement.now)
+        (now values.old memory.old events.old.items taken) }
     ensures values_fit { AreWords given.now.shape.now.widths values.new }
     ensures memory_fits { IsImage given.now.shape.now memory.new }
     ensures len { vec_len events.new ≤ vec_len events.old + count Events (act_of statement.now) }
@@ -190,7 +195,8 @@ fn run_all(
     requires few { taken + total Events (acts statements.now) ≤ 4096 }
     requires within { given.now.first + taken + total Events (acts statements.now) < 2 ^ 64 }
     ensures exact { now values.new memory.new events.new.items result
-        ≡ after_all given.now.shape.now given.now.inputs.now given.now.first (acts statements.now) (now values.old memory.old events.old.items taken) }
+        ≡ after_all given.now.shape.now given.now.inputs.now given.now.first (acts statements.now)
+        (now values.old memory.old events.old.items taken) }
     ensures values_fit { AreWords given.now.shape.now.widths values.new }
     ensures memory_fits { IsImage given.now.shape.now memory.new }
     ensures len { vec_len events.new ≤ vec_len events.old + total Events (acts statements.now) }
@@ -241,12 +247,11 @@ fn step_over(
     requires inputs_fit { AreInputs (description_of machine.now) given.now.inputs.now }
     requires room { vec_len events.old + most_events (description_of machine.now) ≤ vec_capacity events.old }
     requires within { given.now.first + most_events (description_of machine.now) < 2 ^ 64 }
-    ensures leaves { Leaves (description_of machine.now) (kept registers.old memory.old) request given.now.inputs.now given.now.first events.old.items
-        registers.new memory.new events.new.items result }
+    ensures leaves { Leaves (description_of machine.now) (kept registers.old memory.old) request given.now.inputs.now
+        given.now.first events.old.items registers.new memory.new events.new.items result }
     ensures fits { Fits (description_of machine.now) (kept registers.new memory.new) }
     ensures capacity { vec_capacity events.old ≤ vec_capacity events.new }
 {
-    let _shape = machine.shape();
     begin(values, registers, request);
     let taken = run_all(machine.statements(), given, 0, values, memory, events);
     registers.copy_from_slice(&values[..registers.len()]);
@@ -254,31 +259,33 @@ fn step_over(
 }
 
 /// One step of a machine from a state, with a request bit, that takes the inputs from the number `first` on. It changes the state, appends
-/// the step's events, and answers how many inputs it took. It takes no memory.
+/// the step's events, and answers how many inputs it took. It takes no memory. `temps` is empty, isn't touched and stays empty: the
+/// signature leaves room for a step that keeps its temporaries there, while this one has all elements in one list on the stack, from
+/// which an expression reads them.
 ///
 /// The state fits the machine and does so afterwards. An input is a word of the memory's width. There is room for `most_events` more
-/// events, and the numbers of the inputs that the step may take fit 64 bits. An expression reads all elements from one list, which lies
-/// on the stack, so `_temps` stays empty.
+/// events, and the numbers of the inputs that the step may take fit 64 bits.
 pub fn step(
     machine: &Machine,
     state: &mut MacState,
     request: bool,
     inputs: &[u32],
     first: u64,
-    _temps: &mut Vec<u32>,
+    temps: &mut Vec<u32>,
     events: &mut Vec<Event>,
 ) -> u32
     requires fits { Fits (description_of machine.now) state.old }
     requires inputs_fit { AreInputs (description_of machine.now) inputs.now }
-    requires empty { _temps.old.items ≡ [] }
+    requires empty { temps.old.items ≡ [] }
     requires room { vec_len events.old + most_events (description_of machine.now) ≤ vec_capacity events.old }
     requires within { first + most_events (description_of machine.now) < 2 ^ 64 }
     ensures state { state.new ≡ (step_of (description_of machine.now) state.old request inputs.now first).state }
     ensures fits { Fits (description_of machine.now) state.new }
-    ensures events { events.new.items ≡ events.old.items ++ (step_of (description_of machine.now) state.old request inputs.now first).events }
+    ensures events { events.new.items
+        ≡ events.old.items ++ (step_of (description_of machine.now) state.old request inputs.now first).events }
     ensures capacity { vec_capacity events.old ≤ vec_capacity events.new }
     ensures taken { result ≡ (step_of (description_of machine.now) state.old request inputs.now first).taken }
-    ensures empty { _temps.new.items ≡ [] }
+    ensures empty { temps.new.items ≡ [] }
 {
     let shape = machine.shape();
     let mut elements = [0; MOST_ELEMENTS];

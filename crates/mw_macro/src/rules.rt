@@ -3,7 +3,7 @@ ghost use Rattle.std.specs.Prelude.{◌≡◌, ℕ, ◌≤◌, ◌<◌, ◌||◌
 ghost use Rattle.std.specs.List.{list_all, list_any};
 ghost use Rattle.mw_expr.specs.Tree.{view};
 ghost use Rattle.mw_macro.specs.Machine.{described};
-ghost use Rattle.mw_macro.specs.Rules.{is_within_limits, is_reserved, are_free, is_within, are_ranges, is_width, is_fault, is_target_fault, is_input_fault, is_nesting_fault, has_fault, have_fault, refusal_of};
+ghost use Rattle.mw_macro.specs.Rules.{is_within_limits, is_reserved, are_free, is_within, are_short, are_ranges, is_width, is_fault, is_target_fault, is_input_fault, is_nesting_fault, has_fault, have_fault, refusal_of};
 ghost use Rattle.mw_macro.specs.Statements.{act_of, acts};
 
 use crate::counts::{Counted, left_after};
@@ -91,12 +91,20 @@ fn are_widths(widths: &[u8]) -> bool
     widths.iter().all(|width| is_within(1, *width, 32))
 }
 
-/// Whether elements, addresses and words have widths in their ranges.
-#[tactic(auto, unfolding(crate::specs::Rules::are_ranges))]
-fn are_ranges(shape: &Shape) -> bool
-    ensures { result ≡ are_ranges shape.now }
+/// Whether each of the names is at most 64 bytes long.
+fn are_short(names: &[Name]) -> bool
+    ensures { result ≡ are_short names.now }
 {
-    are_widths(shape.widths.as_slice())
+    names.iter().all(|name| name.as_slice().len() <= 64)
+}
+
+/// Whether names are short, and elements, addresses and words have widths in their ranges.
+#[tactic(auto, unfolding(crate::specs::Rules::are_ranges))]
+fn are_ranges(names: &[Name], shape: &Shape) -> bool
+    ensures { result ≡ are_ranges names.now shape.now }
+{
+    are_short(names)
+        & are_widths(shape.widths.as_slice())
         & is_within(1, shape.address, 16)
         & is_within(4, shape.word, 32)
 }
@@ -228,7 +236,7 @@ pub(crate) fn refusal(
     if !are_free(names) {
         return Some(Cause::Twice);
     }
-    if !are_ranges(shape) {
+    if !are_ranges(names, shape) {
         return Some(Cause::ValueTooWide);
     }
     if have_fault(Fault::NoElement, shape, MOST_LEVELS, statements) {

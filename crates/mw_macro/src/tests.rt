@@ -18,6 +18,7 @@ fn are_names(names: &[Name]) -> bool
 
 /// A machine over a memory of sixteen words of 4 bits, with elements of one letter each and these widths, or why it is refused. What
 /// isn't formed as a machine has to be is a line that isn't in its grammar.
+#[tactic(auto, using(crate::proofs::Words::spelled_all))]
 fn made(
     alloc: Global,
     letters: &[u8],
@@ -228,6 +229,25 @@ fn nest(alloc: Global, levels: u8) -> Result<Vec<Statement>, NoMemory> {
         statements = vec![in alloc; chosen(Expr::Element(2), statements, Vec::new(alloc))]?;
     }
     Ok(statements)
+}
+
+/// A constant of 5 bits with so many complements around it.
+fn complements(alloc: Global, levels: u8) -> Result<Expr, NoMemory> {
+    let mut expr = Expr::Con(1, 5);
+    for _ in 0..levels {
+        expr = Expr::Not(Box::new(alloc, expr)?);
+    }
+    Ok(expr)
+}
+
+#[test]
+fn too_deep_and_too_wide(rt: HostRuntime) -> Result<(), Fail> {
+    let alloc = rt.alloc();
+    let value = complements(alloc, 64)?;
+    let statements = vec![in alloc; Statement::Assign { target: 0, value }]?;
+    let made = two_registers(alloc, statements)?;
+    assert!(rt; is_refused(&made, Cause::WidthsDiffer));
+    Ok(())
 }
 
 #[test]

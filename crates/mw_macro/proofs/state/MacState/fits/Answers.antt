@@ -7,8 +7,8 @@ pub returns-then-have_widths : goal.returns-then-have_widths
 returns-then-have_widths c =
     let inside = c.self.inside in
     let m = description_of c.args.machine.now in
-    let registers = rw (c.deref.ensures.value, c.as_slice.ensures, c.shape-shape.ensures.exact) at c.if-have_widths.ensures in
-    let memory = rw (c.deref-then-have_widths.ensures.value, c.shape-shape.ensures.exact) at c.have_bits.ensures in
+    let registers = rw (c.deref.ensures.value, c.as_slice.ensures, c.shape-shape.ensures) at c.if-have_widths.ensures in
+    let memory = rw (c.deref-then-have_widths.ensures.value, c.shape-shape.ensures) at c.have_bits.ensures in
     let counted = rw c.deref.ensures.value at c.deref.ensures.len in
     let sized = rw c.deref-then-have_widths.ensures.value at c.deref-then-have_widths.ensures.len in
     let count : length inside.registers.items ≡ m.registers = omega (arith, counted) in
