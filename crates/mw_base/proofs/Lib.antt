@@ -1,5 +1,8 @@
+pub mod Borrowed
 pub mod FirstLines
+pub mod Fronts
 pub mod Glyphs
+pub mod Known
 pub mod LineReads
 pub mod Lists
 pub mod Maps

@@ -1,5 +1,5 @@
 -- Tokens that stand one after another, and their slices of the text.
-use Rattle.std.proofs.Common.{◌≡◌, ℕ, ◌+◌, ◌-◌, ◌<◌, ◌≤◌, List, [], ◌∷◌, ◌++◌, take, drop, length, arith, sym, ap, ◌∙◌}
+use Rattle.std.proofs.Common.{◌≡◌, ℕ, ◌+◌, ◌-◌, ◌<◌, ◌≤◌, List, [], ◌∷◌, ◌++◌, take, drop, length, arith, sym, ap, ◌∙◌, append_assoc}
 use Rattle.std.proofs.lemmas.List.{take-take, drop-take, drop-drop}
 use Rattle.std.proofs.lemmas.List.Elements.{All-push}
 use Rattle.std.proofs.lemmas.List.Quantifiers.{all_pairs_push}
@@ -20,14 +20,17 @@ in_order_on text place next tokens old on = record {
 }
 
 -- one token more
-pub in_order_push : (text : List ℕ) (place next : ℕ) (tokens : List Token) (token : Token) → InOrder text place tokens → place ≤ token.start → token.start < token.end → token.end ≤ next → Spells (slice text token.start token.end) token.kind → InOrder text next (tokens ++ token ∷ [])
-in_order_push text place next tokens token old after some fits spells =
-    let kept = in_order_on text place next tokens old (omega arith) in
-    record {
-      within = All-push (IsWithin next) tokens token kept.within (some, fits);
-      apart = all_pairs_push (λ (first second : Token). first.end ≤ second.start) tokens token old.apart (λ k d below. let here = old.within k d below in omega arith);
-      spelled = All-push (λ (token : Token). Spells (slice text token.start token.end) token.kind) tokens token old.spelled spells;
-    }
+pub in_order_push : (text : List ℕ) (place next : ℕ) (front tokens : List Token) (token : Token) → InOrder text place (front ++ tokens)
+    → place ≤ token.start → token.start < token.end → token.end ≤ next → Spells (slice text token.start token.end) token.kind
+    → InOrder text next (front ++ (tokens ++ token ∷ []))
+in_order_push text place next front tokens token old after some fits spells =
+    let kept = in_order_on text place next (front ++ tokens) old (omega arith) in
+    rw (← append_assoc front tokens (token ∷ [])) (record {
+      within = All-push (IsWithin next) (front ++ tokens) token kept.within (some, fits);
+      apart = all_pairs_push (λ (first second : Token). first.end ≤ second.start) (front ++ tokens) token old.apart
+          (λ k d below. let here = old.within k d below in omega arith);
+      spelled = All-push (λ (token : Token). Spells (slice text token.start token.end) token.kind) (front ++ tokens) token old.spelled spells;
+    })
 
 -- the bytes of a piece, of its line and of the text
 pub slice_in : (text : List ℕ) (start at n : ℕ) (line : List ℕ) → slice text start (start + length line) ≡ line → at + n ≤ length line → slice text (start + at) (start + at + n) ≡ take n (rest_of line at)

@@ -4,11 +4,11 @@ use Rattle.std.specs.Prelude.{if◌then◌else◌, ok_or}
 use Rattle.mw_base.specs.Reading.{◌>>=◌}
 
 -- a result that is a value
-abbrev pub done : {A F : Type 0} → A → Result A F
-done x = Ok x
+abbrev pub ok_of : {A F : Type 0} → A → Result A F
+ok_of x = Ok x
 
 -- one result has one value
-pub ok_is : {A F : Type 0} (x y : A) → done {F = F} x ≡ Ok y → x ≡ y
+pub ok_is : {A F : Type 0} (x y : A) → ok_of {F = F} x ≡ Ok y → x ≡ y
 ok_is x y is = cc
 
 -- the value of a step that did not fail, and of what follows it
@@ -21,7 +21,7 @@ pub step : {A B F Q : Type 0} (r : Result A F) (f : A → Result B F) (y : B) �
 step r f y is goes_on = let b = bind_ok r f y is in goes_on b.0 b.1 b.2
 
 -- of two answers, one a fault, the value is the other
-pub if_ok : {A F : Type 0} (b : Bool) (x y : A) (fault : F) → (if b then done {F = F} x else Err fault) ≡ Ok y → (b ≡ true) × (x ≡ y)
+pub if_ok : {A F : Type 0} (b : Bool) (x y : A) (fault : F) → (if b then ok_of {F = F} x else Err fault) ≡ Ok y → (b ≡ true) × (x ≡ y)
 if_ok {F = F} true x y fault is = (refl, ok_is {F = F} x y is)
 if_ok false x y fault is = absurd cc
 

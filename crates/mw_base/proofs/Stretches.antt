@@ -3,16 +3,12 @@ use Rattle.std.proofs.Common.{◌≡◌, ℕ, zero, suc, ◌+◌, ◌-◌, ◌<�
 use Rattle.std.proofs.lemmas.List.{take_all, length-drop, drop-drop, drop_all}
 use Rattle.std.specs.Prelude.{Result, Ok, Err}
 use Rattle.mw_base.specs.declared.cause.Cause.{Cause}
-use Rattle.mw_base.specs.declared.refusal.TextFault.{TextFault}
 use Rattle.mw_base.specs.declared.token.Token.{Token}
 use Rattle.mw_base.specs.declared.piece.Piece.{Piece}
-use Rattle.mw_base.specs.declared.refusal.Refused.{Refused}
-use Rattle.mw_base.specs.declared.refusal.Refused.TheVariants.{At, NoMemory}
-use Rattle.mw_base.specs.Lines.{lines_of, content}
-use Rattle.mw_base.specs.Reading.{with_front, Fails}
+use Rattle.mw_base.specs.Lines.{lines_of}
+use Rattle.mw_base.specs.Reading.{with_front}
 use Rattle.mw_base.specs.Pieces.{piece_at}
-use Rattle.mw_base.specs.Tokens.{both, line_tokens, fault_at, token_at, tokens_from, lines_tokens}
-use Rattle.mw_base.proofs.Lists.{with_front_twice}
+use Rattle.mw_base.specs.Tokens.{fault_at, token_at, tokens_from}
 
 -- the bytes that the piece before takes are passed over
 pub passed_over : (number start at covered : ℕ) (line : List ℕ) → covered ≤ length line → tokens_from number start at covered line ≡ tokens_from number start (at + covered) 0 (drop covered line)
@@ -65,30 +61,8 @@ pub line_done : (front : List Token) (number start at : ℕ) (line : List ℕ) �
 unfolding tokens_from
 line_done front number start at line past = let over = drop_all at line past in rw over (ap Ok (append-nil front))
 
-both_read : (old new : List Token) (first later : Result (List Token) TextFault) → Ok new ≡ with_front old first → with_front old (both first later) ≡ with_front new later
-both_read old new (Ok front) later read = let joined : new ≡ old ++ front = cc in rw (joined, with_front_twice old front later) refl
-both_read old new (Err fault) later read = cc
-
 -- the first line of what is left of a text, and the lines after it
 pub lines_left : (text line : List ℕ) (start : ℕ) → lines_of (rest_of text start) ≡ line ∷ lines_of (drop (length line) (rest_of text start)) → lines_of (drop start text) ≡ line ∷ lines_of (drop (start + length line) text)
 lines_left text line start first =
     let cut = rw (rest_is text start) at first in
     rw (← drop-drop (length line) start text) cut
-
--- a line, and the lines after it
-pub lines_read : (old new : List Token) (number start : ℕ) (text line : List ℕ) → lines_of (rest_of text start) ≡ line ∷ lines_of (drop (length line) (rest_of text start)) → Ok new ≡ with_front old (line_tokens number start (content line)) → with_front old (lines_tokens number start (lines_of (drop start text))) ≡ with_front new (lines_tokens (number + 1) (start + length line) (lines_of (drop (start + length line) text)))
-unfolding lines_tokens
-lines_read old new number start text line first read =
-    rw (lines_left text line start first) (both_read old new (line_tokens number start (content line)) (lines_tokens (number + 1) (start + length line) (lines_of (drop (start + length line) text))) read)
-
--- a line that is refused
-pub lines_refused : (refusal : Refused TextFault) (old : List Token) (number start : ℕ) (text line : List ℕ) → lines_of (rest_of text start) ≡ line ∷ lines_of (drop (length line) (rest_of text start)) → Fails refusal (line_tokens number start (content line)) → Fails refusal (with_front old (lines_tokens number start (lines_of (drop start text))))
-unfolding lines_tokens
-lines_refused NoMemory old number start text line first fails = tt
-lines_refused (At fault) old number start text line first fails =
-    rw (lines_left text line start first, fails) refl
-
--- all lines are read
-pub lines_done : (front : List Token) (number start : ℕ) (text : List ℕ) → length text ≤ start → with_front front (lines_tokens number start (lines_of (drop start text))) ≡ Ok front
-unfolding lines_tokens lines_of
-lines_done front number start text past = let over = drop_all start text past in rw over (ap Ok (append-nil front))

@@ -2,6 +2,7 @@ pub mod Causes
 pub mod Cursors
 pub mod Lines
 pub mod Literals
+pub mod Membership
 pub mod Named
 pub mod Names
 pub mod Numbers

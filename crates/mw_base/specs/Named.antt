@@ -1,11 +1,11 @@
--- What names stand for.
+-- What names stand for, and which may be defined; `Names` has how they are spelled.
 use Rattle.std.specs.Prelude.{ℕ, List, length, Bool, ◌||◌, if◌then◌else◌, nat_le, is_some, Option, Some, None, Result, Ok, Err}
 use Rattle.std.specs.HashMap.{get_by}
 use Rattle.std.specs.Map.{update}
 use Rattle.std.specs.Str.{bytes_eq}
 use Rattle.mw_base.specs.declared.cause.Cause.TheVariants.{Twice, ValueTooWide}
 use Rattle.mw_base.specs.declared.named as kept
-use Rattle.mw_base.specs.declared.named.TheConstants.{LONGEST_NAME}
+use Rattle.mw_base.specs.declared.name.TheConstants.{LONGEST_NAME}
 use Rattle.mw_base.specs.declared.refusal.TextFault.{TextFault}
 use Rattle.mw_base.specs.declared.token.Token.{Token}
 use Rattle.mw_base.specs.Symbols.{spelled}
@@ -19,7 +19,7 @@ no_names name = None
 abbrev pub with_name : {M : Type 0} → (List ℕ → Option M) → List ℕ → M → List ℕ → Option M
 with_name names name meaning = update bytes_eq names name (Some meaning)
 
--- a name can be defined that stands for nothing yet, isn't reserved and has at most 64 bytes
+-- a name can be defined that stands for nothing yet, isn't reserved and isn't too long
 unfoldable pub new_name : {M : Type 0} → List ℕ → (List ℕ → Option M) → Bool → Token → Result (Unit {0}) TextFault
 new_name text names is_reserved token =
     if is_some (names (spelled text token)) || is_reserved then Err (fault_on token Twice)

@@ -1,5 +1,6 @@
 -- The signs of texts.
-use Rattle.std.specs.Prelude.{ℕ, List, [], ◌∷◌, codes, Option}
+use Rattle.std.specs.Prelude.{ℕ, List, [], ◌∷◌, take, codes, Option}
+use Rattle.std.specs.Option.{option_or}
 use Rattle.std.specs.List.{find}
 use Rattle.std.specs.Str.{bytes_eq}
 use Rattle.mw_base.specs.declared.sign.Sign.{Sign}
@@ -32,8 +33,14 @@ bytes_of Differ = codes "!="
 
 -- all of them
 abbrev pub signs : List Sign
-signs = Equals ∷ Colon ∷ Comma ∷ Hash ∷ Plus ∷ Minus ∷ And ∷ Or ∷ Xor ∷ Not ∷ OpenParenthesis ∷ CloseParenthesis ∷ OpenBracket ∷ CloseBracket ∷ OpenBrace ∷ CloseBrace ∷ Question ∷ Less ∷ Dot ∷ Assign ∷ Same ∷ Differ ∷ []
+signs =
+    Equals ∷ Colon ∷ Comma ∷ Hash ∷ Plus ∷ Minus ∷ And ∷ Or ∷ Xor ∷ Not ∷ OpenParenthesis ∷ CloseParenthesis ∷ OpenBracket
+    ∷ CloseBracket ∷ OpenBrace ∷ CloseBrace ∷ Question ∷ Less ∷ Dot ∷ Assign ∷ Same ∷ Differ ∷ []
 
 -- the sign that is spelled so
 unfoldable pub sign_of : List ℕ → Option Sign
 sign_of bytes = find (λ sign. bytes_eq (bytes_of sign) bytes) signs
+
+-- the sign at the front of a line: that of its first two bytes, or else of its first
+abbrev pub sign_at : List ℕ → Option Sign
+sign_at line = option_or (sign_of (take 2 line)) (sign_of (take 1 line))

@@ -1,5 +1,5 @@
 -- What a grammar sees of a token.
-use Rattle.std.specs.Prelude.{ℕ, List, Bool, false, Option, Some, None}
+use Rattle.std.specs.Prelude.{◌≢◌, ℕ, List, All, Bool, false, Option, Some, None}
 use Rattle.std.specs.Str.{bytes_eq}
 use Rattle.mw_base.specs.declared.sign.Sign.{Sign as SignOf}
 use Rattle.mw_base.specs.declared.symbol.Symbol.{Symbol}
@@ -28,6 +28,10 @@ symbol_of_kind kinds.Sign bytes = of_sign (sign_of bytes)
 -- what a token of a text is
 unfoldable pub symbol_of : List ℕ → Token → Symbol
 symbol_of text token = symbol_of_kind token.kind (spelled text token)
+
+-- each of these tokens is a name, a number or a sign of the text
+abbrev pub AreKnown : List ℕ → List Token → Type 0
+AreKnown text tokens = All (λ token. symbol_of text token ≢ Other) tokens
 
 -- it is this sign
 abbrev pub is_sign : SignOf → Symbol → Bool

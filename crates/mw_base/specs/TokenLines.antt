@@ -1,32 +1,41 @@
--- The lines of a text, each with its tokens.
-use Rattle.std.specs.Prelude.{ℕ, ◌+◌, ◌-◌, List, [], ◌∷◌, length, take, drop, ◌==◌, slice_get, Option, Some, None, Result, Ok}
-use Rattle.std.specs.List.{prefix_len}
+-- The lines of a text, each with its tokens, as grammars read them: `Lines` cuts the bytes into lines, `Tokens` reads one of them.
+use Rattle.std.specs.Prelude.{ℕ, ◌+◌, ◌-◌, List, [], ◌∷◌, length, slice_get, Option, Some, None, Result, Ok}
+use Rattle.std.specs.List.{flat_map}
 use Rattle.mw_base.specs.declared.cause.Cause.{Cause}
 use Rattle.mw_base.specs.declared.line.Line.{Line}
 use Rattle.mw_base.specs.declared.refusal.TextFault.{TextFault}
 use Rattle.mw_base.specs.declared.token.Token.{Token}
 use Rattle.mw_base.specs.Lines.{lines_of, content}
-use Rattle.mw_base.specs.Reading.{◌>>=◌}
-use Rattle.mw_base.specs.Tokens.{tokens_of}
+use Rattle.mw_base.specs.Reading.{◌>>=◌, with_front}
+use Rattle.mw_base.specs.Tokens.{line_tokens}
 
--- how many tokens at the front stand in the line of this number
-abbrev pub count_in : ℕ → List Token → ℕ
-count_in number tokens = prefix_len (λ (token : Token). token.line == number) tokens
+-- a line with its tokens, or the first fault of its bytes; it has this number, begins at this place of the text and ends just past its
+-- last byte
+unfoldable pub line_of : ℕ → ℕ → List ℕ → Result Line TextFault
+line_of number start line = do
+  tokens ← line_tokens number start line
+  Ok (record { number = number; end = length line + 1; tokens = tokens })
 
--- the first of the lines, and its tokens, the first of those that are left; it ends just past its last byte
-abbrev pub line_with : ℕ → List ℕ → List Token → Line
-line_with number line tokens = record { number = number; end = length (content line) + 1; tokens = take (count_in number tokens) tokens }
-
--- lines with their tokens, the first of which has this number
-unfoldable pub lines_with : ℕ → List (List ℕ) → List Token → List Line
-lines_with number [] tokens = []
-lines_with number (line ∷ rest) tokens = line_with number line tokens ∷ lines_with (number + 1) rest (drop (count_in number tokens) tokens)
+-- lines with their tokens, or their first fault; the first has this number and begins at this place of the text
+unfoldable pub lines_from : ℕ → ℕ → List (List ℕ) → Result (List Line) TextFault
+lines_from number start [] = Ok []
+lines_from number start (line ∷ rest) = do
+  first ← line_of number start (content line)
+  with_front (first ∷ []) (lines_from (number + 1) (start + length line) rest)
 
 -- the lines of a text, each with its tokens, or the first fault of its bytes
 abbrev pub token_lines : List ℕ → Result (List Line) TextFault
-token_lines text = do
-  tokens ← tokens_of text
-  Ok (lines_with 1 (lines_of text) tokens)
+token_lines text = lines_from 1 0 (lines_of text)
+
+-- the tokens of lines, in order
+abbrev pub tokens_in : List Line → List Token
+tokens_in lines = flat_map (λ (line : Line). line.tokens) lines
+
+-- the tokens of a text, in order, or the first fault of its bytes
+abbrev pub tokens_of : List ℕ → Result (List Token) TextFault
+tokens_of text = do
+  lines ← token_lines text
+  Ok (tokens_in lines)
 
 -- a fault at a token
 abbrev pub fault_on : Token → Cause → TextFault

@@ -1,4 +1,5 @@
--- The tokens of a text, or the first fault of its bytes by place.
+-- The tokens of a line, or the first fault of its bytes by place, and how tokens stand in a text. `TokenLines` puts the lines of a text
+-- together.
 use Rattle.std.specs.Prelude.{ℕ, zero, suc, ◌+◌, ◌-◌, ◌<◌, ◌≤◌, List, [], ◌∷◌, if◌then◌else◌, nat_le, Option, Some, None, Result, Ok, Err, length, take, drop, All, AllPairs}
 use Rattle.mw_base.specs.declared.cause.Cause.{Cause}
 use Rattle.mw_base.specs.declared.cause.Cause.TheVariants.{LineTooLong}
@@ -6,14 +7,8 @@ use Rattle.mw_base.specs.declared.refusal.TextFault.{TextFault}
 use Rattle.mw_base.specs.declared.token.Kind.{Kind}
 use Rattle.mw_base.specs.declared.token.Token.{Token}
 use Rattle.mw_base.specs.declared.piece.Piece.{Piece}
-use Rattle.mw_base.specs.Lines.{lines_of, content}
 use Rattle.mw_base.specs.Pieces.{piece_at, Spells}
 use Rattle.mw_base.specs.Reading.{with_front}
-
--- what is read of one stretch and then of the next
-abbrev pub both : Result (List Token) TextFault → Result (List Token) TextFault → Result (List Token) TextFault
-both (Ok front) back = with_front front back
-both (Err fault) back = Err fault
 
 -- a fault at place `at`, from 0, of a line
 abbrev pub fault_at : ℕ → ℕ → Cause → TextFault
@@ -44,15 +39,6 @@ of_long_line number (Err fault) = if nat_le fault.column 4097 then Err fault els
 unfoldable pub line_tokens : ℕ → ℕ → List ℕ → Result (List Token) TextFault
 line_tokens number start line =
     if nat_le (length line) 4096 then tokens_from number start 0 0 line else of_long_line number (tokens_from number start 0 0 line)
-
--- what is read of lines, in order; the first has this number and begins at this place of the text
-unfoldable pub lines_tokens : ℕ → ℕ → List (List ℕ) → Result (List Token) TextFault
-lines_tokens number start [] = Ok []
-lines_tokens number start (line ∷ rest) = both (line_tokens number start (content line)) (lines_tokens (number + 1) (start + length line) rest)
-
--- the tokens of a text in order, or its first fault
-abbrev pub tokens_of : List ℕ → Result (List Token) TextFault
-tokens_of text = lines_tokens 1 0 (lines_of text)
 
 -- the bytes of a text from one place up to another
 abbrev pub slice : List ℕ → ℕ → ℕ → List ℕ

@@ -113,6 +113,10 @@ impl<'a> Cursor<'a> {
     }
 
     /// Token n.
+    ///
+    /// # Errors
+    ///
+    /// The grammar's cause at the line's end, where that comes before token n.
     pub fn token(&self, n: usize) -> Result<Token, TextFault>
         ensures { result ≡ token_at n self.now }
     {
@@ -147,6 +151,10 @@ impl<'a> Cursor<'a> {
     }
 
     /// Token n, which has to be a name.
+    ///
+    /// # Errors
+    ///
+    /// The grammar's cause: at the token where it is no name, at the line's end where there is none.
     #[tactic(auto, unfolding(crate::specs::Cursors::name_at))]
     pub fn name(&self, n: usize) -> Result<Token, TextFault>
         ensures { result ≡ name_at n self.now }
@@ -159,6 +167,10 @@ impl<'a> Cursor<'a> {
     }
 
     /// Token n, which has to be a number.
+    ///
+    /// # Errors
+    ///
+    /// The grammar's cause: at the token where it is no number, at the line's end where there is none.
     #[tactic(auto, unfolding(crate::specs::Cursors::number_at))]
     pub fn number(&self, n: usize) -> Result<Numeral, TextFault>
         ensures { result ≡ number_at n self.now }
@@ -171,6 +183,10 @@ impl<'a> Cursor<'a> {
     }
 
     /// Token n, which has to be this sign.
+    ///
+    /// # Errors
+    ///
+    /// The grammar's cause: at the token where it isn't that sign, at the line's end where there is none.
     #[tactic(auto, unfolding(crate::specs::Cursors::sign_at))]
     pub fn sign(&self, n: usize, sign: Sign) -> Result<Token, TextFault>
         ensures { result ≡ sign_at sign n self.now }
@@ -183,7 +199,11 @@ impl<'a> Cursor<'a> {
         }
     }
 
-    /// Token n, which has to be a PLACE: the name of a label, or an address.
+    /// Token n, which has to be a PLACE: the name of a label, or an address, which may be any number.
+    ///
+    /// # Errors
+    ///
+    /// The grammar's cause: at the token where it is a sign, at the line's end where there is none.
     #[tactic(auto, unfolding(crate::specs::Cursors::place_at))]
     pub fn place(&self, n: usize) -> Result<Place, TextFault>
         ensures { result ≡ place_at n self.now }
@@ -197,6 +217,10 @@ impl<'a> Cursor<'a> {
     }
 
     /// The first tokens, which have to be NAME . NAME.
+    ///
+    /// # Errors
+    ///
+    /// The grammar's cause: at the first of them that isn't as it has to be, at the line's end where that comes before.
     #[tactic(auto, unfolding(crate::specs::Cursors::element_of))]
     pub fn element(&self) -> Result<Dotted, TextFault>
         ensures { result ≡ element_of self.now }
@@ -208,6 +232,10 @@ impl<'a> Cursor<'a> {
     }
 
     /// The line has to end before token n.
+    ///
+    /// # Errors
+    ///
+    /// The grammar's cause at token n, where there is one.
     #[tactic(auto, unfolding(crate::specs::Cursors::end_at))]
     pub fn end(&self, n: usize) -> Result<(), TextFault>
         ensures { result ≡ end_at n self.now }

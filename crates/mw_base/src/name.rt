@@ -1,12 +1,13 @@
 // Names, and other bytes that a value keeps.
 ghost use Rattle.std.specs.Prelude.{◌≡◌, ℕ, List, IfOk};
-ghost use Rattle.std.specs.List.{list_any};
-ghost use Rattle.std.specs.Str.{bytes_eq};
 ghost use Rattle.mw_base.specs.Names.{is_name_start, is_word_byte, are_word_bytes, is_spelled_as_name, is_name};
 
 use crate::memory::NoMemory;
 use std::alloc::Global;
 use std::marker::Model;
+
+/// The most bytes that a name may have.
+pub(crate) const LONGEST_NAME: usize = 64;
 
 /// Bytes that a value keeps, as a name or the dotted path of a key, seen as those bytes. Nothing is asked of them: `is_name` says which may
 /// be a name.
@@ -84,12 +85,5 @@ fn is_spelled_as_name(text: &[u8]) -> bool
 pub fn is_name(text: &[u8]) -> bool
     ensures { result ≡ is_name text.now }
 {
-    is_spelled_as_name(text) && text.len() <= 64
-}
-
-/// Whether the text is one of these.
-pub fn is_one_of(texts: &[&[u8]], text: &[u8]) -> bool
-    ensures { result ≡ list_any (λ other. bytes_eq text.now other.now) texts.now }
-{
-    texts.iter().any(|other| text == *other)
+    is_spelled_as_name(text) && text.len() <= LONGEST_NAME
 }

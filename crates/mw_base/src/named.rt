@@ -1,18 +1,16 @@
 // What names stand for.
-ghost use Rattle.std.specs.Prelude.{◌≡◌, OnOk};
+ghost use Rattle.std.specs.Prelude.{◌≡◌, OnOk, OnErr};
 ghost use Rattle.mw_base.specs.Named.{names_seen, no_names, with_name, new_name};
 
 use crate::cause::Cause;
 use crate::line::fault_on;
 use crate::memory::NoMemory;
+use crate::name::LONGEST_NAME;
 use crate::refusal::TextFault;
 use crate::symbol::spelled;
 use crate::token::Token;
 use std::alloc::Global;
 use std::collections::HashMap;
-
-/// The most bytes that a name may have.
-const LONGEST_NAME: usize = 64;
 
 /// Names, and what each stands for. The names are those of a text that outlives them.
 #[derive(Drop)]
@@ -41,9 +39,10 @@ impl<'a, M: Copy> Names<'a, M> {
     ///
     /// # Errors
     ///
-    /// Memory ran out.
+    /// Memory ran out: names stand for what they stood for.
     pub fn insert(&mut self, name: &'a [u8], meaning: M) -> Result<(), NoMemory>
-        ensures { OnOk result (names_seen self.new ≡ with_name (names_seen self.old) name.now meaning) }
+        ensures ok { OnOk result (names_seen self.new ≡ with_name (names_seen self.old) name.now meaning) }
+        ensures err { OnErr result (names_seen self.new ≡ names_seen self.old) }
     {
         self.meanings.insert(name, meaning)?;
         Ok(())

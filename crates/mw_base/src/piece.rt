@@ -1,10 +1,11 @@
 // What stands at the front of the rest of a line.
 ghost use Rattle.std.specs.Prelude.{◌≡◌, ◌≤◌, IfOk, Some, length, slice_index, take};
-ghost use Rattle.mw_base.specs.Pieces.{is_sign, is_pair, word_length, piece_at, Spells};
+ghost use Rattle.mw_base.specs.Pieces.{word_length, piece_at, Spells};
 
 use crate::cause::Cause;
 use crate::literal::number;
 use crate::name::{is_name_start, is_word_byte};
+use crate::sign::sign_at;
 use crate::token::Kind;
 
 /// Some bytes of a line: a token of a kind, or a blank or a comment, which is none.
@@ -12,18 +13,6 @@ use crate::token::Kind;
 pub(crate) struct Piece {
     pub kind: Option<Kind>,
     pub length: usize,
-}
-
-fn is_sign(c: u8) -> bool
-    ensures { result ≡ is_sign c }
-{
-    b"=:,#+-&|^~()[]{}?<.".contains(&c)
-}
-
-fn is_pair(line: &[u8]) -> bool
-    ensures { result ≡ is_pair line.now }
-{
-    line.starts_with(b":=") | line.starts_with(b"==") | line.starts_with(b"!=")
 }
 
 /// How many bytes of a word stand at the front.
@@ -49,9 +38,10 @@ pub(crate) fn piece_at(line: &[u8]) -> Result<Piece, Cause>
         b';' => (None, line.len()),
         _ if is_name_start(c) => (Some(Kind::Name), word),
         _ if c.is_ascii_digit() => (Some(Kind::Number(number(&line[..word])?)), word),
-        _ if is_pair(line) => (Some(Kind::Sign), 2),
-        _ if is_sign(c) => (Some(Kind::Sign), 1),
-        _ => return Err(Cause::BadByte),
+        _ => match sign_at(line) {
+            Some(sign) => (Some(Kind::Sign), sign.bytes().len()),
+            None => return Err(Cause::BadByte),
+        },
     };
     Ok(Piece { kind, length })
 }

@@ -20,8 +20,12 @@ pub enum Place {
     Address(Numeral),
 }
 
-/// A control address, which is below 4,096: cause 33.
-fn low_address(token: Token, address: u128) -> Result<u16, TextFault>
+/// A control address, which is below 4,096.
+///
+/// # Errors
+///
+/// Cause 33 where it isn't, at its token.
+pub fn low_address(token: Token, address: u128) -> Result<u16, TextFault>
     ensures exact { result ≡ low_address token address }
     ensures low { IfOk result (λ address. address < 4096) }
 {

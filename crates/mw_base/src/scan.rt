@@ -1,9 +1,9 @@
-// The scanner: a text's tokens.
+// The scanner: the tokens of a line.
 ghost use Rattle.std.specs.Prelude.{◌≡◌, ℕ, List, Result, ◌+◌, ◌<◌, ◌≤◌, ◌^◌, ◌∷◌, ◌++◌, IfOk, IfErr, OnOk, Ok, Some, length, take, drop};
 ghost use Rattle.mw_base.specs.Lines.{lines_of, before_feed, content};
 ghost use Rattle.mw_base.specs.Pieces.{Spells};
-ghost use Rattle.mw_base.specs.Reading.{with_front, Fails, Gives};
-ghost use Rattle.mw_base.specs.Tokens.{fault_at, token_at, tokens_from, line_tokens, of_long_line, tokens_of, slice, InOrder};
+ghost use Rattle.mw_base.specs.Reading.{with_front, Fails};
+ghost use Rattle.mw_base.specs.Tokens.{fault_at, token_at, tokens_from, line_tokens, of_long_line, slice, InOrder};
 
 use crate::cause::Cause;
 use crate::piece::{Piece, piece_at};
@@ -23,7 +23,7 @@ fn before_feed(text: &[u8]) -> usize
 }
 
 /// The first line of a text, with the line feed that ends it. The text has a byte or more.
-pub fn first_line(text: &[u8]) -> &[u8]
+pub(crate) fn first_line(text: &[u8]) -> &[u8]
     requires { 1 ≤ length text.now }
     ensures first { lines_of text.now ≡ result.now ∷ lines_of (drop (length result.now) text.now) }
     ensures front { result.now ≡ take (length result.now) text.now }
@@ -39,7 +39,7 @@ pub fn first_line(text: &[u8]) -> &[u8]
 }
 
 /// A line without the line feed at its end and a carriage return just before that.
-pub fn content(line: &[u8]) -> &[u8]
+pub(crate) fn content(line: &[u8]) -> &[u8]
     ensures exact { result.now ≡ content line.now }
     ensures front { result.now ≡ take (length result.now) line.now }
     ensures within { length result.now ≤ length line.now }
@@ -73,7 +73,6 @@ fn fault_at(number: u32, at: usize, cause: Cause) -> TextFault
 }
 
 /// Adds the token that a piece at place `at` of a line is, if it is one.
-#[tactic(auto, using(crate::proofs::Orders::in_order_push))]
 fn push_token(
     tokens: &mut Vec<Token>,
     number: u32,
@@ -84,8 +83,10 @@ fn push_token(
     requires some { 1 ≤ piece.length }
     requires short { start + at + piece.length < 2 ^ 32 }
     ensures pushed { OnOk result (tokens.new.items ≡ tokens.old.items ++ token_at number start at piece.kind piece.length) }
-    ensures ordered { (text : List ℕ) → ((kind : Kind) → piece.kind ≡ Some kind → Spells (slice text (start + at) (start + at + piece.length)) kind)
-        → InOrder text (start + at) tokens.old.items → OnOk result (InOrder text (start + at + piece.length) tokens.new.items) }
+    ensures ordered { (text : List ℕ) (front : List Token)
+        → ((kind : Kind) → piece.kind ≡ Some kind → Spells (slice text (start + at) (start + at + piece.length)) kind)
+        → InOrder text (start + at) (front ++ tokens.old.items)
+        → OnOk result (InOrder text (start + at + piece.length) (front ++ tokens.new.items)) }
     ensures refused { IfErr result (λ refusal. refusal ≡ Refused.NoMemory) }
 {
     if let Some(kind) = piece.kind {
@@ -112,8 +113,9 @@ fn push_piece(
     requires short { start + length line.now < 2 ^ 32 }
     ensures goes { IfOk result (λ next. with_front tokens.new.items (tokens_from number start next 0 (drop next line.now))
         ≡ with_front tokens.old.items (tokens_from number start at 0 (drop at line.now))) }
-    ensures ordered { (text : List ℕ) → slice text start (start + length line.now) ≡ line.now → InOrder text (start + at) tokens.old.items
-        → IfOk result (λ next. InOrder text (start + next) tokens.new.items) }
+    ensures ordered { (text : List ℕ) (front : List Token) → slice text start (start + length line.now) ≡ line.now
+        → InOrder text (start + at) (front ++ tokens.old.items)
+        → IfOk result (λ next. InOrder text (start + next) (front ++ tokens.new.items)) }
     ensures on { IfOk result (λ next. (at < next) × (next ≤ length line.now)) }
     ensures refused { IfErr result (λ refusal. Fails refusal (tokens_from number start at 0 (drop at line.now))) }
 {
@@ -135,8 +137,9 @@ fn push_pieces(
 ) -> Result<(), Refusal>
     requires short { start + length line.now < 2 ^ 32 }
     ensures pushed { OnOk result (Ok tokens.new.items ≡ with_front tokens.old.items (tokens_from number start 0 0 line.now)) }
-    ensures ordered { (text : List ℕ) → slice text start (start + length line.now) ≡ line.now → InOrder text start tokens.old.items
-        → OnOk result (InOrder text (start + length line.now) tokens.new.items) }
+    ensures ordered { (text : List ℕ) (front : List Token) → slice text start (start + length line.now) ≡ line.now
+        → InOrder text start (front ++ tokens.old.items)
+        → OnOk result (InOrder text (start + length line.now) (front ++ tokens.new.items)) }
     ensures refused { IfErr result (λ refusal. Fails refusal (tokens_from number start 0 0 line.now)) }
 {
     let mut at = 0;
@@ -170,8 +173,9 @@ pub(crate) fn push_line(
 ) -> Result<(), Refusal>
     requires short { start + length line.now < 2 ^ 32 }
     ensures pushed { OnOk result (Ok tokens.new.items ≡ with_front tokens.old.items (line_tokens number start line.now)) }
-    ensures ordered { (text : List ℕ) → slice text start (start + length line.now) ≡ line.now → InOrder text start tokens.old.items
-        → OnOk result (InOrder text (start + length line.now) tokens.new.items) }
+    ensures ordered { (text : List ℕ) (front : List Token) → slice text start (start + length line.now) ≡ line.now
+        → InOrder text start (front ++ tokens.old.items)
+        → OnOk result (InOrder text (start + length line.now) (front ++ tokens.new.items)) }
     ensures within { OnOk result (length line.now ≤ 4096) }
     ensures refused { IfErr result (λ refusal. Fails refusal (line_tokens number start line.now)) }
 {
@@ -183,32 +187,4 @@ pub(crate) fn push_line(
         Ok(()) => Err(Refused::At(fault_at(number, LONGEST_LINE, Cause::LineTooLong))),
         Err(refusal) => Err(of_long_line(number, refusal)),
     }
-}
-
-/// The tokens of a text, in order. The text of each is its slice of the text.
-///
-/// The text has fewer than 2^32 bytes.
-///
-/// # Errors
-///
-/// The first fault of the text's bytes by line and column, with the least number at one place: cause 1 at a byte that no token,
-/// blank or comment has, cause 2 or 3 at a word that begins with a digit and is no number, or one of 2^128 or more, and cause 4 at
-/// column 4,097 of a line of over 4,096 bytes. Want of memory.
-pub fn tokens(alloc: Global, text: &[u8]) -> Result<Vec<Token>, Refusal>
-    requires short { length text.now < 2 ^ 32 }
-    ensures exact { Gives (λ v. v.items) result (tokens_of text.now) }
-    ensures ordered { IfOk result (λ v. InOrder text.now (length text.now) v.items) }
-{
-    let mut tokens = Vec::new(alloc);
-    let mut number = 0;
-    let mut start = 0;
-    while start < text.len() {
-        let line = first_line(&text[start..]);
-        number += 1;
-        match push_line(&mut tokens, number, start, content(line)) {
-            Ok(()) => start += line.len(),
-            Err(refusal) => return Err(refusal),
-        }
-    }
-    Ok(tokens)
 }

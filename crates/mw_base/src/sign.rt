@@ -1,6 +1,6 @@
 // Signs of texts.
-ghost use Rattle.std.specs.Prelude.{◌≡◌};
-ghost use Rattle.mw_base.specs.Signs.{bytes_of, sign_of};
+ghost use Rattle.std.specs.Prelude.{◌≡◌, ◌≤◌, length};
+ghost use Rattle.mw_base.specs.Signs.{bytes_of, sign_of, sign_at};
 
 /// A sign of a text.
 #[derive(Clone, Copy, Debug, PartialEq, Eq)]
@@ -80,7 +80,8 @@ const SIGNS: [Sign; 22] = [
 impl Sign {
     /// Its bytes.
     pub fn bytes(self) -> &'static [u8]
-        ensures { result.now ≡ bytes_of self }
+        ensures exact { result.now ≡ bytes_of self }
+        ensures some { 1 ≤ length result.now }
     {
         match self {
             Sign::Equals => b"=",
@@ -115,4 +116,14 @@ pub(crate) fn sign_of(bytes: &[u8]) -> Option<Sign>
     ensures { result ≡ sign_of bytes.now }
 {
     SIGNS.iter().copied().find(|sign| sign.bytes() == bytes)
+}
+
+/// The sign at the front of a line: that of its first two bytes, or else of its first.
+#[tactic(auto, using(std::proofs::lemmas::List::take_min))]
+pub(crate) fn sign_at(line: &[u8]) -> Option<Sign>
+    ensures { result ≡ sign_at line.now }
+{
+    let first_two = &line[..2.min(line.len())];
+    let first = &line[..1.min(line.len())];
+    sign_of(first_two).or(sign_of(first))
 }

@@ -6,9 +6,8 @@ use mw_base::Cause;
 pub struct PartFault {
     /// Why they are no board: 10 to 14, 24 or 31.
     pub cause: Cause,
-    /// The key of a board file at which it stands, counted from 0 in their order: `version`, `width`, `microword`, `address`, `fill`,
-    /// `unset`, `vector`, `fields`, `flipflop`, a flip-flop's `name`, `control` and `load` (9 to 11), the control points (12 to 30),
-    /// the lists `carry_in`, `condition`, `ram_link`, `q_link` and `d` (31 to 35), `map.low`, `map.bits` and `map.entries`.
+    /// The key of a board file at which it stands, by its number in the module `key`: a control point's is `FIRST_POINT` and its place in
+    /// `Point::ALL`.
     pub row: u8,
     /// The number of the field, of the flip-flop, or of the list's entry; 0 also for a whole list, and where there is none. 65,535 stands
     /// for each greater number.

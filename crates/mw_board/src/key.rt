@@ -1,40 +1,42 @@
-// The keys of a board file by number, counted from 0, which is version, in their order.
+//! The keys of a board file by number, counted from 0, which is version, in their order.
+
+use crate::point::Point;
 
 /// width.
-pub(crate) const WIDTH: u8 = 1;
+pub const WIDTH: u8 = 1;
 /// microword.
-pub(crate) const MICROWORD: u8 = 2;
+pub const MICROWORD: u8 = 2;
 /// address.
-pub(crate) const ADDRESS: u8 = 3;
+pub const ADDRESS: u8 = 3;
 /// fill.
-pub(crate) const FILL: u8 = 4;
+pub const FILL: u8 = 4;
 /// unset.
-pub(crate) const UNSET: u8 = 5;
+pub const UNSET: u8 = 5;
 /// vector.
-pub(crate) const VECTOR: u8 = 6;
+pub const VECTOR: u8 = 6;
 /// fields.
-pub(crate) const FIELDS: u8 = 7;
+pub const FIELDS: u8 = 7;
 /// flipflop.
-pub(crate) const FLIPFLOP: u8 = 8;
+pub const FLIPFLOP: u8 = 8;
 /// flipflop.N.name.
-pub(crate) const NAME: u8 = 9;
+pub const NAME: u8 = 9;
 /// flipflop.N.control.
-pub(crate) const CONTROL: u8 = 10;
+pub const CONTROL: u8 = 10;
 /// flipflop.N.load.
-pub(crate) const LOAD: u8 = 11;
+pub const LOAD: u8 = 11;
 /// control.alu_source, behind which the other points stand.
-pub(crate) const FIRST_POINT: u8 = 12;
-/// select.carry_in.
-pub(crate) const CARRY_IN: u8 = 31;
+pub const FIRST_POINT: u8 = 12;
+/// select.carry_in, behind the points.
+pub const CARRY_IN: u8 = FIRST_POINT + Point::ALL.len() as u8;
 /// select.condition.
-pub(crate) const CONDITION: u8 = 32;
+pub const CONDITION: u8 = CARRY_IN + 1;
 /// select.ram_link.
-pub(crate) const RAM_LINK: u8 = 33;
+pub const RAM_LINK: u8 = CONDITION + 1;
 /// select.q_link.
-pub(crate) const Q_LINK: u8 = 34;
+pub const Q_LINK: u8 = RAM_LINK + 1;
 /// select.d.
-pub(crate) const D: u8 = 35;
-/// map.bits.
-pub(crate) const MAP_BITS: u8 = 37;
+pub const D: u8 = Q_LINK + 1;
+/// map.bits, behind map.low.
+pub const MAP_BITS: u8 = D + 2;
 /// map.entries.
-pub(crate) const MAP_ENTRIES: u8 = 38;
+pub const MAP_ENTRIES: u8 = MAP_BITS + 1;

@@ -9,7 +9,7 @@ mod element;
 mod fault;
 mod field;
 mod flipflop;
-mod key;
+pub mod key;
 mod parts;
 mod point;
 mod rules;

@@ -1,3 +1,4 @@
+pub mod Documents
 pub mod FieldsRead
 pub mod InOrder
 pub mod Kept

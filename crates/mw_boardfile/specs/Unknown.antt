@@ -8,8 +8,8 @@ use Rattle.toml.specs.Data.{Data, Items, Members, no_members, member, get_member
 use Rattle.mw_base.specs.declared.cause.Cause.TheVariants.{UnknownKey}
 use Rattle.mw_base.specs.Numbers.{decimal}
 use Rattle.mw_board.specs.Points.{all_points, name_of}
-use Rattle.mw_boardfile.specs.declared.unknown.Place.{Place}
-use Rattle.mw_boardfile.specs.declared.unknown.Place.TheVariants.{File, FlipFlop, Control, Select, Map}
+use Rattle.mw_boardfile.specs.declared.unknown.KeyTable.{KeyTable}
+use Rattle.mw_boardfile.specs.declared.unknown.KeyTable.TheVariants.{File, FlipFlop, Control, Select, Map}
 use Rattle.mw_boardfile.specs.declared.fault.KeyFault.{KeyFault}
 use Rattle.mw_boardfile.specs.Values.{values_of}
 
@@ -37,13 +37,13 @@ select_keys = codes "carry_in" ∷ codes "condition" ∷ codes "ram_link" ∷ co
 abbrev pub map_keys : List (List ℕ)
 map_keys = codes "low" ∷ codes "bits" ∷ codes "entries" ∷ []
 
--- the keys that the format has at a place
-abbrev pub keys_at : Place → List (List ℕ)
-keys_at File = file_keys
-keys_at FlipFlop = flipflop_keys
-keys_at Control = control_keys
-keys_at Select = select_keys
-keys_at Map = map_keys
+-- the keys that the format has in such a table
+abbrev pub keys_of : KeyTable → List (List ℕ)
+keys_of File = file_keys
+keys_of FlipFlop = flipflop_keys
+keys_of Control = control_keys
+keys_of Select = select_keys
+keys_of Map = map_keys
 
 -- one of these keys
 abbrev pub is_one_of : List (List ℕ) → List ℕ → Bool

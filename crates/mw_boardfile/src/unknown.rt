@@ -7,7 +7,7 @@ ghost use Rattle.toml.specs.Data.{get_member};
 ghost use Rattle.toml.specs.View.{table_view};
 ghost use Rattle.mw_base.specs.Numbers.{decimal};
 ghost use Rattle.mw_base.specs.Reading.{Gives};
-ghost use Rattle.mw_boardfile.specs.Unknown.{keys_at};
+ghost use Rattle.mw_boardfile.specs.Unknown.{keys_of};
 ghost use Rattle.mw_boardfile.specs.Unknown.{is_one_of, lesser, with_key, with_members, with_table, table_at};
 ghost use Rattle.mw_boardfile.specs.Unknown.{with_flipflops, flipflops_at, unknown_key, known_or_fault};
 ghost use Rattle.mw_boardfile.specs.Views.{given, data_of};
@@ -19,18 +19,18 @@ use mw_board::Point;
 use std::alloc::Global;
 use toml::{Table, Value};
 
-/// Where keys stand.
+/// A table whose keys the format names.
 #[derive(Clone, Copy)]
-enum Place {
-    /// At the top of a file.
+enum KeyTable {
+    /// The file itself.
     File,
-    /// In a flip-flop.
+    /// A flip-flop.
     FlipFlop,
-    /// In the table of the control points.
+    /// The control points.
     Control,
-    /// In the table of the lists.
+    /// The lists.
     Select,
-    /// In the map.
+    /// The map.
     Map,
 }
 
@@ -66,16 +66,16 @@ fn is_point(points: &[Point], key: &[u8]) -> bool
     points.iter().any(|point| key == point.name().as_bytes())
 }
 
-/// Whether a key is one that the format has at this place.
-fn is_known(place: Place, key: &[u8]) -> bool
-    ensures { result ≡ is_one_of (keys_at place) key.now }
+/// Whether a key is one that the format has in such a table.
+fn is_known(kind: KeyTable, key: &[u8]) -> bool
+    ensures { result ≡ is_one_of (keys_of kind) key.now }
 {
-    match place {
-        Place::File => is_one_of(&FILE_KEYS, key),
-        Place::FlipFlop => is_one_of(&FLIPFLOP_KEYS, key),
-        Place::Control => is_point(&Point::ALL, key),
-        Place::Select => is_one_of(&SELECT_KEYS, key),
-        Place::Map => is_one_of(&MAP_KEYS, key),
+    match kind {
+        KeyTable::File => is_one_of(&FILE_KEYS, key),
+        KeyTable::FlipFlop => is_one_of(&FLIPFLOP_KEYS, key),
+        KeyTable::Control => is_point(&Point::ALL, key),
+        KeyTable::Select => is_one_of(&SELECT_KEYS, key),
+        KeyTable::Map => is_one_of(&MAP_KEYS, key),
     }
 }
 
@@ -107,14 +107,14 @@ fn behind(alloc: Global, prefix: &[u8], key: &str) -> Result<Name, NoMemory>
 /// With one key, where it isn't known.
 fn with_key(
     alloc: Global,
-    place: Place,
+    kind: KeyTable,
     prefix: &[u8],
     key: &str,
     least: Option<Name>,
 ) -> Result<Option<Name>, NoMemory>
-    ensures { IfOk result (λ now. now ≡ with_key (keys_at place) prefix.now key.now least) }
+    ensures { IfOk result (λ now. now ≡ with_key (keys_of kind) prefix.now key.now least) }
 {
-    if is_known(place, key.as_bytes()) {
+    if is_known(kind, key.as_bytes()) {
         return Ok(least);
     }
     let path = behind(alloc, prefix, key)?;
@@ -124,16 +124,16 @@ fn with_key(
 /// With the keys of a table that aren't known.
 fn with_members(
     alloc: Global,
-    place: Place,
+    kind: KeyTable,
     prefix: &[u8],
     table: &Table,
     least: Option<Name>,
 ) -> Result<Option<Name>, NoMemory>
-    ensures { IfOk result (λ now. now ≡ with_members (keys_at place) prefix.now (table_view table.now) least) }
+    ensures { IfOk result (λ now. now ≡ with_members (keys_of kind) prefix.now (table_view table.now) least) }
 {
     let mut least = least;
     'members: for (key, _) in table.iter() {
-        least = with_key(alloc, place, prefix, key.as_str(), least)?;
+        least = with_key(alloc, kind, prefix, key.as_str(), least)?;
     }
     Ok(least)
 }
@@ -141,16 +141,16 @@ fn with_members(
 /// With those of a value, which has none where it is no table.
 fn with_table(
     alloc: Global,
-    place: Place,
+    kind: KeyTable,
     prefix: &[u8],
     value: Option<&Value>,
     least: Option<Name>,
 ) -> Result<Option<Name>, NoMemory>
-    ensures { IfOk result (λ now. now ≡ with_table (keys_at place) prefix.now (table_at (given value.entry)) least) }
+    ensures { IfOk result (λ now. now ≡ with_table (keys_of kind) prefix.now (table_at (given value.entry)) least) }
 {
     match value {
         Some(value) => match value.as_table() {
-            Some(table) => with_members(alloc, place, prefix, table, least),
+            Some(table) => with_members(alloc, kind, prefix, table, least),
             None => Ok(least),
         },
         None => Ok(least),
@@ -178,7 +178,7 @@ fn with_flipflops(
     let mut least = least;
     'flipflops: for (n, value) in flipflops.iter().enumerate() {
         let prefix = flipflop_prefix(alloc, n)?;
-        least = with_table(alloc, Place::FlipFlop, &prefix, Some(value), least)?;
+        least = with_table(alloc, KeyTable::FlipFlop, &prefix, Some(value), least)?;
     }
     Ok(least)
 }
@@ -201,22 +201,22 @@ fn flipflops(document: &Table) -> &[Value]
 fn unknown_key(alloc: Global, document: &Table) -> Result<Option<Name>, NoMemory>
     ensures { IfOk result (λ least. least ≡ unknown_key (table_view document.now)) }
 {
-    let least = with_members(alloc, Place::File, b"", document, None)?;
+    let least = with_members(alloc, KeyTable::File, b"", document, None)?;
     let least = with_table(
         alloc,
-        Place::Control,
+        KeyTable::Control,
         b"control.",
         member(document, "control"),
         least,
     )?;
     let least = with_table(
         alloc,
-        Place::Select,
+        KeyTable::Select,
         b"select.",
         member(document, "select"),
         least,
     )?;
-    let least = with_table(alloc, Place::Map, b"map.", member(document, "map"), least)?;
+    let least = with_table(alloc, KeyTable::Map, b"map.", member(document, "map"), least)?;
     with_flipflops(alloc, flipflops(document), least)
 }
 

@@ -2,19 +2,16 @@
 use Rattle.std.proofs.Common.{◌≡◌, ℕ, ◌+◌, ◌<◌, ◌≤◌, List, [], ◌∷◌, length, drop, get_or, drop-cons, Bool, true, false, Some, refl, ap, ap₂, sym, ◌∙◌, add-one, arith, min, inl, inr, length-drop, ◌≢◌}
 use Rattle.std.proofs.lemmas.Bool.{cases_lt}
 use Rattle.std.proofs.lemmas.List.{drop_all}
+use Rattle.mw_base.proofs.Lists.{next}
 use Rattle.mw_top.specs.Differs.{unlike_from}
-
--- the rest of a list from one of its places on
-rest_from : {A : Type 0} (xs : List A) (n : ℕ) (x : A) → n < length xs → x ≡ get_or xs n x → drop n xs ≡ x ∷ drop (n + 1) xs
-rest_from {A} xs n x h e = drop-cons xs n x h ∙ ap₂ (λ (y : A) (ys : List A). y ∷ ys) (sym e) (ap (λ (k : ℕ). drop k xs) (sym (add-one n)))
 
 -- two lists that go on alike
 pub alike : {A : Type 0} (same : A → A → Bool) (xs ys : List A) (n : ℕ) (x y : A) → n < length xs → n < length ys → x ≡ get_or xs n x → y ≡ get_or ys n y → same x y ≡ true → unlike_from same n (drop n xs) (drop n ys) ≡ unlike_from same (n + 1) (drop (n + 1) xs) (drop (n + 1) ys)
-alike same xs ys n x y h k ex ey e = rw (rest_from xs n x h ex, rest_from ys n y k ey, e) refl
+alike same xs ys n x y h k ex ey e = rw (next xs n x h ex, next ys n y k ey, e) refl
 
 -- two lists that are unlike here
 pub unlike : {A : Type 0} (same : A → A → Bool) (xs ys : List A) (n : ℕ) (x y : A) → n < length xs → n < length ys → x ≡ get_or xs n x → y ≡ get_or ys n y → same x y ≡ false → unlike_from same n (drop n xs) (drop n ys) ≡ Some n
-unlike same xs ys n x y h k ex ey e = rw (rest_from xs n x h ex, rest_from ys n y k ey, e) refl
+unlike same xs ys n x y h k ex ey e = rw (next xs n x h ex, next ys n y k ey, e) refl
 
 -- one list that goes on where the other has ended
 goes_on : {A : Type 0} (same : A → A → Bool) (zs : List A) (n : ℕ) → 0 < length zs → (unlike_from same n zs [] ≡ Some n) × (unlike_from same n [] zs ≡ Some n)

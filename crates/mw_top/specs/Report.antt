@@ -1,9 +1,12 @@
 -- The texts of reports.
-use Rattle.std.specs.Prelude.{ℕ, List, [], ◌∷◌, ◌++◌, codes, slice_index_or}
+use Rattle.std.specs.Prelude.{ℕ, List, [], ◌∷◌, ◌++◌, codes}
+use Rattle.std.specs.Option.{unwrap_or}
 use Rattle.mw_base.specs.Numbers.{hex, decimal}
 use Rattle.mw_base.specs.Causes.{number_of}
 use Rattle.mw_base.specs.declared.cause.Cause.{Cause}
 use Rattle.mw_base.specs.declared.cause.Cause.TheVariants.{FileTooLong}
+use Rattle.mw_board.specs.declared.parts.BoardParts.{BoardParts}
+use Rattle.mw_board.specs.Elements.{element_name}
 use Rattle.mw_plan.specs.declared.fault.FileFault.{FileFault}
 use Rattle.mw_plan.specs.declared.fault.FileFault.TheVariants.{TooLong, At}
 use Rattle.mw_top.specs.declared.fault.Fault.{Fault}
@@ -47,18 +50,14 @@ fault_text (At fault) = reader_text fault
 abbrev pub refusal_line : List ℕ → FileFault Fault → List ℕ
 refusal_line file fault = line (codes "refused " ++ file ++ fault_text fault)
 
--- the names of the elements of a board without flip-flops, by number
-abbrev pub element_names : List (List ℕ)
-element_names =
-    codes "b.r0" ∷ codes "b.r1" ∷ codes "b.r2" ∷ codes "b.r3" ∷ codes "b.r4" ∷ codes "b.r5" ∷ codes "b.r6" ∷ codes "b.r7"
-    ∷ codes "b.r8" ∷ codes "b.r9" ∷ codes "b.r10" ∷ codes "b.r11" ∷ codes "b.r12" ∷ codes "b.r13" ∷ codes "b.r14" ∷ codes "b.r15"
-    ∷ codes "b.q" ∷ codes "b.mar" ∷ codes "b.ir" ∷ codes "b.upc" ∷ codes "b.count"
-    ∷ codes "b.stack0" ∷ codes "b.stack1" ∷ codes "b.stack2" ∷ codes "b.stack3" ∷ codes "b.stack4" ∷ []
+-- an element of a board
+abbrev pub element_text : BoardParts → ℕ → List ℕ
+element_text board e = codes "element b." ++ unwrap_or (element_name board e) []
 
--- a difference
-unfoldable pub difference_text : Difference → List ℕ
-difference_text Late = codes "late"
-difference_text (Event n) = codes "event " ++ decimal n
-difference_text StackPointer = codes "element b.sp"
-difference_text (Element e) = codes "element " ++ slice_index_or element_names e []
-difference_text (Memory a) = codes "memory " ++ hex a
+-- a difference that a board shows
+unfoldable pub difference_text : BoardParts → Difference → List ℕ
+difference_text board Late = codes "late"
+difference_text board (Event n) = codes "event " ++ decimal n
+difference_text board StackPointer = codes "element b.sp"
+difference_text board (Element e) = element_text board e
+difference_text board (Memory a) = codes "memory " ++ hex a

@@ -17,6 +17,7 @@ mod refusal;
 mod start;
 mod values;
 
+pub(crate) use board::small_board;
 pub use compare::compare_bundle;
 use document::read_document;
 pub use parts::{Assignment, Link};

@@ -1,11 +1,12 @@
 // The texts of reports.
-ghost use Rattle.std.specs.Prelude.{◌≡◌, ◌++◌, [], map, slice_index_or, OnOk};
+ghost use Rattle.std.specs.Prelude.{◌≡◌, ◌++◌, OnOk};
 ghost use Rattle.mw_top.specs.Report.{line, usage_line, fault_line, cause_text, place_text, reader_text, fault_text, refusal_line};
-ghost use Rattle.mw_top.specs.Report.{element_names, difference_text};
+ghost use Rattle.mw_top.specs.Report.{element_text, difference_text};
 
 use crate::difference::Difference;
 use crate::fault::Fault;
 use mw_base::{Cause, NoMemory, append_decimal, append_hex};
+use mw_board::Board;
 use mw_plan::FileFault;
 use std::alloc::Global;
 
@@ -109,38 +110,25 @@ pub(crate) fn append_refusal(
     append_line(report, b"")
 }
 
-/// The names of the board's elements, by number.
-const ELEMENT_NAMES: [&str; 26] = [
-    "b.r0", "b.r1", "b.r2", "b.r3", "b.r4", "b.r5", "b.r6", "b.r7", "b.r8", "b.r9", "b.r10",
-    "b.r11", "b.r12", "b.r13", "b.r14", "b.r15", "b.q", "b.mar", "b.ir", "b.upc", "b.count",
-    "b.stack0", "b.stack1", "b.stack2", "b.stack3", "b.stack4",
-];
-
-/// The name of a number; nothing past the last one.
-fn name_in(names: &[&'static str], number: u32) -> &'static str
-    ensures { result.now ≡ slice_index_or (map (λ name. name.now) names.now) number [] }
+/// Appends the name of an element of the board.
+fn append_element(report: &mut Vec<u8>, board: &Board, element: u32) -> Result<(), NoMemory>
+    ensures { OnOk result (report.new.items ≡ report.old.items ++ element_text board.now element) }
 {
-    match names.get(number as usize) {
-        Some(name) => name,
-        None => "",
-    }
+    report.extend_from_slice(b"element b.")?;
+    let name = board.element_name(element as usize).unwrap_or(b"");
+    report.extend_from_slice(name)?;
+    Ok(())
 }
 
-/// The name of an element of the board.
-fn element_name(element: u32) -> &'static str
-    ensures { result.now ≡ slice_index_or element_names element [] }
-{
-    name_in(&ELEMENT_NAMES, element)
-}
-
-/// Appends a difference.
+/// Appends a difference that the board shows.
 #[tactic(auto, unfolding(crate::specs::Report::difference_text))]
 pub(crate) fn append_difference(
     alloc: Global,
     report: &mut Vec<u8>,
+    board: &Board,
     difference: Difference,
 ) -> Result<(), NoMemory>
-    ensures { OnOk result (report.new.items ≡ report.old.items ++ difference_text difference) }
+    ensures { OnOk result (report.new.items ≡ report.old.items ++ difference_text board.now difference) }
 {
     match difference {
         Difference::Late => report.extend_from_slice(b"late")?,
@@ -149,10 +137,7 @@ pub(crate) fn append_difference(
             append_decimal(alloc, report, u64::from(number))?;
         }
         Difference::StackPointer => report.extend_from_slice(b"element b.sp")?,
-        Difference::Element(element) => {
-            report.extend_from_slice(b"element ")?;
-            report.extend_from_slice(element_name(element).as_bytes())?;
-        }
+        Difference::Element(element) => append_element(report, board, element)?,
         Difference::Memory(address) => {
             report.extend_from_slice(b"memory ")?;
             append_hex(alloc, report, u128::from(address))?;

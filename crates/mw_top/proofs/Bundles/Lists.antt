@@ -5,25 +5,14 @@ use Rattle.mw_base.specs.declared.cause.Cause.{Cause}
 use Rattle.mw_base.specs.declared.cause.Cause.TheVariants.{NotBundle}
 use Rattle.mw_base.specs.declared.refusal.Refused.{Refused}
 use Rattle.mw_base.specs.declared.refusal.Refused.TheVariants.{At, NoMemory}
-use Rattle.mw_base.specs.Reading.{◌>>=◌, Fails}
+use Rattle.mw_base.specs.Reading.{◌>>=◌, with_front, Fails}
+use Rattle.mw_base.proofs.Lists.{next, regroup}
 use Rattle.mw_top.specs.Bundle.Reading.{present, each_of, count_of, list_of}
 use Rattle.mw_top.specs.Bundle.Form.{assignment_from, link_from}
 use Rattle.std.proofs.lemmas.Bool.Decides.{nat_tests}
 use Rattle.toml.specs.Data.{Data, as_array}
 use Rattle.toml.specs.View.{view, items_view}
 use Rattle.toml.specs.declared.value.Value.{Value}
-
--- what was read before, and what is still read
-abbrev pub with_front : {A : Type 0} → List A → Result (List A) Cause → Result (List A) Cause
-with_front front read = read >>= λ xs. Ok (front ++ xs)
-
-regroup : {A : Type 0} (front : List A) (x : A) (read : Result (List A) Cause) → with_front front (read >>= λ xs. Ok (x ∷ xs)) ≡ with_front (front ++ x ∷ []) read
-regroup front x (Ok xs) = ap Ok (sym (append_assoc front (x ∷ []) xs))
-regroup front x (Err e) = refl
-
--- the item at a place, and those after it
-next : (values : List Value) (i : ℕ) (value : Value) → i < length values → value ≡ get_or values i value → drop i values ≡ value ∷ drop (i + 1) values
-next values i value within is = rw (add-one) (drop-cons values i value within ∙ ap (λ (v : Value). v ∷ drop (suc i) values) (sym is))
 
 -- one more item was read
 pub goes_on : {A : Type 0} (reader : Data → Result A Cause) (front : List A) (x : A) (values : List Value) (i : ℕ) (value : Value) (total : Result (List A) Cause)

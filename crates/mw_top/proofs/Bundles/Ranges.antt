@@ -11,22 +11,10 @@ use Rattle.toml.specs.Data.{Data, Items, no_items, item, Members, as_integer, as
 use Rattle.mw_top.specs.declared.bundle.parts.Assignment.{Assignment}
 use Rattle.mw_top.specs.declared.bundle.parts.Link.{Link}
 use Rattle.mw_base.specs.Reading.{◌>>=◌}
+use Rattle.mw_base.proofs.Results.{ok_is, bind_ok}
 use Rattle.mw_top.specs.Bundle.Reading.{present, only_if, value_at, in_range, number_in, count_of, each_of, list_of}
 use Rattle.mw_top.specs.Bundle.Form.{word_in, register_in, assignment_from, assignment_in, link_from, link_in, is_linked, links_each_once, BundleData, IsBundle, words_of, bound_of, registers_of, assignments_of, relation_of, start_of, IsAssignment, IsLink}
 use Rattle.std.specs.Prelude.{codes}
-
--- a result that is a value
-abbrev done : {A : Type 0} → A → Result A Cause
-done x = Ok x
-
--- one result has one value
-ok_is : {A : Type 0} (x y : A) → done x ≡ done y → x ≡ y
-ok_is x y e = cc
-
--- the value of a step that did not fail
-bind_ok : {A B : Type 0} (r : Result A Cause) (f : A → Result B Cause) (y : B) → (r >>= f) ≡ Ok y → (x : A) × (r ≡ Ok x) × (f x ≡ Ok y)
-bind_ok (Ok x) f y e = (x, refl, e)
-bind_ok (Err d) f y e = absurd cc
 
 -- a test that did not fail
 only_if_ok : {A : Type 0} (test : Bool) (x y : A) → only_if test x ≡ Ok y → (test ≡ true) × (x ≡ y)

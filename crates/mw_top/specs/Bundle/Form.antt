@@ -4,7 +4,8 @@ use Rattle.std.specs.List.{list_any}
 use Rattle.toml.specs.Data.{Data, Items, no_items, item, Members, no_members, member, same_key, as_array}
 use Rattle.mw_base.specs.declared.cause.Cause.{Cause}
 use Rattle.mw_base.specs.declared.cause.Cause.TheVariants.{NotBundle}
-use Rattle.mw_top.specs.Bundle.Document.{document_of, document_or_refusal}
+use Rattle.mw_top.specs.Bundle.Document.{document_or_refusal}
+use Rattle.mw_boardfile.specs.Document.{document_of}
 use Rattle.mw_base.specs.Reading.{◌>>=◌}
 use Rattle.mw_top.specs.Bundle.Reading.{present, only_if, value_at, number_in, list_of}
 use Rattle.mw_top.specs.declared.bundle.parts.Assignment.{Assignment}

@@ -1,10 +1,10 @@
 // The board that bundles stand for.
 ghost use Rattle.std.specs.Prelude.{◌≡◌, ◌<◌, ◌^◌, IfOk};
-ghost use Rattle.mw_top.specs.Bundle.Job.{board_of, field, small_fields};
+ghost use Rattle.mw_top.specs.Bundle.Job.{board_of, small_fields};
 
 use crate::bundle::Bundle;
-use mw_base::{Items, Name, NoMemory};
-use mw_board::{Bit, Board, BoardParts, Control, DFrom, DSource, Field, NamedField, Points};
+use mw_base::{Items, NoMemory};
+use mw_board::{Bit, Board, BoardParts, Control, DSource, NamedField, Points};
 use std::alloc::Global;
 
 /// What drives the control points: fields by their numbers in `fields`. What no field drives is 0, and the carry into PC 1.
@@ -30,46 +30,23 @@ const POINTS: Points = Points {
     link: Control::Fixed(0),
 };
 
-/// D is 0.
-const NO_SOURCE: DSource = DSource {
-    from: DFrom::Zero,
-    mask: None,
-};
-
-/// A field of the microword.
-fn field(alloc: Global, name: &str, low: u8, width: u8) -> Result<NamedField, NoMemory>
-    ensures { IfOk result (λ named. named ≡ field name.now low width) }
-{
-    Ok(NamedField {
-        name: Name::new(alloc, name.as_bytes())?,
-        field: Field { low, width },
-    })
-}
-
 /// The fields of the microword, in byte order of their names.
 #[tactic(auto, unfolding(crate::specs::Bundle::Job::small_fields))]
 fn fields(alloc: Global) -> Result<Items<NamedField>, NoMemory>
     ensures { IfOk result (λ fields. fields ≡ small_fields) }
 {
     let fields = vec![in alloc;
-        field(alloc, "a", 9, 4)?,
-        field(alloc, "b", 13, 4)?,
-        field(alloc, "br", 22, 12)?,
-        field(alloc, "cin", 17, 1)?,
-        field(alloc, "dst", 6, 3)?,
-        field(alloc, "fun", 3, 3)?,
-        field(alloc, "off", 34, 1)?,
-        field(alloc, "seq", 18, 4)?,
-        field(alloc, "src", 0, 3)?,
+        NamedField::new(alloc, b"a", 9, 4)?,
+        NamedField::new(alloc, b"b", 13, 4)?,
+        NamedField::new(alloc, b"br", 22, 12)?,
+        NamedField::new(alloc, b"cin", 17, 1)?,
+        NamedField::new(alloc, b"dst", 6, 3)?,
+        NamedField::new(alloc, b"fun", 3, 3)?,
+        NamedField::new(alloc, b"off", 34, 1)?,
+        NamedField::new(alloc, b"seq", 18, 4)?,
+        NamedField::new(alloc, b"src", 0, 3)?,
     ]?;
     Ok(Items::from_vec(fields))
-}
-
-/// A list of these entries.
-fn list<T: Copy>(alloc: Global, entries: &[T]) -> Result<Items<T>, NoMemory>
-    ensures { IfOk result (λ list. list ≡ entries.now) }
-{
-    Ok(Items::from_vec(Vec::from_slice(alloc, entries)?))
 }
 
 /// The parts of the board, on which the bundle's first word stands past the store.
@@ -88,11 +65,11 @@ fn parts(alloc: Global, bundle: &Bundle) -> Result<BoardParts, NoMemory>
         fields: fields(alloc)?,
         flipflop: Items::from_vec(Vec::new(alloc)),
         control: POINTS,
-        carry_in: list(alloc, &[Bit::Zero, Bit::One])?,
-        condition: list(alloc, &[Bit::Zero])?,
-        ram_link: list(alloc, &[Bit::Zero])?,
-        q_link: list(alloc, &[Bit::Zero])?,
-        d: list(alloc, &[NO_SOURCE])?,
+        carry_in: Items::from_slice(alloc, &[Bit::Zero, Bit::One])?,
+        condition: Items::from_slice(alloc, &[Bit::Zero])?,
+        ram_link: Items::from_slice(alloc, &[Bit::Zero])?,
+        q_link: Items::from_slice(alloc, &[Bit::Zero])?,
+        d: Items::from_slice(alloc, &[DSource::ZERO])?,
         map_low: 0,
         map_bits: 0,
         map_entries: Items::from_vec(Vec::new(alloc)),

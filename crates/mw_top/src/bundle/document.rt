@@ -3,7 +3,8 @@ ghost use Rattle.std.specs.Prelude.{◌≡◌};
 ghost use Rattle.mw_base.specs.declared.cause.Cause.TheVariants.{NotToml};
 ghost use Rattle.mw_base.specs.declared.refusal.Refused.TheVariants.{NoMemory};
 ghost use Rattle.mw_base.specs.Reading.{Gives, Refuses};
-ghost use Rattle.mw_top.specs.Bundle.Document.{document_of, document_or_refusal};
+ghost use Rattle.mw_top.specs.Bundle.Document.{document_or_refusal};
+ghost use Rattle.mw_boardfile.specs.Document.{document_of};
 ghost use Rattle.toml.specs.Errors.{IsMemory};
 ghost use Rattle.toml.specs.View.{table_view};
 

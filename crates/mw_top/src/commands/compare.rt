@@ -5,13 +5,14 @@ ghost use Rattle.mw_plan.specs.Shelf.{shown};
 ghost use Rattle.mw_top.specs.Commands.Compare.{compare_plan, compare_status, compare_report, IsComparison};
 
 use super::Work;
-use crate::bundle::{Bundle, compare_bundle, read_bundle};
+use crate::bundle::{Bundle, compare_bundle, read_bundle, small_board};
 use crate::difference::Difference;
 use crate::fault::Fault;
 use crate::outcome::Outcome;
 use crate::report::{append_difference, append_line};
 use crate::status::Status;
 use mw_base::NoMemory;
+use mw_board::Board;
 use mw_outside::Shelf;
 use mw_plan::{Files, Stop};
 use std::alloc::Global;
@@ -46,16 +47,17 @@ fn status_of(shown: Option<Difference>) -> Status
 fn append_comparison(
     alloc: Global,
     report: &mut Vec<u8>,
+    board: &Board,
     shown: Option<Difference>,
 ) -> Result<(), NoMemory>
-    ensures { OnOk result (report.new.items ≡ report.old.items ++ compare_report shown) }
+    ensures { OnOk result (report.new.items ≡ report.old.items ++ compare_report board.now shown) }
 {
     match shown {
         None => append_line(report, b"same 1"),
         Some(difference) => {
             append_line(report, b"differs step 1")?;
             report.extend_from_slice(b"difference ")?;
-            append_difference(alloc, report, difference)?;
+            append_difference(alloc, report, board, difference)?;
             append_line(report, b"")
         }
     }
@@ -66,8 +68,9 @@ pub(super) fn compared(alloc: Global, bundle: &Bundle) -> Result<Outcome, NoMemo
     ensures { IfOk result (λ outcome. IsComparison bundle.now outcome.status outcome.report.items) }
 {
     let shown = compare_bundle(alloc, bundle)?;
+    let board = small_board(alloc, bundle)?;
     let mut report = Vec::new(alloc);
-    append_comparison(alloc, &mut report, shown)?;
+    append_comparison(alloc, &mut report, &board, shown)?;
     Ok(Outcome {
         status: status_of(shown),
         report,

@@ -1,7 +1,7 @@
 use Rattle.std.proofs.Common.{◌≡◌, Result, drop}
 use Rattle.mw_base.specs.declared.cause.Cause.{Cause}
 use Rattle.mw_top.specs.Bundle.Reading.{Reads, each_of}
-use Rattle.mw_top.proofs.Bundles.Lists.{with_front}
+use Rattle.mw_base.specs.Reading.{with_front}
 use Rattle.toml.specs.Data.{Data}
 use Rattle.toml.specs.View.{items_view}
 use Rattle.mw_top.proofs.bundle.values.each.Given as goal
