@@ -10,6 +10,7 @@ use Rattle.mw_base.specs.declared.cause.Cause.TheVariants.{ValueTooWide, StoreFu
 use Rattle.mw_base.specs.declared.cursor.Numeral.{Numeral}
 use Rattle.mw_base.specs.Cursors.{at_line}
 use Rattle.mw_base.specs.declared.token.Token.{Token}
+use Rattle.mw_base.specs.Places.{low_address}
 use Rattle.mw_base.specs.Reading.{◌>>=◌}
 use Rattle.mw_board.specs.declared.field.NamedField.{NamedField}
 use Rattle.mw_board.specs.Valid.{IsField}
@@ -32,7 +33,7 @@ use Rattle.mw_asm.specs.Statements.{statement_of}
 use Rattle.mw_asm.specs.declared.assembled.Label.{Label}
 use Rattle.std.proofs.lemmas.Nat.{pow_pos}
 use Rattle.mw_asm.specs.Names.{bits_named}
-use Rattle.mw_base.proofs.Results.{bind_ok, done, ok_is, if_ok}
+use Rattle.mw_base.proofs.Results.{bind_ok, ok_of, ok_is, if_ok}
 use Rattle.mw_base.proofs.Steps.{steps_keep}
 use Rattle.mw_asm.proofs.Widths.{ValueFits, NamesFit, more_names_fit, bits_fit}
 
@@ -89,31 +90,34 @@ pushed used words word inside low =
 meaning_right : (bits : ℕ) (text : List ℕ) (name : Token) (meaning : Meaning) (known next : Known) → IfSome (bits_named (Some meaning)) (ValueFits bits) → with_meaning text name meaning known ≡ Ok next → IsRight bits known → IsRight bits next
 unfolding with_meaning
 meaning_right bits text name meaning known next fits is right =
-    let last = bind_ok (can_define text known name) (λ allowed. done {F = TextFault} (record known { names = with_name known.names (spelled text name) meaning })) next is in
+    let last = bind_ok (can_define text known name) (λ allowed. ok_of {F = TextFault} (record known { names = with_name known.names (spelled text name) meaning })) next is in
     let e = ok_is {F = TextFault} (record known { names = with_name known.names (spelled text name) meaning }) next last.2 in
     subst (IsRight bits) e (record { inside = right.inside; low = right.low; labels = right.labels; named = more_names_fit bits known.names (spelled text name) meaning right.named fits })
 
 def_right : (bits : ℕ) (fields : List NamedField) (text : List ℕ) (name : Token) (items : List Item) (known next : Known) → All (IsField bits) fields → with_def fields text name items known ≡ Ok next → IsRight bits known → IsRight bits next
 unfolding with_def
 def_right bits fields text name items known next fit is right =
-    let later = λ (set : SetBits). done {F = TextFault} (record known { names = with_name known.names (spelled text name) (meanings.Bits set) }) in
+    let later = λ (set : SetBits). ok_of {F = TextFault} (record known { names = with_name known.names (spelled text name) (meanings.Bits set) }) in
     let first = bind_ok (can_define text known name) (λ allowed. bits_of fields text known.names scopes.Def no_bits items >>= later) next is in
     let last = bind_ok (bits_of fields text known.names scopes.Def no_bits items) later next first.2 in
     let e = ok_is {F = TextFault} (record known { names = with_name known.names (spelled text name) (meanings.Bits last.0) }) next last.2 in
     let fits = bits_fit bits fields text known.names scopes.Def no_bits last.0 items fit right.named (pow_pos bits) last.1 in
     subst (IsRight bits) e (record { inside = right.inside; low = right.low; labels = right.labels; named = more_names_fit bits known.names (spelled text name) (meanings.Bits last.0) right.named fits })
 
-next_right : (bits : ℕ) (address : Numeral) (known next : Known) → with_next address known ≡ Ok next → IsRight bits known → IsRight bits next
+next_right : (bits : ℕ) (number : Numeral) (known next : Known) → with_next number known ≡ Ok next → IsRight bits known → IsRight bits next
 unfolding with_next
-next_right bits address known next is right =
-    let e = if_ok (nat_lt address.value 4096) (record known { next = address.value }) next (fault_on address.token ValueTooWide) is in
-    let low : address.value ≤ 4096 = grind (arith, nat_tests, e.0) in
-    subst (IsRight bits) e.1 (record { inside = right.inside; low = low; labels = right.labels; named = right.named })
+next_right bits number known next is right =
+    let later = λ (address : ℕ). ok_of {F = TextFault} (record known { next = address }) in
+    let one = bind_ok (low_address number.token number.value) later next is in
+    let low = if_ok (nat_lt number.value 4096) number.value one.0 (fault_on number.token ValueTooWide) one.1 in
+    let within : one.0 ≤ 4096 = grind (arith, nat_tests, low.0, low.1) in
+    let e = ok_is {F = TextFault} (record known { next = one.0 }) next one.2 in
+    subst (IsRight bits) e (record { inside = right.inside; low = within; labels = right.labels; named = right.named })
 
 label_right : (bits : ℕ) (text : List ℕ) (name : Token) (known next : Known) → with_label text name known ≡ Ok next → IsRight bits known → IsRight bits next
 unfolding with_label
 label_right bits text name known next is right =
-    let later = λ (more : Known). done {F = TextFault} (record more { labels = more.labels ++ (record { name = spelled text name; address = more.next } ∷ []) }) in
+    let later = λ (more : Known). ok_of {F = TextFault} (record more { labels = more.labels ++ (record { name = spelled text name; address = more.next } ∷ []) }) in
     let last = bind_ok (with_meaning text name (meanings.Label known.next) known) later next is in
     let more = last.0 in
     let label : Label = record { name = spelled text name; address = more.next } in
@@ -126,7 +130,7 @@ optional_label_right bits text None known next is right = subst (IsRight bits) (
 optional_label_right bits text (Some name) known next is right = label_right bits text name known next is right
 
 -- after two tests, of which each may give a fault
-after_tests : (full there : Bool) (known next : Known) (first second : TextFault) → (if full then Err first else (if there then Err second else done {F = TextFault} known)) ≡ Ok next → (full ≡ false) × (known ≡ next)
+after_tests : (full there : Bool) (known next : Known) (first second : TextFault) → (if full then Err first else (if there then Err second else ok_of {F = TextFault} known)) ≡ Ok next → (full ≡ false) × (known ≡ next)
 after_tests true there known next first second is = absurd cc
 after_tests false true known next first second is = absurd cc
 after_tests false false known next first second is = (refl, ok_is {F = TextFault} known next is)

@@ -5,9 +5,7 @@ use Rattle.std.proofs.lemmas.List.{length-set, length-map}
 use Rattle.std.proofs.lemmas.List.Elements.{All-set, All-map}
 use Rattle.std.proofs.lemmas.Nat.{pow_pos}
 use Rattle.mw_base.specs.declared.refusal.TextFault.{TextFault}
-use Rattle.mw_base.specs.Lines.{lines_of}
 use Rattle.mw_base.specs.Reading.{◌>>=◌}
-use Rattle.mw_base.specs.Tokens.{tokens_of}
 use Rattle.mw_board.specs.declared.parts.BoardParts.{BoardParts}
 use Rattle.mw_board.specs.Valid.{IsBoard}
 use Rattle.mw_asm.specs.declared.assembled.Assembled.{Assembled}
@@ -16,11 +14,11 @@ use Rattle.mw_asm.specs.declared.names.Scope.TheVariants as scopes
 use Rattle.mw_asm.specs.Bits.{no_bits, word_of}
 use Rattle.mw_asm.specs.FirstPass.{Known, at_first, first_pass}
 use Rattle.mw_asm.specs.ItemBits.{bits_of}
-use Rattle.mw_base.specs.TokenLines.{lines_with}
+use Rattle.mw_base.specs.TokenLines.{token_lines}
 use Rattle.mw_asm.specs.Microprogram.{IsAssembled, filled, with_made, second_pass, store_of}
 use Rattle.mw_asm.specs.Names.{Names}
 use Rattle.mw_asm.proofs.Inside.{IsRight, first_pass_right}
-use Rattle.mw_base.proofs.Results.{bind_ok, done, ok_is}
+use Rattle.mw_base.proofs.Results.{bind_ok, ok_of, ok_is}
 use Rattle.mw_base.proofs.Steps.{steps_keep}
 use Rattle.mw_asm.proofs.Widths.{NamesFit, bits_fit, word_fits}
 
@@ -37,7 +35,7 @@ made_right : (board : BoardParts) (text : List ℕ) (names : Names) (first store
     → with_made board text names store word ≡ Ok next → Keeps board.microword first store → Keeps board.microword first next
 unfolding with_made
 made_right board text names first store next word valid named is kept =
-    let one = bind_ok (bits_of board.fields text names scopes.Word no_bits word.items) (λ bits. done {F = TextFault} (set store word.address (word_of board.unset bits))) next is in
+    let one = bind_ok (bits_of board.fields text names scopes.Word no_bits word.items) (λ bits. ok_of {F = TextFault} (set store word.address (word_of board.unset bits))) next is in
     let fits = bits_fit board.microword board.fields text names scopes.Word no_bits one.0 word.items valid.fields named (pow_pos board.microword) one.1 in
     let made = word_fits board.microword board.unset one.0 valid.sizes.unset fits in
     let put = All-set (Below board.microword) store word.address (word_of board.unset one.0) made kept.fit in
@@ -45,7 +43,7 @@ made_right board text names first store next word valid named is kept =
 
 -- a microprogram of what the two passes leave
 assembled : (board : BoardParts) (known : Known) (words : List ℕ) (made : Assembled) → IsRight board.microword known → Keeps board.microword (filled board.fill known.used) words
-    → done {F = TextFault} (record { store = record { words = words }; used = known.used; labels = known.labels }) ≡ Ok made → IsAssembled board made
+    → ok_of {F = TextFault} (record { store = record { words = words }; used = known.used; labels = known.labels }) ≡ Ok made → IsAssembled board made
 assembled board known words made right kept is =
     let sized : length words ≡ length known.used = kept.sized ∙ length-map known.used (λ (used : Bool). board.fill) in
     let whole : Assembled = record { store = record { words = words }; used = known.used; labels = known.labels } in
@@ -56,13 +54,13 @@ assembled board known words made right kept is =
 pub store_right : (board : BoardParts) (text : List ℕ) (made : Assembled) → IsBoard board → store_of board text ≡ Ok made → IsAssembled board made
 unfolding store_of
 store_right board text made valid is =
-    let whole = λ (known : Known) (words : List ℕ). done {F = TextFault} (record { store = record { words = words }; used = known.used; labels = known.labels }) in
+    let whole = λ (known : Known) (words : List ℕ). ok_of {F = TextFault} (record { store = record { words = words }; used = known.used; labels = known.labels }) in
     let last = λ (known : Known). second_pass board text known.names (filled board.fill known.used) known.words >>= whole known in
-    let one = bind_ok (tokens_of text) (λ tokens. first_pass board.fields text at_first (lines_with 1 (lines_of text) tokens) >>= last) made is in
-    let two = bind_ok (first_pass board.fields text at_first (lines_with 1 (lines_of text) one.0)) last made one.2 in
+    let one = bind_ok (token_lines text) (λ lines. first_pass board.fields text at_first lines >>= last) made is in
+    let two = bind_ok (first_pass board.fields text at_first one.0) last made one.2 in
     let known = two.0 in
     let three = bind_ok (second_pass board text known.names (filled board.fill known.used) known.words) (whole known) made two.2 in
-    let right = first_pass_right board.microword board.fields text known (lines_with 1 (lines_of text) one.0) valid.fields two.1 in
+    let right = first_pass_right board.microword board.fields text known one.0 valid.fields two.1 in
     let gaps = All-map (Below board.microword) (λ (used : Bool). board.fill) known.used (λ k d h. valid.sizes.fill) in
     let first = filled board.fill known.used in
     let keeps = λ (store next : List ℕ) (word : Word) (adds : with_made board text known.names store word ≡ Ok next) (kept : Keeps board.microword first store). made_right board text known.names first store next word valid right.named adds kept in

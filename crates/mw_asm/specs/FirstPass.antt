@@ -1,12 +1,13 @@
 -- The first pass, over the lines of a text.
 use Rattle.std.specs.Prelude.{ℕ, ◌+◌, ◌-◌, List, [], ◌∷◌, ◌++◌, length, replicate, slice_set, slice_index_or, Bool, true, false, if◌then◌else◌, nat_lt, nat_le, is_some, Option, Some, None, Result, Ok, Err}
-use Rattle.mw_base.specs.declared.cause.Cause.TheVariants.{ValueTooWide, StoreFull, Overlap, BadLine}
+use Rattle.mw_base.specs.declared.cause.Cause.TheVariants.{StoreFull, Overlap, BadLine}
 use Rattle.mw_base.specs.declared.cursor.Numeral.{Numeral}
 use Rattle.mw_base.specs.declared.line.Line.{Line}
 use Rattle.mw_base.specs.declared.refusal.TextFault.{TextFault}
 use Rattle.mw_base.specs.declared.token.Token.{Token}
 use Rattle.mw_base.specs.Cursors.{at_line}
 use Rattle.mw_base.specs.Named.{no_names, with_name, new_name}
+use Rattle.mw_base.specs.Places.{low_address}
 use Rattle.mw_base.specs.Reading.{◌>>=◌}
 use Rattle.mw_base.specs.Steps.{steps}
 use Rattle.mw_base.specs.Symbols.{spelled}
@@ -64,7 +65,9 @@ with_def fields text name items known = do
 
 -- org NUMBER
 unfoldable pub with_next : Numeral → Known → Result Known TextFault
-with_next address known = if nat_lt address.value MOST_WORDS then Ok (record known { next = address.value }) else Err (fault_on address.token ValueTooWide)
+with_next number known = do
+  address ← low_address number.token number.value
+  Ok (record known { next = address })
 
 -- a label of the next word's address
 unfoldable pub with_label : List ℕ → Token → Known → Result Known TextFault

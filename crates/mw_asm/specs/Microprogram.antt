@@ -1,11 +1,9 @@
 -- The microprogram that a text spells in the fields of a board.
 use Rattle.std.specs.Prelude.{◌≡◌, ◌<◌, ◌≤◌, ◌^◌, length, All, ℕ, List, map, slice_set, Bool, Result, Ok}
 use Rattle.mw_base.specs.declared.refusal.TextFault.{TextFault}
-use Rattle.mw_base.specs.Lines.{lines_of}
 use Rattle.mw_base.specs.Reading.{◌>>=◌}
 use Rattle.mw_base.specs.Steps.{steps}
-use Rattle.mw_base.specs.TokenLines.{lines_with}
-use Rattle.mw_base.specs.Tokens.{tokens_of}
+use Rattle.mw_base.specs.TokenLines.{token_lines}
 use Rattle.mw_board.specs.declared.parts.BoardParts.{BoardParts}
 use Rattle.mw_asm.specs.declared.assembled.Assembled.{Assembled}
 use Rattle.mw_asm.specs.declared.assembled.Label.{Label}
@@ -33,8 +31,8 @@ filled fill used = map (λ (word : Bool). fill) used
 -- the microprogram of a text, or its first fault: those of its bytes, then those of the first pass, then those of the second
 unfoldable pub store_of : BoardParts → List ℕ → Result Assembled TextFault
 store_of board text = do
-  tokens ← tokens_of text
-  known ← first_pass board.fields text at_first (lines_with 1 (lines_of text) tokens)
+  lines ← token_lines text
+  known ← first_pass board.fields text at_first lines
   words ← second_pass board text known.names (filled board.fill known.used) known.words
   Ok (record { store = record { words = words }; used = known.used; labels = known.labels })
 

@@ -12,7 +12,7 @@ use crate::names::{Meaning, Scope};
 use crate::statement::{Statement, keyword_of, statement_of};
 use mw_base::{
     Cause, Cursor, Items, Line, Name, Names, NoMemory, Numeral, Refusal, Refused, TextFault, Token,
-    fault_on, spelled,
+    fault_on, low_address, spelled,
 };
 use mw_board::Board;
 use std::alloc::Global;
@@ -110,15 +110,11 @@ impl<'a> Known<'a> {
 
     /// org NUMBER: cause 33.
     #[tactic(auto, unfolding(crate::specs::FirstPass::with_next))]
-    fn go_to(&mut self, address: Numeral) -> Result<(), Refusal>
-        ensures { Gives (λ done. known_seen self.new) result (with_next address (known_seen self.old)) }
+    fn go_to(&mut self, number: Numeral) -> Result<(), Refusal>
+        ensures { Gives (λ done. known_seen self.new) result (with_next number (known_seen self.old)) }
     {
-        if address.value < u128::from(MOST_WORDS) {
-            self.next = address.value as u16;
-            Ok(())
-        } else {
-            Err(Refused::At(fault_on(address.token, Cause::ValueTooWide)))
-        }
+        self.next = low_address(number.token, number.value).map_err(Refused::At)?;
+        Ok(())
     }
 
     /// A label of the next word's address: cause 31 or 33.

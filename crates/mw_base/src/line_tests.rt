@@ -30,13 +30,10 @@ fn lines_as_a_grammar_reads_them(rt: HostRuntime) -> Result<(), Fail> {
         );
     }
 
-    let part = Cursor::from_tokens(
-        text,
-        &first.tokens()[..2],
-        fault_on(number.token, Cause::BadValue),
-    );
-    assert!(rt; part.name(1).is_ok() && part.end(2).is_ok());
-    let early = part.sign(2, Sign::Dot).err().ok_or("no fault")?;
+    let end = fault_on(number.token, Cause::BadValue);
+    let same = Cursor::from_tokens(text, first.tokens(), end);
+    assert!(rt; same.name(3).is_ok());
+    let early = same.sign(5, Sign::Dot).err().ok_or("no fault")?;
     assert_eq!(rt;
         (early.line, early.column, early.cause.number()),
         (1, 11, 24)

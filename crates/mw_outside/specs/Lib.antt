@@ -3,3 +3,4 @@ pub mod Causes
 pub mod Contents
 pub mod MemoryShelf
 pub mod MemorySink
+pub mod Views

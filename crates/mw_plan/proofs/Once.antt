@@ -1,10 +1,10 @@
--- No plan is both done with files and refuses one of them.
+-- Contents that are told and contents that were read bring a plan to one end.
 use Rattle.std.proofs.Common.{◌≡◌, ℕ, List, [], ◌∷◌, ◌++◌, Some, ◌⊎◌, inl, inr, refl, sym, ap₂}
-use Rattle.mw_plan.specs.declared.fault.FileFault.{FileFault}
+use Rattle.mw_outside.specs.Views.{ShelfView}
 use Rattle.mw_plan.specs.Laws.{EndsOnce}
-use Rattle.mw_plan.specs.Plan.{Plan, done, refused, after}
-use Rattle.mw_plan.specs.Shelf.{ShelfView, AreRead, AreTold}
-use Rattle.mw_plan.proofs.Plans.{refused_is_not_done, done_is_not_refused}
+use Rattle.mw_plan.specs.Plan.{Plan, after}
+use Rattle.mw_plan.specs.Shelf.{AreRead, AreTold}
+use Rattle.mw_plan.proofs.Plans.{over_once}
 
 -- the first list is the second, cut short or not
 IsBegun : List (List ℕ) → List (List ℕ) → Type 0
@@ -13,7 +13,8 @@ IsBegun front whole = (rest : List (List ℕ)) × (whole ≡ front ++ rest)
 longer : (first second : List ℕ) (front whole : List (List ℕ)) → first ≡ second → IsBegun front whole
     → IsBegun (first ∷ front) (second ∷ whole)
 unfolding IsBegun
-longer first second front whole same begun = (begun.0, ap₂ (λ (x : List ℕ) (xs : List (List ℕ)). x ∷ xs) (sym same) begun.1)
+longer first second front whole same begun =
+    (begun.0, ap₂ (λ (x : List ℕ) (xs : List (List ℕ)). x ∷ xs) (sym same) begun.1)
 
 -- of contents that are told and contents that were read of the same files the ones begin the others
 one_begins : (shelf : ShelfView) (names told read : List (List ℕ)) → AreTold shelf names told
@@ -34,16 +35,12 @@ at_files : {F A : Type 0} (plan left : Plan F A) (files others : List (List ℕ)
     → after plan others ≡ Some left → after plan files ≡ Some left
 at_files plan left files others same is = rw same at is
 
-pub ends_once : {F A : Type 0} (plan : Plan F A) (shelf : ShelfView) (names told read : List (List ℕ)) (x : A)
-    (fault : FileFault F) → EndsOnce plan shelf names told read x fault
+pub ends_once : {F A : Type 0} (plan : Plan F A) (shelf : ShelfView) → EndsOnce plan shelf
 unfolding IsBegun
-ends_once plan shelf names told read x fault = record {
-  refused_once = λ are_told refuses ends. elim (one_begins shelf names told read are_told ends.read) [
-    | inl begun ↦ refused_is_not_done plan told begun.0 x fault refuses (at_files plan (done x) _ read begun.1 ends.left_is)
-    | inr begun ↦ done_is_not_refused plan read begun.0 x fault ends.left_is (at_files plan (refused fault) _ told begun.1 refuses)
-  ];
-  done_once = λ are_told is_done ends. elim (one_begins shelf names told read are_told ends.read) [
-    | inl begun ↦ done_is_not_refused plan told begun.0 x fault is_done (at_files plan (refused fault) _ read begun.1 ends.left_is)
-    | inr begun ↦ refused_is_not_done plan read begun.0 x fault ends.left_is (at_files plan (done x) _ told begun.1 is_done)
-  ];
-}
+ends_once plan shelf = λ files told one other are_told one_is one_over left other_over.
+    elim (one_begins shelf files.names told files.contents are_told left.read) [
+      | inl begun ↦ over_once plan one other told begun.0 one_over one_is
+          (at_files plan other _ files.contents begun.1 left.left_is)
+      | inr begun ↦ sym (over_once plan other one files.contents begun.0 other_over left.left_is
+          (at_files plan one _ told begun.1 one_is))
+    ]

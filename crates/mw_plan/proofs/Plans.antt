@@ -4,7 +4,7 @@ use Rattle.std.proofs.lemmas.Bool.Decides.{nat_tests}
 use Rattle.mw_outside.specs.declared.read.TheConstants.{MOST_BYTES}
 use Rattle.mw_plan.specs.declared.fault.FileFault.{FileFault}
 use Rattle.mw_plan.specs.declared.fault.FileFault.TheVariants.{TooLong, At}
-use Rattle.mw_plan.specs.Plan.{Plan, done, refused, file, ◌>>=◌, read_by, after}
+use Rattle.mw_plan.specs.Plan.{Plan, done, refused, file, IsOver, ◌>>=◌, read_by, after}
 
 -- what is left after some files, and then after more
 pub after_more : {F A : Type 0} (plan left : Plan F A) (front rest : List (List ℕ)) → after plan front ≡ Some left
@@ -14,25 +14,19 @@ after_more (done x) left (bytes ∷ front) rest is = absurd cc
 after_more (refused fault) left (bytes ∷ front) rest is = absurd cc
 after_more (file next) left (bytes ∷ front) rest is = after_more (next bytes) left front rest is
 
-refused_stays : {F A : Type 0} (rest : List (List ℕ)) (x : A) (fault : FileFault F) → after (refused fault) rest ≡ Some (done x) → ⊥
-refused_stays [] x fault is = cc
-refused_stays (bytes ∷ rest) x fault is = cc
+-- a plan that is over takes no more files
+over_stays : {F A : Type 0} (one other : Plan F A) (rest : List (List ℕ)) → IsOver one → after one rest ≡ Some other
+    → one ≡ other
+over_stays one other [] over is = cc
+over_stays (done x) other (bytes ∷ rest) over is = absurd cc
+over_stays (refused fault) other (bytes ∷ rest) over is = absurd cc
+over_stays (file next) other (bytes ∷ rest) over is = absurd over
 
-done_stays : {F A : Type 0} (rest : List (List ℕ)) (x : A) (fault : FileFault F) → after (done x) rest ≡ Some (refused fault) → ⊥
-done_stays [] x fault is = cc
-done_stays (bytes ∷ rest) x fault is = cc
-
--- no plan is done with files of which the first so many are refused
-pub refused_is_not_done : {F A : Type 0} (plan : Plan F A) (front rest : List (List ℕ)) (x : A) (fault : FileFault F)
-    → after plan front ≡ Some (refused fault) → after plan (front ++ rest) ≡ Some (done x) → ⊥
-refused_is_not_done plan front rest x fault is also =
-    refused_stays rest x fault (sym (after_more plan (refused fault) front rest is) ∙ also)
-
--- no plan refuses files with the first so many of which it is done
-pub done_is_not_refused : {F A : Type 0} (plan : Plan F A) (front rest : List (List ℕ)) (x : A) (fault : FileFault F)
-    → after plan front ≡ Some (done x) → after plan (front ++ rest) ≡ Some (refused fault) → ⊥
-done_is_not_refused plan front rest x fault is also =
-    done_stays rest x fault (sym (after_more plan (done x) front rest is) ∙ also)
+-- an end that some files bring a plan to, and what more files leave of it
+pub over_once : {F A : Type 0} (plan one other : Plan F A) (front rest : List (List ℕ)) → IsOver one
+    → after plan front ≡ Some one → after plan (front ++ rest) ≡ Some other → one ≡ other
+over_once plan one other front rest over is also =
+    over_stays one other rest over (sym (after_more plan one front rest is) ∙ also)
 
 -- ---- what the contents of one file come to
 

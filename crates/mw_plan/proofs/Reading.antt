@@ -1,9 +1,16 @@
 -- One file more, and what is known of files that were read.
-use Rattle.std.proofs.Common.{◌≡◌, ℕ, zero, suc, ◌<◌, List, [], ◌∷◌, ◌++◌, length, Option, Some, None, IfSome, refl, ap, arith, sym, ◌∙◌}
+use Rattle.std.proofs.Common.{◌≡◌, ℕ, zero, suc, ◌<◌, ◌≤◌, ◌⊎◌, inl, inr, List, [], ◌∷◌, ◌++◌, length, Option, Some, None, IfSome, refl, ap, arith, sym, ◌∙◌}
 use Rattle.std.specs.Prelude.{slice_get}
-use Rattle.mw_plan.specs.Plan.{Plan, file}
+use Rattle.mw_outside.specs.declared.read.ReadRefusal.{ReadRefusal}
+use Rattle.mw_outside.specs.declared.read.ReadRefusal.TheVariants as refusals
+use Rattle.mw_outside.specs.declared.read.TheConstants.{MOST_BYTES}
+use Rattle.mw_outside.specs.Causes.{Rose}
+use Rattle.mw_outside.specs.Views.{ShelfView, IsLater}
+use Rattle.mw_plan.specs.declared.fault.FileFault.TheVariants.{TooLong}
+use Rattle.mw_plan.specs.Plan.{Plan, refused, file}
 use Rattle.mw_plan.specs.Files.{FilesRead, next_name, IsLeft}
-use Rattle.mw_plan.specs.Shelf.{ShelfView, IsLater, AreRead}
+use Rattle.mw_plan.specs.Steps.{Stops, stop_of}
+use Rattle.mw_plan.specs.Shelf.{AreRead}
 use Rattle.mw_plan.proofs.Plans.{after_more}
 
 -- a view that is later than a later one
@@ -23,7 +30,8 @@ read_more shelf [] (whole ∷ contents) name bytes named read is = absurd read
 read_more shelf (first ∷ names) [] name bytes named read is =
     let same : first ≡ name = cc in
     rw same (is, tt)
-read_more shelf (first ∷ names) (whole ∷ contents) name bytes named read is = (read.0, read_more shelf names contents name bytes named read.1 is)
+read_more shelf (first ∷ names) (whole ∷ contents) name bytes named read is =
+    (read.0, read_more shelf names contents name bytes named read.1 is)
 
 -- one more file of a plan was read, at a later view of the shelf
 pub left_more : {F A : Type 0} (plan : Plan F A) (first then : ShelfView) (files : FilesRead)
@@ -56,3 +64,34 @@ long_contents most (Some whole) long = (whole, refl, long)
 long_contents most None long =
     let many = many_bytes (suc most) in
     (many.0, tt, omega (arith, many.1))
+
+-- a count that rose since a later view rose since the first
+rose_since : (first then now : ℕ) → first ≤ then → Rose then now → Rose first now
+rose_since first then now later rose = elim rose [
+  | inl more ↦ inl (omega (arith, later, more))
+  | inr last ↦ inr last
+]
+
+-- a file that can't be read whole stops the plan that asks for it
+pub unread_stops : {F A : Type 0} (plan : Plan F A) (first then now : ShelfView) (files : FilesRead)
+    (next : List ℕ → Plan F A) (name : List ℕ) (refusal : ReadRefusal)
+    → IsLater first then → IsLeft plan first files (file next) → next_name files ≡ Some name
+    → (refusal ≡ refusals.Fault → Rose (then.faults name) (now.faults name))
+    → (refusal ≡ refusals.TooLong → IfSome (then.told name) (λ whole. MOST_BYTES < length whole))
+    → ((bytes : List ℕ) → MOST_BYTES < length bytes → next bytes ≡ refused TooLong)
+    → Stops plan first now files (stop_of refusal)
+unread_stops plan first then now files next name refusals.Fault since left named failed long refuses = (
+  name,
+  record { next = next; left = left; name_is = named },
+  rose_since _ _ _ (since.later name) (failed refl),
+)
+unread_stops plan first then now files next name refusals.TooLong since left named failed long refuses =
+    let last = long_contents MOST_BYTES _ (long refl) in (
+      name,
+      record {
+        last = last.0;
+        left = left_more plan first then files next name last.0 _ since left named last.1 (refuses last.0 last.2);
+        name_is = named;
+      },
+    )
+unread_stops plan first then now files next name refusals.NoMemory since left named failed long refuses = tt

@@ -1,11 +1,11 @@
 -- The steps of a command along its plan.
 use Rattle.std.specs.Prelude.{Contains, slice_get}
 use Rattle.std.proofs.Common.{◌≡◌, ℕ, zero, suc, ◌<◌, suc-le-suc, length, List, [], ◌∷◌, Some, Result, Ok, Err, refl, ap, subst, arith}
+use Rattle.mw_outside.specs.Views.{ShelfView, IsLater}
 use Rattle.mw_plan.specs.declared.fault.Stop.{Stop}
 use Rattle.mw_plan.specs.Plan.{Plan, done, after}
 use Rattle.mw_plan.specs.Files.{FilesRead, IsLeft}
 use Rattle.mw_plan.specs.Steps.{Follows, Ends}
-use Rattle.mw_plan.specs.Shelf.{ShelfView, IsLater}
 
 -- a view is as late as itself
 pub at_first : (first : ShelfView) → IsLater first first
@@ -20,16 +20,14 @@ all_left {F} {A} plan first files none = record { read = rw none tt; left_is = a
 pub stops : {F A X : Type 0} (rest : X → Plan F A) (plan : Plan F A) (first now : ShelfView) (files : FilesRead)
     (stop : Stop F) (result : Result A (Stop F))
     → result ≡ Err stop → Follows rest plan first now files (Err stop) → Ends plan first now files result
-stops rest plan first now files stop result is follows = rw is (record { since = follows.since; comes = follows.comes })
+stops rest plan first now files stop result is follows = rw is follows
 
 -- the last file was read, and the plan is done
 pub ends : {F A X : Type 0} (rest : X → Plan F A) (plan : Plan F A) (first now : ShelfView) (files : FilesRead)
     (x : X) (y : A)
     → rest x ≡ done y → Follows rest plan first now files (Ok x) → Ends plan first now files (Ok y)
-ends {F} {A} rest plan first now files x y is follows = record {
-  since = follows.since;
-  comes = subst (λ (left : Plan F A). IsLeft plan first files left) is follows.comes;
-}
+ends {F} {A} rest plan first now files x y is follows =
+    subst (λ (left : Plan F A). IsLeft plan first files left) is follows
 
 -- the next file is one of the files
 pub next_is_among : (names : List (List ℕ)) (n : ℕ) (name : List ℕ) → slice_get names n ≡ Some name

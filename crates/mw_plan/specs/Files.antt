@@ -1,8 +1,9 @@
 -- The files of a command, which are read from a shelf one after another as its plan asks for them: how far it has come.
 use Rattle.std.specs.Prelude.{◌≡◌, ℕ, List, [], ◌∷◌, ◌++◌, length, slice_get, Option, Some}
+use Rattle.mw_outside.specs.Views.{ShelfView}
 use Rattle.mw_plan.specs.declared.fault.FileFault.{FileFault}
 use Rattle.mw_plan.specs.Plan.{Plan, refused, file, after}
-use Rattle.mw_plan.specs.Shelf.{ShelfView, AreRead}
+use Rattle.mw_plan.specs.Shelf.{AreRead}
 
 -- the names of a command's files, in order, and the contents of the first so many, which were read and accepted
 pub record FilesRead : Type 0 where
@@ -27,7 +28,7 @@ pub record IsNext {F A : Type 0} (plan : Plan F A) (shelf : ShelfView) (files : 
   pub name_is : next_name files ≡ Some name
 
 -- this file was read too, and is refused for this fault
-pub record IsRefused {F A : Type 0} (plan : Plan F A) (shelf : ShelfView) (files : FilesRead) (name : List ℕ)
+pub record IsRefusedAt {F A : Type 0} (plan : Plan F A) (shelf : ShelfView) (files : FilesRead) (name : List ℕ)
     (fault : FileFault F) : Type 0 where
   pub last : List ℕ
   pub left : IsLeft plan shelf (record files { contents = files.contents ++ last ∷ [] }) (refused fault)

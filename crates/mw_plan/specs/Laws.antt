@@ -1,15 +1,12 @@
 -- What holds of each plan.
 use Rattle.std.specs.Prelude.{◌≡◌, List, ℕ, Some}
-use Rattle.mw_plan.specs.declared.fault.FileFault.{FileFault}
-use Rattle.mw_plan.specs.Plan.{Plan, done, refused, after}
-use Rattle.mw_plan.specs.Shelf.{ShelfView, AreTold}
-use Rattle.mw_plan.specs.Files.{IsLeft}
+use Rattle.mw_outside.specs.Views.{ShelfView}
+use Rattle.mw_plan.specs.Plan.{Plan, IsOver, after}
+use Rattle.mw_plan.specs.Shelf.{AreTold}
+use Rattle.mw_plan.specs.Files.{FilesRead, IsLeft}
 
--- Where a shelf tells contents that a plan refuses, it is not done with any that are read; where it is done with what is told, it
--- refuses none that are read.
-pub record EndsOnce {F A : Type 0} (plan : Plan F A) (shelf : ShelfView) (names told read : List (List ℕ)) (x : A)
-    (fault : FileFault F) : Type 0 where
-  pub refused_once : AreTold shelf names told → after plan told ≡ Some (refused fault)
-      → IsLeft plan shelf (record { names = names; contents = read }) (done x) → ⊥
-  pub done_once : AreTold shelf names told → after plan told ≡ Some (done x)
-      → IsLeft plan shelf (record { names = names; contents = read }) (refused fault) → ⊥
+-- Where contents that a shelf tells and contents that were read of the same files each bring a plan to an end, it is the same end.
+abbrev pub EndsOnce : {F A : Type 0} → Plan F A → ShelfView → Type 0
+EndsOnce {F} {A} plan shelf = (files : FilesRead) (told : List (List ℕ)) (one other : Plan F A)
+    → AreTold shelf files.names told → after plan told ≡ Some one → IsOver one
+    → IsLeft plan shelf files other → IsOver other → one ≡ other

@@ -10,6 +10,11 @@ pub data Plan (F A : Type 0) : Type 0 where
   refused : FileFault F → Plan F A
   file : (List ℕ → Plan F A) → Plan F A
 
+-- it asks for no more files: it is done, or refuses one
+abbrev pub IsOver : {F A : Type 0} → Plan F A → Type 0
+IsOver (file next) = ⊥
+IsOver other = Unit {0}
+
 -- goes on with what was made
 infixl 10 ◌>>=◌
 abbrev pub ◌>>=◌ : {F A B : Type 0} → Plan F A → (A → Plan F B) → Plan F B
@@ -17,14 +22,14 @@ abbrev pub ◌>>=◌ : {F A B : Type 0} → Plan F A → (A → Plan F B) → Pl
 (refused fault) >>= f = refused fault
 (file next) >>= f = file (λ bytes. next bytes >>= f)
 
--- what a reader made of a file, its fault seen as one of a kind
-abbrev pub made : {F G A : Type 0} → (G → F) → Result A G → Plan F A
-made kind (Ok x) = done x
-made kind (Err fault) = refused (At (kind fault))
+-- what comes of a file that was read to this, its reader's faults seen as those of a kind
+abbrev pub read_as : {F G A : Type 0} → (G → F) → Result A G → Plan F A
+read_as kind (Ok x) = done x
+read_as kind (Err fault) = refused (At (kind fault))
 
 -- what the contents of a file come to: those of more than 1,048,576 bytes are too long, and others are given to a reader
 abbrev pub read_by : {F G A : Type 0} → (G → F) → (List ℕ → Result A G) → List ℕ → Plan F A
-read_by kind reader bytes = if nat_lt MOST_BYTES (length bytes) then refused TooLong else made kind (reader bytes)
+read_by kind reader bytes = if nat_lt MOST_BYTES (length bytes) then refused TooLong else read_as kind (reader bytes)
 
 -- the next file, by a reader whose faults are of a kind
 abbrev pub next_by : {F G A : Type 0} → (G → F) → (List ℕ → Result A G) → Plan F A

@@ -3,31 +3,35 @@ use Rattle.std.specs.Prelude.{◌≡◌, ℕ, List, Result, Ok, Err}
 use Rattle.std.specs.Borrow.{Bor}
 use Rattle.mw_base.specs.declared.refusal.Refused.{Refused}
 use Rattle.mw_base.specs.Reading.{Gives}
+use Rattle.mw_outside.specs.declared.read.ReadRefusal.{ReadRefusal}
+use Rattle.mw_outside.specs.declared.read.ReadRefusal.TheVariants as refusals
 use Rattle.mw_outside.specs.Causes.{Rose}
+use Rattle.mw_outside.specs.Views.{ShelfView}
+use Rattle.mw_plan.specs.declared.fault.FileFault.TheVariants.{TooLong}
 use Rattle.mw_plan.specs.declared.fault.Stop.{Stop}
 use Rattle.mw_plan.specs.declared.fault.Stop.TheVariants as stops
-use Rattle.mw_plan.specs.Files.{FilesRead, IsLeft, IsNext, IsRefused}
+use Rattle.mw_plan.specs.Files.{FilesRead, IsLeft, IsNext, IsRefusedAt}
 use Rattle.mw_plan.specs.Plan.{Plan, done}
-use Rattle.mw_plan.specs.Shelf.{ShelfView, IsLater}
+
+-- how a file that can't be read whole stops a plan
+abbrev pub stop_of : {F : Type 0} → ReadRefusal → Stop F
+stop_of refusals.Fault = stops.ReadFault
+stop_of refusals.TooLong = stops.Refused TooLong
+stop_of refusals.NoMemory = stops.NoMemory
 
 -- how the next file stops a plan: its count of faults rose, or it is refused, unless memory ran out
 abbrev pub Stops : {F A : Type 0} → Plan F A → ShelfView → ShelfView → FilesRead → Stop F → Type 0
 Stops plan first now files stops.ReadFault =
     (name : List ℕ) × IsNext plan first files name × Rose (first.faults name) (now.faults name)
-Stops plan first now files (stops.Refused fault) = (name : List ℕ) × IsRefused plan first files name fault
+Stops plan first now files (stops.Refused fault) = (name : List ℕ) × IsRefusedAt plan first files name fault
 Stops plan first now files stops.NoMemory = Unit {0}
 
--- a value was made with which the plan goes on by `rest`, or the next file stops it
-abbrev pub Comes : {F A X : Type 0} → (X → Plan F A) → Plan F A → ShelfView → ShelfView → FilesRead
+-- what a plan has come to since a first view of the shelf: a value was made with which it goes on by `rest`, or the next
+-- file stops it
+abbrev pub Follows : {F A X : Type 0} → (X → Plan F A) → Plan F A → ShelfView → ShelfView → FilesRead
     → Result X (Stop F) → Type 0
-Comes rest plan first now files (Ok x) = IsLeft plan first files (rest x)
-Comes rest plan first now files (Err stop) = Stops plan first now files stop
-
--- what a plan has come to by a call, since a first view of the shelf
-pub record Follows {F A X : Type 0} (rest : X → Plan F A) (plan : Plan F A) (first now : ShelfView)
-    (files : FilesRead) (result : Result X (Stop F)) : Type 0 where
-  pub since : IsLater first now
-  pub comes : Comes rest plan first now files result
+Follows rest plan first now files (Ok x) = IsLeft plan first files (rest x)
+Follows rest plan first now files (Err stop) = Stops plan first now files stop
 
 -- what a plan ends with: the value that it is done with, or what stops it
 abbrev pub Ends : {F A : Type 0} → Plan F A → ShelfView → ShelfView → FilesRead → Result A (Stop F) → Type 0

@@ -1,8 +1,8 @@
 // Why a file is refused, and how a file stops a command.
 ghost use Rattle.std.specs.Prelude.{◌≡◌};
 
-use mw_base::NoMemory;
-use std::alloc::{AllocError, AllocFailed};
+use mw_outside::ReadRefusal;
+use std::alloc::AllocFailed;
 
 /// Why a file is refused. `F` is what readers refuse a file for.
 #[derive(Clone, Copy, Debug, PartialEq, Eq, Drop)]
@@ -24,30 +24,24 @@ pub enum Stop<F> {
     NoMemory,
 }
 
-impl<F> From<NoMemory> for Stop<F> {
-    ghost use Rattle.mw_plan.specs.declared.fault.Stop.TheVariants as stops;
+impl<F> From<ReadRefusal> for Stop<F> {
+    ghost use Rattle.mw_plan.specs.Steps.{stop_of};
 
-    ghost from_gives = { λ _ e. e ≡ stops.NoMemory };
+    ghost from_gives = { λ refusal stop. stop ≡ stop_of refusal };
 
-    fn from(_: NoMemory) -> Stop<F> {
-        Stop::NoMemory
-    }
-}
-
-impl<F> From<AllocError> for Stop<F> {
-    ghost use Rattle.mw_plan.specs.declared.fault.Stop.TheVariants as stops;
-
-    ghost from_gives = { λ _ e. e ≡ stops.NoMemory };
-
-    fn from(_: AllocError) -> Stop<F> {
-        Stop::NoMemory
+    fn from(refusal: ReadRefusal) -> Stop<F> {
+        match refusal {
+            ReadRefusal::Fault => Stop::ReadFault,
+            ReadRefusal::TooLong => Stop::Refused(FileFault::TooLong),
+            ReadRefusal::NoMemory => Stop::NoMemory,
+        }
     }
 }
 
 impl<F, T: Drop> From<AllocFailed<T>> for Stop<F> {
     ghost use Rattle.mw_plan.specs.declared.fault.Stop.TheVariants as stops;
 
-    ghost from_gives = { λ _ e. e ≡ stops.NoMemory };
+    ghost from_gives = { λ _ stop. stop ≡ stops.NoMemory };
 
     fn from(_: AllocFailed<T>) -> Stop<F> {
         Stop::NoMemory

@@ -1,15 +1,15 @@
 // The files of a command, one after another.
-ghost use Rattle.std.specs.Prelude.{◌≡◌, ◌+◌, ◌<◌, ◌≤◌, List, ℕ, [], Result, Some, length, map, string_bytes, OnOk};
+ghost use Rattle.std.specs.Prelude.{◌≡◌, ◌+◌, ◌<◌, ◌≤◌, List, ℕ, [], Result, Some, length, map, string_bytes, OnOk, OnErr};
 ghost use Rattle.std.specs.Borrow.{Bor};
 ghost use Rattle.mw_outside.specs.declared.read.TheConstants.{MOST_BYTES};
+ghost use Rattle.mw_outside.specs.Views.{ShelfView, IsLater, shelf_shown};
 ghost use Rattle.mw_plan.specs.Files.{IsLeft, next_name};
 ghost use Rattle.mw_plan.specs.Steps.{Follows, Reads, Converts};
 ghost use Rattle.mw_plan.specs.Plan.{Plan, first_by};
-ghost use Rattle.mw_plan.specs.Shelf.{ShelfView, IsLater, shown};
 
 use crate::fault::{FileFault, Stop};
 use mw_base::Refused;
-use mw_outside::{ReadRefusal, Shelf, read_whole};
+use mw_outside::{Shelf, read_whole};
 use std::alloc::Global;
 use std::marker::{Model, PhantomData};
 
@@ -61,6 +61,8 @@ impl<'a, W, F> Files<'a, W, F> {
     /// - `ReadFault`: the shelf failed, so the file's count of faults rose;
     /// - `Refused`: the file is too long, or the reader refuses it;
     /// - `NoMemory`: memory ran out.
+    ///
+    /// After each of these all is as before, so the file that stopped the plan still comes next.
     pub fn next<S: Shelf, T: Drop, G: Into<F>, R: Fn(&[u8]) -> Result<T, Refused<G>>>(
         &mut self,
         alloc: Global,
@@ -71,17 +73,14 @@ impl<'a, W, F> Files<'a, W, F> {
         requires callable { (bytes : Bor (List ℕ)) → length bytes.now ≤ MOST_BYTES → R.pre read bytes }
         ensures follows { (kind : G → F) (reader : List ℕ → Result T G) → Converts G.converts kind → Reads (R.post read) reader
             → (plan : Plan F W) (rest : T → Plan F W) (first : ShelfView)
-            → IsLater first (shown S.Shelf shelf.old) → IsLeft plan first self.old (first_by kind reader rest)
-            → Follows rest plan first (shown S.Shelf shelf.new) self.new result }
+            → IsLater first (shelf_shown S.Shelf shelf.old) → IsLeft plan first self.old (first_by kind reader rest)
+            → Follows rest plan first (shelf_shown S.Shelf shelf.new) self.new result }
         ensures names { self.new.names ≡ self.old.names }
         ensures one_more { OnOk result (length self.new.contents ≡ length self.old.contents + 1) }
+        ensures err { OnErr result (self.new ≡ self.old) }
+        ensures later { IsLater (shelf_shown S.Shelf shelf.old) (shelf_shown S.Shelf shelf.new) }
     {
-        let bytes = match read_whole(alloc, shelf, self.next_name()) {
-            Ok(bytes) => bytes,
-            Err(ReadRefusal::Fault) => return Err(Stop::ReadFault),
-            Err(ReadRefusal::TooLong) => return Err(Stop::Refused(FileFault::TooLong)),
-            Err(ReadRefusal::NoMemory) => return Err(Stop::NoMemory),
-        };
+        let bytes = read_whole(alloc, shelf, self.next_name())?;
         match read(&bytes) {
             Ok(x) => {
                 self.contents.push(bytes)?;

@@ -1,7 +1,6 @@
 -- From what the files of a request come to, to the report that its status permits.
-use Rattle.std.proofs.Common.{◌≡◌, ℕ, List, true, Option, Some, None, Ok, refl, ap, subst}
+use Rattle.std.proofs.Common.{◌≡◌, ℕ, List, true, Option, Some, None, refl, ap, subst}
 use Rattle.mw_plan.specs.Files.{FilesRead, IsLeft}
-use Rattle.mw_plan.specs.Steps.{Ends}
 use Rattle.mw_plan.specs.Plan.{done}
 use Rattle.mw_top.specs.declared.commands.Work.{Work}
 use Rattle.mw_top.specs.declared.commands.Work.TheVariants.{Comparison, Assembly}
@@ -51,15 +50,15 @@ of_request request files names = ap (λ (ns : List (List ℕ)). record files { n
 pub is_answered : (call : Call) (request : RequestData) (files : FilesRead) (work : Work) (status : Status)
     (report : List ℕ)
     → request_of call.words ≡ Some request → files.names ≡ request.files
-    → Ends (plan_of request.command) call.shelf_before call.shelf_now files (Ok work) → IsAnswer work status report
+    → IsLeft (plan_of request.command) call.shelf_before files (done work) → IsAnswer work status report
     → IsReport call status report
-is_answered call request files work status report requested names ends answer =
+is_answered call request files work status report requested names left answer =
     worked_is_report call status report (answer_is_worked work status report answer) (record {
       request = request;
       requested = requested;
       contents = files.contents;
       work = work;
       made = subst (λ (fs : FilesRead). IsLeft (plan_of request.command) call.shelf_before fs (done work))
-          (of_request request files names) ends.comes;
+          (of_request request files names) left;
       answer = answer;
     })

@@ -1,8 +1,8 @@
 -- What a call of the bench is answered with: the report of each status, and how the call ends.
 use Rattle.std.specs.Prelude.{◌≡◌, ◌⊎◌, ℕ, List, Some, None, Bool, true, false}
 use Rattle.mw_plan.specs.declared.fault.FileFault.{FileFault}
-use Rattle.mw_plan.specs.Files.{IsLeft, IsNext, IsRefused}
-use Rattle.mw_plan.specs.Plan.{done}
+use Rattle.mw_plan.specs.Files.{IsLeft, IsNext, IsRefusedAt}
+use Rattle.mw_plan.specs.Plan.{done, refused, after}
 use Rattle.mw_top.specs.declared.commands.Work.{Work}
 use Rattle.mw_top.specs.declared.fault.Fault.{Fault}
 use Rattle.mw_top.specs.declared.status.Status.{Status}
@@ -11,6 +11,15 @@ use Rattle.mw_top.specs.Call.{Call, Took, TookSome, SinkFailed, ShelfFailed}
 use Rattle.mw_top.specs.Commands.Table.{plan_of, IsAnswer}
 use Rattle.mw_top.specs.Report.{usage_line, fault_line, refusal_line}
 use Rattle.mw_top.specs.Request.{RequestData, request_of, files_of}
+
+-- these contents of a request's files are accepted: its plan is done with them
+abbrev pub AreAccepted : RequestData → List (List ℕ) → Type 0
+AreAccepted request contents = (work : Work) × (after (plan_of request.command) contents ≡ Some (done work))
+
+-- the last of these contents of a request's files is refused
+abbrev pub AreRefused : RequestData → List (List ℕ) → Type 0
+AreRefused request contents =
+    (fault : FileFault Fault) × (after (plan_of request.command) contents ≡ Some (refused fault))
 
 -- the statuses of work that was done
 abbrev pub is_worked : Status → Bool
@@ -35,7 +44,7 @@ pub record IsRefusal (call : Call) (report : List ℕ) : Type 0 where
   pub contents : List (List ℕ)
   pub file : List ℕ
   pub fault : FileFault Fault
-  pub refused : IsRefused (plan_of request.command) call.shelf_before (files_of request contents) file fault
+  pub refused : IsRefusedAt (plan_of request.command) call.shelf_before (files_of request contents) file fault
   pub line : report ≡ refusal_line file fault
 
 -- There is a request, its files were read and accepted up to one that its plan asks for, the shelf failed there, and the report
@@ -68,9 +77,35 @@ pub record TookPart (call : Call) : Type 0 where
   pub permitted : IsReport call status report
   pub taken : TookSome call report
 
--- What a status says of a call: the report that it permits was taken. With a write fault, where the sink failed, that is a
--- part of one, and with want of memory nothing or a part of one.
+-- the words are no request, and the usage line was taken
+abbrev pub IsUsageEnd : Call → Type 0
+IsUsageEnd call = (request_of call.words ≡ None) × Took call usage_line
+
+-- the work was done, and its report was taken
+abbrev pub IsWorkEnd : Call → Status → Type 0
+IsWorkEnd call status = (report : List ℕ) × IsWorked call status report × Took call report
+
+-- a file is refused, and the line that says so was taken
+abbrev pub IsRefusalEnd : Call → Type 0
+IsRefusalEnd call = (report : List ℕ) × IsRefusal call report × Took call report
+
+-- the shelf failed at a file, and the line that says so was taken
+abbrev pub IsReadFaultEnd : Call → Type 0
+IsReadFaultEnd call = (report : List ℕ) × IsReadFault call report × Took call report
+
+-- the sink failed, and a front part of a report was taken
+abbrev pub IsWriteFaultEnd : Call → Type 0
+IsWriteFaultEnd call = SinkFailed call × TookPart call
+
+-- memory ran out: nothing was taken, or a front part of a report
+abbrev pub IsMemoryEnd : Call → Type 0
+IsMemoryEnd call = (call.sink_now.taken ≡ call.sink_before.taken) ⊎ TookPart call
+
+-- what each status says of a call
 abbrev pub IsEnd : Call → Status → Type 0
-IsEnd call WriteFault = SinkFailed call × TookPart call
-IsEnd call NoMemory = (call.sink_now.taken ≡ call.sink_before.taken) ⊎ TookPart call
-IsEnd call other = (report : List ℕ) × IsReport call other report × Took call report
+IsEnd call Usage = IsUsageEnd call
+IsEnd call Refused = IsRefusalEnd call
+IsEnd call ReadFault = IsReadFaultEnd call
+IsEnd call WriteFault = IsWriteFaultEnd call
+IsEnd call NoMemory = IsMemoryEnd call
+IsEnd call worked = IsWorkEnd call worked

@@ -1,17 +1,12 @@
 -- What a call of the bench was given and what it found.
-use Rattle.std.specs.Prelude.{◌≡◌, ℕ, List, Option, Some, String, string_bytes, map, Contains}
+use Rattle.std.specs.Prelude.{◌≡◌, ℕ, List, Some, String, string_bytes, map, Contains}
 use Rattle.std.specs.Global.{Global}
 use Rattle.mw_outside.specs.declared.shelf.Shelf as shelf
 use Rattle.mw_outside.specs.declared.sink.Sink as sink
 use Rattle.mw_outside.specs.Causes.{Rose}
 use Rattle.mw_outside.specs.Contents.{with_more, TookFront}
-use Rattle.mw_plan.specs.Shelf.{ShelfView, shown}
+use Rattle.mw_outside.specs.Views.{ShelfView, SinkView, shelf_shown, sink_shown}
 use Rattle.mw_top.specs.Request.{RequestData, request_of}
-
--- what a sink shows: the bytes taken, where they are told, and the count of faults
-pub record SinkView : Type 0 where
-  pub taken : Option (List ℕ)
-  pub faults : ℕ
 
 -- the words, and what the shelf and the sink showed before the call and show now
 pub record Call : Type 0 where
@@ -21,16 +16,12 @@ pub record Call : Type 0 where
   pub sink_before : SinkView
   pub sink_now : SinkView
 
--- what this sink shows
-abbrev pub sink_shown : {K : Type 0} → sink.Ghosts K → K → SinkView
-sink_shown out k = record { taken = out.taken k; faults = out.faults k }
-
 -- the call with these words, over a shelf and a sink
 abbrev pub call_of : {S K : Type 0} → shelf.Ghosts S → sink.Ghosts K → List (String Global) → S → S → K → K → Call
 call_of files out words before now out_before out_now = record {
   words = map string_bytes words;
-  shelf_before = shown files before;
-  shelf_now = shown files now;
+  shelf_before = shelf_shown files before;
+  shelf_now = shelf_shown files now;
   sink_before = sink_shown out out_before;
   sink_now = sink_shown out out_now;
 }

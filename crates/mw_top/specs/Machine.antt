@@ -1,5 +1,5 @@
--- The described machine: its state, one step of it, and its runs.
-use Rattle.std.specs.Prelude.{◌≡◌, ℕ, zero, suc, ◌+◌, ◌^◌, ◌<◌, List, [], ◌++◌, Bool, length, slice_index}
+-- The described machine: its state, and one step of it.
+use Rattle.std.specs.Prelude.{◌≡◌, ℕ, ◌^◌, ◌<◌, List, Bool, length, slice_index}
 use Rattle.mw_base.specs.declared.event.Event.{Event}
 
 -- the registers in their order, and the memory image
@@ -16,15 +16,6 @@ pub record Stepped : Type 0 where
 -- a described step: what becomes of a state with this request bit and the inputs from this number on
 abbrev pub DescribedStep : Type 0
 DescribedStep = MachineState → Bool → List ℕ → ℕ → Stepped
-
--- the run of k steps, where request gives the request bit of each: the state, the events in one list, and the inputs taken,
--- which are numbered through all steps
-unfoldable pub described_run : DescribedStep → (ℕ → Bool) → List ℕ → MachineState → ℕ → Stepped
-described_run step request inputs start zero = record { state = start; events = []; taken = 0 }
-described_run step request inputs start (suc k) =
-    let run = described_run step request inputs start k in
-    let next = step run.state (request k) inputs run.taken in
-    record { state = next.state; events = run.events ++ next.events; taken = run.taken + next.taken }
 
 -- each register is a word of its width, and the memory has words of word bits at addresses of address bits
 pub record IsMachineState (widths : List ℕ) (address word : ℕ) (s : MachineState) : Type 0 where

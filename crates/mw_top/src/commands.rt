@@ -1,7 +1,7 @@
 // The commands: what each makes of its files, and what is answered then.
 ghost use Rattle.std.specs.Prelude.{◌≡◌, [], IfOk, length};
+ghost use Rattle.mw_outside.specs.Views.{IsLater, shelf_shown};
 ghost use Rattle.mw_plan.specs.Steps.{Ends};
-ghost use Rattle.mw_plan.specs.Shelf.{shown};
 ghost use Rattle.mw_top.specs.Commands.Table.{plan_of, IsAnswer};
 ghost use Rattle.mw_top.specs.Request.{row_of};
 
@@ -29,7 +29,7 @@ pub(crate) enum Work {
 }
 
 /// Reads the files of a command, and makes of them what its plan says.
-pub(crate) fn made<S: Shelf>(
+pub(crate) fn read_files<S: Shelf>(
     alloc: Global,
     command: Command,
     shelf: &mut S,
@@ -37,21 +37,22 @@ pub(crate) fn made<S: Shelf>(
 ) -> Result<Work, Stop<Fault>>
     requires counted { length files.old.names ≡ (row_of command).files }
     requires none_read { files.old.contents ≡ [] }
-    ensures ends { Ends (plan_of command) (shown S.Shelf shelf.old) (shown S.Shelf shelf.new) files.new result }
+    ensures ends { Ends (plan_of command) (shelf_shown S.Shelf shelf.old) (shelf_shown S.Shelf shelf.new) files.new result }
     ensures names { files.new.names ≡ files.old.names }
+    ensures later { IsLater (shelf_shown S.Shelf shelf.old) (shelf_shown S.Shelf shelf.new) }
 {
     match command {
-        Command::Compare => compare::comparison(alloc, shelf, files),
-        Command::Asm => asm::assembly(alloc, shelf, files),
+        Command::Compare => compare::read(alloc, shelf, files),
+        Command::Asm => asm::read(alloc, shelf, files),
     }
 }
 
 /// Answers with what a command made of its files.
-pub(crate) fn answered(alloc: Global, work: &Work) -> Result<Outcome, NoMemory>
+pub(crate) fn answer_with(alloc: Global, work: &Work) -> Result<Outcome, NoMemory>
     ensures { IfOk result (λ outcome. IsAnswer work.now outcome.status outcome.report.items) }
 {
     match work {
-        Work::Comparison(bundle) => compare::compared(alloc, bundle),
-        Work::Assembly(board, assembled) => asm::listed(alloc, board, assembled),
+        Work::Comparison(bundle) => compare::report(alloc, bundle),
+        Work::Assembly(board, assembled) => asm::report(alloc, board, assembled),
     }
 }

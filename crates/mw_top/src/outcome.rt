@@ -18,7 +18,7 @@ pub(crate) struct Outcome {
 }
 
 /// The words are no request.
-pub(crate) fn usage(alloc: Global) -> Result<Outcome, NoMemory>
+pub(crate) fn usage_outcome(alloc: Global) -> Result<Outcome, NoMemory>
     ensures status { IfOk result (λ outcome. outcome.status ≡ Usage) }
     ensures report { IfOk result (λ outcome. outcome.report.items ≡ usage_line) }
 {
@@ -31,7 +31,7 @@ pub(crate) fn usage(alloc: Global) -> Result<Outcome, NoMemory>
 }
 
 /// The file can't be read.
-pub(crate) fn unread(alloc: Global, file: &str) -> Result<Outcome, NoMemory>
+pub(crate) fn read_fault_outcome(alloc: Global, file: &str) -> Result<Outcome, NoMemory>
     ensures status { IfOk result (λ outcome. outcome.status ≡ ReadFault) }
     ensures report { IfOk result (λ outcome. outcome.report.items ≡ fault_line file.now) }
 {
@@ -44,7 +44,7 @@ pub(crate) fn unread(alloc: Global, file: &str) -> Result<Outcome, NoMemory>
 }
 
 /// The file is refused.
-pub(crate) fn refused(
+pub(crate) fn refusal_outcome(
     alloc: Global,
     file: &str,
     fault: &FileFault<Fault>,

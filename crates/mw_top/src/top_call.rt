@@ -1,18 +1,14 @@
 // The top call: all that the program does.
-ghost use Rattle.std.specs.Prelude.{◌≡◌, ◌≢◌, ◌≤◌, ◌⊎◌, List, ℕ, [], ◌∷◌, None, Some, true, Contains, IfOk, map, length, string_bytes};
-ghost use Rattle.mw_plan.specs.declared.fault.FileFault.{FileFault};
-ghost use Rattle.mw_plan.specs.Plan.{done, refused, after};
-ghost use Rattle.mw_plan.specs.Shelf.{ShelfView, AreTold, IsLater, shown};
-ghost use Rattle.mw_top.specs.declared.commands.Work.{Work};
-ghost use Rattle.mw_top.specs.declared.fault.Fault.{Fault};
-ghost use Rattle.mw_top.specs.Answer.{IsEnd, IsReport, IsWorked, IsRefusal, IsReadFault, TookPart, is_worked};
-ghost use Rattle.mw_top.specs.Call.{Call, SinkView, NothingFailed, SinkFailed, Took, call_of, sink_shown};
-ghost use Rattle.mw_top.specs.Commands.Table.{plan_of};
-ghost use Rattle.mw_top.specs.Report.{usage_line};
+ghost use Rattle.std.specs.Prelude.{◌≡◌, ◌≢◌, ◌≤◌, List, ℕ, [], ◌∷◌, None, Some, true, Contains, IfOk, map, length, string_bytes};
+ghost use Rattle.mw_outside.specs.Views.{ShelfView, SinkView, IsLater, shelf_shown, sink_shown};
+ghost use Rattle.mw_plan.specs.Shelf.{AreTold};
+ghost use Rattle.mw_top.specs.Answer.{AreAccepted, AreRefused, IsEnd, IsReport, is_worked};
+ghost use Rattle.mw_top.specs.Answer.{IsMemoryEnd, IsReadFaultEnd, IsRefusalEnd, IsUsageEnd, IsWorkEnd, IsWriteFaultEnd};
+ghost use Rattle.mw_top.specs.Call.{Call, NothingFailed, call_of};
 ghost use Rattle.mw_top.specs.Request.{RequestData, data_of, request_of, row_of};
 
-use crate::commands::{answered, made};
-use crate::outcome::{Outcome, refused, unread, usage};
+use crate::commands::{answer_with, read_files};
+use crate::outcome::{Outcome, read_fault_outcome, refusal_outcome, usage_outcome};
 use crate::request::{Request, read_words};
 use crate::status::Status;
 use mw_base::NoMemory;
@@ -28,15 +24,15 @@ fn answer<S: Shelf>(
 ) -> Result<Outcome, NoMemory>
     requires { length request.now.files.now ≡ (row_of request.now.command).files }
     ensures report { (call : Call) → request_of call.words ≡ Some (data_of request.now)
-        → call.shelf_before ≡ shown S.Shelf shelf.old → call.shelf_now ≡ shown S.Shelf shelf.new
+        → call.shelf_before ≡ shelf_shown S.Shelf shelf.old → call.shelf_now ≡ shelf_shown S.Shelf shelf.new
         → IfOk result (λ outcome. IsReport call outcome.status outcome.report.items) }
-    ensures later { IsLater (shown S.Shelf shelf.old) (shown S.Shelf shelf.new) }
+    ensures later { IsLater (shelf_shown S.Shelf shelf.old) (shelf_shown S.Shelf shelf.new) }
 {
     let mut files = Files::new(alloc, request.files);
-    match made(alloc, request.command, shelf, &mut files) {
-        Ok(work) => answered(alloc, &work),
-        Err(Stop::ReadFault) => unread(alloc, files.next_name()),
-        Err(Stop::Refused(fault)) => refused(alloc, files.next_name(), &fault),
+    match read_files(alloc, request.command, shelf, &mut files) {
+        Ok(work) => answer_with(alloc, &work),
+        Err(Stop::ReadFault) => read_fault_outcome(alloc, files.next_name()),
+        Err(Stop::Refused(fault)) => refusal_outcome(alloc, files.next_name(), &fault),
         Err(Stop::NoMemory) => Err(NoMemory),
     }
 }
@@ -44,20 +40,21 @@ fn answer<S: Shelf>(
 /// Does the work that the words ask for.
 fn work<S: Shelf>(alloc: Global, words: &[String], shelf: &mut S) -> Result<Outcome, NoMemory>
     ensures report { (call : Call) → call.words ≡ map string_bytes words.now
-        → call.shelf_before ≡ shown S.Shelf shelf.old → call.shelf_now ≡ shown S.Shelf shelf.new
+        → call.shelf_before ≡ shelf_shown S.Shelf shelf.old → call.shelf_now ≡ shelf_shown S.Shelf shelf.new
         → IfOk result (λ outcome. IsReport call outcome.status outcome.report.items) }
-    ensures later { IsLater (shown S.Shelf shelf.old) (shown S.Shelf shelf.new) }
+    ensures later { IsLater (shelf_shown S.Shelf shelf.old) (shelf_shown S.Shelf shelf.new) }
 {
     match read_words(words) {
         Some(request) => answer(alloc, &request, shelf),
-        None => usage(alloc),
+        None => usage_outcome(alloc),
     }
 }
 
 /// Writes the report, and answers with its status or that it could not be written.
 fn write_report<K: Sink>(out: &mut K, outcome: &Outcome) -> Status
     ensures end { (call : Call) → IsReport call outcome.now.status outcome.now.report.items
-        → call.sink_before ≡ sink_shown K.Sink out.old → call.sink_now ≡ sink_shown K.Sink out.new → IsEnd call result }
+        → call.sink_before ≡ sink_shown K.Sink out.old → call.sink_now ≡ sink_shown K.Sink out.new
+        → IsEnd call result }
     ensures later { K.faults out.old ≤ K.faults out.new }
 {
     match write_all(out, &outcome.report) {
@@ -69,13 +66,24 @@ fn write_report<K: Sink>(out: &mut K, outcome: &Outcome) -> Status
 /// Ends a call: writes what its work ended with, unless memory ran out.
 fn end<K: Sink>(out: &mut K, worked: Result<Outcome, NoMemory>) -> Status
     ensures end { (call : Call) → IfOk worked (λ outcome. IsReport call outcome.status outcome.report.items)
-        → call.sink_before ≡ sink_shown K.Sink out.old → call.sink_now ≡ sink_shown K.Sink out.new → IsEnd call result }
+        → call.sink_before ≡ sink_shown K.Sink out.old → call.sink_now ≡ sink_shown K.Sink out.new
+        → IsEnd call result }
     ensures later { K.faults out.old ≤ K.faults out.new }
 {
     match worked {
         Ok(outcome) => write_report(out, &outcome),
         Err(NoMemory) => Status::NoMemory,
     }
+}
+
+/// Does the work that the words ask for, and ends the call.
+fn run<S: Shelf, K: Sink>(alloc: Global, words: &[String], shelf: &mut S, out: &mut K) -> Status
+    ensures end { IsEnd (call_of S.Shelf K.Sink words.now shelf.old shelf.new out.old out.new) result }
+    ensures shelf_later { IsLater (shelf_shown S.Shelf shelf.old) (shelf_shown S.Shelf shelf.new) }
+    ensures sink_later { K.faults out.old ≤ K.faults out.new }
+{
+    let worked = work(alloc, words, shelf);
+    end(out, worked)
 }
 
 /// Does all that the program does: reads the words, then the files that they name, does the work, and writes its
@@ -90,56 +98,51 @@ pub fn bench<S: Shelf, K: Sink>(
     out: &mut K,
 ) -> Status
     // `Usage`: the words are no request, and the usage line was taken.
-    ensures usage { let call = call_of S.Shelf K.Sink words.now shelf.old shelf.new out.old out.new in
-        result ≡ Status.Usage → (request_of call.words ≡ None) × Took call usage_line }
+    ensures usage { result ≡ Status.Usage
+        → IsUsageEnd (call_of S.Shelf K.Sink words.now shelf.old shelf.new out.old out.new) }
 
     // Words that are no request have no other end, but for a write fault and want of memory.
-    ensures usage_due { let call = call_of S.Shelf K.Sink words.now shelf.old shelf.new out.old out.new in
-        request_of call.words ≡ None → Contains (Status.Usage ∷ Status.WriteFault ∷ Status.NoMemory ∷ []) result }
+    ensures usage_due { request_of (map string_bytes words.now) ≡ None
+        → Contains (Status.Usage ∷ Status.WriteFault ∷ Status.NoMemory ∷ []) result }
 
     // `Done`, `Differs`, `Unknown`: the work was done, and its report was taken.
-    ensures answer { let call = call_of S.Shelf K.Sink words.now shelf.old shelf.new out.old out.new in
-        is_worked result ≡ true → (report : List ℕ) × IsWorked call result report × Took call report }
+    ensures answer { is_worked result ≡ true
+        → IsWorkEnd (call_of S.Shelf K.Sink words.now shelf.old shelf.new out.old out.new) result }
 
     // Good words and good files are not refused.
-    ensures answer_due { let call = call_of S.Shelf K.Sink words.now shelf.old shelf.new out.old out.new in
-        (request : RequestData) (contents : List (List ℕ)) (work : Work) → request_of call.words ≡ Some request
-        → AreTold call.shelf_before request.files contents → after (plan_of request.command) contents ≡ Some (done work)
+    ensures answer_due { (request : RequestData) (contents : List (List ℕ)) → request_of (map string_bytes words.now) ≡ Some request
+        → AreTold (shelf_shown S.Shelf shelf.old) request.files contents → AreAccepted request contents
         → (result ≢ Status.Usage) × (result ≢ Status.Refused) }
 
     // `Refused`: a file is refused, and the line that says so was taken.
-    ensures refused { let call = call_of S.Shelf K.Sink words.now shelf.old shelf.new out.old out.new in
-        result ≡ Status.Refused → (report : List ℕ) × IsRefusal call report × Took call report }
+    ensures refused { result ≡ Status.Refused
+        → IsRefusalEnd (call_of S.Shelf K.Sink words.now shelf.old shelf.new out.old out.new) }
 
     // Files that are refused have no other end, but for the faults and want of memory.
-    ensures refused_due { let call = call_of S.Shelf K.Sink words.now shelf.old shelf.new out.old out.new in
-        (request : RequestData) (contents : List (List ℕ)) (fault : FileFault Fault) → request_of call.words ≡ Some request
-        → AreTold call.shelf_before request.files contents
-        → after (plan_of request.command) contents ≡ Some (refused fault)
+    ensures refused_due { (request : RequestData) (contents : List (List ℕ)) → request_of (map string_bytes words.now) ≡ Some request
+        → AreTold (shelf_shown S.Shelf shelf.old) request.files contents → AreRefused request contents
         → Contains (Status.Refused ∷ Status.ReadFault ∷ Status.WriteFault ∷ Status.NoMemory ∷ []) result }
 
     // `ReadFault`: the files before one were read and accepted, the shelf failed at it, and the line that says so was taken.
-    ensures read_in_order { let call = call_of S.Shelf K.Sink words.now shelf.old shelf.new out.old out.new in
-        result ≡ Status.ReadFault → (report : List ℕ) × IsReadFault call report × Took call report }
+    ensures read_in_order { result ≡ Status.ReadFault
+        → IsReadFaultEnd (call_of S.Shelf K.Sink words.now shelf.old shelf.new out.old out.new) }
 
     // `WriteFault`: the sink failed, and a front part of a report was taken.
-    ensures write_fault { let call = call_of S.Shelf K.Sink words.now shelf.old shelf.new out.old out.new in
-        result ≡ Status.WriteFault → SinkFailed call × TookPart call }
+    ensures write_fault { result ≡ Status.WriteFault
+        → IsWriteFaultEnd (call_of S.Shelf K.Sink words.now shelf.old shelf.new out.old out.new) }
 
     // `NoMemory`: nothing was taken, or a front part of a report.
-    ensures no_memory { let call = call_of S.Shelf K.Sink words.now shelf.old shelf.new out.old out.new in
-        result ≡ Status.NoMemory → (call.sink_now.taken ≡ call.sink_before.taken) ⊎ TookPart call }
+    ensures no_memory { result ≡ Status.NoMemory
+        → IsMemoryEnd (call_of S.Shelf K.Sink words.now shelf.old shelf.new out.old out.new) }
 
     // Where neither the shelf nor the sink fails, only memory can keep the work from its end.
-    ensures complete { let call = call_of S.Shelf K.Sink words.now shelf.old shelf.new out.old out.new in
-        NothingFailed call → Contains (Status.Done ∷ Status.Differs ∷ Status.Unknown ∷ Status.Usage ∷ Status.Refused
-        ∷ Status.NoMemory ∷ []) result }
+    ensures complete { NothingFailed (call_of S.Shelf K.Sink words.now shelf.old shelf.new out.old out.new)
+        → Contains (Status.Done ∷ Status.Differs ∷ Status.Unknown ∷ Status.Usage ∷ Status.Refused ∷ Status.NoMemory ∷ []) result }
 
     // The files are as before, and no count of faults fell.
     ensures kept { (name : List ℕ) → S.told shelf.new name ≡ S.told shelf.old name }
     ensures shelf_later { (name : List ℕ) → S.faults shelf.old name ≤ S.faults shelf.new name }
     ensures sink_later { K.faults out.old ≤ K.faults out.new }
 {
-    let worked = work(alloc, words, shelf);
-    end(out, worked)
+    run(alloc, words, shelf, out)
 }

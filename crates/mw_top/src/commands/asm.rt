@@ -1,7 +1,7 @@
 // asm: a board file, and a microprogram for its board.
 ghost use Rattle.std.specs.Prelude.{◌≡◌, [], IfOk, length};
+ghost use Rattle.mw_outside.specs.Views.{IsLater, shelf_shown};
 ghost use Rattle.mw_plan.specs.Steps.{Ends};
-ghost use Rattle.mw_plan.specs.Shelf.{shown};
 ghost use Rattle.mw_top.specs.Commands.Asm.{asm_plan, IsListing};
 
 use super::Work;
@@ -16,17 +16,18 @@ use mw_outside::Shelf;
 use mw_plan::{Files, Stop};
 use std::alloc::Global;
 
-/// Assembles the microprogram for the board.
+/// Reads the board, and assembles the microprogram for it.
 #[tactic(auto, unfolding(crate::specs::Commands::Asm::asm_plan))]
-pub(super) fn assembly<S: Shelf>(
+pub(super) fn read<S: Shelf>(
     alloc: Global,
     shelf: &mut S,
     files: &mut Files<'_, Work, Fault>,
 ) -> Result<Work, Stop<Fault>>
     requires two { length files.old.names ≡ 2 }
     requires none_read { files.old.contents ≡ [] }
-    ensures ends { Ends asm_plan (shown S.Shelf shelf.old) (shown S.Shelf shelf.new) files.new result }
+    ensures ends { Ends asm_plan (shelf_shown S.Shelf shelf.old) (shelf_shown S.Shelf shelf.new) files.new result }
     ensures names { files.new.names ≡ files.old.names }
+    ensures later { IsLater (shelf_shown S.Shelf shelf.old) (shelf_shown S.Shelf shelf.new) }
 {
     let board = files.next(alloc, shelf, |bytes| read_board(alloc, bytes))?;
     let assembled = files.next(alloc, shelf, |bytes| assemble(alloc, &board, bytes))?;
@@ -34,7 +35,7 @@ pub(super) fn assembly<S: Shelf>(
 }
 
 /// Lists what was assembled.
-pub(super) fn listed(
+pub(super) fn report(
     alloc: Global,
     board: &Board,
     assembled: &Assembled,

@@ -1,7 +1,7 @@
 // compare: a bundle, whose one start is compared.
 ghost use Rattle.std.specs.Prelude.{◌≡◌, ◌++◌, [], IfOk, OnOk, length};
+ghost use Rattle.mw_outside.specs.Views.{IsLater, shelf_shown};
 ghost use Rattle.mw_plan.specs.Steps.{Ends};
-ghost use Rattle.mw_plan.specs.Shelf.{shown};
 ghost use Rattle.mw_top.specs.Commands.Compare.{compare_plan, compare_status, compare_report, IsComparison};
 
 use super::Work;
@@ -19,15 +19,16 @@ use std::alloc::Global;
 
 /// Reads the bundle.
 #[tactic(auto, unfolding(crate::specs::Commands::Compare::compare_plan))]
-pub(super) fn comparison<S: Shelf>(
+pub(super) fn read<S: Shelf>(
     alloc: Global,
     shelf: &mut S,
     files: &mut Files<'_, Work, Fault>,
 ) -> Result<Work, Stop<Fault>>
     requires one { length files.old.names ≡ 1 }
     requires none_read { files.old.contents ≡ [] }
-    ensures ends { Ends compare_plan (shown S.Shelf shelf.old) (shown S.Shelf shelf.new) files.new result }
+    ensures ends { Ends compare_plan (shelf_shown S.Shelf shelf.old) (shelf_shown S.Shelf shelf.new) files.new result }
     ensures names { files.new.names ≡ files.old.names }
+    ensures later { IsLater (shelf_shown S.Shelf shelf.old) (shelf_shown S.Shelf shelf.new) }
 {
     let bundle = files.next(alloc, shelf, |bytes| read_bundle(alloc, bytes))?;
     Ok(Work::Comparison(bundle))
@@ -64,7 +65,7 @@ fn append_comparison(
 }
 
 /// Compares the start of the bundle.
-pub(super) fn compared(alloc: Global, bundle: &Bundle) -> Result<Outcome, NoMemory>
+pub(super) fn report(alloc: Global, bundle: &Bundle) -> Result<Outcome, NoMemory>
     ensures { IfOk result (λ outcome. IsComparison bundle.now outcome.status outcome.report.items) }
 {
     let shown = compare_bundle(alloc, bundle)?;

@@ -6,6 +6,7 @@ use Rattle.mw_top.proofs.top_call.answer.Goals as goal
 
 pub returns-in-Ok-clause-report : goal.returns-in-Ok-clause-report
 returns-in-Ok-clause-report g c = λ call requested before now.
-    IfOk-weaker c.answered.result _ _ (λ outcome answer.
-    is_answered call (data_of c.args.request.now) c.made.new.files c.in-Ok.work outcome.status outcome.report.items requested
-    (c.in-Ok.ensures.names ∙ c.new-files.ensures.names) (rw (before, now) c.in-Ok.ensures.ends) answer) c.answered.ensures
+    IfOk-weaker c.answer_with.result _ _ (λ outcome answer.
+    is_answered call (data_of c.args.request.now) c.read_files.new.files c.in-Ok.work outcome.status
+    outcome.report.items requested (c.in-Ok.ensures.names ∙ c.new-files.ensures.names)
+    (rw before c.in-Ok.ensures.ends) answer) c.answer_with.ensures

@@ -4,15 +4,16 @@ use Rattle.mw_asm.specs.declared.assembled.Assembled.{Assembled}
 use Rattle.mw_asm.specs.Microprogram.{store_of}
 use Rattle.mw_board.specs.declared.parts.BoardParts.{BoardParts}
 use Rattle.mw_boardfile.specs.Board.{board_of}
+use Rattle.mw_outside.specs.Views.{shelf_shown}
 use Rattle.mw_plan.specs.Plan.{Plan, done, first_by}
-use Rattle.mw_plan.specs.Shelf.{shown}
+use Rattle.mw_plan.proofs.Reading.{later_still}
 use Rattle.mw_plan.proofs.Steps.{at_first, all_left, stops, ends}
 use Rattle.mw_top.specs.declared.commands.Work.{Work}
 use Rattle.mw_top.specs.declared.commands.Work.TheVariants.{Assembly}
 use Rattle.mw_top.specs.declared.fault.Fault.{Fault}
 use Rattle.mw_top.specs.declared.fault.Fault.TheVariants.{Board, Text}
 use Rattle.mw_top.specs.Commands.Asm.{asm_plan}
-use Rattle.mw_top.proofs.commands.asm.assembly.Goals as goal
+use Rattle.mw_top.proofs.commands.asm.read.Goals as goal
 
 -- what follows the microprogram, and what follows the board
 abbrev after_microprogram : BoardParts → Assembled → Plan Fault Work
@@ -25,8 +26,8 @@ pub returns-in_err-board-clause-ends : goal.returns-in_err-board-clause-ends
 unfolding asm_plan
 returns-in_err-board-clause-ends g c =
     let error = err_from_is_err_and c.from_residual.result c.from_residual.ensures.1 in
-    let first = shown g.S.Shelf c.args.shelf.now in
-    stops after_board asm_plan first _ _ _ c.from_residual.result (rw (sym error.2) error.1)
+    let first = shelf_shown g.S.Shelf c.args.shelf.now in
+    stops after_board asm_plan first (shelf_shown g.S.Shelf c.next.new.shelf) _ _ c.from_residual.result (rw (sym error.2) error.1)
     (c.in_err-board.ensures.follows Board board_of (λ fault seen is. is)
     (λ bytes result is. search rules) asm_plan after_board first (at_first first)
     (all_left asm_plan first c.args.files.now c.requires.none_read))
@@ -39,24 +40,36 @@ unfolding asm_plan
 returns-in_err-assembled-clause-ends g c =
     let error = err_from_is_err_and c.from_residual-in_err-assembled.result
     c.from_residual-in_err-assembled.ensures.1 in
-    let first = shown g.S.Shelf c.args.shelf.now in
+    let first = shelf_shown g.S.Shelf c.args.shelf.now in
     let board = c.in_ok-board.ensures.follows Board board_of (λ fault seen is. is)
     (λ bytes result is. search rules) asm_plan after_board first (at_first first)
     (all_left asm_plan first c.args.files.now c.requires.none_read) in
-    stops (after_microprogram c.in_ok-board.board) asm_plan first _ _ _ c.from_residual-in_err-assembled.result
+    stops (after_microprogram c.in_ok-board.board) asm_plan first (shelf_shown g.S.Shelf c.next-2.new.shelf) _ _
+    c.from_residual-in_err-assembled.result
     (rw (sym error.2) error.1)
     (c.in_err-assembled.ensures.follows Text (store_of c.in_ok-board.board) (λ fault seen is. is)
     (λ bytes result is. search rules) asm_plan
-    (after_microprogram c.in_ok-board.board) first board.since board.comes)
+    (after_microprogram c.in_ok-board.board) first c.in_ok-board.ensures.later board)
 
 pub returns-clause-ends : goal.returns-clause-ends
 unfolding asm_plan
 returns-clause-ends g c =
-    let first = shown g.S.Shelf c.args.shelf.now in
+    let first = shelf_shown g.S.Shelf c.args.shelf.now in
     let board = c.in_ok-board.ensures.follows Board board_of (λ fault seen is. is)
     (λ bytes result is. search rules) asm_plan after_board first (at_first first)
     (all_left asm_plan first c.args.files.now c.requires.none_read) in
-    ends (after_microprogram c.in_ok-board.board) asm_plan first _ _ c.in_ok-assembled.assembled _ refl
+    ends (after_microprogram c.in_ok-board.board) asm_plan first (shelf_shown g.S.Shelf c.next-2.new.shelf) _
+    c.in_ok-assembled.assembled _ refl
     (c.in_ok-assembled.ensures.follows Text (store_of c.in_ok-board.board) (λ fault seen is. is)
     (λ bytes result is. search rules) asm_plan
-    (after_microprogram c.in_ok-board.board) first board.since board.comes)
+    (after_microprogram c.in_ok-board.board) first c.in_ok-board.ensures.later board)
+
+pub returns-in_err-assembled-clause-later : goal.returns-in_err-assembled-clause-later
+returns-in_err-assembled-clause-later g c =
+    later_still _ (shelf_shown g.S.Shelf c.next.new.shelf) _ c.in_ok-board.ensures.later
+    c.in_err-assembled.ensures.later
+
+pub returns-clause-later : goal.returns-clause-later
+returns-clause-later g c =
+    later_still _ (shelf_shown g.S.Shelf c.next.new.shelf) _ c.in_ok-board.ensures.later
+    c.in_ok-assembled.ensures.later
