@@ -3,5 +3,8 @@ pub mod Firsts
 pub mod Joins
 pub mod Parts
 pub mod Small
+pub mod Sound
+pub mod Strengths
 pub mod Trees
+pub mod Wide
 pub mod Words

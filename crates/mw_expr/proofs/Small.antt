@@ -7,7 +7,7 @@ use Rattle.std.proofs.lemmas.Option.{slice_get_within, get_or_from_slice_get}
 use Rattle.mw_base.specs.declared.cursor.Numeral.{Numeral}
 use Rattle.mw_base.specs.declared.refusal.TextFault.{TextFault}
 use Rattle.mw_base.specs.declared.token.Token.{Token}
-use Rattle.mw_expr.specs.declared.expr.Pair2.TheVariants.{And, Or, Xor, Add, Sub, Same, Differs, Less}
+use Rattle.mw_expr.specs.declared.expr.Pair2.TheVariants.{And, Or, Xor, Add, Sub, Same, Differ, Less}
 use Rattle.mw_expr.specs.declared.shape.Shape.{Shape}
 use Rattle.mw_expr.specs.Placed.{Placed, named, constant, complement, pair, choice, part, join, widened, memory, group, Parts, none, more}
 use Rattle.mw_expr.specs.Plain.{is_small_number, is_small, are_small}
@@ -54,7 +54,7 @@ pub width_if-most : (rule : Bool) (w v : ℕ) → width_if rule w ≡ Some v →
 width_if-most true w v is = grind (arith, nat_tests)
 width_if-most false w v is = cc
 
-named-most : (s : Shape) (number : Option ℕ) (w : ℕ) → IsShape s → named_width s number ≡ Some w → (w ≤ 32) × (1 ≤ w)
+pub named-most : (s : Shape) (number : Option ℕ) (w : ℕ) → IsShape s → named_width s number ≡ Some w → (w ≤ 32) × (1 ≤ w)
 named-most s None w shape is = cc
 named-most s (Some n) w shape is =
     let h = rw (get_or_from_slice_get s.widths n w w is) at (shape.widths n w (slice_get_within s.widths n w is)) in
@@ -124,7 +124,7 @@ seen-most s (pair Xor token a b) w shape is = seen-most s a w shape (same-most _
 seen-most s (pair Add token a b) w shape is = seen-most s a w shape (same-most _ _ w is)
 seen-most s (pair Sub token a b) w shape is = seen-most s a w shape (same-most _ _ w is)
 seen-most s (pair Same token a b) w shape is = grind arith
-seen-most s (pair Differs token a b) w shape is = grind arith
+seen-most s (pair Differ token a b) w shape is = grind arith
 seen-most s (pair Less token a b) w shape is = grind arith
 seen-most s (choice token c a b) w shape is = seen-most s a w shape (same-most (seen_width s a) (seen_width s b) w (choice-same (seen_width s c) (seen_width s a) (seen_width s b) w is))
 seen-most s (part token high low e) w shape is = part-most high low (seen_width s e) w is
@@ -134,53 +134,53 @@ seen-most s (memory token e) w shape is = let most = shape.word in grind arith
 seen-most s (group token e) w shape is = seen-most s e w shape is
 
 mutual
-  pub small : (s : Shape) (left : Option ℕ) (tree : Placed) → IsShape s → faults s left tree ≡ [] → is_small tree ≡ true
-  small s left (named token number) shape is = small_number s number token shape (nil_back (deep left token) (unknown (named_width s number) token) is)
-  small s left (constant number hash w) shape is = small_constant number hash w (nil_back (deep left number.token) (constant_faults number hash w) is)
-  small s left (complement token e) shape is = small s (below left) e shape (nil_back (deep left token) (faults s (below left) e) is)
-  small s left (pair op token a b) shape is =
-      let fa = faults s (below left) a in
-      let fb = faults s (below left) b in
+  pub small : (s : Shape) (levels : Option ℕ) (tree : Placed) → IsShape s → faults s levels tree ≡ [] → is_small tree ≡ true
+  small s levels (named token number) shape is = small_number s number token shape (nil_back (deep levels token) (unknown (named_width s number) token) is)
+  small s levels (constant number hash w) shape is = small_constant number hash w (nil_back (deep levels number.token) (constant_faults number hash w) is)
+  small s levels (complement token e) shape is = small s (below levels) e shape (nil_back (deep levels token) (faults s (below levels) e) is)
+  small s levels (pair op token a b) shape is =
+      let fa = faults s (below levels) a in
+      let fb = faults s (below levels) b in
       let breaks = broken (pair_breaks (seen_width s a) (seen_width s b)) token in
-      let parts = nil_back (deep left token) (fa ++ (fb ++ breaks)) is in
+      let parts = nil_back (deep levels token) (fa ++ (fb ++ breaks)) is in
       let after = nil_back fa (fb ++ breaks) parts in
-      and_from _ _ (small s (below left) a shape (nil_front fa (fb ++ breaks) parts)) (small s (below left) b shape (nil_front fb breaks after))
-  small s left (choice token c a b) shape is =
-      let fc = faults s (below left) c in
-      let fa = faults s (below left) a in
-      let fb = faults s (below left) b in
+      and_from _ _ (small s (below levels) a shape (nil_front fa (fb ++ breaks) parts)) (small s (below levels) b shape (nil_front fb breaks after))
+  small s levels (choice token c a b) shape is =
+      let fc = faults s (below levels) c in
+      let fa = faults s (below levels) a in
+      let fb = faults s (below levels) b in
       let breaks = broken (is_other 1 (seen_width s c) || pair_breaks (seen_width s a) (seen_width s b)) token in
-      let parts = nil_back (deep left token) (fc ++ (fa ++ (fb ++ breaks))) is in
+      let parts = nil_back (deep levels token) (fc ++ (fa ++ (fb ++ breaks))) is in
       let both = nil_back fc (fa ++ (fb ++ breaks)) parts in
       let after = nil_back fa (fb ++ breaks) both in
-      and_from _ _ (small s (below left) c shape (nil_front fc (fa ++ (fb ++ breaks)) parts))
-      (and_from _ _ (small s (below left) a shape (nil_front fa (fb ++ breaks) both)) (small s (below left) b shape (nil_front fb breaks after)))
-  small s left (part token high low e) shape is =
-      let fe = faults s (below left) e in
+      and_from _ _ (small s (below levels) c shape (nil_front fc (fa ++ (fb ++ breaks)) parts))
+      (and_from _ _ (small s (below levels) a shape (nil_front fa (fb ++ breaks) both)) (small s (below levels) b shape (nil_front fb breaks after)))
+  small s levels (part token high low e) shape is =
+      let fe = faults s (below levels) e in
       let breaks = broken (part_breaks high low (seen_width s e)) token in
-      let parts = nil_back (deep left token) (fe ++ breaks) is in
-      and_from _ _ (small s (below left) e shape (nil_front fe breaks parts))
+      let parts = nil_back (deep levels token) (fe ++ breaks) is in
+      and_from _ _ (small s (below levels) e shape (nil_front fe breaks parts))
       (small_part high low (seen_width s e) token (λ w. seen-most s e w shape) (nil_back fe breaks parts))
-  small s left (join token parts) shape is =
-      let all = faults_in s (below left) parts in
+  small s levels (join token parts) shape is =
+      let all = faults_in s (below levels) parts in
       let breaks = broken (is_past 32 (seen_total s (Some 0) parts)) token in
-      small_parts s (below left) parts shape (nil_front all breaks (nil_back (deep left token) (all ++ breaks) is))
-  small s left (widened token w e) shape is =
-      let fe = faults s (below left) e in
+      small_parts s (below levels) parts shape (nil_front all breaks (nil_back (deep levels token) (all ++ breaks) is))
+  small s levels (widened token w e) shape is =
+      let fe = faults s (below levels) e in
       let breaks = broken (not (nat_le 1 w && nat_le w 32) || is_past w (seen_width s e)) token in
-      let parts = nil_back (deep left token) (fe ++ breaks) is in
-      and_from _ _ (small s (below left) e shape (nil_front fe breaks parts)) (small_width w _ token (nil_back fe breaks parts))
-  small s left (memory token e) shape is =
-      let fe = faults s (below left) e in
+      let parts = nil_back (deep levels token) (fe ++ breaks) is in
+      and_from _ _ (small s (below levels) e shape (nil_front fe breaks parts)) (small_width w _ token (nil_back fe breaks parts))
+  small s levels (memory token e) shape is =
+      let fe = faults s (below levels) e in
       let breaks = broken (is_other s.address (seen_width s e)) token in
-      small s (below left) e shape (nil_front fe breaks (nil_back (deep left token) (fe ++ breaks) is))
-  small s left (group token e) shape is = small s (below left) e shape (nil_back (deep left token) (faults s (below left) e) is)
+      small s (below levels) e shape (nil_front fe breaks (nil_back (deep levels token) (fe ++ breaks) is))
+  small s levels (group token e) shape is = small s (below levels) e shape (nil_back (deep levels token) (faults s (below levels) e) is)
 
-  small_parts : (s : Shape) (left : Option ℕ) (parts : Parts) → IsShape s → faults_in s left parts ≡ [] → are_small parts ≡ true
-  small_parts s left none shape is = refl
-  small_parts s left (more tree rest) shape is =
-      and_from _ _ (small s left tree shape (nil_front (faults s left tree) (faults_in s left rest) is))
-      (small_parts s left rest shape (nil_back (faults s left tree) (faults_in s left rest) is))
+  small_parts : (s : Shape) (levels : Option ℕ) (parts : Parts) → IsShape s → faults_in s levels parts ≡ [] → are_small parts ≡ true
+  small_parts s levels none shape is = refl
+  small_parts s levels (more tree rest) shape is =
+      and_from _ _ (small s levels tree shape (nil_front (faults s levels tree) (faults_in s levels rest) is))
+      (small_parts s levels rest shape (nil_back (faults s levels tree) (faults_in s levels rest) is))
 
 -- where nothing is at fault first, the numbers of a whole expression fit
 pub small_whole : (s : Shape) (tree : Placed) → IsShape s → first_fault s tree ≡ None → is_small tree ≡ true

@@ -7,7 +7,7 @@ use Rattle.mw_base.specs.declared.token.Token.{Token}
 use Rattle.mw_base.specs.Causes as causes
 use Rattle.mw_base.specs.TokenLines.{fault_on}
 use Rattle.mw_expr.specs.declared.expr.Pair2.{Pair2}
-use Rattle.mw_expr.specs.declared.expr.Pair2.TheVariants.{And, Or, Xor, Add, Sub, Same, Differs, Less}
+use Rattle.mw_expr.specs.declared.expr.Pair2.TheVariants.{And, Or, Xor, Add, Sub, Same, Differ, Less}
 use Rattle.mw_expr.specs.declared.shape.Shape.{Shape}
 use Rattle.mw_expr.specs.Placed.{Placed, named, constant, complement, pair, choice, part, join, widened, memory, group, Parts, none, more}
 use Rattle.mw_expr.specs.Widths.{width_if, part_width}
@@ -32,7 +32,7 @@ seen_pair Xor a b = same_width a b
 seen_pair Add a b = same_width a b
 seen_pair Sub a b = same_width a b
 seen_pair Same a b = Some 1
-seen_pair Differs a b = Some 1
+seen_pair Differ a b = Some 1
 seen_pair Less a b = Some 1
 
 -- what a condition of one bit chooses between is equally wide
@@ -93,12 +93,12 @@ is_past most None = false
 
 -- ---- the faults
 
--- a token at level 65, where so many levels may still stand below it
+-- how many levels there are from this one down: Some 0 at level 65, None past it; a token at level 65 is at fault
 abbrev pub deep : Option ℕ → Token → List TextFault
 deep (Some zero) token = fault_on token TooDeep ∷ []
 deep other token = []
 
--- how many may stand below a part of it; past level 65 that isn't asked
+-- how many there are from a part of it down
 abbrev pub below : Option ℕ → Option ℕ
 below (Some (suc n)) = Some n
 below other = None
@@ -118,28 +118,28 @@ constant_faults number hash w =
     if nat_le 1 w && nat_le w 32 then (if nat_lt number.value (2 ^ w) then [] else fault_on number.token TooWide ∷ [])
     else fault_on hash WidthsDiffer ∷ []
 
--- the faults of an expression, where so many levels may stand below it
+-- the faults of an expression, where there are so many levels from this one down
 abbrev mutual
   pub faults : Shape → Option ℕ → Placed → List TextFault
-  faults s left (named token number) = deep left token ++ unknown (named_width s number) token
-  faults s left (constant number hash w) = deep left number.token ++ constant_faults number hash w
-  faults s left (complement token e) = deep left token ++ faults s (below left) e
-  faults s left (pair op token a b) =
-      deep left token ++ (faults s (below left) a ++ (faults s (below left) b ++ broken (pair_breaks (seen_width s a) (seen_width s b)) token))
-  faults s left (choice token c a b) =
-      deep left token ++ (faults s (below left) c ++ (faults s (below left) a ++ (faults s (below left) b
+  faults s levels (named token number) = deep levels token ++ unknown (named_width s number) token
+  faults s levels (constant number hash w) = deep levels number.token ++ constant_faults number hash w
+  faults s levels (complement token e) = deep levels token ++ faults s (below levels) e
+  faults s levels (pair op token a b) =
+      deep levels token ++ (faults s (below levels) a ++ (faults s (below levels) b ++ broken (pair_breaks (seen_width s a) (seen_width s b)) token))
+  faults s levels (choice token c a b) =
+      deep levels token ++ (faults s (below levels) c ++ (faults s (below levels) a ++ (faults s (below levels) b
       ++ broken (is_other 1 (seen_width s c) || pair_breaks (seen_width s a) (seen_width s b)) token)))
-  faults s left (part token high low e) = deep left token ++ (faults s (below left) e ++ broken (part_breaks high low (seen_width s e)) token)
-  faults s left (join token parts) = deep left token ++ (faults_in s (below left) parts ++ broken (is_past 32 (seen_total s (Some 0) parts)) token)
-  faults s left (widened token w e) =
-      deep left token ++ (faults s (below left) e ++ broken (not (nat_le 1 w && nat_le w 32) || is_past w (seen_width s e)) token)
-  faults s left (memory token e) = deep left token ++ (faults s (below left) e ++ broken (is_other s.address (seen_width s e)) token)
-  faults s left (group token e) = deep left token ++ faults s (below left) e
+  faults s levels (part token high low e) = deep levels token ++ (faults s (below levels) e ++ broken (part_breaks high low (seen_width s e)) token)
+  faults s levels (join token parts) = deep levels token ++ (faults_in s (below levels) parts ++ broken (is_past 32 (seen_total s (Some 0) parts)) token)
+  faults s levels (widened token w e) =
+      deep levels token ++ (faults s (below levels) e ++ broken (not (nat_le 1 w && nat_le w 32) || is_past w (seen_width s e)) token)
+  faults s levels (memory token e) = deep levels token ++ (faults s (below levels) e ++ broken (is_other s.address (seen_width s e)) token)
+  faults s levels (group token e) = deep levels token ++ faults s (below levels) e
 
   -- the faults of the parts of a join, where so many levels may stand below it
   pub faults_in : Shape → Option ℕ → Parts → List TextFault
-  faults_in s left none = []
-  faults_in s left (more tree rest) = faults s left tree ++ faults_in s left rest
+  faults_in s levels none = []
+  faults_in s levels (more tree rest) = faults s levels tree ++ faults_in s levels rest
 
 -- ---- the first fault
 
@@ -159,6 +159,6 @@ abbrev pub first_in : Option TextFault → List TextFault → Option TextFault
 first_in first [] = first
 first_in first (fault ∷ rest) = first_in (first_of first fault) rest
 
--- the first fault of a whole expression, whose level is 1
+-- the first fault of a whole expression, whose level is the first of 64
 abbrev pub first_fault : Shape → Placed → Option TextFault
 first_fault s tree = first_in None (faults s (Some 64) tree)

@@ -13,7 +13,7 @@ use Rattle.mw_base.specs.Cursors.{Cursor, misplaced}
 use Rattle.mw_base.specs.Reading.{◌>>=◌}
 use Rattle.mw_base.specs.Symbols.{spelled, symbol_of, is_sign}
 use Rattle.mw_expr.specs.declared.expr.Pair2.{Pair2}
-use Rattle.mw_expr.specs.declared.expr.Pair2.TheVariants.{And, Or, Xor, Add, Sub, Same, Differs, Less}
+use Rattle.mw_expr.specs.declared.expr.Pair2.TheVariants.{And, Or, Xor, Add, Sub, Same, Differ, Less}
 use Rattle.mw_expr.specs.Placed.{Placed, named, constant, complement, pair, choice, part, join, widened, memory, group, parts_of, Open, nothing, complementing, pairing, choosing, otherwise, grouping, joining, widening, reading, Awaits, an_operand, a_dot, a_member, a_bracket, a_parenthesis, a_hash, a_width, a_high, a_colon, a_low, a_close, a_new_width, a_widen_end, a_sign, State}
 
 -- what the words of a text mean: the names of the elements, whether elements are NAME . NAME, else NAME, and whether there is a memory
@@ -41,7 +41,7 @@ strength Or = 1
 strength Xor = 2
 strength And = 3
 strength Same = 4
-strength Differs = 4
+strength Differ = 4
 strength Less = 4
 strength Add = 5
 strength Sub = 5
@@ -53,17 +53,14 @@ pub record Reduced : Type 0 where
 
 -- the operation that an operand ends, as far as those that are open bind at least this strongly; a choice binds with strength 0
 unfoldable pub reduced : ℕ → Placed → Open → Reduced
-reduced least tree nothing = record { tree = tree; below = nothing }
 reduced least tree (complementing token below) = reduced least (complement token tree) below
 reduced least tree (pairing op token left below) =
-    if nat_le least (strength op) then reduced least (pair op token left tree) below else record { tree = tree; below = pairing op token left below }
-reduced least tree (choosing token condition below) = record { tree = tree; below = choosing token condition below }
+    if nat_le least (strength op) then reduced least (pair op token left tree) below
+    else record { tree = tree; below = pairing op token left below }
 reduced least tree (otherwise token condition first below) =
-    if least == 0 then reduced least (choice token condition first tree) below else record { tree = tree; below = otherwise token condition first below }
-reduced least tree (grouping token below) = record { tree = tree; below = grouping token below }
-reduced least tree (joining token parts below) = record { tree = tree; below = joining token parts below }
-reduced least tree (widening token below) = record { tree = tree; below = widening token below }
-reduced least tree (reading token below) = record { tree = tree; below = reading token below }
+    if least == 0 then reduced least (choice token condition first tree) below
+    else record { tree = tree; below = otherwise token condition first below }
+reduced least tree other = record { tree = tree; below = other }
 
 -- what the next token can be, and what is open
 abbrev pub state : Awaits → Open → State
@@ -77,7 +74,7 @@ pair_of signs.Xor = Some Xor
 pair_of signs.Plus = Some Add
 pair_of signs.Minus = Some Sub
 pair_of signs.Same = Some Same
-pair_of signs.Differ = Some Differs
+pair_of signs.Differ = Some Differ
 pair_of signs.Less = Some Less
 pair_of other = None
 

@@ -3,6 +3,7 @@ pub mod Grammar
 pub mod Parts
 pub mod Placed
 pub mod Plain
+pub mod Syntax
 pub mod Text
 pub mod Tree
 pub mod Values

@@ -2,7 +2,7 @@
 use Rattle.std.specs.Prelude.{◌≡◌, ℕ, ◌+◌, ◌-◌, ◌%◌, ◌^◌, ◌<◌, List, length, Bool, true, false, not, ◌||◌, nat_lt, ◌==◌, if◌then◌else◌, unwrap_or, slice_index, bit_and, bit_or, bit_xor}
 use Rattle.mw_base.specs.Words as words
 use Rattle.mw_expr.specs.declared.expr.Pair2.{Pair2}
-use Rattle.mw_expr.specs.declared.expr.Pair2.TheVariants.{And, Or, Xor, Add, Sub, Same, Differs, Less}
+use Rattle.mw_expr.specs.declared.expr.Pair2.TheVariants.{And, Or, Xor, Add, Sub, Same, Differ, Less}
 use Rattle.mw_expr.specs.declared.shape.Shape.{Shape}
 use Rattle.mw_expr.specs.Tree.{Tree, element, constant, complement, pair, choice, part, join, widened, memory, Trees, none, more}
 use Rattle.mw_expr.specs.Widths.{width, total_width}
@@ -15,7 +15,7 @@ pair_value Xor w a b = bit_xor a b
 pair_value Add w a b = (a + b) % 2 ^ w
 pair_value Sub w a b = (a + (2 ^ w - b)) % 2 ^ w
 pair_value Same w a b = words.num (a == b)
-pair_value Differs w a b = words.num (not (a == b))
+pair_value Differ w a b = words.num (not (a == b))
 pair_value Less w a b = words.num (nat_lt a b)
 
 -- the width of a tree that has one

@@ -3,7 +3,7 @@ use Rattle.std.specs.Prelude.{ℕ, ◌+◌, ◌-◌, ◌^◌, max, length, Bool,
 use Rattle.mw_base.specs.declared.cause.Cause.{Cause}
 use Rattle.mw_base.specs.declared.cause.Cause.TheVariants.{UnknownElement, WidthsDiffer, TooDeep}
 use Rattle.mw_expr.specs.declared.expr.Pair2.{Pair2}
-use Rattle.mw_expr.specs.declared.expr.Pair2.TheVariants.{And, Or, Xor, Add, Sub, Same, Differs, Less}
+use Rattle.mw_expr.specs.declared.expr.Pair2.TheVariants.{And, Or, Xor, Add, Sub, Same, Differ, Less}
 use Rattle.mw_expr.specs.declared.shape.Shape.{Shape}
 use Rattle.mw_expr.specs.Tree.{Tree, element, constant, complement, pair, choice, part, join, widened, memory, Trees, none, more}
 
@@ -24,7 +24,7 @@ width_after Xor w = w
 width_after Add w = w
 width_after Sub w = w
 width_after Same w = 1
-width_after Differs w = 1
+width_after Differ w = 1
 width_after Less w = 1
 
 -- both operands of a sign are equally wide

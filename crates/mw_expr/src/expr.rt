@@ -16,7 +16,7 @@ pub enum Pair2 {
     /// `==`, of width 1.
     Same,
     /// `!=`, of width 1.
-    Differs,
+    Differ,
     /// `<` of unsigned words, of width 1.
     Less,
 }

@@ -7,11 +7,8 @@ ghost use Rattle.mw_expr.specs.Faults.{named_width, same_width, seen_pair, seen_
 use crate::expr::Pair2;
 use crate::placed::Placed;
 use crate::shape::Shape;
-use crate::width::{WIDEST, part_width};
+use crate::width::{DEEPEST, WIDEST, part_width};
 use mw_base::{Cause, Numeral, TextFault, Token, fault_on};
-
-/// How many levels may stand below a whole expression.
-const LEVELS_BELOW: u8 = 64;
 
 /// Whether a fault stands before another, or at its place with a lesser number.
 fn is_before(a: TextFault, b: TextFault) -> bool
@@ -33,10 +30,10 @@ fn note(first: &mut Option<TextFault>, fault: TextFault)
     }
 }
 
-fn note_deep(first: &mut Option<TextFault>, left: Option<u8>, token: Token)
-    ensures { first.new ≡ first_in first.old (deep left token) }
+fn note_deep(first: &mut Option<TextFault>, levels: Option<u8>, token: Token)
+    ensures { first.new ≡ first_in first.old (deep levels token) }
 {
-    match left {
+    match levels {
         Some(0) => note(first, fault_on(token, Cause::TooDeep)),
         _ => {}
     }
@@ -71,12 +68,12 @@ fn note_constant(first: &mut Option<TextFault>, number: Numeral, hash: Token, wi
     }
 }
 
-/// How many levels may stand below a part.
-fn below(left: Option<u8>) -> Option<u8>
-    ensures { result ≡ below left }
+/// How many levels there are from a part of it down.
+fn below(levels: Option<u8>) -> Option<u8>
+    ensures { result ≡ below levels }
 {
-    match left {
-        Some(levels) => levels.checked_sub(1),
+    match levels {
+        Some(all) => all.checked_sub(1),
         None => None,
     }
 }
@@ -111,7 +108,7 @@ fn seen_pair(op: Pair2, a: Option<u8>, b: Option<u8>) -> Option<u8>
 {
     match op {
         Pair2::And | Pair2::Or | Pair2::Xor | Pair2::Add | Pair2::Sub => same_width(a, b),
-        Pair2::Same | Pair2::Differs | Pair2::Less => Some(1),
+        Pair2::Same | Pair2::Differ | Pair2::Less => Some(1),
     }
 }
 
@@ -198,75 +195,76 @@ fn widen_breaks(width: u128, seen: Option<u8>) -> bool
     given_width(width).is_none() || is_past(width, seen)
 }
 
-/// The width that an expression has for what is around it. Keeps the first of its faults.
+/// The width that an expression has for what is around it, where there are so many levels from this one down: 0 at level 65, none
+/// past it. Keeps the first of its faults.
 #[cycle(faults)]
 fn check(
     shape: &Shape,
-    left: Option<u8>,
+    levels: Option<u8>,
     tree: &Placed,
     first: &mut Option<TextFault>,
 ) -> Option<u8>
     ensures width { result ≡ seen_width shape.now (placed tree.now) }
-    ensures faults { first.new ≡ first_in first.old (faults shape.now left (placed tree.now)) }
+    ensures faults { first.new ≡ first_in first.old (faults shape.now levels (placed tree.now)) }
 {
     match tree {
         Placed::Element(token, number) => {
-            note_deep(first, left, *token);
+            note_deep(first, levels, *token);
             let width = named_width(shape, *number);
             note_unknown(first, width, *token);
             width
         }
         Placed::Con(number, hash, bits) => {
-            note_deep(first, left, number.token);
+            note_deep(first, levels, number.token);
             note_constant(first, *number, *hash, *bits);
             given_width(*bits)
         }
         Placed::Not(token, e) => {
-            note_deep(first, left, *token);
-            check(shape, below(left), e, first)
+            note_deep(first, levels, *token);
+            check(shape, below(levels), e, first)
         }
         Placed::Two(op, token, a, b) => {
-            note_deep(first, left, *token);
-            let one = check(shape, below(left), a, first);
-            let other = check(shape, below(left), b, first);
+            note_deep(first, levels, *token);
+            let one = check(shape, below(levels), a, first);
+            let other = check(shape, below(levels), b, first);
             note_broken(first, pair_breaks(one, other), *token);
             seen_pair(*op, one, other)
         }
         Placed::Choose(token, condition, a, b) => {
-            note_deep(first, left, *token);
-            let chosen_by = check(shape, below(left), condition, first);
-            let one = check(shape, below(left), a, first);
-            let other = check(shape, below(left), b, first);
+            note_deep(first, levels, *token);
+            let chosen_by = check(shape, below(levels), condition, first);
+            let one = check(shape, below(levels), a, first);
+            let other = check(shape, below(levels), b, first);
             note_broken(first, choice_breaks(chosen_by, one, other), *token);
             seen_choice(chosen_by, one, other)
         }
         Placed::Part(token, high, low, e) => {
-            note_deep(first, left, *token);
-            let whole = check(shape, below(left), e, first);
+            note_deep(first, levels, *token);
+            let whole = check(shape, below(levels), e, first);
             note_broken(first, part_breaks(*high, *low, whole), *token);
             seen_part(*high, *low, whole)
         }
         Placed::Join(token, parts) => {
-            note_deep(first, left, *token);
-            let whole = check_parts(shape, below(left), parts, first);
+            note_deep(first, levels, *token);
+            let whole = check_parts(shape, below(levels), parts, first);
             note_broken(first, is_past(32, whole), *token);
             within_32(whole)
         }
         Placed::Widen(token, width, e) => {
-            note_deep(first, left, *token);
-            let narrow = check(shape, below(left), e, first);
+            note_deep(first, levels, *token);
+            let narrow = check(shape, below(levels), e, first);
             note_broken(first, widen_breaks(*width, narrow), *token);
             given_width(*width)
         }
         Placed::Memory(token, e) => {
-            note_deep(first, left, *token);
-            let address = check(shape, below(left), e, first);
+            note_deep(first, levels, *token);
+            let address = check(shape, below(levels), e, first);
             note_broken(first, is_other(shape.address, address), *token);
             Some(shape.word)
         }
         Placed::Group(token, e) => {
-            note_deep(first, left, *token);
-            check(shape, below(left), e, first)
+            note_deep(first, levels, *token);
+            check(shape, below(levels), e, first)
         }
     }
 }
@@ -275,16 +273,16 @@ fn check(
 #[cycle(faults)]
 fn check_parts(
     shape: &Shape,
-    left: Option<u8>,
+    levels: Option<u8>,
     parts: &[Placed],
     first: &mut Option<TextFault>,
 ) -> Option<u8>
     ensures width { result ≡ seen_total shape.now (Some 0) (parts_of (map placed parts.now)) }
-    ensures faults { first.new ≡ first_in first.old (faults_in shape.now left (parts_of (map placed parts.now))) }
+    ensures faults { first.new ≡ first_in first.old (faults_in shape.now levels (parts_of (map placed parts.now))) }
 {
     let mut whole = Some(0);
     for part in parts {
-        let width = check(shape, left, part, first);
+        let width = check(shape, levels, part, first);
         whole = beside(whole, width);
     }
     whole
@@ -295,6 +293,6 @@ pub(crate) fn first_fault(shape: &Shape, tree: &Placed) -> Option<TextFault>
     ensures { result ≡ first_fault shape.now (placed tree.now) }
 {
     let mut first = None;
-    let _width = check(shape, Some(LEVELS_BELOW), tree, &mut first);
+    let _width = check(shape, Some(DEEPEST), tree, &mut first);
     first
 }

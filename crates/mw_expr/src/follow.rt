@@ -41,7 +41,7 @@ fn pair_of(sign: Sign) -> Option<Pair2>
         Sign::Plus => Some(Pair2::Add),
         Sign::Minus => Some(Pair2::Sub),
         Sign::Same => Some(Pair2::Same),
-        Sign::Differ => Some(Pair2::Differs),
+        Sign::Differ => Some(Pair2::Differ),
         Sign::Less => Some(Pair2::Less),
         _ => None,
     }

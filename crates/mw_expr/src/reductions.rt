@@ -26,7 +26,7 @@ impl Pair2 {
             Pair2::Or => 1,
             Pair2::Xor => 2,
             Pair2::And => 3,
-            Pair2::Same | Pair2::Differs | Pair2::Less => 4,
+            Pair2::Same | Pair2::Differ | Pair2::Less => 4,
             Pair2::Add | Pair2::Sub => 5,
         }
     }

@@ -1,9 +1,10 @@
 // Expressions in texts.
-ghost use Rattle.std.specs.Prelude.{◌≡◌, IfOk};
+ghost use Rattle.std.specs.Prelude.{◌≡◌, IfOk, IsOk};
 ghost use Rattle.mw_base.specs.Reading.{Gives};
 ghost use Rattle.mw_expr.specs.Grammar.{has_dot, is_dotted, meaning_of};
 ghost use Rattle.mw_expr.specs.Text.{IsShape, expr_of};
 ghost use Rattle.mw_expr.specs.Tree.{view};
+ghost use Rattle.mw_expr.specs.Widths.{width_of};
 ghost use Rattle.mw_expr.specs.Words.{meaning_seen};
 
 use crate::build::build;
@@ -41,7 +42,9 @@ fn meaning_of<'a>(text: &'a [u8], names: &'a [Name], shape: &Shape) -> Meaning<'
 }
 
 /// The expression that the tokens of a line are, over the elements of a shape, which have these names, and its memory. Elements are
-/// NAME . NAME where a name has a dot, as all of a relation's do, else NAME.
+/// NAME . NAME where a name has a dot, as all of a relation's do, else NAME. What it gives has a width over the shape.
+///
+/// There are fewer than 2^32 elements; each of them has 1 to 32 bits, and so has a word of the memory, where there is one.
 ///
 /// # Errors
 ///
@@ -58,6 +61,7 @@ pub fn parse_expr(
 ) -> Result<Expr, Refusal>
     requires proper { IsShape shape.now }
     ensures exact { Gives view result (expr_of cursor.now names.now shape.now) }
+    ensures wide { IfOk result (λ expr. IsOk (width_of shape.now (view expr))) }
 {
     let meaning = meaning_of(cursor.text(), names, shape);
     let tree = match tree_of(alloc, meaning, cursor) {

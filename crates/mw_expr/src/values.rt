@@ -7,7 +7,6 @@ ghost use Rattle.mw_expr.specs.Values.{pair_value, value, joined, reads_memory, 
 
 use crate::expr::{Expr, Pair2};
 use crate::shape::Shape;
-use mw_base::Width;
 
 /// A word: its bits as a number, and how many they are.
 #[derive(Clone, Copy)]
@@ -42,7 +41,7 @@ impl Pair2 {
             Pair2::Add => ((u64::from(a) + u64::from(b)) % past) as u32,
             Pair2::Sub => ((u64::from(a) + (past - u64::from(b))) % past) as u32,
             Pair2::Same => u32::from(a == b),
-            Pair2::Differs => u32::from(a != b),
+            Pair2::Differ => u32::from(a != b),
             Pair2::Less => u32::from(a < b),
         }
     }

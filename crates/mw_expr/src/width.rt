@@ -10,8 +10,8 @@ use mw_base::Cause;
 /// The widest word.
 pub(crate) const WIDEST: u8 = 32;
 
-/// How deep an expression may be.
-const DEEPEST: u8 = 64;
+/// How many levels an expression may have.
+pub(crate) const DEEPEST: u8 = 64;
 
 /// A width where a rule holds, which is 1 to 32 bits.
 pub(crate) fn width_if(rule: bool, width: u8) -> Option<u8>
@@ -31,7 +31,7 @@ impl Pair2 {
     {
         match self {
             Pair2::And | Pair2::Or | Pair2::Xor | Pair2::Add | Pair2::Sub => width,
-            Pair2::Same | Pair2::Differs | Pair2::Less => 1,
+            Pair2::Same | Pair2::Differ | Pair2::Less => 1,
         }
     }
 }

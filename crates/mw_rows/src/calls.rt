@@ -1,9 +1,11 @@
 // Calls that no command shows yet.
 mod cycles;
+mod expressions;
 mod numbers;
 mod parts;
 mod texts;
 mod tokens;
+mod trees;
 
 use crate::fault::{Fault, wrong};
 use crate::row::{File, contents_in};
@@ -24,6 +26,7 @@ pub fn made(alloc: Global, words: &[String], files: &[File]) -> Result<Vec<u8>, 
     };
     match name.as_str() {
         "tokens" => tokens::read(alloc, contents(files, "text")?),
+        "expression" => expressions::read(alloc, given, contents(files, "text")?),
         "number" => numbers::read(alloc, given),
         "alu" => parts::alu_table(alloc, given),
         "slice" => parts::slice_table(alloc, given),

@@ -37,6 +37,20 @@ pub fn word(number: u64) -> Result<u32, Fault> {
     }
 }
 
+/// Sets a word of a list, by its place.
+pub fn set_word(words: &mut [u32], place: u64, value: u32) -> Result<(), Fault> {
+    match usize::try_from(place) {
+        Ok(place) => match words.get_mut(place) {
+            Some(word) => {
+                *word = value;
+                Ok(())
+            }
+            None => Err(wrong("no such word")),
+        },
+        Err(_) => Err(wrong("no such word")),
+    }
+}
+
 /// A number of 12 bits.
 pub fn address(number: u64) -> Result<u16, Fault>
     ensures { IfOk result (λ address. address < 2 ^ 12) }

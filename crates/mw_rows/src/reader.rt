@@ -1,13 +1,13 @@
 // Reads a file of rows.
 use crate::fault::{Fault, wrong};
 use crate::line::{Line, line_of};
-use crate::row::{Change, End, File, Row, Rows, Set, Work};
+use crate::row::{Change, End, File, Row, RowFiles, Rows, Set, Work};
 use crate::spelled::{push_repeated, push_spelled, words_of};
 use std::alloc::Global;
 
 /// To what the next lines belong.
 #[derive(Clone, Copy, PartialEq, Eq)]
-enum Place {
+enum Section {
     /// Neither set nor row has begun.
     Start,
     /// A set, before its first file.
@@ -24,12 +24,24 @@ enum Place {
     Report,
 }
 
+/// A row whose end hasn't begun.
+#[derive(Drop)]
+struct Begun {
+    line: u64,
+    name: String,
+    files: RowFiles,
+    work: Option<Work>,
+}
+
 /// What was read so far.
 #[derive(Drop)]
 struct Reader {
     alloc: Global,
+    /// The sets, and the rows whose end has begun.
     rows: Rows,
-    place: Place,
+    /// The row at hand, until its end begins.
+    begun: Option<Begun>,
+    section: Section,
 }
 
 /// The number of a status.
@@ -55,7 +67,8 @@ impl Reader {
                 sets: Vec::new(alloc),
                 rows: Vec::new(alloc),
             },
-            place: Place::Start,
+            begun: None,
+            section: Section::Start,
         }
     }
 
@@ -67,23 +80,20 @@ impl Reader {
         }
     }
 
-    /// The row at hand, where it has no end yet.
-    fn row(&mut self) -> Result<&mut Row, Fault> {
-        if !matches!(self.place, Place::Row | Place::RowFile | Place::Change) {
-            return Err(wrong("this belongs into a row, before its end"));
-        }
-        match self.rows.rows.last_mut() {
+    /// The row at hand.
+    fn row(&mut self) -> Result<&mut Begun, Fault> {
+        match &mut self.begun {
             Some(row) => Ok(row),
-            None => Err(wrong("no row has begun")),
+            None => Err(wrong("this belongs into a row, before its end")),
         }
     }
 
     /// The change at hand.
     fn change(&mut self) -> Result<&mut Change, Fault> {
-        if self.place != Place::Change {
+        if self.section != Section::Change {
             return Err(wrong("this belongs behind `change`"));
         }
-        match &mut self.row()?.change {
+        match &mut self.row()?.files.change {
             Some(change) => Ok(change),
             None => Err(wrong("no change has begun")),
         }
@@ -99,18 +109,20 @@ impl Reader {
 
     /// Whether the row at hand has a file of this name.
     fn has_file(&self, name: &str) -> bool {
-        match self.rows.rows.last() {
-            Some(row) => self.rows.contents(row, name).is_some(),
+        match &self.begun {
+            Some(row) => self.rows.has_file(&row.files, name),
             None => false,
         }
     }
 
     /// Whether a set or row may begin or the text may end: what came before is whole.
     fn end_of_part(&self) -> Result<(), Fault> {
-        match self.place {
-            Place::Start | Place::SetFile | Place::Report => Ok(()),
-            Place::Set => Err(wrong("the set above has no file")),
-            Place::Row | Place::RowFile | Place::Change => Err(wrong("the row above has no end")),
+        match self.section {
+            Section::Start | Section::SetFile | Section::Report => Ok(()),
+            Section::Set => Err(wrong("the set above has no file")),
+            Section::Row | Section::RowFile | Section::Change => Err(wrong(
+                "the row above has no end",
+            )),
         }
     }
 
@@ -124,24 +136,23 @@ impl Reader {
             files: Vec::new(self.alloc),
         };
         self.rows.sets.push(set)?;
-        self.place = Place::Set;
+        self.section = Section::Set;
         Ok(())
     }
 
     fn begin_row(&mut self, name: &str, line: u64) -> Result<(), Fault> {
         self.end_of_part()?;
-        let row = Row {
+        self.begun = Some(Begun {
             line,
             name: String::from_str(self.alloc, name)?,
-            sets: Vec::new(self.alloc),
-            files: Vec::new(self.alloc),
-            change: None,
+            files: RowFiles {
+                sets: Vec::new(self.alloc),
+                own: Vec::new(self.alloc),
+                change: None,
+            },
             work: None,
-            end: None,
-            begins: false,
-        };
-        self.rows.rows.push(row)?;
-        self.place = Place::Row;
+        });
+        self.section = Section::Row;
         Ok(())
     }
 
@@ -163,23 +174,23 @@ impl Reader {
         if self.shares_file(number) {
             return Err(wrong("a file of this set is there already"));
         }
-        self.row()?.sets.push(number)?;
-        self.place = Place::Row;
+        self.row()?.files.sets.push(number)?;
+        self.section = Section::Row;
         Ok(())
     }
 
     fn begin_file(&mut self, name: &str) -> Result<(), Fault> {
         let file = new_file(self.alloc, name)?;
-        if matches!(self.place, Place::Set | Place::SetFile) {
+        if matches!(self.section, Section::Set | Section::SetFile) {
             self.set()?.files.push(file)?;
-            self.place = Place::SetFile;
+            self.section = Section::SetFile;
             return Ok(());
         }
         if self.has_file(name) {
             return Err(wrong("a file of this name is there already"));
         }
-        self.row()?.files.push(file)?;
-        self.place = Place::RowFile;
+        self.row()?.files.own.push(file)?;
+        self.section = Section::RowFile;
         Ok(())
     }
 
@@ -194,11 +205,11 @@ impl Reader {
             turned: false,
         };
         let row = self.row()?;
-        if row.change.is_some() {
+        if row.files.change.is_some() {
             return Err(wrong("a row has one change"));
         }
-        row.change = Some(change);
-        self.place = Place::Change;
+        row.files.change = Some(change);
+        self.section = Section::Change;
         Ok(())
     }
 
@@ -217,55 +228,57 @@ impl Reader {
             return Err(wrong("a row has one call"));
         }
         row.work = Some(work);
-        self.place = Place::Row;
+        self.section = Section::Row;
         Ok(())
     }
 
     fn begin_end(&mut self, status: u8, begins: bool) -> Result<(), Fault> {
-        let report = Vec::new(self.alloc);
-        let row = self.row()?;
-        if row.work.is_none() {
+        let Some(begun) = self.begun.take() else {
+            return Err(wrong("this belongs behind a row's call"));
+        };
+        let Some(work) = begun.work else {
             return Err(wrong("the row has no call"));
-        }
-        row.end = Some(End { status, report });
-        row.begins = begins;
-        self.place = Place::Report;
+        };
+        let row = Row {
+            line: begun.line,
+            name: begun.name,
+            files: begun.files,
+            work,
+            end: End {
+                status,
+                report: Vec::new(self.alloc),
+            },
+            begins,
+        };
+        self.rows.rows.push(row)?;
+        self.section = Section::Report;
         Ok(())
     }
 
-    /// To what a line of text is added.
-    fn text(&mut self) -> Result<&mut Vec<u8>, Fault> {
-        let rows = &mut self.rows;
-        let file = match self.place {
-            Place::SetFile => match rows.sets.last_mut() {
-                Some(set) => set.files.last_mut(),
-                None => None,
-            },
-            Place::RowFile => match rows.rows.last_mut() {
-                Some(row) => row.files.last_mut(),
-                None => None,
-            },
-            Place::Change => return self.change_text(),
-            Place::Report => return self.report_text(),
-            _ => None,
-        };
-        match file {
-            Some(file) => Ok(&mut file.contents),
-            None => Err(wrong("a text belongs to a file, a change or a report")),
+    /// To what a line of text is added, if it belongs anywhere.
+    fn bytes_at_hand(&mut self) -> Option<&mut Vec<u8>> {
+        match self.section {
+            Section::SetFile => {
+                let set = self.rows.sets.last_mut()?;
+                Some(&mut set.files.last_mut()?.contents)
+            }
+            Section::RowFile => {
+                let row = self.begun.as_mut()?;
+                Some(&mut row.files.own.last_mut()?.contents)
+            }
+            Section::Change => {
+                let row = self.begun.as_mut()?;
+                Some(&mut row.files.change.as_mut()?.lines)
+            }
+            Section::Report => Some(&mut self.rows.rows.last_mut()?.end.report),
+            Section::Start | Section::Set | Section::Row => None,
         }
     }
 
-    fn change_text(&mut self) -> Result<&mut Vec<u8>, Fault> {
-        Ok(&mut self.change()?.lines)
-    }
-
-    fn report_text(&mut self) -> Result<&mut Vec<u8>, Fault> {
-        match self.rows.rows.last_mut() {
-            Some(row) => match &mut row.end {
-                Some(end) => Ok(&mut end.report),
-                None => Err(wrong("the row has no end")),
-            },
-            None => Err(wrong("no row has begun")),
+    fn text(&mut self) -> Result<&mut Vec<u8>, Fault> {
+        match self.bytes_at_hand() {
+            Some(bytes) => Ok(bytes),
+            None => Err(wrong("a text belongs to a file, a change or a report")),
         }
     }
 

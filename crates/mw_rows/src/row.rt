@@ -3,20 +3,25 @@
 /// A file.
 #[derive(Drop)]
 pub struct File {
+    /// The word of a command line that names it.
     pub name: String,
+    /// Its bytes.
     pub contents: Vec<u8>,
 }
 
 /// Files that rows share.
 #[derive(Drop)]
 pub struct Set {
+    /// The name by which rows take it; no two sets have the same.
     pub name: String,
+    /// Its files, at least one.
     pub files: Vec<File>,
 }
 
 /// What is otherwise in one file of a row.
 #[derive(Drop)]
 pub struct Change {
+    /// The file's name.
     pub file: String,
     /// The keys of the lines that go.
     pub without: Vec<String>,
@@ -44,20 +49,30 @@ pub struct End {
     pub report: Vec<u8>,
 }
 
+/// The files of a row. No two have the same name.
+#[derive(Drop)]
+pub struct RowFiles {
+    /// The numbers of the sets whose files it has.
+    pub sets: Vec<usize>,
+    /// Its own files.
+    pub own: Vec<File>,
+    /// What is otherwise in one of them.
+    pub change: Option<Change>,
+}
+
 /// A row.
 #[derive(Drop)]
 pub struct Row {
     /// The line where it begins, from 1.
     pub line: u64,
+    /// What it shows.
     pub name: String,
-    /// The numbers of the sets whose files it has.
-    pub sets: Vec<usize>,
-    /// Its own files.
-    pub files: Vec<File>,
-    pub change: Option<Change>,
-    pub work: Option<Work>,
+    /// The files over which it works.
+    pub files: RowFiles,
+    /// What it does.
+    pub work: Work,
     /// How it has to end.
-    pub end: Option<End>,
+    pub end: End,
     /// Whether only the beginning of the report is fixed.
     pub begins: bool,
 }
@@ -65,21 +80,23 @@ pub struct Row {
 /// The rows of a file, and its sets.
 #[derive(Drop)]
 pub struct Rows {
+    /// The sets, whose numbers are their places here, from 0.
     pub sets: Vec<Set>,
+    /// The rows, in the file's order.
     pub rows: Vec<Row>,
 }
 
 impl Rows {
-    /// The contents of a row's file, before the row's change.
-    pub fn contents<'a>(&'a self, row: &'a Row, name: &str) -> Option<&'a [u8]> {
-        for &number in &row.sets {
+    /// Whether one of a row's files has this name.
+    pub fn has_file(&self, files: &RowFiles, name: &str) -> bool {
+        for &number in &files.sets {
             if let Some(set) = self.sets.get(number) {
-                if let Some(found) = contents_in(&set.files, name) {
-                    return Some(found);
+                if contents_in(&set.files, name).is_some() {
+                    return true;
                 }
             }
         }
-        contents_in(&row.files, name)
+        contents_in(&files.own, name).is_some()
     }
 }
 

@@ -3,7 +3,7 @@ ghost use Rattle.std.specs.Prelude.{◌<◌};
 
 use crate::calls::made;
 use crate::fault::{Fault, wrong};
-use crate::row::{Change, End, File, Row, Rows, Work};
+use crate::row::{Change, End, File, Row, RowFiles, Rows, Work};
 use mw_outside::{MemoryShelf, MemorySink};
 use mw_top::bench;
 use std::alloc::Global;
@@ -58,11 +58,11 @@ fn changed(
 fn push_file(
     alloc: Global,
     files: &mut Vec<File>,
-    row: &Row,
+    change: &Option<Change>,
     file: &File,
     turned: bool,
 ) -> Result<(), Fault> {
-    let contents = match &row.change {
+    let contents = match change {
         Some(change) if change.file.as_str() == file.name.as_str() => {
             changed(alloc, &file.contents, change, turned)?
         }
@@ -73,18 +73,23 @@ fn push_file(
     Ok(())
 }
 
-/// The files of a row.
-fn files_of(alloc: Global, rows: &Rows, row: &Row, turned: bool) -> Result<Vec<File>, Fault> {
+/// The files of a row, with its change.
+fn files_of(
+    alloc: Global,
+    rows: &Rows,
+    given: &RowFiles,
+    turned: bool,
+) -> Result<Vec<File>, Fault> {
     let mut files = Vec::new(alloc);
-    for &number in &row.sets {
+    for &number in &given.sets {
         if let Some(set) = rows.sets.get(number) {
             for file in &set.files {
-                push_file(alloc, &mut files, row, file, turned)?;
+                push_file(alloc, &mut files, &given.change, file, turned)?;
             }
         }
     }
-    for file in &row.files {
-        push_file(alloc, &mut files, row, file, turned)?;
+    for file in &given.own {
+        push_file(alloc, &mut files, &given.change, file, turned)?;
     }
     Ok(files)
 }
@@ -103,28 +108,24 @@ fn benched(alloc: Global, words: &[String], files: &[File]) -> Result<End, Fault
     })
 }
 
-/// How a row ends over these files.
-fn ended(alloc: Global, row: &Row, files: &[File]) -> Result<End, Fault> {
-    match &row.work {
-        Some(Work::Bench(words)) => benched(alloc, words, files),
-        Some(Work::Call(words)) => Ok(End {
+/// How a row's work ends over these files.
+fn ended(alloc: Global, work: &Work, files: &[File]) -> Result<End, Fault> {
+    match work {
+        Work::Bench(words) => benched(alloc, words, files),
+        Work::Call(words) => Ok(End {
             status: 0,
             report: made(alloc, words, files)?,
         }),
-        None => Err(wrong("the row has no call")),
     }
 }
 
 /// Whether an end is as the row says.
 fn is_wanted(row: &Row, came: &End) -> bool {
-    match &row.end {
-        Some(wanted) if row.begins => {
-            came.status == wanted.status && came.report.starts_with(&wanted.report)
-        }
-        Some(wanted) => {
-            came.status == wanted.status && came.report.as_slice() == wanted.report.as_slice()
-        }
-        None => false,
+    let wanted = &row.end;
+    if row.begins {
+        came.status == wanted.status && came.report.starts_with(&wanted.report)
+    } else {
+        came.status == wanted.status && came.report.as_slice() == wanted.report.as_slice()
     }
 }
 
@@ -146,9 +147,7 @@ fn print_row<R: Print + AllocGlobal>(
     came: &End,
 ) -> Result<(), Fault> {
     println!(rt; "{file} line {}: {}", row.line, row.name)?;
-    if let Some(wanted) = &row.end {
-        print_end(rt, "wanted", wanted)?;
-    }
+    print_end(rt, "wanted", &row.end)?;
     print_end(rt, "came", came)
 }
 
@@ -160,8 +159,8 @@ fn run_row<R: Print + AllocGlobal>(
     row: &Row,
     turned: bool,
 ) -> Result<bool, Fault> {
-    let files = files_of(rt.alloc(), rows, row, turned)?;
-    let came = ended(rt.alloc(), row, &files)?;
+    let files = files_of(rt.alloc(), rows, &row.files, turned)?;
+    let came = ended(rt.alloc(), &row.work, &files)?;
     let wanted = is_wanted(row, &came);
     if !wanted {
         print_row(rt, file, row, &came)?;
@@ -177,7 +176,7 @@ fn run_both<R: Print + AllocGlobal>(
     row: &Row,
 ) -> Result<bool, Fault> {
     let holds = run_row(rt, file, rows, row, false)?;
-    match &row.change {
+    match &row.files.change {
         Some(change) if holds && change.turned => run_row(rt, file, rows, row, true),
         _ => Ok(holds),
     }

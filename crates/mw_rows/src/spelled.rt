@@ -2,16 +2,17 @@
 use crate::fault::{Fault, wrong};
 use std::alloc::Global;
 
-/// Where a byte of a spelled text stands.
+/// What was read of an escape.
 #[derive(Clone, Copy)]
-enum Place {
-    Plain,
-    /// Behind `\`.
-    Escape,
-    /// Behind `\x`.
-    High,
-    /// Behind `\x` and the high digit, of this value.
-    Low(u8),
+enum Escape {
+    /// Nothing.
+    Nothing,
+    /// `\`.
+    Begun,
+    /// `\x`.
+    Hexadecimal,
+    /// `\x` and the high digit, of this value.
+    High(u8),
 }
 
 /// The value of a hexadecimal digit.
@@ -35,27 +36,27 @@ fn escaped(letter: u8) -> Result<u8, Fault> {
     }
 }
 
-/// Takes a byte of a spelled text, and answers where the next one stands.
-fn take(bytes: &mut Vec<u8>, place: Place, byte: u8) -> Result<Place, Fault> {
-    match place {
-        Place::Plain if byte == b'\\' => return Ok(Place::Escape),
-        Place::Plain => bytes.push(byte)?,
-        Place::Escape if byte == b'x' => return Ok(Place::High),
-        Place::Escape => bytes.push(escaped(byte)?)?,
-        Place::High => return Ok(Place::Low(digit(byte)?)),
-        Place::Low(high) => bytes.push(high.wrapping_mul(16) | digit(byte)?)?,
+/// Takes a byte of a spelled text, and answers what was read of an escape then.
+fn take(bytes: &mut Vec<u8>, escape: Escape, byte: u8) -> Result<Escape, Fault> {
+    match escape {
+        Escape::Nothing if byte == b'\\' => return Ok(Escape::Begun),
+        Escape::Nothing => bytes.push(byte)?,
+        Escape::Begun if byte == b'x' => return Ok(Escape::Hexadecimal),
+        Escape::Begun => bytes.push(escaped(byte)?)?,
+        Escape::Hexadecimal => return Ok(Escape::High(digit(byte)?)),
+        Escape::High(high) => bytes.push(high.wrapping_mul(16) | digit(byte)?)?,
     }
-    Ok(Place::Plain)
+    Ok(Escape::Nothing)
 }
 
 /// Appends the bytes that a text spells: `\n`, `\r`, `\t`, `\\` and `\xHH` are one byte, and all else stands for itself.
 pub fn push_spelled(bytes: &mut Vec<u8>, text: &str) -> Result<(), Fault> {
-    let mut place = Place::Plain;
+    let mut escape = Escape::Nothing;
     for &byte in text.as_bytes() {
-        place = take(bytes, place, byte)?;
+        escape = take(bytes, escape, byte)?;
     }
-    match place {
-        Place::Plain => Ok(()),
+    match escape {
+        Escape::Nothing => Ok(()),
         _ => Err(wrong("an escape that isn't whole")),
     }
 }

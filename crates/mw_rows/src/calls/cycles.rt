@@ -4,7 +4,7 @@ ghost use Rattle.std.specs.Prelude.{◌<◌};
 
 use super::{contents, texts};
 use crate::fault::{Fault, wrong};
-use crate::named::{address, bit_of, hexadecimal, number_of, sequencer_of, word};
+use crate::named::{address, bit_of, hexadecimal, number_of, sequencer_of, set_word, word};
 use crate::row::File;
 use crate::spelled::words_of;
 use mw_base::Items;
@@ -40,20 +40,6 @@ fn store_of(alloc: Global, files: &[File]) -> Result<Store, Fault> {
     Ok(Store {
         words: Items::from_vec(words),
     })
-}
-
-/// Sets a word of a list, by its place.
-fn set_word(words: &mut [u32], place: u64, value: u32) -> Result<(), Fault> {
-    match usize::try_from(place) {
-        Ok(place) => match words.get_mut(place) {
-            Some(word) => {
-                *word = value;
-                Ok(())
-            }
-            None => Err(wrong("no such word")),
-        },
-        Err(_) => Err(wrong("no such word")),
-    }
 }
 
 /// Sets a register, named as `rN`, or a memory word, named as `memA`.
@@ -144,6 +130,11 @@ fn cycled(
     Ok(format!(in alloc; "{after}\n{made}\n")?)
 }
 
+/// The state after the cycle of the words `noise=`, `line=` and `input=`, and its nets, a line each.
+///
+/// # Errors
+///
+/// Words or files that aren't what the call reads, a state or an input that doesn't fit the board, and want of memory.
 pub fn run(alloc: Global, given: &[String], files: &[File]) -> Result<Vec<u8>, Fault> {
     let given = given_of(given)?;
     let board = board_of(alloc, files)?;

@@ -3,6 +3,11 @@ use crate::fault::{Fault, wrong};
 use mw_base::number;
 use std::alloc::Global;
 
+/// A line with the number that the one word spells, or with the cause for which it spells none.
+///
+/// # Errors
+///
+/// More words or none, and want of memory.
 pub fn read(alloc: Global, given: &[String]) -> Result<Vec<u8>, Fault> {
     let [text] = given else {
         return Err(wrong("`number` has one word"));

@@ -4,7 +4,7 @@ ghost use Rattle.std.specs.Prelude.{◌<◌, IfOk};
 use crate::fault::{Fault, wrong};
 use crate::named::{address_of, bit_of, number_of, sequencer_of};
 use mw_alu::{AluOut, Pins, alu};
-use mw_base::Width;
+use mw_base::{NoMemory, Width, append_padded};
 use mw_slice::{Slice, SliceOut};
 use std::alloc::Global;
 
@@ -20,31 +20,27 @@ fn instruction(given: &[String]) -> Result<u16, Fault>
     }
 }
 
-fn digit(number: u32) -> u8 {
-    b"0123456789ABCDEF"[(number % 16) as usize]
+/// Carry, overflow, zero and sign as a digit, carry the highest bit.
+fn flags(carry: bool, overflow: bool, zero: bool, sign: bool) -> u128 {
+    u128::from(carry) << 3 | u128::from(overflow) << 2 | u128::from(zero) << 1 | u128::from(sign)
 }
 
-/// F, and carry, overflow, zero and sign, a digit each.
-fn push_alu(line: &mut Vec<u8>, out: AluOut) -> Result<(), Fault> {
-    let flags = u32::from(out.carry) << 3
-        | u32::from(out.overflow) << 2
-        | u32::from(out.zero) << 1
-        | u32::from(out.sign);
-    line.push(digit(out.f))?;
-    line.push(digit(flags))?;
-    Ok(())
+/// F and the flags, a digit each.
+fn push_alu(alloc: Global, line: &mut Vec<u8>, out: AluOut) -> Result<(), NoMemory> {
+    let flags = flags(out.carry, out.overflow, out.zero, out.sign);
+    append_padded(alloc, line, 2, u128::from(out.f) << 4 | flags)
 }
 
 /// The same of one slice, and G and P as a third digit.
-fn push_slice(line: &mut Vec<u8>, out: SliceOut) -> Result<(), Fault> {
-    let flags = u32::from(out.carry) << 3
-        | u32::from(out.overflow) << 2
-        | u32::from(out.zero) << 1
-        | u32::from(out.sign);
-    line.push(digit(u32::from(out.f)))?;
-    line.push(digit(flags))?;
-    line.push(digit(u32::from(out.g) << 1 | u32::from(out.p)))?;
-    Ok(())
+fn push_slice(alloc: Global, line: &mut Vec<u8>, out: SliceOut) -> Result<(), NoMemory> {
+    let flags = flags(out.carry, out.overflow, out.zero, out.sign);
+    let carries = u128::from(out.g) << 1 | u128::from(out.p);
+    append_padded(
+        alloc,
+        line,
+        3,
+        u128::from(out.f) << 8 | flags << 4 | carries,
+    )
 }
 
 /// `call alu function=N`: a line for each R of four bits has, for each S and carry in, F and the flags as two digits. A
@@ -61,7 +57,7 @@ pub fn alu_table(alloc: Global, given: &[String]) -> Result<Vec<u8>, Fault> {
             for carry_in in [false, true] {
                 let out = alu(width, ins, s, 0, 0, r, carry_in);
                 defined = defined.saturating_add(u64::from(out.defined));
-                push_alu(&mut report, out)?;
+                push_alu(alloc, &mut report, out)?;
             }
         }
         report.push(b'\n')?;
@@ -92,7 +88,7 @@ pub fn slice_table(alloc: Global, given: &[String]) -> Result<Vec<u8>, Fault> {
                 };
                 let out = slice.step(ins, 7, 0, r, carry_in, pins);
                 same = same.saturating_add(u64::from(out.y == out.f));
-                push_slice(&mut report, out)?;
+                push_slice(alloc, &mut report, out)?;
             }
         }
         report.push(b'\n')?;

@@ -1,10 +1,31 @@
-// States and nets as texts. Numbers are hexadecimal, but for N in `rN=`, a register; `memA=` is the memory word at A.
-// Registers and memory words that are 0 aren't named.
-use mw_base::Event;
+// Refusals, states and nets as texts. In states and nets numbers are hexadecimal, but for N in `rN=`, a register;
+// `memA=` is the memory word at A. Registers and memory words that are 0 aren't named.
+use crate::fault::Fault;
+use mw_base::{Event, Refusal, Refused};
 use mw_cycle::{Nets, State};
 use mw_seq::Seq;
 use std::alloc::{AllocError, Global};
 
+/// Appends the line of a refusal: its line, column and cause.
+///
+/// # Errors
+///
+/// Want of memory, also where that is why the text was refused.
+pub fn push_refusal(alloc: Global, report: &mut Vec<u8>, refusal: Refusal) -> Result<(), Fault> {
+    let Refused::At(fault) = refusal else {
+        return Err(Fault::NoMemory);
+    };
+    let (line, column, cause) = (fault.line, fault.column, fault.cause.number());
+    let text = format!(in alloc; "refused line {line} column {column} cause {cause}\n")?;
+    report.extend_from_slice(text.as_bytes())?;
+    Ok(())
+}
+
+/// A sequencer: `pc=`, `r=`, `sp=` and `stack=`, whose five words have commas between, the oldest first.
+///
+/// # Errors
+///
+/// Want of memory.
 pub fn sequencer(alloc: Global, seq: Seq) -> Result<String, AllocError> {
     let Seq { pc, r, stack, sp } = seq;
     let [first, second, third, fourth, fifth] = stack;
@@ -13,28 +34,33 @@ pub fn sequencer(alloc: Global, seq: Seq) -> Result<String, AllocError> {
     )
 }
 
-fn registers(alloc: Global, words: &[u32]) -> Result<String, AllocError> {
+/// Which words of a state a list has.
+#[derive(Clone, Copy)]
+enum Words {
+    Registers,
+    Memory,
+}
+
+/// The words of a list that aren't 0, each by its name and with a blank before it.
+fn named_words(alloc: Global, which: Words, words: &[u32]) -> Result<String, AllocError> {
     let mut text = String::new(alloc);
-    for (number, &word) in words.iter().enumerate() {
+    for (place, &word) in words.iter().enumerate() {
         if word != 0 {
-            let named = format!(in alloc; " r{number}={word:x}")?;
+            let named = match which {
+                Words::Registers => format!(in alloc; " r{place}={word:x}")?,
+                Words::Memory => format!(in alloc; " mem{place:x}={word:x}")?,
+            };
             text.push_str(&named)?;
         }
     }
     Ok(text)
 }
 
-fn memory(alloc: Global, words: &[u32]) -> Result<String, AllocError> {
-    let mut text = String::new(alloc);
-    for (address, &word) in words.iter().enumerate() {
-        if word != 0 {
-            let named = format!(in alloc; " mem{address:x}={word:x}")?;
-            text.push_str(&named)?;
-        }
-    }
-    Ok(text)
-}
-
+/// A state: `at=`, the registers, `q=`, `mar=`, `ir=`, `flips=`, the sequencer and the memory.
+///
+/// # Errors
+///
+/// Want of memory.
 pub fn state(alloc: Global, state: &State) -> Result<String, AllocError> {
     let State {
         at,
@@ -44,14 +70,15 @@ pub fn state(alloc: Global, state: &State) -> Result<String, AllocError> {
         flips,
         ..
     } = state;
-    let registers = registers(alloc, &state.regs)?;
-    let memory = memory(alloc, &state.memory)?;
+    let registers = named_words(alloc, Words::Registers, &state.regs)?;
+    let memory = named_words(alloc, Words::Memory, &state.memory)?;
     let sequencer = sequencer(alloc, state.seq)?;
     format!(in alloc;
         "at={at:x}{registers} q={q:x} mar={mar:x} ir={ir:x} flips={flips:x} {sequencer}{memory}"
     )
 }
 
+/// An event: `none`, `out:` and the word that was put, or `taken:` and the word that was taken.
 fn event(alloc: Global, event: Option<Event>) -> Result<String, AllocError> {
     match event {
         None => String::from_str(alloc, "none"),
@@ -71,6 +98,11 @@ fn microword(alloc: Global, word: u128) -> Result<String, AllocError> {
     }
 }
 
+/// The nets of a cycle: its microword, the ALU's inputs and answers, the test, the next address and the event.
+///
+/// # Errors
+///
+/// Want of memory.
 pub fn nets(alloc: Global, nets: &Nets) -> Result<String, AllocError> {
     let Nets {
         a,

@@ -1,7 +1,8 @@
 // `call tokens`: reads the file `text`. A line for each token has its line and column, the places where it begins and ends
 // in the text, and what it is; or one line has the first fault.
+use super::texts::push_refusal;
 use crate::fault::{Fault, wrong};
-use mw_base::{Kind, Refused, Token, append_decimal, tokens};
+use mw_base::{Kind, Token, append_decimal, tokens};
 use std::alloc::Global;
 
 /// Appends a number and a blank.
@@ -27,6 +28,11 @@ fn push_token(alloc: Global, report: &mut Vec<u8>, token: &Token) -> Result<(), 
     Ok(())
 }
 
+/// The lines of the tokens of a text, or of its first fault.
+///
+/// # Errors
+///
+/// A text of more than 1,048,576 bytes, which no file that is read has, and want of memory.
 pub fn read(alloc: Global, text: &[u8]) -> Result<Vec<u8>, Fault> {
     if text.len() > 1_048_576 {
         return Err(wrong("a text that is too long"));
@@ -38,12 +44,7 @@ pub fn read(alloc: Global, text: &[u8]) -> Result<Vec<u8>, Fault> {
                 push_token(alloc, &mut report, token)?;
             }
         }
-        Err(Refused::At(fault)) => {
-            let (line, column, cause) = (fault.line, fault.column, fault.cause.number());
-            let text = format!(in alloc; "refused line {line} column {column} cause {cause}\n")?;
-            report.extend_from_slice(text.as_bytes())?;
-        }
-        Err(Refused::NoMemory) => return Err(Fault::NoMemory),
+        Err(refusal) => push_refusal(alloc, &mut report, refusal)?,
     }
     Ok(report)
 }

@@ -8,5 +8,5 @@ invariant-check_parts-loop-part l =
     let rest = parts_of (map placed (drop l.part-index l.parts)) in
     record {
       width : seen_total l.shape l.whole rest ≡ seen_total l.shape (Some 0) (parts_of (map placed l.parts));
-      faults : first_in l.first (faults_in l.shape l.left rest) ≡ first_in l.initial.first (faults_in l.shape l.left (parts_of (map placed l.parts)));
+      faults : first_in l.first (faults_in l.shape l.levels rest) ≡ first_in l.initial.first (faults_in l.shape l.levels (parts_of (map placed l.parts)));
     }

@@ -1,0 +1,259 @@
+// `call expression NAME:WIDTH=VALUE .. mem:ADDRESS:WORD memA=WORD ..`: reads the file `text`, each line of which is an
+// expression over these elements and over a memory with so many bits of an address and of a word. Values, the memory's
+// addresses and its words are hexadecimal; those that aren't named are 0. A line for each expression has its tree, its
+// width and its value, or its first fault; or one line has the fault of the text's bytes.
+ghost use Rattle.std.specs.Prelude.{◌≡◌, ℕ, ◌<◌, ◌≤◌, ◌^◌, ◌↔◌, IsTrue, length, slice_index};
+ghost use Rattle.mw_expr.specs.Text.{IsShape};
+ghost use Rattle.mw_expr.specs.Values.{AreWords, IsImage};
+
+use super::texts::push_refusal;
+use super::trees::push_tree;
+use crate::fault::{Fault, wrong};
+use crate::named::{hexadecimal, set_word, word};
+use mw_base::{Cause, Cursor, Items, Line, Name, append_hex, lines};
+use mw_expr::{Expr, Shape, parse_expr, value, width_of};
+use std::alloc::Global;
+
+/// The words of a call, as far as they were taken.
+#[derive(Drop)]
+struct Words {
+    names: Vec<Name>,
+    widths: Vec<u8>,
+    values: Vec<u32>,
+    address: u8,
+    word: u8,
+    memory: Vec<u32>,
+}
+
+/// What expressions are over.
+#[derive(Clone, Copy)]
+struct Given<'a> {
+    names: &'a [Name],
+    shape: &'a Shape,
+    values: &'a [u32],
+    memory: &'a [u32],
+}
+
+fn bits(text: &str) -> Result<u8, Fault> {
+    match text.parse::<u8>() {
+        Ok(bits) if bits <= 32 => Ok(bits),
+        _ => Err(wrong("no number of bits")),
+    }
+}
+
+impl Words {
+    /// No elements and no memory.
+    fn new(alloc: Global) -> Result<Words, Fault> {
+        Ok(Words {
+            names: Vec::new(alloc),
+            widths: Vec::new(alloc),
+            values: Vec::new(alloc),
+            address: 0,
+            word: 0,
+            memory: vec![in alloc; 0; 1]?,
+        })
+    }
+
+    fn take_element(&mut self, alloc: Global, name: &str, element: &str) -> Result<(), Fault> {
+        let (width, value) = match element.split_once('=') {
+            Some((width, value)) => (width, word(hexadecimal(value)?)?),
+            None => (element, 0),
+        };
+        self.names.push(Name::new(alloc, name.as_bytes())?)?;
+        self.widths.push(bits(width)?)?;
+        self.values.push(value)?;
+        Ok(())
+    }
+
+    fn take_memory(&mut self, alloc: Global, sizes: &str) -> Result<(), Fault> {
+        let Some((address, word)) = sizes.split_once(':') else {
+            return Err(wrong("a memory is `mem:ADDRESS:WORD`"));
+        };
+        let address = bits(address)?;
+        if address > 16 {
+            return Err(wrong("an address has at most 16 bits"));
+        }
+        self.address = address;
+        self.word = bits(word)?;
+        self.memory = vec![in alloc; 0; 1 << address]?;
+        Ok(())
+    }
+
+    fn take_memory_word(&mut self, named: &str) -> Result<(), Fault> {
+        match named.split_once('=') {
+            Some((address, value)) => {
+                let address = hexadecimal(address)?;
+                let value = word(hexadecimal(value)?)?;
+                set_word(&mut self.memory, address, value)
+            }
+            None => Err(wrong("a word of the memory is `memA=WORD`")),
+        }
+    }
+
+    fn take(&mut self, alloc: Global, given: &str) -> Result<(), Fault> {
+        if let Some(sizes) = given.strip_prefix("mem:") {
+            return self.take_memory(alloc, sizes);
+        }
+        if let Some((name, element)) = given.split_once(':') {
+            return self.take_element(alloc, name, element);
+        }
+        match given.strip_prefix("mem") {
+            Some(named) => self.take_memory_word(named),
+            None => Err(wrong("an element is `NAME:WIDTH`, with or without `=VALUE`")),
+        }
+    }
+}
+
+/// Whether a number has no more than so many bits.
+#[tactic(auto, using(std::proofs::lemmas::Nat::one_shl))]
+fn has_bits(number: u32, bits: u8) -> bool
+    requires { bits ≤ 32 }
+    ensures { IsTrue result ↔ (number < 2 ^ bits) }
+{
+    u64::from(number) < 1 << bits
+}
+
+/// Whether each width is 1 to 32 bits.
+fn are_widths(widths: &[u8]) -> bool
+    ensures { IsTrue result → (i : ℕ) → i < length widths.now
+        → (1 ≤ slice_index widths.now i) × (slice_index widths.now i ≤ 32) }
+{
+    for &width in widths {
+        if width < 1 || width > 32 {
+            return false;
+        }
+    }
+    true
+}
+
+/// Whether elements and a memory have widths in their ranges.
+fn is_shape(shape: &Shape) -> bool
+    ensures { IsTrue result → IsShape shape.now }
+{
+    let widths = shape.widths.as_slice();
+    are_widths(widths)
+        && widths.len() < 1 << 32
+        && shape.word <= 32
+        && (shape.address == 0 || shape.word >= 1)
+}
+
+/// Whether each number is a word of its width.
+fn are_words(widths: &[u8], numbers: &[u32]) -> bool
+    requires most { (i : ℕ) → i < length widths.now → slice_index widths.now i ≤ 32 }
+    ensures { IsTrue result → AreWords widths.now numbers.now }
+{
+    if numbers.len() != widths.len() {
+        return false;
+    }
+    for (i, number) in numbers.iter().enumerate() {
+        if !has_bits(*number, widths[i]) {
+            return false;
+        }
+    }
+    true
+}
+
+/// Whether there is a word for each address of a memory.
+fn is_image(shape: &Shape, memory: &[u32]) -> bool
+    requires most { shape.now.word ≤ 32 }
+    ensures { IsTrue result → IsImage shape.now memory.now }
+{
+    if shape.address > 16 || memory.len() != 1 << shape.address {
+        return false;
+    }
+    for number in memory {
+        if !has_bits(*number, shape.word) {
+            return false;
+        }
+    }
+    true
+}
+
+/// Appends an expression's tree, its width and its value.
+fn push_value(alloc: Global, report: &mut Vec<u8>, given: &Given, expr: &Expr) -> Result<(), Fault>
+    requires values_fit { AreWords given.now.shape.now.widths given.now.values.now }
+    requires memory_fits { IsImage given.now.shape.now given.now.memory.now }
+{
+    let Ok(width) = width_of(expr, given.shape) else {
+        return Err(wrong("an expression that was read has no width"));
+    };
+    let value = value(expr, given.shape, given.values, given.memory);
+    push_tree(alloc, report, given.names, expr)?;
+    let width = format!(in alloc; " width {width} value ")?;
+    report.extend_from_slice(width.as_bytes())?;
+    append_hex(alloc, report, u128::from(value))?;
+    report.push(b'\n')?;
+    Ok(())
+}
+
+/// Appends what a line of a text is.
+fn push_line(
+    alloc: Global,
+    report: &mut Vec<u8>,
+    text: &[u8],
+    given: &Given,
+    line: &Line,
+) -> Result<(), Fault>
+    requires shape_fits { IsShape given.now.shape.now }
+    requires values_fit { AreWords given.now.shape.now.widths given.now.values.now }
+    requires memory_fits { IsImage given.now.shape.now given.now.memory.now }
+{
+    let cursor = Cursor::new(text, line, Cause::BadSyntax);
+    match parse_expr(alloc, &cursor, given.names, given.shape) {
+        Ok(expr) => push_value(alloc, report, given, &expr),
+        Err(refusal) => push_refusal(alloc, report, refusal),
+    }
+}
+
+/// What each line of a text is.
+fn answers(alloc: Global, text: &[u8], given: &Given) -> Result<Vec<u8>, Fault>
+    requires shape_fits { IsShape given.now.shape.now }
+    requires values_fit { AreWords given.now.shape.now.widths given.now.values.now }
+    requires memory_fits { IsImage given.now.shape.now given.now.memory.now }
+{
+    if text.len() > 1_048_576 {
+        return Err(wrong("a text that is too long"));
+    }
+    let mut report = Vec::new(alloc);
+    match lines(alloc, text) {
+        Ok(found) => {
+            for line in &found {
+                push_line(alloc, &mut report, text, given, line)?;
+            }
+        }
+        Err(refusal) => push_refusal(alloc, &mut report, refusal)?,
+    }
+    Ok(report)
+}
+
+/// A line for each expression of the text, over the elements and the memory of these words.
+///
+/// # Errors
+///
+/// Words that the call doesn't have, a value or a word of the memory that doesn't fit its width, a text of more than
+/// 1,048,576 bytes, and want of memory.
+pub fn read(alloc: Global, words: &[String], text: &[u8]) -> Result<Vec<u8>, Fault> {
+    let mut taken = Words::new(alloc)?;
+    for given in words {
+        taken.take(alloc, given.as_str())?;
+    }
+    let shape = Shape {
+        widths: Items::from_vec(taken.widths),
+        address: taken.address,
+        word: taken.word,
+    };
+    let given = Given {
+        names: &taken.names,
+        shape: &shape,
+        values: &taken.values,
+        memory: &taken.memory,
+    };
+    if is_shape(&shape)
+        && are_words(shape.widths.as_slice(), &taken.values)
+        && is_image(&shape, &taken.memory)
+    {
+        answers(alloc, text, &given)
+    } else {
+        Err(wrong("the elements or the memory don't fit their widths"))
+    }
+}
