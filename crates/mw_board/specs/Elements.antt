@@ -37,10 +37,11 @@ stack_names = codes "stack0" ∷ codes "stack1" ∷ codes "stack2" ∷ codes "st
 abbrev pub stack_pointer_name : List ℕ
 stack_pointer_name = codes "sp"
 
--- the names before the flip-flops' and those behind them
+-- the names before the flip-flops'
 abbrev pub names_before : List (List ℕ)
 names_before = register_names ++ address_register_name ∷ instruction_register_name ∷ []
 
+-- the names behind them
 abbrev pub names_behind : List (List ℕ)
 names_behind = counter_names ++ stack_names
 

@@ -13,26 +13,30 @@ use Rattle.mw_expr.specs.declared.expr.Pair2.{Pair2}
 use Rattle.mw_expr.specs.Grammar.{Meaning, element, dotted_element, strength, pair_of, tree_of}
 use Rattle.mw_expr.specs.Placed.{Placed, constant, complement, pair, choice, part, join, widened, memory, group, parts_of}
 
--- a token is this sign, a number of this value, this keyword, or a name that is no keyword
+-- a token is this sign
 abbrev pub IsSign : Meaning → SignOf → Token → Type 0
 IsSign m sign token = symbol_of m.text token ≡ Sign sign
 
+-- a token is a number of this value
 abbrev pub IsNumber : Meaning → ℕ → Token → Type 0
 IsNumber m value token = symbol_of m.text token ≡ Number value
 
+-- a token is this keyword
 pub record IsKeyword (m : Meaning) (word : List ℕ) (token : Token) : Type 0 where
   pub name : symbol_of m.text token ≡ Name
   pub same : bytes_eq (spelled m.text token) word ≡ true
 
+-- a token is a name that is no keyword
 pub record IsElementName (m : Meaning) (token : Token) : Type 0 where
   pub name : symbol_of m.text token ≡ Name
   pub no_memory : bytes_eq (spelled m.text token) (codes "mem") ≡ false
   pub no_widening : bytes_eq (spelled m.text token) (codes "zext") ≡ false
 
--- how strongly the prefix and the suffixes bind; a choice binds with strength 0, the signs between two operands with 1 to 5
+-- how strongly the prefix binds; a choice binds with strength 0, the signs between two operands with 1 to 5
 abbrev pub prefix : ℕ
 prefix = 6
 
+-- how strongly the suffixes bind
 abbrev pub suffix : ℕ
 suffix = 7
 
