@@ -216,7 +216,13 @@ fn unknown_key(alloc: Global, document: &Table) -> Result<Option<Name>, NoMemory
         member(document, "select"),
         least,
     )?;
-    let least = with_table(alloc, KeyTable::Map, b"map.", member(document, "map"), least)?;
+    let least = with_table(
+        alloc,
+        KeyTable::Map,
+        b"map.",
+        member(document, "map"),
+        least,
+    )?;
     with_flipflops(alloc, flipflops(document), least)
 }
 
