@@ -79,7 +79,8 @@ unfolding with_used
 longer used address = longer_by used address (nat_lt address (length used)) refl
 
 -- a word more
-pushed : (used : List Bool) (words : List Word) (word : Word) → Inside used words → word.address < 4096 → Inside (with_used used word.address) (words ++ word ∷ [])
+pushed : (used : List Bool) (words : List Word) (word : Word) → Inside used words → word.address < 4096
+    → Inside (with_used used word.address) (words ++ word ∷ [])
 pushed used words word inside low =
     let more = longer used word.address in
     record {
@@ -87,14 +88,18 @@ pushed used words word inside low =
       each = All-push (HasPlace (with_used used word.address)) words word (All-weaker (HasPlace used) (HasPlace (with_used used word.address)) (λ w h. omega (arith, more.grows, h)) words inside.each) more.has;
     }
 
-meaning_right : (bits : ℕ) (text : List ℕ) (name : Token) (meaning : Meaning) (known next : Known) → IfSome (bits_named (Some meaning)) (ValueFits bits) → with_meaning text name meaning known ≡ Ok next → IsRight bits known → IsRight bits next
+meaning_right : (bits : ℕ) (text : List ℕ) (name : Token) (meaning : Meaning) (known next : Known)
+    → IfSome (bits_named (Some meaning)) (ValueFits bits) → with_meaning text name meaning known ≡ Ok next
+    → IsRight bits known → IsRight bits next
 unfolding with_meaning
 meaning_right bits text name meaning known next fits is right =
     let last = bind_ok (can_define text known name) (λ allowed. ok_of {F = TextFault} (record known { names = with_name known.names (spelled text name) meaning })) next is in
     let e = ok_is {F = TextFault} (record known { names = with_name known.names (spelled text name) meaning }) next last.2 in
     subst (IsRight bits) e (record { inside = right.inside; low = right.low; labels = right.labels; named = more_names_fit bits known.names (spelled text name) meaning right.named fits })
 
-def_right : (bits : ℕ) (fields : List NamedField) (text : List ℕ) (name : Token) (items : List Item) (known next : Known) → All (IsField bits) fields → with_def fields text name items known ≡ Ok next → IsRight bits known → IsRight bits next
+def_right : (bits : ℕ) (fields : List NamedField) (text : List ℕ) (name : Token) (items : List Item) (known next : Known)
+    → All (IsField bits) fields → with_def fields text name items known ≡ Ok next → IsRight bits known
+    → IsRight bits next
 unfolding with_def
 def_right bits fields text name items known next fit is right =
     let later = λ (set : SetBits). ok_of {F = TextFault} (record known { names = with_name known.names (spelled text name) (meanings.Bits set) }) in
@@ -104,7 +109,8 @@ def_right bits fields text name items known next fit is right =
     let fits = bits_fit bits fields text known.names scopes.Def no_bits last.0 items fit right.named (pow_pos bits) last.1 in
     subst (IsRight bits) e (record { inside = right.inside; low = right.low; labels = right.labels; named = more_names_fit bits known.names (spelled text name) (meanings.Bits last.0) right.named fits })
 
-next_right : (bits : ℕ) (number : Numeral) (known next : Known) → with_next number known ≡ Ok next → IsRight bits known → IsRight bits next
+next_right : (bits : ℕ) (number : Numeral) (known next : Known) → with_next number known ≡ Ok next
+    → IsRight bits known → IsRight bits next
 unfolding with_next
 next_right bits number known next is right =
     let later = λ (address : ℕ). ok_of {F = TextFault} (record known { next = address }) in
@@ -114,7 +120,8 @@ next_right bits number known next is right =
     let e = ok_is {F = TextFault} (record known { next = one.0 }) next one.2 in
     subst (IsRight bits) e (record { inside = right.inside; low = within; labels = right.labels; named = right.named })
 
-label_right : (bits : ℕ) (text : List ℕ) (name : Token) (known next : Known) → with_label text name known ≡ Ok next → IsRight bits known → IsRight bits next
+label_right : (bits : ℕ) (text : List ℕ) (name : Token) (known next : Known) → with_label text name known ≡ Ok next
+    → IsRight bits known → IsRight bits next
 unfolding with_label
 label_right bits text name known next is right =
     let later = λ (more : Known). ok_of {F = TextFault} (record more { labels = more.labels ++ (record { name = spelled text name; address = more.next } ∷ []) }) in
@@ -125,17 +132,21 @@ label_right bits text name known next is right =
     let was = meaning_right bits text name (meanings.Label known.next) known more tt last.1 right in
     subst (IsRight bits) e (record { inside = was.inside; low = was.low; labels = All-push IsLow more.labels label was.labels was.low; named = was.named })
 
-optional_label_right : (bits : ℕ) (text : List ℕ) (name : Option Token) (known next : Known) → with_optional_label text name known ≡ Ok next → IsRight bits known → IsRight bits next
+optional_label_right : (bits : ℕ) (text : List ℕ) (name : Option Token) (known next : Known)
+    → with_optional_label text name known ≡ Ok next → IsRight bits known → IsRight bits next
 optional_label_right bits text None known next is right = subst (IsRight bits) (ok_is {F = TextFault} known next is) right
 optional_label_right bits text (Some name) known next is right = label_right bits text name known next is right
 
 -- after two tests, of which each may give a fault
-after_tests : (full there : Bool) (known next : Known) (first second : TextFault) → (if full then Err first else (if there then Err second else ok_of {F = TextFault} known)) ≡ Ok next → (full ≡ false) × (known ≡ next)
+after_tests : (full there : Bool) (known next : Known) (first second : TextFault)
+    → (if full then Err first else (if there then Err second else ok_of {F = TextFault} known)) ≡ Ok next
+    → (full ≡ false) × (known ≡ next)
 after_tests true there known next first second is = absurd cc
 after_tests false true known next first second is = absurd cc
 after_tests false false known next first second is = (refl, ok_is {F = TextFault} known next is)
 
-word_right : (bits : ℕ) (first : Token) (items : List Item) (known next : Known) → with_word first items known ≡ Ok next → IsRight bits known → IsRight bits next
+word_right : (bits : ℕ) (first : Token) (items : List Item) (known next : Known)
+    → with_word first items known ≡ Ok next → IsRight bits known → IsRight bits next
 unfolding with_word
 word_right bits first items known next is right =
     let word : Word = record { address = known.next; items = items } in
@@ -144,11 +155,14 @@ word_right bits first items known next is right =
     let low : known.next < 4096 = grind (arith, nat_tests, e.0) in
     subst (IsRight bits) e.1 (record { inside = pushed known.used known.words word right.inside low; low = omega (arith, low); labels = right.labels; named = right.named })
 
-optional_word_right : (bits : ℕ) (items : List Item) (known next : Known) → with_optional_word items known ≡ Ok next → IsRight bits known → IsRight bits next
+optional_word_right : (bits : ℕ) (items : List Item) (known next : Known) → with_optional_word items known ≡ Ok next
+    → IsRight bits known → IsRight bits next
 optional_word_right bits [] known next is right = subst (IsRight bits) (ok_is {F = TextFault} known next is) right
 optional_word_right bits (first ∷ rest) known next is right = word_right bits first.name (first ∷ rest) known next is right
 
-statement_right : (bits : ℕ) (fields : List NamedField) (text : List ℕ) (known next : Known) (statement : Statement) → All (IsField bits) fields → with_statement fields text known statement ≡ Ok next → IsRight bits known → IsRight bits next
+statement_right : (bits : ℕ) (fields : List NamedField) (text : List ℕ) (known next : Known) (statement : Statement)
+    → All (IsField bits) fields → with_statement fields text known statement ≡ Ok next → IsRight bits known
+    → IsRight bits next
 statement_right bits fields text known next (statements.Equ name value) fit is right = meaning_right bits text name (meanings.Number value) known next tt is right
 statement_right bits fields text known next (statements.Def name items) fit is right = def_right bits fields text name items known next fit is right
 statement_right bits fields text known next (statements.Org address) fit is right = next_right bits address known next is right
@@ -156,14 +170,16 @@ statement_right bits fields text known next (statements.Word label items) fit is
     let two = bind_ok (with_optional_label text label known) (λ labelled. with_optional_word items labelled) next is in
     optional_word_right bits items two.0 next two.2 (optional_label_right bits text label known two.0 two.1 right)
 
-line_right : (bits : ℕ) (fields : List NamedField) (text : List ℕ) (known next : Known) (line : Line) → All (IsField bits) fields → with_line fields text known line ≡ Ok next → IsRight bits known → IsRight bits next
+line_right : (bits : ℕ) (fields : List NamedField) (text : List ℕ) (known next : Known) (line : Line)
+    → All (IsField bits) fields → with_line fields text known line ≡ Ok next → IsRight bits known → IsRight bits next
 unfolding with_line
 line_right bits fields text known next line fit is right =
     let two = bind_ok (statement_of (at_line text line BadLine)) (λ statement. with_statement fields text known statement) next is in
     statement_right bits fields text known next two.0 fit two.2 right
 
 -- after the first pass
-pub first_pass_right : (bits : ℕ) (fields : List NamedField) (text : List ℕ) (end : Known) (lines : List Line) → All (IsField bits) fields → first_pass fields text at_first lines ≡ Ok end → IsRight bits end
+pub first_pass_right : (bits : ℕ) (fields : List NamedField) (text : List ℕ) (end : Known) (lines : List Line)
+    → All (IsField bits) fields → first_pass fields text at_first lines ≡ Ok end → IsRight bits end
 first_pass_right bits fields text end lines fit is =
     let keeps = λ (known next : Known) (line : Line) (adds : with_line fields text known line ≡ Ok next) (right : IsRight bits known). line_right bits fields text known next line fit adds right in
     steps_keep (IsRight bits) (with_line fields text) keeps at_first end lines is (record { inside = record { few = omega arith; each = All-nil (HasPlace []) }; low = omega arith; labels = All-nil IsLow; named = λ name. tt })

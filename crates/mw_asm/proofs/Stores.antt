@@ -31,8 +31,10 @@ record Keeps (bits : ℕ) (before after : List ℕ) : Type 0 where
   fit : All (Below bits) after
   sized : length after ≡ length before
 
-made_right : (board : BoardParts) (text : List ℕ) (names : Names) (first store next : List ℕ) (word : Word) → IsBoard board → NamesFit board.microword names
-    → with_made board text names store word ≡ Ok next → Keeps board.microword first store → Keeps board.microword first next
+made_right : (board : BoardParts) (text : List ℕ) (names : Names) (first store next : List ℕ) (word : Word)
+    → IsBoard board → NamesFit board.microword names
+    → with_made board text names store word ≡ Ok next → Keeps board.microword first store
+    → Keeps board.microword first next
 unfolding with_made
 made_right board text names first store next word valid named is kept =
     let one = bind_ok (bits_of board.fields text names scopes.Word no_bits word.items) (λ bits. ok_of {F = TextFault} (set store word.address (word_of board.unset bits))) next is in
@@ -42,8 +44,10 @@ made_right board text names first store next word valid named is kept =
     subst (Keeps board.microword first) (ok_is {F = TextFault} (set store word.address (word_of board.unset one.0)) next one.2) (record { fit = put; sized = length-set store word.address (word_of board.unset one.0) ∙ kept.sized })
 
 -- a microprogram of what the two passes leave
-assembled : (board : BoardParts) (known : Known) (words : List ℕ) (made : Assembled) → IsRight board.microword known → Keeps board.microword (filled board.fill known.used) words
-    → ok_of {F = TextFault} (record { store = record { words = words }; used = known.used; labels = known.labels }) ≡ Ok made → IsAssembled board made
+assembled : (board : BoardParts) (known : Known) (words : List ℕ) (made : Assembled) → IsRight board.microword known
+    → Keeps board.microword (filled board.fill known.used) words
+    → ok_of {F = TextFault} (record { store = record { words = words }; used = known.used; labels = known.labels }) ≡ Ok made
+    → IsAssembled board made
 assembled board known words made right kept is =
     let sized : length words ≡ length known.used = kept.sized ∙ length-map known.used (λ (used : Bool). board.fill) in
     let whole : Assembled = record { store = record { words = words }; used = known.used; labels = known.labels } in
@@ -51,7 +55,8 @@ assembled board known words made right kept is =
     subst (IsAssembled board) (ok_is {F = TextFault} whole made is) so
 
 -- what a text spells on a board
-pub store_right : (board : BoardParts) (text : List ℕ) (made : Assembled) → IsBoard board → store_of board text ≡ Ok made → IsAssembled board made
+pub store_right : (board : BoardParts) (text : List ℕ) (made : Assembled) → IsBoard board
+    → store_of board text ≡ Ok made → IsAssembled board made
 unfolding store_of
 store_right board text made valid is =
     let whole = λ (known : Known) (words : List ℕ). ok_of {F = TextFault} (record { store = record { words = words }; used = known.used; labels = known.labels }) in

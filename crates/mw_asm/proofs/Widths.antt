@@ -35,11 +35,13 @@ ValueFits bits set = set.value < 2 ^ bits
 abbrev pub NamesFit : ℕ → Names → Type 0
 NamesFit bits names = (name : List ℕ) → IfSome (bits_named (names name)) (ValueFits bits)
 
-pub more_names_fit : (bits : ℕ) (names : Names) (name : List ℕ) (meaning : Meaning) → NamesFit bits names → IfSome (bits_named (Some meaning)) (ValueFits bits) → NamesFit bits (with_name names name meaning)
+pub more_names_fit : (bits : ℕ) (names : Names) (name : List ℕ) (meaning : Meaning) → NamesFit bits names
+    → IfSome (bits_named (Some meaning)) (ValueFits bits) → NamesFit bits (with_name names name meaning)
 more_names_fit bits names name meaning fit new = λ other.
     elim (bytes_eq name other) as (λ b. IfSome (bits_named (cond b (Some meaning) (names other))) (ValueFits bits)) [ true ↦ new | false ↦ fit other ]
 
-field_set_fits : (bits : ℕ) (field : Field) (token : Token) (value : ℕ) (set : SetBits) → field.low + field.width ≤ bits → field_set field token value ≡ Ok set → ValueFits bits set
+field_set_fits : (bits : ℕ) (field : Field) (token : Token) (value : ℕ) (set : SetBits)
+    → field.low + field.width ≤ bits → field_set field token value ≡ Ok set → ValueFits bits set
 unfolding field_set
 field_set_fits bits field token value set within is =
     let e = if_ok (nat_lt value (2 ^ field.width)) (field_bits field value) set (fault_on token ValueTooWide) is in
@@ -58,14 +60,16 @@ valued_fits bits fields text names scope name token set fit is =
     field_set_fits bits one.0 token two.0 set within two.2
 
 item_fits : (bits : ℕ) (fields : List NamedField) (text : List ℕ) (names : Names) (scope : Scope) (name : Token) (value : Option Token) (set : SetBits)
-    → All (IsField bits) fields → NamesFit bits names → item_bits fields text names scope name value ≡ Ok set → ValueFits bits set
+    → All (IsField bits) fields → NamesFit bits names → item_bits fields text names scope name value ≡ Ok set
+    → ValueFits bits set
 unfolding alone_bits
 item_fits bits fields text names scope name (Some value) set fit named is = valued_fits bits fields text names scope name value set fit is
 item_fits bits fields text names scope name None set fit named is =
     found (ValueFits bits) (fault_on name UnknownName) (bits_named (names (spelled text name))) set is (named (spelled text name))
 
 with_item_fits : (bits : ℕ) (fields : List NamedField) (text : List ℕ) (names : Names) (scope : Scope) (before set : SetBits) (item : Item)
-    → All (IsField bits) fields → NamesFit bits names → ValueFits bits before → with_item fields text names scope before item ≡ Ok set → ValueFits bits set
+    → All (IsField bits) fields → NamesFit bits names → ValueFits bits before
+    → with_item fields text names scope before item ≡ Ok set → ValueFits bits set
 unfolding with_item beside
 with_item_fits bits fields text names scope before set item fit named fits is =
     let one = bind_ok (item_bits fields text names scope item.name item.value) (λ own. beside item.name before own) set is in
@@ -75,7 +79,8 @@ with_item_fits bits fields text names scope before set item fit named fits is =
 
 -- the bits that items set
 pub bits_fit : (bits : ℕ) (fields : List NamedField) (text : List ℕ) (names : Names) (scope : Scope) (before set : SetBits) (items : List Item)
-    → All (IsField bits) fields → NamesFit bits names → ValueFits bits before → bits_of fields text names scope before items ≡ Ok set → ValueFits bits set
+    → All (IsField bits) fields → NamesFit bits names → ValueFits bits before
+    → bits_of fields text names scope before items ≡ Ok set → ValueFits bits set
 bits_fit bits fields text names scope before set items fit named fits is =
     let keeps = λ (one next : SetBits) (item : Item) (adds : with_item fields text names scope one item ≡ Ok next) (kept : ValueFits bits one). with_item_fits bits fields text names scope one next item fit named kept adds in
     steps_keep (ValueFits bits) (with_item fields text names scope) keeps before set items is fits
