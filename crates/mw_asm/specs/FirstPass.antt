@@ -14,7 +14,6 @@ use Rattle.mw_base.specs.Symbols.{spelled}
 use Rattle.mw_base.specs.TokenLines.{fault_on}
 use Rattle.mw_board.specs.declared.field.NamedField.{NamedField}
 use Rattle.mw_asm.specs.declared.assembled.Label.{Label}
-use Rattle.mw_asm.specs.declared.first_pass.TheConstants.{MOST_WORDS}
 use Rattle.mw_asm.specs.declared.first_pass.Word.{Word}
 use Rattle.mw_asm.specs.declared.items.Item.{Item}
 use Rattle.mw_asm.specs.declared.names.Meaning.{Meaning}
@@ -83,7 +82,7 @@ with_optional_label text (Some name) known = with_label text name known
 -- a word at the next address, whose first item is this one
 unfoldable pub with_word : Token → List Item → Known → Result Known TextFault
 with_word first items known =
-    if nat_le MOST_WORDS known.next then Err (fault_on first StoreFull)
+    if nat_le 4096 known.next then Err (fault_on first StoreFull)
     else (if slice_index_or known.used known.next false then Err (fault_on first Overlap)
     else Ok (record known {
       next = known.next + 1;

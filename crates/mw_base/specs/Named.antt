@@ -5,7 +5,6 @@ use Rattle.std.specs.Map.{update}
 use Rattle.std.specs.Str.{bytes_eq}
 use Rattle.mw_base.specs.declared.cause.Cause.TheVariants.{Twice, ValueTooWide}
 use Rattle.mw_base.specs.declared.named as kept
-use Rattle.mw_base.specs.declared.name.TheConstants.{LONGEST_NAME}
 use Rattle.mw_base.specs.declared.refusal.TextFault.{TextFault}
 use Rattle.mw_base.specs.declared.token.Token.{Token}
 use Rattle.mw_base.specs.Symbols.{spelled}
@@ -23,7 +22,7 @@ with_name names name meaning = update bytes_eq names name (Some meaning)
 unfoldable pub new_name : {M : Type 0} → List ℕ → (List ℕ → Option M) → Bool → Token → Result (Unit {0}) TextFault
 new_name text names is_reserved token =
     if is_some (names (spelled text token)) || is_reserved then Err (fault_on token Twice)
-    else (if nat_le (length (spelled text token)) LONGEST_NAME then Ok tt else Err (fault_on token ValueTooWide))
+    else (if nat_le (length (spelled text token)) 64 then Ok tt else Err (fault_on token ValueTooWide))
 
 -- what the names that the code keeps stand for
 abbrev pub names_seen : {M : Type 0} → kept.Names.Names M → List ℕ → Option M

@@ -2,7 +2,6 @@
 use Rattle.std.specs.Prelude.{ℕ, List, [], ◌∷◌, length, Bool, false, ◌&&◌, ◌||◌, nat_le, ◌==◌}
 use Rattle.std.specs.Char.{is_ascii_alphabetic, is_ascii_digit}
 use Rattle.std.specs.List.{list_all}
-use Rattle.mw_base.specs.declared.name.TheConstants.{LONGEST_NAME}
 
 -- a letter or '_', with which a name begins
 abbrev pub is_name_start : ℕ → Bool
@@ -23,4 +22,4 @@ is_spelled_as_name (c ∷ rest) = is_name_start c && are_word_bytes rest
 
 -- what may be a name in a file: it is spelled as one, and has at most 64 bytes
 unfoldable pub is_name : List ℕ → Bool
-is_name text = is_spelled_as_name text && nat_le (length text) LONGEST_NAME
+is_name text = is_spelled_as_name text && nat_le (length text) 64

@@ -19,7 +19,7 @@ use Rattle.mw_board.specs.declared.field.NamedField.{NamedField}
 use Rattle.mw_board.specs.declared.flipflop.FlipFlop.{FlipFlop}
 use Rattle.mw_board.specs.declared.parts.BoardParts.{BoardParts}
 use Rattle.mw_board.specs.declared.point.Point.{Point}
-use Rattle.mw_board.specs.declared.key.TheConstants.{WIDTH, MICROWORD, ADDRESS, FILL, UNSET, VECTOR, FIELDS, FLIPFLOP, NAME, CONTROL, LOAD, FIRST_POINT, CARRY_IN, CONDITION, RAM_LINK, Q_LINK, D, MAP_BITS, MAP_ENTRIES}
+use Rattle.mw_board.specs.Keys.{width_key, microword_key, address_key, fill_key, unset_key, vector_key, fields_key, flipflop_key, name_key, control_key, load_key, first_point_key, carry_in_key, condition_key, ram_link_key, q_link_key, d_key, map_bits_key, map_entries_key}
 use Rattle.mw_board.specs.Points.{all_points, driver_of}
 use Rattle.mw_board.specs.Rules.{Verdict, ask, all_of, width_rule, microword_rule, address_rule, word_rule, vector_rule, fields_rule, name_rule, field_rule, flipflops_rule, flipflop_name_rule, control_rule, point_rule, driver_rule, chosen_rule, list_rule, bit_rule, carry_in_rule, load_rule, source_rule, mask_rule, d_source_rule, map_bits_rule, map_entry_rule, map_entries_rule, width_of, map_size}
 use Rattle.mw_board.specs.Check.{Checked, placed, number_16, at_key, at_flipflop, in_list, in_load, each_from, list_check, sizes_tests, sizes_check, field_check, fields_check, flipflop_check, flipflops_from, flipflops_check, point_check, points_check, lists_tests, lists_check, map_check, check_of}
@@ -196,9 +196,9 @@ sizes_are : (p : BoardParts) → sizes_check p ≡ Ok tt → AreSizes p
 unfolding sizes_check
 sizes_are p e =
     let kept = all_kept (sizes_tests p) e in
-    let width = width_kept p.width (at_place WIDTH 0 0 (width_rule p.width) kept.0) in
-    let microword = microword_kept p.microword (at_place MICROWORD 0 0 (microword_rule p.microword) kept.1.0) in
-    let address = address_kept p.width p.address (at_place ADDRESS 0 0 (address_rule p.width p.address) kept.1.1.0) in
+    let width = width_kept p.width (at_place width_key 0 0 (width_rule p.width) kept.0) in
+    let microword = microword_kept p.microword (at_place microword_key 0 0 (microword_rule p.microword) kept.1.0) in
+    let address = address_kept p.width p.address (at_place address_key 0 0 (address_rule p.width p.address) kept.1.1.0) in
     record {
       least = width.0;
       most = width.1;
@@ -208,9 +208,9 @@ sizes_are p e =
       address_some = address.0;
       address_within = address.1;
       address_most = address.2;
-      fill = word_kept p.microword p.fill (at_place FILL 0 0 (word_rule p.microword p.fill) kept.1.1.1.0);
-      unset = word_kept p.microword p.unset (at_place UNSET 0 0 (word_rule p.microword p.unset) kept.1.1.1.1.0);
-      vector = vector_kept p.vector (at_place VECTOR 0 0 (vector_rule p.vector) kept.1.1.1.1.1.0);
+      fill = word_kept p.microword p.fill (at_place fill_key 0 0 (word_rule p.microword p.fill) kept.1.1.1.0);
+      unset = word_kept p.microword p.unset (at_place unset_key 0 0 (word_rule p.microword p.unset) kept.1.1.1.1.0);
+      vector = vector_kept p.vector (at_place vector_key 0 0 (vector_rule p.vector) kept.1.1.1.1.1.0);
     }
 
 -- one rule on each entry, which makes each what it is
@@ -223,8 +223,8 @@ each_kept rule Is keeps n (x ∷ rest) e =
 
 one_field : (m n : ℕ) (f : NamedField) → field_check m n f ≡ Ok tt → IsField m f
 one_field m n f e =
-    let kept = all_kept (in_list FIELDS n (name_rule f.name) ∷ in_list FIELDS n (field_rule m f.field.low f.field.width) ∷ []) e in
-    field_kept m f (at_place FIELDS (number_16 n) 0 (field_rule m f.field.low f.field.width) kept.1.0)
+    let kept = all_kept (in_list fields_key n (name_rule f.name) ∷ in_list fields_key n (field_rule m f.field.low f.field.width) ∷ []) e in
+    field_kept m f (at_place fields_key (number_16 n) 0 (field_rule m f.field.low f.field.width) kept.1.0)
 
 -- a list from which a control chooses
 list_is : {A : Type 0} (Is : A → Type 0) (place : ℕ → Verdict → Checked) → ((n : ℕ) (verdict : Verdict) → place n verdict ≡ Ok tt → verdict ≡ Ok tt)
@@ -243,9 +243,9 @@ list_is Is place at fields control rule keeps xs chooser e =
 flipflop_is : (p : BoardParts) (earlier : List FlipFlop) (i : ℕ) (f : FlipFlop) → flipflop_check p.width p.fields (length p.flipflop) earlier i f ≡ Ok tt → IsFlipFlop p f
 unfolding flipflop_check
 flipflop_is p earlier i f e =
-    let kept = all_kept (at_flipflop NAME i (flipflop_name_rule earlier f.name) ∷ at_flipflop CONTROL i (control_rule p.fields f.control) ∷ list_check (in_load i) p.fields f.control (load_rule p.width (length p.flipflop)) f.load ∷ []) e in
-    list_is (IsLoad p.width (length p.flipflop)) (in_load i) (λ n verdict h. at_place LOAD (number_16 i) (number_16 n) verdict h) p.fields f.control (load_rule p.width (length p.flipflop)) (load_kept p.width (length p.flipflop)) f.load
-    (at_place CONTROL (number_16 i) 0 (control_rule p.fields f.control) kept.1.0) kept.1.1.0
+    let kept = all_kept (at_flipflop name_key i (flipflop_name_rule earlier f.name) ∷ at_flipflop control_key i (control_rule p.fields f.control) ∷ list_check (in_load i) p.fields f.control (load_rule p.width (length p.flipflop)) f.load ∷ []) e in
+    list_is (IsLoad p.width (length p.flipflop)) (in_load i) (λ n verdict h. at_place load_key (number_16 i) (number_16 n) verdict h) p.fields f.control (load_rule p.width (length p.flipflop)) (load_kept p.width (length p.flipflop)) f.load
+    (at_place control_key (number_16 i) 0 (control_rule p.fields f.control) kept.1.0) kept.1.1.0
 
 flipflops_are : (p : BoardParts) (earlier : List FlipFlop) (i : ℕ) (fs : List FlipFlop) → flipflops_from p.width p.fields (length p.flipflop) earlier i fs ≡ Ok tt → All (IsFlipFlop p) fs
 unfolding flipflops_from
@@ -259,7 +259,7 @@ drivers_kept : (p : BoardParts) → points_check p ≡ Ok tt → AllByRecursion 
 unfolding points_check
 drivers_kept p e =
     let keeps = λ (point : Point). driver_rule p.fields point (driver_of p.control point) ≡ Ok tt in
-    recursion_from_All keeps all_points (each_kept (point_check p.fields p.control) keeps (λ n point h. at_place (FIRST_POINT + n) 0 0 (driver_rule p.fields point (driver_of p.control point)) h) 0 all_points e)
+    recursion_from_All keeps all_points (each_kept (point_check p.fields p.control) keeps (λ n point h. at_place (first_point_key + n) 0 0 (driver_rule p.fields point (driver_of p.control point)) h) 0 all_points e)
 
 points_are : (p : BoardParts) → points_check p ≡ Ok tt → ArePoints p.fields p.control
 points_are p e =
@@ -290,23 +290,23 @@ lists_are p points e =
     let at = λ (row n : ℕ) (verdict : Verdict) (h : in_list row n verdict ≡ Ok tt). at_place row (number_16 n) 0 verdict h in
     let link = choosers.1.1.1.0 in
     record {
-      carry_in = list_is (IsBit p.width (length p.flipflop)) (in_list CARRY_IN) (at CARRY_IN) p.fields p.control.carry_in (carry_in_rule p.width (length p.flipflop)) (carry_in_kept p.width (length p.flipflop)) p.carry_in choosers.0 kept.0;
-      condition = list_is (IsBit p.width (length p.flipflop)) (in_list CONDITION) (at CONDITION) p.fields p.control.condition (bit_rule p.width (length p.flipflop)) (bit_kept p.width (length p.flipflop)) p.condition choosers.1.1.0 kept.1.0;
-      ram_link = list_is (IsBit p.width (length p.flipflop)) (in_list RAM_LINK) (at RAM_LINK) p.fields p.control.link (bit_rule p.width (length p.flipflop)) (bit_kept p.width (length p.flipflop)) p.ram_link link kept.1.1.0;
-      q_link = list_is (IsBit p.width (length p.flipflop)) (in_list Q_LINK) (at Q_LINK) p.fields p.control.link (bit_rule p.width (length p.flipflop)) (bit_kept p.width (length p.flipflop)) p.q_link link kept.1.1.1.0;
-      d = list_is (IsSource p.width (length p.fields) (length p.flipflop)) (in_list D) (at D) p.fields p.control.d (d_source_rule p.width (length p.fields) (length p.flipflop)) (source_kept p.width (length p.fields) (length p.flipflop)) p.d choosers.1.0 kept.1.1.1.1.0;
+      carry_in = list_is (IsBit p.width (length p.flipflop)) (in_list carry_in_key) (at carry_in_key) p.fields p.control.carry_in (carry_in_rule p.width (length p.flipflop)) (carry_in_kept p.width (length p.flipflop)) p.carry_in choosers.0 kept.0;
+      condition = list_is (IsBit p.width (length p.flipflop)) (in_list condition_key) (at condition_key) p.fields p.control.condition (bit_rule p.width (length p.flipflop)) (bit_kept p.width (length p.flipflop)) p.condition choosers.1.1.0 kept.1.0;
+      ram_link = list_is (IsBit p.width (length p.flipflop)) (in_list ram_link_key) (at ram_link_key) p.fields p.control.link (bit_rule p.width (length p.flipflop)) (bit_kept p.width (length p.flipflop)) p.ram_link link kept.1.1.0;
+      q_link = list_is (IsBit p.width (length p.flipflop)) (in_list q_link_key) (at q_link_key) p.fields p.control.link (bit_rule p.width (length p.flipflop)) (bit_kept p.width (length p.flipflop)) p.q_link link kept.1.1.1.0;
+      d = list_is (IsSource p.width (length p.fields) (length p.flipflop)) (in_list d_key) (at d_key) p.fields p.control.d (d_source_rule p.width (length p.fields) (length p.flipflop)) (source_kept p.width (length p.fields) (length p.flipflop)) p.d choosers.1.0 kept.1.1.1.1.0;
     }
 
 map_is : (p : BoardParts) → map_check p ≡ Ok tt → IsMap p
 unfolding map_check
 map_is p e =
-    let kept = all_kept (at_key MAP_BITS (map_bits_rule p.width p.map_low p.map_bits) ∷ each_from (λ n entry. in_list MAP_ENTRIES n (map_entry_rule entry)) 0 p.map_entries ∷ at_key MAP_ENTRIES (map_entries_rule p.map_bits (length p.map_entries)) ∷ []) e in
-    let bits = map_bits_kept p.width p.map_low p.map_bits (at_place MAP_BITS 0 0 (map_bits_rule p.width p.map_low p.map_bits) kept.0) in
+    let kept = all_kept (at_key map_bits_key (map_bits_rule p.width p.map_low p.map_bits) ∷ each_from (λ n entry. in_list map_entries_key n (map_entry_rule entry)) 0 p.map_entries ∷ at_key map_entries_key (map_entries_rule p.map_bits (length p.map_entries)) ∷ []) e in
+    let bits = map_bits_kept p.width p.map_low p.map_bits (at_place map_bits_key 0 0 (map_bits_rule p.width p.map_low p.map_bits) kept.0) in
     record {
       most = bits.0;
       within = bits.1;
-      size = map_entries_kept p.map_bits (length p.map_entries) (at_place MAP_ENTRIES 0 0 (map_entries_rule p.map_bits (length p.map_entries)) kept.1.1.0);
-      entries = each_kept (λ n entry. in_list MAP_ENTRIES n (map_entry_rule entry)) (λ entry. entry < 2 ^ 12) (λ n entry h. map_entry_kept entry (at_place MAP_ENTRIES (number_16 n) 0 (map_entry_rule entry) h)) 0 p.map_entries kept.1.0;
+      size = map_entries_kept p.map_bits (length p.map_entries) (at_place map_entries_key 0 0 (map_entries_rule p.map_bits (length p.map_entries)) kept.1.1.0);
+      entries = each_kept (λ n entry. in_list map_entries_key n (map_entry_rule entry)) (λ entry. entry < 2 ^ 12) (λ n entry h. map_entry_kept entry (at_place map_entries_key (number_16 n) 0 (map_entry_rule entry) h)) 0 p.map_entries kept.1.0;
     }
 
 -- parts that break no rule are a board
@@ -314,13 +314,13 @@ pub is_board : (p : BoardParts) → check_of p ≡ Ok tt → IsBoard p
 unfolding check_of fields_check flipflops_check
 is_board p e =
     let kept = all_kept (sizes_check p ∷ fields_check p ∷ flipflops_check p ∷ points_check p ∷ lists_check p ∷ map_check p ∷ []) e in
-    let fields = all_kept (at_key FIELDS (fields_rule (length p.fields)) ∷ each_from (field_check p.microword) 0 p.fields ∷ []) kept.1.0 in
-    let flipflops = all_kept (at_key FLIPFLOP (flipflops_rule (length p.flipflop)) ∷ flipflops_from p.width p.fields (length p.flipflop) [] 0 p.flipflop ∷ []) kept.1.1.0 in
+    let fields = all_kept (at_key fields_key (fields_rule (length p.fields)) ∷ each_from (field_check p.microword) 0 p.fields ∷ []) kept.1.0 in
+    let flipflops = all_kept (at_key flipflop_key (flipflops_rule (length p.flipflop)) ∷ flipflops_from p.width p.fields (length p.flipflop) [] 0 p.flipflop ∷ []) kept.1.1.0 in
     record {
       sizes = sizes_are p kept.0;
-      few_fields = fields_kept (length p.fields) (at_place FIELDS 0 0 (fields_rule (length p.fields)) fields.0);
+      few_fields = fields_kept (length p.fields) (at_place fields_key 0 0 (fields_rule (length p.fields)) fields.0);
       fields = each_kept (field_check p.microword) (IsField p.microword) (one_field p.microword) 0 p.fields fields.1.0;
-      few_flipflops = flipflops_kept (length p.flipflop) (at_place FLIPFLOP 0 0 (flipflops_rule (length p.flipflop)) flipflops.0);
+      few_flipflops = flipflops_kept (length p.flipflop) (at_place flipflop_key 0 0 (flipflops_rule (length p.flipflop)) flipflops.0);
       flipflops = flipflops_are p [] 0 p.flipflop flipflops.1.0;
       points = points_are p kept.1.1.1.0;
       lists = lists_are p kept.1.1.1.0 kept.1.1.1.1.0;

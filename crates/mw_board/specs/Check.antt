@@ -7,7 +7,7 @@ use Rattle.mw_board.specs.declared.flipflop.FlipFlop.{FlipFlop}
 use Rattle.mw_board.specs.declared.control.Points.{Points}
 use Rattle.mw_board.specs.declared.parts.BoardParts.{BoardParts}
 use Rattle.mw_board.specs.declared.point.Point.{Point}
-use Rattle.mw_board.specs.declared.key.TheConstants.{WIDTH, MICROWORD, ADDRESS, FILL, UNSET, VECTOR, FIELDS, FLIPFLOP, NAME, CONTROL, LOAD, FIRST_POINT, CARRY_IN, CONDITION, RAM_LINK, Q_LINK, D, MAP_BITS, MAP_ENTRIES}
+use Rattle.mw_board.specs.Keys.{width_key, microword_key, address_key, fill_key, unset_key, vector_key, fields_key, flipflop_key, name_key, control_key, load_key, first_point_key, carry_in_key, condition_key, ram_link_key, q_link_key, d_key, map_bits_key, map_entries_key}
 use Rattle.mw_board.specs.Points.{all_points, driver_of}
 use Rattle.mw_board.specs.Rules.{Verdict, all_of, width_rule, microword_rule, address_rule, word_rule, vector_rule, fields_rule, name_rule, field_rule, flipflops_rule, flipflop_name_rule, control_rule, driver_rule, chosen_rule, list_rule, bit_rule, carry_in_rule, load_rule, d_source_rule, map_bits_rule, map_entry_rule, map_entries_rule}
 
@@ -38,7 +38,7 @@ in_list row n verdict = placed row (number_16 n) 0 verdict
 
 -- the rule of entry n of flip-flop i's loads
 abbrev pub in_load : ℕ → ℕ → Verdict → Checked
-in_load i n verdict = placed LOAD (number_16 i) (number_16 n) verdict
+in_load i n verdict = placed load_key (number_16 i) (number_16 n) verdict
 
 -- one rule on each entry, from the entry n on
 unfoldable pub each_from : {A : Type 0} → (ℕ → A → Checked) → ℕ → List A → Checked
@@ -56,12 +56,12 @@ list_check place fields control rule entries = all_of (
 -- version is no part. The sizes, and the words: width, microword, address, fill, unset, vector
 abbrev pub sizes_tests : BoardParts → List Checked
 sizes_tests p =
-    at_key WIDTH (width_rule p.width)
-    ∷ at_key MICROWORD (microword_rule p.microword)
-    ∷ at_key ADDRESS (address_rule p.width p.address)
-    ∷ at_key FILL (word_rule p.microword p.fill)
-    ∷ at_key UNSET (word_rule p.microword p.unset)
-    ∷ at_key VECTOR (vector_rule p.vector)
+    at_key width_key (width_rule p.width)
+    ∷ at_key microword_key (microword_rule p.microword)
+    ∷ at_key address_key (address_rule p.width p.address)
+    ∷ at_key fill_key (word_rule p.microword p.fill)
+    ∷ at_key unset_key (word_rule p.microword p.unset)
+    ∷ at_key vector_key (vector_rule p.vector)
     ∷ []
 
 -- the sizes and the words
@@ -71,19 +71,19 @@ sizes_check p = all_of (sizes_tests p)
 -- fields.NAME
 abbrev pub field_check : ℕ → ℕ → NamedField → Checked
 field_check microword n f = all_of (
-    in_list FIELDS n (name_rule f.name)
-    ∷ in_list FIELDS n (field_rule microword f.field.low f.field.width)
+    in_list fields_key n (name_rule f.name)
+    ∷ in_list fields_key n (field_rule microword f.field.low f.field.width)
     ∷ [])
 
 -- fields
 unfoldable pub fields_check : BoardParts → Checked
-fields_check p = all_of (at_key FIELDS (fields_rule (length p.fields)) ∷ each_from (field_check p.microword) 0 p.fields ∷ [])
+fields_check p = all_of (at_key fields_key (fields_rule (length p.fields)) ∷ each_from (field_check p.microword) 0 p.fields ∷ [])
 
 -- a flip-flop's name, control and load, on a board of this width, of these fields and of so many flip-flops
 unfoldable pub flipflop_check : ℕ → List NamedField → ℕ → List FlipFlop → ℕ → FlipFlop → Checked
 flipflop_check width fields flipflops earlier i f = all_of (
-    at_flipflop NAME i (flipflop_name_rule earlier f.name)
-    ∷ at_flipflop CONTROL i (control_rule fields f.control)
+    at_flipflop name_key i (flipflop_name_rule earlier f.name)
+    ∷ at_flipflop control_key i (control_rule fields f.control)
     ∷ list_check (in_load i) fields f.control (load_rule width flipflops) f.load
     ∷ [])
 
@@ -98,13 +98,13 @@ flipflops_from width fields flipflops earlier i (first ∷ rest) = all_of (
 -- flipflop
 unfoldable pub flipflops_check : BoardParts → Checked
 flipflops_check p = all_of (
-    at_key FLIPFLOP (flipflops_rule (length p.flipflop))
+    at_key flipflop_key (flipflops_rule (length p.flipflop))
     ∷ flipflops_from p.width p.fields (length p.flipflop) [] 0 p.flipflop
     ∷ [])
 
 -- control.POINT, in the order of the table
 abbrev pub point_check : List NamedField → Points → ℕ → Point → Checked
-point_check fields control n point = at_key (FIRST_POINT + n) (driver_rule fields point (driver_of control point))
+point_check fields control n point = at_key (first_point_key + n) (driver_rule fields point (driver_of control point))
 
 -- all control points
 unfoldable pub points_check : BoardParts → Checked
@@ -113,11 +113,11 @@ points_check p = each_from (point_check p.fields p.control) 0 all_points
 -- select.LIST
 abbrev pub lists_tests : BoardParts → List Checked
 lists_tests p =
-    list_check (in_list CARRY_IN) p.fields p.control.carry_in (carry_in_rule p.width (length p.flipflop)) p.carry_in
-    ∷ list_check (in_list CONDITION) p.fields p.control.condition (bit_rule p.width (length p.flipflop)) p.condition
-    ∷ list_check (in_list RAM_LINK) p.fields p.control.link (bit_rule p.width (length p.flipflop)) p.ram_link
-    ∷ list_check (in_list Q_LINK) p.fields p.control.link (bit_rule p.width (length p.flipflop)) p.q_link
-    ∷ list_check (in_list D) p.fields p.control.d (d_source_rule p.width (length p.fields) (length p.flipflop)) p.d
+    list_check (in_list carry_in_key) p.fields p.control.carry_in (carry_in_rule p.width (length p.flipflop)) p.carry_in
+    ∷ list_check (in_list condition_key) p.fields p.control.condition (bit_rule p.width (length p.flipflop)) p.condition
+    ∷ list_check (in_list ram_link_key) p.fields p.control.link (bit_rule p.width (length p.flipflop)) p.ram_link
+    ∷ list_check (in_list q_link_key) p.fields p.control.link (bit_rule p.width (length p.flipflop)) p.q_link
+    ∷ list_check (in_list d_key) p.fields p.control.d (d_source_rule p.width (length p.fields) (length p.flipflop)) p.d
     ∷ []
 
 -- all lists
@@ -127,9 +127,9 @@ lists_check p = all_of (lists_tests p)
 -- map.low has no rule of its own; map.bits, map.entries
 unfoldable pub map_check : BoardParts → Checked
 map_check p = all_of (
-    at_key MAP_BITS (map_bits_rule p.width p.map_low p.map_bits)
-    ∷ each_from (λ n entry. in_list MAP_ENTRIES n (map_entry_rule entry)) 0 p.map_entries
-    ∷ at_key MAP_ENTRIES (map_entries_rule p.map_bits (length p.map_entries))
+    at_key map_bits_key (map_bits_rule p.width p.map_low p.map_bits)
+    ∷ each_from (λ n entry. in_list map_entries_key n (map_entry_rule entry)) 0 p.map_entries
+    ∷ at_key map_entries_key (map_entries_rule p.map_bits (length p.map_entries))
     ∷ [])
 
 -- all rules of a board

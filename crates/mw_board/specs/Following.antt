@@ -5,7 +5,7 @@ use Rattle.mw_base.specs.declared.cause.Cause.{Cause}
 use Rattle.mw_board.specs.declared.check.ListKey.{ListKey}
 use Rattle.mw_board.specs.declared.check.ListKey.TheVariants.{Key, Loads}
 use Rattle.mw_board.specs.Rules.{Verdict}
-use Rattle.mw_board.specs.declared.key.TheConstants.{LOAD}
+use Rattle.mw_board.specs.Keys.{load_key}
 use Rattle.mw_board.specs.Check.{Checked, placed, number_16}
 
 -- each call of a closure that returns answers as the rule does
@@ -15,4 +15,4 @@ Follows {T} returns rule = (value : Bor T) (result : Result (Unit {0}) Cause) �
 -- the place of an entry of a list
 abbrev pub place_of : ListKey → ℕ → Verdict → Checked
 place_of (Key row) n verdict = placed row (number_16 n) 0 verdict
-place_of (Loads flipflop) n verdict = placed LOAD flipflop (number_16 n) verdict
+place_of (Loads flipflop) n verdict = placed load_key flipflop (number_16 n) verdict

@@ -2,6 +2,7 @@ pub mod Check
 pub mod Depth
 pub mod Elements
 pub mod Following
+pub mod Keys
 pub mod Order
 pub mod Points
 pub mod Rules

@@ -6,7 +6,7 @@ ghost use Rattle.mw_board.specs.Check.{placed, number_16, at_key, at_flipflop, i
 ghost use Rattle.mw_board.specs.Check.{list_check, sizes_check, field_check, fields_check, flipflop_check};
 ghost use Rattle.mw_board.specs.Check.{flipflops_from, flipflops_check, points_check, lists_check};
 ghost use Rattle.mw_board.specs.Check.{point_check, map_check, check_of};
-ghost use Rattle.mw_board.specs.declared.key.TheConstants.{CARRY_IN, D, MAP_ENTRIES};
+ghost use Rattle.mw_board.specs.Keys.{carry_in_key, d_key, map_entries_key};
 ghost use Rattle.mw_board.specs.Points.{all_points};
 ghost use Rattle.mw_board.specs.Following.{Follows, place_of};
 
@@ -126,7 +126,7 @@ fn check_carry_ins(
     width: u8,
     flipflops: usize,
 ) -> Result<(), PartFault>
-    ensures { result ≡ list_check (in_list CARRY_IN) fields.now control (carry_in_rule width flipflops) bits.now }
+    ensures { result ≡ list_check (in_list carry_in_key) fields.now control (carry_in_rule width flipflops) bits.now }
 {
     chosen_list(ListKey::Key(key::CARRY_IN), fields, control, bits, |bit| {
         rules::carry_in_rule(width, flipflops, *bit)
@@ -141,7 +141,7 @@ fn check_sources(
     width: u8,
     flipflops: usize,
 ) -> Result<(), PartFault>
-    ensures { result ≡ list_check (in_list D) fields.now control
+    ensures { result ≡ list_check (in_list d_key) fields.now control
         (d_source_rule width (length fields.now) flipflops) sources.now }
 {
     chosen_list(ListKey::Key(key::D), fields, control, sources, |source| {
@@ -171,7 +171,7 @@ fn check_loads(
 
 /// The entries of the map.
 fn check_entries(entries: &[u16]) -> Result<(), PartFault>
-    ensures { result ≡ each_from (λ n entry. in_list MAP_ENTRIES n (map_entry_rule entry)) 0 entries.now }
+    ensures { result ≡ each_from (λ n entry. in_list map_entries_key n (map_entry_rule entry)) 0 entries.now }
 {
     each(ListKey::Key(key::MAP_ENTRIES), entries, |entry| {
         rules::map_entry_rule(u64::from(*entry))

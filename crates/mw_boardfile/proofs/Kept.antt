@@ -12,7 +12,7 @@ use Rattle.mw_board.specs.declared.flipflop.FlipFlop.{FlipFlop}
 use Rattle.mw_board.specs.declared.parts.BoardParts.{BoardParts}
 use Rattle.mw_board.specs.declared.point.Point.TheVariants.{Ci}
 use Rattle.mw_board.specs.Check.{Checked, in_list, in_load, point_check, each_from, list_check, field_check, flipflop_check, flipflops_from, sizes_check, fields_check, flipflops_check, points_check, lists_check, map_check, check_of}
-use Rattle.mw_board.specs.declared.key.TheConstants.{CARRY_IN, CONDITION, RAM_LINK, Q_LINK, D, MAP_ENTRIES}
+use Rattle.mw_board.specs.Keys.{carry_in_key, condition_key, ram_link_key, q_link_key, d_key, map_entries_key}
 use Rattle.mw_board.specs.Points.{all_points, driver_of, default_points}
 use Rattle.mw_board.specs.Rules.{Verdict, all_of, word_rule, chosen_rule, list_rule, fields_rule, flipflops_rule, flipflop_name_rule, load_rule, control_rule, point_rule, driver_rule, DriversKeep, map_entry_rule}
 use Rattle.mw_boardfile.specs.declared.fault.Fault.{Fault}
@@ -145,18 +145,18 @@ lists_keep : (p : BoardParts) → ListsKeep p.width p.fields (length p.flipflop)
 unfolding lists_check
 lists_keep p keep =
     let at = λ (row n : ℕ) (verdict : Verdict) (holds : Kept verdict). kept_at row n verdict holds in
-    let a = list_keeps (in_list CARRY_IN) (at CARRY_IN) _ p.fields p.control.carry_in p.carry_in keep.carry_in in
-    let b = list_keeps (in_list CONDITION) (at CONDITION) _ p.fields p.control.condition p.condition keep.condition in
-    let c = list_keeps (in_list RAM_LINK) (at RAM_LINK) _ p.fields p.control.link p.ram_link keep.ram_link in
-    let d = list_keeps (in_list Q_LINK) (at Q_LINK) _ p.fields p.control.link p.q_link keep.q_link in
-    let e = list_keeps (in_list D) (at D) _ p.fields p.control.d p.d keep.d in
+    let a = list_keeps (in_list carry_in_key) (at carry_in_key) _ p.fields p.control.carry_in p.carry_in keep.carry_in in
+    let b = list_keeps (in_list condition_key) (at condition_key) _ p.fields p.control.condition p.condition keep.condition in
+    let c = list_keeps (in_list ram_link_key) (at ram_link_key) _ p.fields p.control.link p.ram_link keep.ram_link in
+    let d = list_keeps (in_list q_link_key) (at q_link_key) _ p.fields p.control.link p.q_link keep.q_link in
+    let e = list_keeps (in_list d_key) (at d_key) _ p.fields p.control.d p.d keep.d in
     rw (a, b, c, d, e) refl
 
 map_keeps : (p : BoardParts) → MapKeeps p.width (record { low = p.map_low; bits = p.map_bits; entries = p.map_entries }) → map_check p ≡ Ok tt
 unfolding map_check
 map_keeps p keep =
-    let each : each_from (λ n entry. in_list MAP_ENTRIES n (map_entry_rule entry)) 0 p.map_entries ≡ Ok tt =
-    each_keeps (λ n entry. in_list MAP_ENTRIES n (map_entry_rule entry)) (λ entry. Kept (map_entry_rule entry)) (λ n entry holds. rw holds refl) 0 p.map_entries keep.entries.each in
+    let each : each_from (λ n entry. in_list map_entries_key n (map_entry_rule entry)) 0 p.map_entries ≡ Ok tt =
+    each_keeps (λ n entry. in_list map_entries_key n (map_entry_rule entry)) (λ entry. Kept (map_entry_rule entry)) (λ n entry holds. rw holds refl) 0 p.map_entries keep.entries.each in
     rw (keep.bits, each, keep.entries.size) refl
 
 -- all of them

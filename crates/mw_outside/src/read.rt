@@ -2,7 +2,6 @@
 ghost use Rattle.std.specs.Prelude.{◌≡◌, ◌≤◌, ◌<◌, List, ℕ, length, IsErr, IfOk, OnOk, OnErr, IfSome, IsErrOf};
 ghost use Rattle.mw_outside.specs.Causes.{Rose};
 ghost use Rattle.mw_outside.specs.Contents.{with_more, TookFront};
-ghost use Rattle.mw_outside.specs.declared.read.TheConstants.{MOST_BYTES};
 
 use crate::shelf::{Failed, Shelf};
 use crate::sink::Sink;
@@ -60,10 +59,10 @@ pub fn read_whole<S: Shelf>(
     name: &str,
 ) -> Result<Vec<u8>, ReadRefusal>
     ensures whole { IfOk result (λ v. IfSome (S.told shelf.old name.now) (λ bytes. v.items ≡ bytes)) }
-    ensures short { IfOk result (λ v. length v.items ≤ MOST_BYTES) }
+    ensures short { IfOk result (λ v. length v.items ≤ 1048576) }
     ensures fault { IsErrOf result ReadRefusal.Fault → Rose (S.faults shelf.old name.now) (S.faults shelf.new name.now) }
-    ensures too_long { IsErrOf result ReadRefusal.TooLong → IfSome (S.told shelf.old name.now) (λ bytes. MOST_BYTES < length bytes) }
-    ensures long { IfSome (S.told shelf.old name.now) (λ bytes. MOST_BYTES < length bytes → IsErr result) }
+    ensures too_long { IsErrOf result ReadRefusal.TooLong → IfSome (S.told shelf.old name.now) (λ bytes. 1048576 < length bytes) }
+    ensures long { IfSome (S.told shelf.old name.now) (λ bytes. 1048576 < length bytes → IsErr result) }
     ensures same { (other : List ℕ) → S.told shelf.new other ≡ S.told shelf.old other }
     ensures later { (other : List ℕ) → S.faults shelf.old other ≤ S.faults shelf.new other }
 {

@@ -1,6 +1,5 @@
 -- What a command makes of its files, which it reads one after another.
 use Rattle.std.specs.Prelude.{ℕ, nat_lt, List, [], ◌∷◌, length, Option, Some, None, Result, Ok, Err, if◌then◌else◌}
-use Rattle.mw_outside.specs.declared.read.TheConstants.{MOST_BYTES}
 use Rattle.mw_plan.specs.declared.fault.FileFault.{FileFault}
 use Rattle.mw_plan.specs.declared.fault.FileFault.TheVariants.{TooLong, At}
 
@@ -29,7 +28,7 @@ read_as kind (Err fault) = refused (At (kind fault))
 
 -- what the contents of a file come to: those of more than 1,048,576 bytes are too long, and others are given to a reader
 abbrev pub read_by : {F G A : Type 0} → (G → F) → (List ℕ → Result A G) → List ℕ → Plan F A
-read_by kind reader bytes = if nat_lt MOST_BYTES (length bytes) then refused TooLong else read_as kind (reader bytes)
+read_by kind reader bytes = if nat_lt 1048576 (length bytes) then refused TooLong else read_as kind (reader bytes)
 
 -- the next file, by a reader whose faults are of a kind
 abbrev pub next_by : {F G A : Type 0} → (G → F) → (List ℕ → Result A G) → Plan F A

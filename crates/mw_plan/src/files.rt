@@ -1,7 +1,6 @@
 // The files of a command, one after another.
 ghost use Rattle.std.specs.Prelude.{◌≡◌, ◌+◌, ◌<◌, ◌≤◌, List, ℕ, [], Result, Some, length, map, string_bytes, OnOk, OnErr};
 ghost use Rattle.std.specs.Borrow.{Bor};
-ghost use Rattle.mw_outside.specs.declared.read.TheConstants.{MOST_BYTES};
 ghost use Rattle.mw_outside.specs.Views.{ShelfView, IsLater, shelf_shown};
 ghost use Rattle.mw_plan.specs.Files.{IsLeft, next_name};
 ghost use Rattle.mw_plan.specs.Steps.{Follows, Reads, Converts};
@@ -70,7 +69,7 @@ impl<'a, W, F> Files<'a, W, F> {
         read: R,
     ) -> Result<T, Stop<F>>
         requires more { length self.old.contents < length self.old.names }
-        requires callable { (bytes : Bor (List ℕ)) → length bytes.now ≤ MOST_BYTES → R.pre read bytes }
+        requires callable { (bytes : Bor (List ℕ)) → length bytes.now ≤ 1048576 → R.pre read bytes }
         ensures follows { (kind : G → F) (reader : List ℕ → Result T G) → Converts G.converts kind → Reads (R.post read) reader
             → (plan : Plan F W) (rest : T → Plan F W) (first : ShelfView)
             → IsLater first (shelf_shown S.Shelf shelf.old) → IsLeft plan first self.old (first_by kind reader rest)
