@@ -13,7 +13,7 @@ fn begin_pair(sign: Pair2) -> &'static [u8] {
         Pair2::Add => b"(+ ",
         Pair2::Sub => b"(- ",
         Pair2::Same => b"(== ",
-        Pair2::Differs => b"(!= ",
+        Pair2::Differ => b"(!= ",
         Pair2::Less => b"(< ",
     }
 }
