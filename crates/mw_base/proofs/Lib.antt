@@ -1,4 +1,5 @@
 pub mod Borrowed
+pub mod FirstFaults
 pub mod FirstLines
 pub mod Fronts
 pub mod Glyphs

@@ -1,5 +1,6 @@
 pub mod Causes
 pub mod Cursors
+pub mod FirstFaults
 pub mod Lines
 pub mod Literals
 pub mod Membership

@@ -5,6 +5,7 @@
 mod cause;
 mod cursor;
 mod event;
+mod first_fault;
 mod items;
 mod line;
 mod literal;
@@ -25,6 +26,7 @@ mod width;
 pub use cause::Cause;
 pub use cursor::{Cursor, Dotted, Numeral};
 pub use event::Event;
+pub use first_fault::note_fault;
 pub use items::Items;
 pub use line::{Line, end_fault, fault_on, lines, text_end, tokens};
 pub use literal::number;

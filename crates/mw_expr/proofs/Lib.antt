@@ -1,5 +1,4 @@
 pub mod Accepted
-pub mod Firsts
 pub mod Joins
 pub mod Parts
 pub mod Small

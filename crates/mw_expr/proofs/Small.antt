@@ -16,24 +16,10 @@ use Rattle.mw_base.specs.TokenLines.{fault_on}
 use Rattle.mw_expr.specs.Text.{IsShape}
 use Rattle.mw_expr.specs.Widths.{width_if, part_width}
 use Rattle.mw_expr.proofs.Words.{below_wider}
-use Rattle.mw_expr.specs.Faults.{named_width, same_width, seen_choice, within_32, seen_width, seen_total, pair_breaks, is_other, part_breaks, is_past, deep, below, broken, unknown, is_improper, too_wide, faults, faults_in, is_before, first_in, first_fault}
+use Rattle.mw_expr.specs.Faults.{named_width, same_width, seen_choice, within_32, seen_width, seen_total, pair_breaks, is_other, part_breaks, is_past, deep, below, broken, unknown, is_improper, too_wide, faults, faults_in, first_fault}
+use Rattle.mw_base.proofs.FirstFaults.{no_first}
 
 -- ---- lists of faults
-
--- a first fault stays one, or is replaced by another
-of_either : (b : Bool) (next fault : TextFault) (rest : List TextFault) → (first_in (Some next) rest ≡ None → ⊥) → (first_in (Some fault) rest ≡ None → ⊥)
-    → first_in (if b then Some next else Some fault) rest ≡ None → ⊥
-of_either true next fault rest one other is = one is
-of_either false next fault rest one other is = other is
-
-some_stays : (fault : TextFault) (rest : List TextFault) → first_in (Some fault) rest ≡ None → ⊥
-some_stays fault [] is = cc
-some_stays fault (next ∷ rest) is = of_either (is_before next fault) next fault rest (some_stays next rest) (some_stays fault rest) is
-
--- without a first fault there is none
-pub no_first : (all : List TextFault) → first_in None all ≡ None → all ≡ []
-no_first [] is = refl
-no_first (fault ∷ rest) is = absurd (some_stays fault rest is)
 
 pub nil_front : {A : Type 0} (xs ys : List A) → xs ++ ys ≡ [] → xs ≡ []
 nil_front [] ys is = refl

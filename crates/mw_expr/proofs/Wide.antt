@@ -20,7 +20,8 @@ use Rattle.mw_expr.specs.Syntax.{Begin, BeginParts, by_choice, by_pair, by_compl
 use Rattle.mw_expr.specs.Text.{IsShape}
 use Rattle.mw_expr.specs.Widths.{width_if, width_after, pair_width, choice_width, part_width, join_width, widened_width, memory_width, count, width, total_width, is_known, are_known, depth, deepest, width_of}
 use Rattle.mw_expr.proofs.Accepted.{of_width}
-use Rattle.mw_expr.proofs.Small.{no_first, nil_front, nil_back, not_broken, value_fits, named-most}
+use Rattle.mw_base.proofs.FirstFaults.{no_first}
+use Rattle.mw_expr.proofs.Small.{nil_front, nil_back, not_broken, value_fits, named-most}
 use Rattle.mw_expr.proofs.Sound.{is_read_by_rule}
 
 -- ---- each join has two parts or more

@@ -4,7 +4,7 @@ use Rattle.mw_base.specs.declared.cause.Cause.TheVariants.{TooWide, UnknownEleme
 use Rattle.mw_base.specs.declared.cursor.Numeral.{Numeral}
 use Rattle.mw_base.specs.declared.refusal.TextFault.{TextFault}
 use Rattle.mw_base.specs.declared.token.Token.{Token}
-use Rattle.mw_base.specs.Causes as causes
+use Rattle.mw_base.specs.FirstFaults.{first_in}
 use Rattle.mw_base.specs.TokenLines.{fault_on}
 use Rattle.mw_expr.specs.declared.expr.Pair2.{Pair2}
 use Rattle.mw_expr.specs.declared.expr.Pair2.TheVariants.{And, Or, Xor, Add, Sub, Same, Differ, Less}
@@ -144,22 +144,6 @@ abbrev mutual
   faults_in s levels (more tree rest) = faults s levels tree ++ faults_in s levels rest
 
 -- ---- the first fault
-
--- one fault stands before another, or at its place with a lesser number
-abbrev pub is_before : TextFault → TextFault → Bool
-is_before a b =
-    nat_lt a.line b.line || ((a.line == b.line) && (nat_lt a.column b.column
-    || ((a.column == b.column) && nat_lt (causes.number_of a.cause) (causes.number_of b.cause))))
-
--- the first of a fault and what was the first before it
-abbrev pub first_of : Option TextFault → TextFault → Option TextFault
-first_of None fault = Some fault
-first_of (Some first) fault = if is_before fault first then Some fault else Some first
-
--- the first of some faults and what was the first before them
-abbrev pub first_in : Option TextFault → List TextFault → Option TextFault
-first_in first [] = first
-first_in first (fault ∷ rest) = first_in (first_of first fault) rest
 
 -- the first fault of a whole expression, whose level is the first of 64
 abbrev pub first_fault : Shape → Placed → Option TextFault

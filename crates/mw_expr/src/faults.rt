@@ -2,39 +2,20 @@
 ghost use Rattle.std.specs.Prelude.{◌≡◌, ◌^◌, nat_lt, Option, Some, true, map, ◌||◌};
 ghost use Rattle.mw_expr.specs.Widths.{width_if, part_width};
 ghost use Rattle.mw_expr.specs.Placed.{placed, parts_of};
-ghost use Rattle.mw_expr.specs.Faults.{named_width, same_width, seen_pair, seen_choice, beside, within_32, seen_width, seen_total, pair_breaks, is_other, part_breaks, is_past, deep, below, broken, unknown, is_improper, too_wide, faults, faults_in, is_before, first_of, first_in, first_fault};
+ghost use Rattle.mw_expr.specs.Faults.{named_width, same_width, seen_pair, seen_choice, beside, within_32, seen_width, seen_total, pair_breaks, is_other, part_breaks, is_past, deep, below, broken, unknown, is_improper, too_wide, faults, faults_in, first_fault};
+ghost use Rattle.mw_base.specs.FirstFaults.{first_in};
 
 use crate::expr::Pair2;
 use crate::placed::Placed;
 use crate::shape::Shape;
 use crate::width::{DEEPEST, WIDEST, part_width};
-use mw_base::{Cause, Numeral, TextFault, Token, fault_on};
-
-/// Whether a fault stands before another, or at its place with a lesser number.
-fn is_before(a: TextFault, b: TextFault) -> bool
-    ensures { result ≡ is_before a b }
-{
-    a.line < b.line
-        || (a.line == b.line
-            && (a.column < b.column
-                || (a.column == b.column && a.cause.number() < b.cause.number())))
-}
-
-/// Keeps the first of a fault and what was the first before it.
-fn note(first: &mut Option<TextFault>, fault: TextFault)
-    ensures { first.new ≡ first_of first.old fault }
-{
-    match *first {
-        Some(other) if !is_before(fault, other) => {}
-        _ => *first = Some(fault),
-    }
-}
+use mw_base::{Cause, Numeral, TextFault, Token, fault_on, note_fault};
 
 fn note_deep(first: &mut Option<TextFault>, levels: Option<u8>, token: Token)
     ensures { first.new ≡ first_in first.old (deep levels token) }
 {
     match levels {
-        Some(0) => note(first, fault_on(token, Cause::TooDeep)),
+        Some(0) => note_fault(first, fault_on(token, Cause::TooDeep)),
         _ => {}
     }
 }
@@ -43,7 +24,7 @@ fn note_broken(first: &mut Option<TextFault>, breaks: bool, token: Token)
     ensures { first.new ≡ first_in first.old (broken breaks token) }
 {
     if breaks {
-        note(first, fault_on(token, Cause::WidthsDiffer));
+        note_fault(first, fault_on(token, Cause::WidthsDiffer));
     }
 }
 
@@ -52,7 +33,7 @@ fn note_unknown(first: &mut Option<TextFault>, width: Option<u8>, token: Token)
 {
     match width {
         Some(_) => {}
-        None => note(first, fault_on(token, Cause::UnknownElement)),
+        None => note_fault(first, fault_on(token, Cause::UnknownElement)),
     }
 }
 
@@ -71,7 +52,7 @@ fn note_too_wide(first: &mut Option<TextFault>, number: Numeral, width: u128)
     ensures { first.new ≡ first_in first.old (too_wide number width) }
 {
     if !fits(number.value, width) {
-        note(first, fault_on(number.token, Cause::TooWide));
+        note_fault(first, fault_on(number.token, Cause::TooWide));
     }
 }
 

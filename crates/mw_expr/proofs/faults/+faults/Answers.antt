@@ -3,8 +3,9 @@ use Rattle.std.specs.Prelude.{Some, ◌||◌}
 use Rattle.mw_base.proofs.Lists as lists
 use Rattle.mw_expr.specs.declared.placed.Placed.{the_lemmas}
 use Rattle.mw_expr.specs.Placed.{placed, parts_of, constant, complement, pair, choice, part, join, widened, memory, group}
-use Rattle.mw_expr.specs.Faults.{seen_width, seen_total, pair_breaks, is_other, part_breaks, is_past, deep, below, broken, is_improper, too_wide, faults, faults_in, first_in}
-use Rattle.mw_expr.proofs.Firsts.{first_in_append, after_two, after_three, after_four, after_five}
+use Rattle.mw_expr.specs.Faults.{seen_width, seen_total, pair_breaks, is_other, part_breaks, is_past, deep, below, broken, is_improper, too_wide, faults, faults_in}
+use Rattle.mw_base.specs.FirstFaults.{first_in}
+use Rattle.mw_base.proofs.FirstFaults.{first_in_append, after_two, after_three, after_four, after_five}
 use Rattle.mw_expr.proofs.faults.+faults.Goals as goal
 
 pub check-returns-in-Not-clause-faults : goal.check-returns-in-Not-clause-faults

@@ -1,6 +1,7 @@
 use Rattle.std.proofs.Common.{◌≡◌, Some, map, drop}
 use Rattle.mw_expr.specs.Placed.{placed, parts_of}
-use Rattle.mw_expr.specs.Faults.{seen_total, faults_in, first_in}
+use Rattle.mw_expr.specs.Faults.{seen_total, faults_in}
+use Rattle.mw_base.specs.FirstFaults.{first_in}
 use Rattle.mw_expr.proofs.faults.+faults.Given as goal
 
 abbrev pub invariant-check_parts-loop-part : goal.invariant-check_parts-loop-part
