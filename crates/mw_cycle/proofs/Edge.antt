@@ -12,17 +12,17 @@ use Rattle.mw_cycle.specs.State.{BoardState, Fits}
 use Rattle.mw_cycle.specs.Cycle.{edge, next_address, writes_of, flips_after}
 
 -- a number that may change stays below a bound
-chosen_below : (b : Bool) (x y n : ℕ) → x < n → y < n → cond b x y < n
+pub chosen_below : (b : Bool) (x y n : ℕ) → x < n → y < n → cond b x y < n
 chosen_below true x y n h k = h
 chosen_below false x y n h k = k
 
 -- words that may change at one place stay below a bound
-words_below : (b : Bool) (xs : List ℕ) (k v n : ℕ) → ((i : ℕ) → slice_index xs i < n) → v < n → (i : ℕ) → slice_index (cond b (slice_set xs k v) xs) i < n
+pub words_below : (b : Bool) (xs : List ℕ) (k v n : ℕ) → ((i : ℕ) → slice_index xs i < n) → v < n → (i : ℕ) → slice_index (cond b (slice_set xs k v) xs) i < n
 words_below true xs k v n h g i = grind (arith, common_steps, h i)
 words_below false xs k v n h g i = h i
 
 -- and as many
-same_length : (b : Bool) (xs : List ℕ) (k v n : ℕ) → length xs ≡ n → length (cond b (slice_set xs k v) xs) ≡ n
+pub same_length : (b : Bool) (xs : List ℕ) (k v n : ℕ) → length xs ≡ n → length (cond b (slice_set xs k v) xs) ≡ n
 same_length true xs k v n h = grind (arith, common_steps, h)
 same_length false xs k v n h = h
 

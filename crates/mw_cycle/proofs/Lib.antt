@@ -5,3 +5,4 @@ pub mod Ranges
 pub mod Segments
 pub mod Suffix
 pub mod Times
+pub mod Values

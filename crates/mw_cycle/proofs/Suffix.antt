@@ -38,7 +38,7 @@ joined : (state : BoardState) (event : Option Event) (first second : BoardRun)
 joined state event first second = rw (append_assoc first.events second.events (option_to_list event), sym (clock_further event first.clock second.clock)) refl
 
 -- a cycle more of what is left of a run is a cycle more of the whole
-longer_further : (board : BoardParts) (store : List ℕ) (env : Environment) (first second : BoardRun)
+pub longer_further : (board : BoardParts) (store : List ℕ) (env : Environment) (first second : BoardRun)
     → longer_run board store env (then_run first second) ≡ then_run first (longer_run board store (rest_at env first.clock) second)
 unfolding longer_run
 longer_further board store env first second =
@@ -52,7 +52,7 @@ longer_further board store env first second =
     ap run (sym (given_further env first.clock second.clock)) ∙ joined (state_after board store second.state given) (event given) first second
 
 -- after no cycle more
-no_further : (run : BoardRun) → then_run run (record { state = run.state; events = []; clock = at_start }) ≡ run
+pub no_further : (run : BoardRun) → then_run run (record { state = run.state; events = []; clock = at_start }) ≡ run
 no_further run = rw (append-nil run.events, add-zero run.clock.cycle, add-zero run.clock.taken) refl
 
 -- a run goes on

@@ -4,6 +4,7 @@
 mod bits;
 mod control;
 mod datapath;
+mod elements;
 mod environment;
 mod flipflops;
 mod laws;
