@@ -1,4 +1,6 @@
+pub mod Bits
 pub mod Borrowed
+pub mod Carries
 pub mod FirstLines
 pub mod Fronts
 pub mod Glyphs
