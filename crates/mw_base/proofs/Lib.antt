@@ -1,5 +1,7 @@
+pub mod Bits
 pub mod Borrowed
 pub mod FirstFaults
+pub mod Carries
 pub mod FirstLines
 pub mod Fronts
 pub mod Glyphs

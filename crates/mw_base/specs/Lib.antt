@@ -1,3 +1,4 @@
+pub mod Carries
 pub mod Causes
 pub mod Cursors
 pub mod FirstFaults

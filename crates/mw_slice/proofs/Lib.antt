@@ -1,4 +1,3 @@
-pub mod Carries
 pub mod Looked
 pub mod Words
 pub mod Bits

@@ -13,7 +13,7 @@ use Rattle.mw_alu.specs.WholeWord.{down, up, writes_b, b_of, writes_q, q_of, shi
 use Rattle.mw_alu.proofs.Shifts.{up_below}
 use Rattle.mw_slice.specs.Board.{nibble, joined, high_pin, low_pin, pins_at, edges_of, sliced_shift_of}
 use Rattle.mw_slice.specs.Law.{IsBoardWidth}
-use Rattle.mw_slice.proofs.Carries.{num_below, num_small}
+use Rattle.mw_base.proofs.Carries.{num_below, num_small}
 use Rattle.mw_slice.proofs.Words.{joined-nibbles}
 use Rattle.mw_slice.proofs.Sum.{nibble-zero}
 

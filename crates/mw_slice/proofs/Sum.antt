@@ -3,7 +3,10 @@ use Rattle.std.proofs.Common.{◌≡◌, ℕ, ◌+◌, ◌*◌, ◌/◌, ◌%◌
 use Rattle.std.specs.Prelude.{Bool, true, false, ◌&&◌, ◌||◌}
 use Rattle.std.proofs.lemmas.Bool.{cases_lt}
 use Rattle.std.proofs.lemmas.Nat.{pow_pos, div-mul-add}
+use Rattle.mw_base.specs.Carries.{carry_at}
 use Rattle.mw_base.specs.Words.{bit_of}
+use Rattle.mw_base.proofs.Bits.{bit_of-complement}
+use Rattle.mw_base.proofs.Carries.{carry_at-zero, carry_at-suc}
 use Rattle.mw_alu.specs.declared.instruction.Source.{Source}
 use Rattle.mw_alu.specs.declared.instruction.Source.TheVariants.{Aq, Ab, Zq, Zb, Za, Da, Dq, Dz}
 use Rattle.mw_alu.specs.declared.instruction.Function.{Function}
@@ -12,11 +15,8 @@ use Rattle.mw_alu.specs.WholeWord.{r_of, s_of, addend_r, addend_s}
 use Rattle.mw_slice.specs.Lookahead.{looked, group_generate, group_propagate, carry_to}
 use Rattle.mw_slice.specs.Slice.{r_bit, s_bit, generates, propagates}
 use Rattle.mw_slice.specs.Board.{nibble, over_group, carry_into_group, carry_into_slice}
-use Rattle.mw_slice.specs.Law.{carry_at}
-use Rattle.mw_slice.proofs.Carries.{carry_at-zero, carry_at-suc}
 use Rattle.mw_slice.proofs.Looked.{Carry, carry_to-looked, carry_out-looked}
 use Rattle.mw_slice.proofs.Words.{bit_of-nibble}
-use Rattle.mw_slice.proofs.Bits.{bit_of-complement}
 
 -- the four bits of 0 are 0
 pub nibble-zero : (k : ℕ) → 0 ≡ nibble k 0

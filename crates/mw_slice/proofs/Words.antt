@@ -7,7 +7,7 @@ use Rattle.std.proofs.Common.{mod-eq_of_lt}
 use Rattle.mw_base.specs.Words.{num, bit_of}
 use Rattle.mw_slice.specs.Slice.{of_bits}
 use Rattle.mw_slice.specs.Board.{nibble, joined, wired_and}
-use Rattle.mw_slice.proofs.Carries.{num_below}
+use Rattle.mw_base.proofs.Carries.{num_below}
 
 -- the low four bits of a number are those of its remainder by 16
 low_bit : (y j : ℕ) → j < 4 → y % 16 / 2 ^ j % 2 ≡ y / 2 ^ j % 2

@@ -1,6 +1,6 @@
 -- The law of the lookahead: at every width of whole slices the joined slices are the Am2901 of the whole word.
-use Rattle.std.specs.Prelude.{ℕ, ◌≡◌, ◌<◌, ◌≤◌, ◌+◌, ◌*◌, ◌/◌, ◌%◌, ◌^◌, Bool, true, nat_le}
-use Rattle.mw_base.specs.Words.{num}
+use Rattle.std.specs.Prelude.{ℕ, ◌≡◌, ◌<◌, ◌≤◌, ◌*◌, ◌/◌, ◌%◌, ◌^◌, Bool, true}
+use Rattle.mw_base.specs.Carries.{carry_at}
 use Rattle.mw_alu.specs.declared.edge.Pins.{Pins}
 use Rattle.mw_alu.specs.Instruction.{source_of, function_of}
 use Rattle.mw_alu.specs.WholeWord.{r_of, s_of, is_sum, addend_r, addend_s, alu_of, shift_of}
@@ -18,10 +18,6 @@ pub record HasWords (w a b q d : ℕ) : Type 0 where
   pub b_in : b < 2 ^ w
   pub q_in : q < 2 ^ w
   pub d_in : d < 2 ^ w
-
--- the carry into bit j of the sum of two whole numbers and a carry in
-abbrev pub carry_at : ℕ → ℕ → Bool → ℕ → Bool
-carry_at r s c j = nat_le (2 ^ j) (r % 2 ^ j + s % 2 ^ j + num c)
 
 -- the carry into bit j of the sum that an instruction makes
 abbrev pub whole_carry : ℕ → ℕ → ℕ → ℕ → ℕ → ℕ → Bool → ℕ → Bool

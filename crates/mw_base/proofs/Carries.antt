@@ -3,8 +3,8 @@ use Rattle.std.proofs.Common.{◌≡◌, ℕ, suc, zero, ◌+◌, ◌-◌, ◌*�
 use Rattle.std.specs.Prelude.{Bool, true, false, ◌&&◌, ◌||◌, nat_le, ◌==◌}
 use Rattle.std.proofs.lemmas.Bool.Decides.{nat_tests, leb_tells}
 use Rattle.std.proofs.lemmas.Nat.{mod-pow-add, mod_below, pow_pos, pow-add, div-mul-add, div-add-mod'}
+use Rattle.mw_base.specs.Carries.{carry_at}
 use Rattle.mw_base.specs.Words.{num, bit_of, differ}
-use Rattle.mw_slice.specs.Law.{carry_at}
 
 -- a number below 2 is the number of its test
 pub num_below : (n : ℕ) → n < 2 → num (n == 1) ≡ n
