@@ -1,0 +1,4 @@
+pub mod Lines
+pub mod Relation
+pub mod Rules
+pub mod Job
