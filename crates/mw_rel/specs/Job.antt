@@ -7,8 +7,7 @@ use Rattle.mw_board.specs.Valid.{IsBoard}
 use Rattle.mw_expr.specs.declared.shape.Shape.{Shape}
 use Rattle.mw_macro.specs.Machine.{Description}
 use Rattle.mw_macro.specs.Right.{IsMachine}
-use Rattle.mw_rel.specs.declared.boundary.Boundary.{Boundary}
-use Rattle.mw_rel.specs.Relation.{RelationParts}
+use Rattle.mw_rel.specs.Relation.{Boundary, Relation}
 use Rattle.mw_rel.specs.Rules.{IsRelation}
 
 -- the widths of the elements of both, the board's before the machine's registers, and those of the machine's memory
@@ -20,18 +19,18 @@ shape_of board machine = record {
 }
 
 -- the board, its microwords from address 0 on, the described machine, and the relation
-pub record JobParts : Type 0 where
+pub record Job : Type 0 where
   pub board : BoardParts
   pub store : List ℕ
   pub machine : Description
-  pub relation : RelationParts
+  pub relation : Relation
 
 -- the job of these parts
-abbrev pub job_of : BoardParts → List ℕ → Description → RelationParts → JobParts
-job_of board store machine relation = record { board = board; store = store; machine = machine; relation = relation }
+abbrev pub job_with : BoardParts → List ℕ → Description → Relation → Job
+job_with board store machine relation = record { board = board; store = store; machine = machine; relation = relation }
 
 -- the relation was made for the shape of both, and each stack pointer is one of the board's
-pub record AreForEachOther (board : BoardParts) (machine : Description) (relation : RelationParts) : Type 0 where
+pub record AreForEachOther (board : BoardParts) (machine : Description) (relation : Relation) : Type 0 where
   pub shape : relation.shape ≡ shape_of board machine
   pub pointers : All (λ (boundary : Boundary). boundary.sp ≤ depth_of board) relation.boundaries
 
@@ -39,11 +38,15 @@ pub record AreForEachOther (board : BoardParts) (machine : Description) (relatio
 abbrev pub memories_agree : BoardParts → Description → Bool
 memories_agree board machine = (machine.shape.address == board.address) && (machine.shape.word == board.width)
 
+-- a relation for a board and a machine, whose memories have the same widths
+pub record AreMatched (board : BoardParts) (machine : Description) (r : Relation) : Type 0 where
+  pub relation : IsRelation r
+  pub parts : AreForEachOther board machine r
+  pub address : machine.shape.address ≡ board.address
+  pub word : machine.shape.word ≡ board.width
+
 -- what each job that the code keeps is
-pub record IsJob (job : JobParts) : Type 0 where
+pub record IsJob (job : Job) : Type 0 where
   pub board : IsBoard job.board
   pub machine : IsMachine job.machine
-  pub relation : IsRelation job.relation
-  pub parts : AreForEachOther job.board job.machine job.relation
-  pub address : job.machine.shape.address ≡ job.board.address
-  pub word : job.machine.shape.word ≡ job.board.width
+  pub matched : AreMatched job.board job.machine job.relation

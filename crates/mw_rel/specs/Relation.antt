@@ -2,16 +2,22 @@
 use Rattle.std.specs.Prelude.{◌≡◌, ℕ, ◌<◌, ◌≤◌, ◌^◌, List, length, All, true}
 use Rattle.mw_expr.specs.declared.shape.Shape.{Shape}
 use Rattle.mw_expr.specs.Widths.{is_known, depth}
-use Rattle.mw_rel.specs.declared.boundary.Boundary.{Boundary}
 use Rattle.mw_rel.specs.Lines.{Line, reads_of}
 
+-- a boundary: its control address, the bound in cycles of the segment that begins there, the stack pointer, and its lines
+pub record Boundary : Type 0 where
+  pub address : ℕ
+  pub bound : ℕ
+  pub sp : ℕ
+  pub lines : List Line
+
 -- its boundaries in the order of the file, and the widths of the elements and of the memory of which their lines speak
-pub record RelationParts : Type 0 where
+pub record Relation : Type 0 where
   pub boundaries : List Boundary
   pub shape : Shape
 
 -- the relation of these parts
-abbrev pub related : List Boundary → Shape → RelationParts
+abbrev pub related : List Boundary → Shape → Relation
 related boundaries shape = record { boundaries = boundaries; shape = shape }
 
 -- the left side is an element, and so is each that stands on the right, which is at most 64 deep
@@ -28,6 +34,6 @@ pub record IsFormedBoundary (s : Shape) (boundary : Boundary) : Type 0 where
   pub lines : All (IsFormedLine s) boundary.lines
 
 -- at most 64 boundaries
-pub record IsFormed (r : RelationParts) : Type 0 where
+pub record IsFormed (r : Relation) : Type 0 where
   pub few : length r.boundaries ≤ 64
   pub boundaries : All (IsFormedBoundary r.shape) r.boundaries

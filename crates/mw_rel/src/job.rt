@@ -3,7 +3,9 @@ ghost use Rattle.std.specs.Prelude.{◌≡◌, ◌+◌, ◌≤◌, List, map, ta
 ghost use Rattle.mw_board.specs.Elements.{elements_of};
 ghost use Rattle.mw_base.specs.declared.cause.Cause.TheVariants.{ShapesDiffer};
 ghost use Rattle.mw_macro.specs.Described.{description_of};
-ghost use Rattle.mw_rel.specs.Job.{shape_of, AreForEachOther, memories_agree, IsJob};
+ghost use Rattle.mw_rel.specs.Job.{shape_of, AreMatched};
+ghost use Rattle.mw_rel.specs.Relation.{related};
+ghost use Rattle.mw_rel.specs.Seen.{boundaries_of};
 
 use crate::relation::Relation;
 use mw_base::{Cause, Items, NoMemory};
@@ -11,7 +13,6 @@ use mw_board::{Board, Store};
 use mw_expr::Shape;
 use mw_macro::Machine;
 use std::alloc::Global;
-use std::marker::Model;
 
 /// The widths of a board's elements, and behind them those of a machine's registers.
 #[tactic(auto, unfolding(crate::specs::Job::shape_of))]
@@ -45,7 +46,7 @@ pub fn shape_of(alloc: Global, board: &Board, machine: &Machine) -> Result<Shape
 }
 
 /// What is certified: that a board with its microprogram does what a described machine does, as a relation between them says. Contracts
-/// see it as its parts, the machine as its description.
+/// see it as its parts; `are_matched` says of them that the relation was made for both, and that both memories have the same widths.
 #[derive(Drop)]
 pub struct Job {
     /// The board.
@@ -56,21 +57,12 @@ pub struct Job {
     pub machine: Machine,
     /// The relation between them.
     pub relation: Relation,
-}
-
-impl Model for Job {
-    ghost use Rattle.mw_macro.specs.Described.{description_of};
-    ghost use Rattle.mw_rel.specs.Job.{JobParts, job_of, IsJob};
-
-    ghost Value = { JobParts };
-
-    ghost view = { λ job. job_of job.board job.store.words (description_of job.machine) job.relation };
-
-    ghost invariant = { λ job. IsJob (job_of job.board job.store.words (description_of job.machine) job.relation) };
+    pub ghost are_matched: { AreMatched board (description_of machine) (related (boundaries_of relation.boundaries.items) relation.shape) },
 }
 
 impl Job {
-    ghost use Rattle.mw_rel.specs.Job.{job_of};
+    ghost use Rattle.mw_rel.specs.Job.{job_with, AreForEachOther, memories_agree, IsJob};
+    ghost use Rattle.mw_rel.specs.Views.{relation_of, job_of};
 
     /// The job of these parts. The relation was made for the shape of this board and this machine, and each of its stack pointers is at
     /// most the board's number of stack words.
@@ -84,15 +76,13 @@ impl Job {
         machine: Machine,
         relation: Relation,
     ) -> Result<Job, Cause>
-        requires parts { AreForEachOther board (description_of machine) relation }
-        ensures ok { IfOk result (λ job. job ≡ job_of board store.words (description_of machine) relation) }
-        ensures valid { IfOk result (λ job. IsJob job) }
+        requires parts { AreForEachOther board (description_of machine) (relation_of relation) }
+        ensures ok { IfOk result (λ job. job_of job ≡ job_with board store.words (description_of machine) (relation_of relation)) }
         ensures accepted { IsOk result → memories_agree board (description_of machine) ≡ true }
         ensures cause { IfErr result (λ cause. cause ≡ ShapesDiffer) }
         ensures err { IfErr result (λ cause. memories_agree board (description_of machine) ≡ false) }
     {
         let parts = board.parts();
-        let _ = relation.boundaries();
         let shape = machine.shape();
         if shape.address == parts.address && shape.word == parts.width {
             Ok(Job {
@@ -104,5 +94,14 @@ impl Job {
         } else {
             Err(Cause::ShapesDiffer)
         }
+    }
+    /// The shape that the lines of its relation are over: the widths of the elements of both sides, and those of the memory.
+    pub fn shape(&self) -> &Shape
+        ensures exact { result.now ≡ (job_of self.now).relation.shape }
+        ensures valid { IsJob (job_of self.now) }
+    {
+        // A call for the proof: its clause `valid` says what holds of every board.
+        let _ = self.board.parts();
+        self.relation.shape()
     }
 }

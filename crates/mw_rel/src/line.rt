@@ -4,7 +4,6 @@ ghost use Rattle.mw_expr.specs.Tree.{view, trees_of};
 ghost use Rattle.mw_rel.specs.Lines.{stands_in, stands_in_one};
 
 use mw_expr::Expr;
-use std::marker::Model;
 
 /// A line of a relation: at its boundary an element has the value of an expression. Contracts see the expression as a tree.
 #[derive(Drop)]
@@ -13,15 +12,6 @@ pub struct Line {
     pub left: u32,
     /// The expression on the right, over the elements and the described machine's memory.
     pub right: Expr,
-}
-
-impl Model for Line {
-    ghost use Rattle.mw_expr.specs.Tree.{view as tree_of};
-    ghost use Rattle.mw_rel.specs.Lines.{Line as Seen};
-
-    ghost Value = { Seen };
-
-    ghost view = { λ line. record { left = line.left; right = tree_of line.right } };
 }
 
 /// Whether the element of a number stands in an expression.
