@@ -123,7 +123,7 @@ kept_next job start k kept same =
           ∙ ap₂ (λ xs ys. xs ++ ys) kept.events (ap (λ (r : BoardRun). r.events) (sym ran.is) ∙ same.events ∙ ap (λ (s : Stepped). s.events) step);
     }
 
-kept_each : (job : Job) → IsJob job → NoneDiffers job → (start : Start) → IsStart job start → (k : ℕ) → IsKept job start k
+pub kept_each : (job : Job) → IsJob job → NoneDiffers job → (start : Start) → IsStart job start → (k : ℕ) → IsKept job start k
 kept_each job is none start begins zero = kept_first job start is begins
 kept_each job is none start begins (suc k) =
     let kept = kept_each job is none start begins k in

@@ -1,8 +1,8 @@
 -- Laws of starts and of what is certified.
-use Rattle.std.specs.Prelude.{◌≡◌, ◌↔◌, Some, None}
+use Rattle.std.specs.Prelude.{◌≡◌, ◌↔◌, ℕ, ◌+◌, ◌≤◌, Some, None}
 use Rattle.mw_cycle.specs.Run.{BoardRun}
 use Rattle.mw_rel.specs.Relation.{Boundary}
-use Rattle.mw_rel.specs.Certified.{Certified, boundary_at}
+use Rattle.mw_rel.specs.Certified.{Certified, IsBoundaryOf, at_cycle, boundary_at}
 use Rattle.mw_rel.specs.Differs.{difference_of, segment_of, first_step}
 use Rattle.mw_rel.specs.InRelation.{InRelation, pair_of}
 use Rattle.mw_rel.specs.Job.{Job, IsJob}
@@ -29,3 +29,21 @@ SameShowsNothing = (job : Job) (start : Start) → IsJob job → IsStart job sta
 -- a job is certified exactly where none of its starts differs
 abbrev pub CertifiedWhereNoneDiffers : Type 0
 CertifiedWhereNoneDiffers = (job : Job) → IsJob job → Certified job ↔ NoneDiffers job
+
+-- the sum of the bounds of the boundaries that a start's run meets before boundary k
+pub data IsSumOfBounds (job : Job) (start : Start) : ℕ → ℕ → Type 0 where
+  nothing : IsSumOfBounds job start 0 0
+  more : (k sum c : ℕ) (met : Boundary) → IsSumOfBounds job start k sum → IsBoundaryOf job start k c
+      → boundary_at job (at_cycle job start c) ≡ Some met → IsSumOfBounds job start (k + 1) (sum + met.bound)
+
+-- boundary k of a start's run comes, at no later cycle than the sum of the bounds met before it
+pub record ComesInTime (job : Job) (start : Start) (k : ℕ) : Type 0 where
+  pub cycle : ℕ
+  pub sum : ℕ
+  pub comes : IsBoundaryOf job start k cycle
+  pub bounds : IsSumOfBounds job start k sum
+  pub within : cycle ≤ sum
+
+-- where no start differs, each boundary of each start's run comes in time
+abbrev pub BoundariesComeInTime : Type 0
+BoundariesComeInTime = (job : Job) → IsJob job → NoneDiffers job → (start : Start) → IsStart job start → (k : ℕ) → ComesInTime job start k

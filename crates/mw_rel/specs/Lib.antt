@@ -1,7 +1,7 @@
-pub mod Begin
 pub mod Certified
 pub mod DescribedRun
 pub mod Differs
+pub mod Free
 pub mod InRelation
 pub mod Job
 pub mod Laws

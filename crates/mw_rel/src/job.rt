@@ -61,6 +61,8 @@ pub struct Job {
 }
 
 impl Job {
+    ghost use Rattle.std.specs.Prelude.{length};
+    ghost use Rattle.mw_board.specs.Elements.{element_count};
     ghost use Rattle.mw_rel.specs.Job.{job_with, AreForEachOther, memories_agree, IsJob};
     ghost use Rattle.mw_rel.specs.Views.{relation_of, job_of};
 
@@ -103,5 +105,15 @@ impl Job {
         // A call for the proof: its clause `valid` says what holds of every board.
         let _ = self.board.parts();
         self.relation.shape()
+    }
+
+    /// How many elements both sides have: those of the board and, behind them, the machine's registers.
+    pub fn element_count(&self) -> usize
+        ensures exact { result ≡ length (job_of self.now).relation.shape.widths }
+        ensures both { result ≡ element_count (job_of self.now).board + (job_of self.now).machine.registers }
+        ensures few { result ≤ 170 }
+        ensures valid { IsJob (job_of self.now) }
+    {
+        self.shape().widths.as_slice().len()
     }
 }

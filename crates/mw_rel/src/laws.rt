@@ -1,5 +1,12 @@
 // Laws of starts and of what is certified.
-ghost use Rattle.mw_rel.specs.Laws.{SameShowsNothing, CertifiedWhereNoneDiffers};
+ghost use Rattle.mw_rel.specs.Rules.{AcceptedAreSolved};
+ghost use Rattle.mw_rel.specs.Laws.{SameShowsNothing, CertifiedWhereNoneDiffers, BoundariesComeInTime};
+
+/// The law of relations: in an accepted relation each right side is as wide as its left element, no element is left of two lines of a
+/// boundary or stands on a right side there, and each bound is 1 to 500.
+pub fn accepted_are_solved()
+    ensures { AcceptedAreSolved }
+{}
 
 /// The law of starts: a start shows no difference exactly where its segment keeps its bound, the pair reached, which is the board there
 /// and the machine after one step, is in relation at the boundary reached, and both have the same events.
@@ -10,4 +17,10 @@ pub fn same_shows_nothing()
 /// The law of certification: a job is certified exactly where none of its starts differs.
 pub fn certified_where_none_differs()
     ensures { CertifiedWhereNoneDiffers }
+{}
+
+/// The law of times: where no start differs, each boundary of each start's run comes, within the sum of the bounds of the boundaries
+/// met before it.
+pub fn boundaries_come_in_time()
+    ensures { BoundariesComeInTime }
 {}
