@@ -7,6 +7,7 @@ pub mod Relations
 pub mod Runs
 pub mod Same
 pub mod Seen
+pub mod Shown
 pub mod Steps
 pub mod Sums
 pub mod Unlike

@@ -9,5 +9,6 @@ pub mod Lines
 pub mod Relation
 pub mod Rules
 pub mod Seen
+pub mod Shown
 pub mod Start
 pub mod Views

@@ -1,5 +1,6 @@
 // Laws of starts and of what is certified.
 ghost use Rattle.mw_rel.specs.Rules.{AcceptedAreSolved};
+ghost use Rattle.mw_rel.specs.Shown.{DifferencesAreFirst};
 ghost use Rattle.mw_rel.specs.Laws.{SameShowsNothing, CertifiedWhereNoneDiffers, BoundariesComeInTime};
 
 /// The law of relations: in an accepted relation each right side is as wide as its left element, no element is left of two lines of a
@@ -12,6 +13,14 @@ pub fn accepted_are_solved()
 /// and the machine after one step, is in relation at the boundary reached, and both have the same events.
 pub fn same_shows_nothing()
     ensures { SameShowsNothing }
+{}
+
+/// The law of differences: what a start shows is the first of the five. It is late where its segment doesn't keep its bound; else the
+/// events are unlike at the number shown and alike before it; or they are equal and the stack pointer isn't the number of the boundary
+/// reached; or that is equal too, and the line of the element shown is the first that doesn't hold; or all lines hold, and the address
+/// shown is the least with two contents.
+pub fn differences_are_first()
+    ensures { DifferencesAreFirst }
 {}
 
 /// The law of certification: a job is certified exactly where none of its starts differs.

@@ -16,7 +16,8 @@ pub use difference::Difference;
 pub use free_elements::free;
 pub use job::{Job, shape_of};
 pub use laws::{
-    accepted_are_solved, boundaries_come_in_time, certified_where_none_differs, same_shows_nothing,
+    accepted_are_solved, boundaries_come_in_time, certified_where_none_differs,
+    differences_are_first, same_shows_nothing,
 };
 pub use line::Line;
 pub use pair::{Pair, holds};
