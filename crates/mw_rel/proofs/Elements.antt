@@ -72,7 +72,8 @@ set_length (x ∷ rest) (suc n) v = omega (arith, set_length rest n v)
 
 -- one value more of those of another list
 pub put_more : (xs target : List ℕ) (n v i : ℕ) → n < length xs → v ≡ slice_index target n
-    → ((k : ℕ) → k < n → slice_index xs k ≡ slice_index target k) → i < n + 1 → slice_index (slice_set xs n v) i ≡ slice_index target i
+    → ((k : ℕ) → k < n → slice_index xs k ≡ slice_index target k) → i < n + 1
+    → slice_index (slice_set xs n v) i ≡ slice_index target i
 put_more xs target n v i within is so_far below = elim (cases_lt i n) [
   | inl before ↦ set_other xs n v i (λ same. absurd (omega arith)) ∙ so_far i before
   | inr past ↦ (let here : i ≡ n = omega arith in
@@ -81,13 +82,19 @@ put_more xs target n v i within is so_far below = elim (cases_lt i n) [
 
 -- ---- the values of a pair
 
-board_values_length : (board : BoardParts) (s : BoardState) → length (map (element board s) (numbers 0 (element_count board))) ≡ element_count board
-board_values_length board s = length-map (numbers 0 (element_count board)) (element board s) ∙ numbers_length 0 (element_count board)
+board_values_length : (board : BoardParts) (s : BoardState)
+    → length (map (element board s) (numbers 0 (element_count board))) ≡ element_count board
+board_values_length board s = length-map (numbers 0 (element_count board)) (element board s)
+    ∙ numbers_length 0 (element_count board)
 
 pub values_length : (board : BoardParts) (s : BoardState) (registers : List ℕ)
     → length (values_in board s registers) ≡ element_count board + length registers
 values_length board s registers =
-    omega (arith, length-append (map (element board s) (numbers 0 (element_count board))) registers, board_values_length board s)
+    omega (
+      arith,
+      length-append (map (element board s) (numbers 0 (element_count board))) registers,
+      board_values_length board s,
+    )
 
 -- the value of an element of the board
 pub board_value : (board : BoardParts) (s : BoardState) (registers : List ℕ) (n : ℕ) → n < element_count board
@@ -112,7 +119,8 @@ pub values_are : (board : BoardParts) (s : BoardState) (registers values : List 
     → ((i : ℕ) → i < element_count board + n → slice_index values i ≡ slice_index (values_in board s registers) i)
     → values ≡ values_in board s registers
 values_are board s registers values n size all each =
-    same_number_lists values (values_in board s registers) (size ∙ sym (values_length board s registers)) (λ i below. each i (omega arith))
+    same_number_lists values (values_in board s registers) (size
+    ∙ sym (values_length board s registers)) (λ i below. each i (omega arith))
 
 -- ---- the widths of a job's elements
 
@@ -125,10 +133,12 @@ pub count_few : (board : BoardParts) → element_count board ≡ 26 + length boa
 count_few board = omega (arith, count_is board, behind_few board)
 
 -- those of both sides
-pub widths_count : (job : Job) → IsJob job → length job.relation.shape.widths ≡ element_count job.board + job.machine.registers
+pub widths_count : (job : Job) → IsJob job
+    → length job.relation.shape.widths ≡ element_count job.board + job.machine.registers
 unfolding shape_of
 widths_count job is =
-    let whole : length job.relation.shape.widths ≡ length (shape_of job.board job.machine).widths = ap (λ (s : Shape). length s.widths) is.matched.parts.shape in
+    let whole : length job.relation.shape.widths ≡ length (shape_of job.board job.machine).widths = ap
+    (λ (s : Shape). length s.widths) is.matched.parts.shape in
     let board_widths = map (λ (e : Element). e.width) (elements_of job.board) in
     let formed = is.machine.formed in
     omega (
@@ -173,7 +183,8 @@ board_width job is n below =
     let widths = map (λ (e : Element). e.width) (elements_of job.board) in
     let shape = ap (λ (s : Shape). s.widths) is.matched.parts.shape in
     ap (λ xs. slice_index xs n) shape
-    ∙ front_at widths (take job.machine.registers job.machine.shape.widths) n (omega (arith, length-map (elements_of job.board) (λ (e : Element). e.width)))
+    ∙ front_at widths (take job.machine.registers job.machine.shape.widths) n
+    (omega (arith, length-map (elements_of job.board) (λ (e : Element). e.width)))
     ∙ sym (unwrap_or-slice_get widths n 0)
     ∙ ap (λ x. unwrap_or x 0) (slice_get-map (λ (e : Element). e.width) (elements_of job.board) n)
 
@@ -183,7 +194,8 @@ register_width : (job : Job) → IsJob job → (n : ℕ) → n < job.machine.reg
 unfolding shape_of
 register_width job is n below =
     let widths = map (λ (e : Element). e.width) (elements_of job.board) in
-    let size : length widths ≡ element_count job.board = length-map (elements_of job.board) (λ (e : Element). e.width) in
+    let size : length widths ≡ element_count job.board = length-map (elements_of job.board)
+    (λ (e : Element). e.width) in
     ap (λ (s : Shape). slice_index s.widths (element_count job.board + n)) is.matched.parts.shape
     ∙ ap (λ k. slice_index (widths ++ take job.machine.registers job.machine.shape.widths) (k + n)) (sym size)
     ∙ back_at widths (take job.machine.registers job.machine.shape.widths) n
@@ -198,16 +210,20 @@ each_word job pair is fit i below = elim (cases_lt i (element_count job.board)) 
       let n = i - element_count job.board in
       let inside : n < job.machine.registers = omega (arith, widths_count job is) in
       subst (λ k. slice_index (values_of job.board pair) k < 2 ^ slice_index job.relation.shape.widths k) place
-      (rw (register_width job is n inside, register_value job.board pair.board pair.machine.registers n) (fit.machine.registers n inside)))
+      (rw (register_width job is n inside, register_value job.board pair.board pair.machine.registers n)
+      (fit.machine.registers n inside)))
 ]
 
-pub pair_words : (job : Job) (pair : Pair) → IsJob job → BothFit job pair → AreWords job.relation.shape.widths (values_of job.board pair)
+pub pair_words : (job : Job) (pair : Pair) → IsJob job → BothFit job pair
+    → AreWords job.relation.shape.widths (values_of job.board pair)
 pair_words job pair is fit = record {
-  count = values_length job.board pair.board pair.machine.registers ∙ omega (arith, widths_count job is, fit.machine.count);
+  count = values_length job.board pair.board pair.machine.registers
+      ∙ omega (arith, widths_count job is, fit.machine.count);
   each = each_word job pair is fit;
 }
 
 -- and the memory is an image
-pub pair_image : (job : Job) (pair : Pair) → IsJob job → BothFit job pair → IsImage job.relation.shape pair.machine.memory
+pub pair_image : (job : Job) (pair : Pair) → IsJob job → BothFit job pair
+    → IsImage job.relation.shape pair.machine.memory
 unfolding shape_of
 pair_image job pair is fit = rw is.matched.parts.shape (record { size = fit.machine.size; words = fit.machine.memory })

@@ -16,7 +16,8 @@ both true false one other = other
 both false b one other = one
 
 -- a pair whose states fit is in relation where it stands at the boundary and each line holds
-pub related_if : (job : Job) (boundary : Boundary) (pair : Pair) (stands lines : Bool) → BothFit job pair → (IsTrue stands ↔ StandsAt boundary pair)
+pub related_if : (job : Job) (boundary : Boundary) (pair : Pair) (stands lines : Bool) → BothFit job pair
+    → (IsTrue stands ↔ StandsAt boundary pair)
     → lines ≡ list_all (line_holds job pair) boundary.lines → IsTrue (stands && lines) ↔ InRelation job boundary pair
 related_if job boundary pair stands lines fit at each = (
   (λ yes.
@@ -30,11 +31,13 @@ related_if job boundary pair stands lines fit at each = (
         memory = there.memory;
         lines = All-weaker (λ (line : Line). line_holds job pair line ≡ true)
             (λ (line : Line). slice_index (values_of job.board pair) line.left ≡ right_value job pair line)
-            (λ line holds. eqb-true _ _ holds) boundary.lines (AllPass-from_list_all (line_holds job pair) boundary.lines (sym each ∙ parts.1));
+            (λ line holds. eqb-true _ _ holds) boundary.lines
+            (AllPass-from_list_all (line_holds job pair) boundary.lines (sym each ∙ parts.1));
       }),
   (λ related.
       both stands lines (at.1 (record { at = related.at; sp = related.sp; memory = related.memory }))
       (each ∙ list_all-from_AllPass (line_holds job pair) boundary.lines
       (All-weaker (λ (line : Line). slice_index (values_of job.board pair) line.left ≡ right_value job pair line)
-      (λ (line : Line). line_holds job pair line ≡ true) (λ line holds. eq-eqb _ _ holds) boundary.lines related.lines))),
+      (λ (line : Line). line_holds job pair line ≡ true)
+      (λ line holds. eq-eqb _ _ holds) boundary.lines related.lines))),
 )

@@ -19,7 +19,8 @@ use Rattle.mw_rel.specs.Relation.{Boundary, Relation, IsFormedLine, IsFormedBoun
 use Rattle.mw_rel.specs.Rules.{are_once, addresses_are_once, is_even, are_even, lefts_are_once, rights_are_free, is_bounded, refusal_of, IsLineOf, IsSolved, AcceptedAreSolved}
 
 -- a rule before others, where none is broken
-kept : (k : Bool) (cause : Cause) (rest : Option Cause) → (if k then rest else Some cause) ≡ None → (k ≡ true) × (rest ≡ None)
+kept : (k : Bool) (cause : Cause) (rest : Option Cause) → (if k then rest else Some cause) ≡ None
+    → (k ≡ true) × (rest ≡ None)
 kept true cause rest none = (refl, none)
 kept false cause rest none = cc
 
@@ -28,7 +29,8 @@ asked_is : (asked : ℕ) (r : Result ℕ Cause) → is_asked asked r ≡ true �
 asked_is asked (Ok w) is = ap Ok (eqb-true w asked is)
 asked_is asked (Err cause) is = absurd cc
 
-lines_are : (s : Shape) (lines : List Line) → All (IsFormedLine s) lines → list_all (is_even s) lines ≡ true → All (IsLineOf s) lines
+lines_are : (s : Shape) (lines : List Line) → All (IsFormedLine s) lines → list_all (is_even s) lines ≡ true
+    → All (IsLineOf s) lines
 lines_are s [] formed even = All-nil (IsLineOf s)
 lines_are s (line ∷ rest) formed even =
     let evens = and_parts _ _ even in
@@ -40,7 +42,8 @@ lines_are s (line ∷ rest) formed even =
 
 -- what the rules give of each boundary
 each_boundary : (s : Shape) (boundaries : List Boundary) → All (IsFormedBoundary s) boundaries
-    → list_all (are_even s) boundaries ≡ true → list_all lefts_are_once boundaries ≡ true → list_all rights_are_free boundaries ≡ true
+    → list_all (are_even s) boundaries ≡ true → list_all lefts_are_once boundaries ≡ true
+    → list_all rights_are_free boundaries ≡ true
     → list_all is_bounded boundaries ≡ true → All (IsSolved s) boundaries
 each_boundary s [] formed even once free bounded = All-nil (IsSolved s)
 each_boundary s (b ∷ rest) formed even once free bounded =
@@ -71,7 +74,8 @@ accepted_are_solved r is =
     let six = kept (list_all is_bounded r.boundaries) BadBound _ five.1 in
     each_boundary r.shape r.boundaries is.formed.boundaries two.0 three.0 four.0 six.0
 
-addresses_once : (r : Relation) → refusal_of r ≡ None → are_once (map (λ (boundary : Boundary). boundary.address) r.boundaries) ≡ true
+addresses_once : (r : Relation) → refusal_of r ≡ None
+    → are_once (map (λ (boundary : Boundary). boundary.address) r.boundaries) ≡ true
 unfolding refusal_of
 addresses_once r none = (kept (are_once (map (λ (boundary : Boundary). boundary.address) r.boundaries)) Twice _ none).0
 
@@ -107,7 +111,8 @@ found_once (x ∷ rest) (suc n) b once at =
 
 pub there_is : (job : Job) (n : ℕ) (b : Boundary) → IsJob job → slice_get job.relation.boundaries n ≡ Some b
     → boundary_at job b.address ≡ Some b
-there_is job n b is at = found_once job.relation.boundaries n b (addresses_once job.relation is.matched.relation.accepted) at
+there_is job n b is at = found_once job.relation.boundaries n b
+    (addresses_once job.relation is.matched.relation.accepted) at
 
 -- the boundary at an address stands at some place
 pub is_there : (job : Job) (at : ℕ) (b : Boundary) → boundary_at job at ≡ Some b
@@ -122,13 +127,17 @@ passes_at test x rest b true is found later = let same : x ≡ b = cc in ap test
 passes_at test x rest b false is found later = later found
 
 -- and has this address
-found_passes : (test : Boundary → Bool) (boundaries : List Boundary) (b : Boundary) → find test boundaries ≡ Some b → test b ≡ true
+found_passes : (test : Boundary → Bool) (boundaries : List Boundary) (b : Boundary) → find test boundaries ≡ Some b
+    → test b ≡ true
 found_passes test [] b found = cc
 found_passes test (x ∷ rest) b found = passes_at test x rest b (test x) refl found (found_passes test rest b)
 
 pub is_at : (job : Job) (at : ℕ) (b : Boundary) → boundary_at job at ≡ Some b → at ≡ b.address
-is_at job at b found = sym (eqb-true b.address at (found_passes (λ (boundary : Boundary). boundary.address == at) job.relation.boundaries b found))
+is_at job at b found = sym
+    (eqb-true b.address at
+    (found_passes (λ (boundary : Boundary). boundary.address == at) job.relation.boundaries b found))
 
 -- a boundary by its number is solved
-pub solved_at : (job : Job) (n : ℕ) → IsJob job → n < length job.relation.boundaries → IsSolved job.relation.shape (numbered job n)
+pub solved_at : (job : Job) (n : ℕ) → IsJob job → n < length job.relation.boundaries
+    → IsSolved job.relation.shape (numbered job n)
 solved_at job n is below = accepted_are_solved job.relation is.matched.relation n no_boundary below

@@ -9,7 +9,8 @@ use Rattle.mw_rel.proofs.Boundaries.{boundary_once}
 use Rattle.mw_rel.proofs.Law.{kept_each}
 
 -- boundary k + 1 comes in time where boundary k does
-next_in_time : (job : Job) (start : Start) (k : ℕ) → IsKept job start k → IsKept job start (k + 1) → ComesInTime job start k
+next_in_time : (job : Job) (start : Start) (k : ℕ) → IsKept job start k → IsKept job start (k + 1)
+    → ComesInTime job start k
     → ComesInTime job start (k + 1)
 next_in_time job start k kept next before =
     let same : before.cycle ≡ kept.cycle =

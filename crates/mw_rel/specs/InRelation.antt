@@ -48,7 +48,8 @@ pub record StandsAt (boundary : Boundary) (pair : Pair) : Type 0 where
   pub sp : pair.board.seq.sp ≡ boundary.sp
   pub memory : pair.board.memory ≡ pair.machine.memory
 
--- The pair is in relation at the boundary: both states fit, the board is at its address and has its stack pointer, both memories are
+-- The pair is in relation at the boundary: both states fit, the board is at its address and has its stack pointer,
+-- both memories are
 -- equal, and each line's left element has the value of its right side.
 pub record InRelation (job : Job) (boundary : Boundary) (pair : Pair) : Type 0 where
   pub board_fits : Fits job.board pair.board

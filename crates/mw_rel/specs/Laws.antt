@@ -8,7 +8,8 @@ use Rattle.mw_rel.specs.InRelation.{InRelation, pair_of}
 use Rattle.mw_rel.specs.Job.{Job, IsJob}
 use Rattle.mw_rel.specs.Start.{Start, IsStart}
 
--- A start's segment keeps its bound; the pair reached, which is the board there and the machine after one step, is in relation at the
+-- A start's segment keeps its bound; the pair reached, which is the board there and the machine after one step, is in
+-- relation at the
 -- boundary reached; and both have the same events.
 pub record IsSame (job : Job) (start : Start) : Type 0 where
   pub run : BoardRun
@@ -24,7 +25,8 @@ NoneDiffers job = (start : Start) → IsStart job start → difference_of job st
 
 -- a start shows no difference exactly where it is the same on both sides
 abbrev pub SameShowsNothing : Type 0
-SameShowsNothing = (job : Job) (start : Start) → IsJob job → IsStart job start → (difference_of job start ≡ None) ↔ IsSame job start
+SameShowsNothing = (job : Job) (start : Start) → IsJob job → IsStart job start
+    → (difference_of job start ≡ None) ↔ IsSame job start
 
 -- a job is certified exactly where none of its starts differs
 abbrev pub CertifiedWhereNoneDiffers : Type 0
@@ -46,4 +48,5 @@ pub record ComesInTime (job : Job) (start : Start) (k : ℕ) : Type 0 where
 
 -- where no start differs, each boundary of each start's run comes in time
 abbrev pub BoundariesComeInTime : Type 0
-BoundariesComeInTime = (job : Job) → IsJob job → NoneDiffers job → (start : Start) → IsStart job start → (k : ℕ) → ComesInTime job start k
+BoundariesComeInTime = (job : Job) → IsJob job → NoneDiffers job → (start : Start) → IsStart job start → (k : ℕ)
+    → ComesInTime job start k

@@ -34,12 +34,14 @@ pub record Ends (job : Job) (start : Start) (run : BoardRun) (reached : Boundary
   pub segment : segment_of job start ≡ Some run
   pub there : boundary_at job run.state.at ≡ Some reached
 
--- What is so at the boundary reached where an event, the stack pointer, a line or a memory word is the difference: each of those before
+-- What is so at the boundary reached where an event, the stack pointer, a line or a memory word is the difference:
+-- each of those before
 -- it in this order is the same on both sides.
 abbrev pub IsShownAt : Job → Start → BoardRun → Boundary → Difference → Type 0
 IsShownAt job start run reached Late = ⊥
 IsShownAt job start run reached (Event n) = AreUnlikeAt run.events (first_step job start).events n
-IsShownAt job start run reached StackPointer = (run.events ≡ (first_step job start).events) × (run.state.seq.sp ≢ reached.sp)
+IsShownAt job start run reached StackPointer = (run.events ≡ (first_step job start).events) ×
+    (run.state.seq.sp ≢ reached.sp)
 IsShownAt job start run reached (Element e) =
     (run.events ≡ (first_step job start).events) × (run.state.seq.sp ≡ reached.sp)
     × IsFirstToFail job (pair_of run.state (first_step job start).state) reached.lines e
@@ -51,7 +53,8 @@ IsShownAt job start run reached (Memory a) =
 -- A start is late, or its segment ends at a boundary, and there is this difference.
 abbrev pub IsShown : Job → Start → Difference → Type 0
 IsShown job start Late = segment_of job start ≡ None
-IsShown job start other = (run : BoardRun) × (reached : Boundary) × Ends job start run reached × IsShownAt job start run reached other
+IsShown job start other = (run : BoardRun) ×
+    (reached : Boundary) × Ends job start run reached × IsShownAt job start run reached other
 
 -- the difference that a start shows is the first of the five
 abbrev pub DifferencesAreFirst : Type 0

@@ -28,8 +28,10 @@ fn widths_of(alloc: Global, board: &Board, machine: &Machine) -> Result<Vec<u8>,
     Ok(widths)
 }
 
-/// The shape of the lines of a relation between a board and a described machine: the widths of the elements, by number, and those of
-/// the machine's memory. The board's elements come first, in the order of its table, and behind them the machine's registers.
+/// The shape of the lines of a relation between a board and a described machine: the widths of the elements, by
+/// number, and those of
+/// the machine's memory. The board's elements come first, in the order of its table, and behind them the machine's
+/// registers.
 ///
 /// # Errors
 ///
@@ -45,8 +47,10 @@ pub fn shape_of(alloc: Global, board: &Board, machine: &Machine) -> Result<Shape
     })
 }
 
-/// What is certified: that a board with its microprogram does what a described machine does, as a relation between them says. Contracts
-/// see it as its parts; `are_matched` says of them that the relation was made for both, and that both memories have the same widths.
+/// What is certified: that a board with its microprogram does what a described machine does, as a relation between
+/// them says. Contracts
+/// see it as its parts; `are_matched` says of them that the relation was made for both, and that both memories have
+/// the same widths.
 #[derive(Drop)]
 pub struct Job {
     /// The board.
@@ -66,12 +70,14 @@ impl Job {
     ghost use Rattle.mw_rel.specs.Job.{job_with, AreForEachOther, memories_agree, IsJob};
     ghost use Rattle.mw_rel.specs.Views.{relation_of, job_of};
 
-    /// The job of these parts. The relation was made for the shape of this board and this machine, and each of its stack pointers is at
+    /// The job of these parts. The relation was made for the shape of this board and this machine, and each of its
+    /// stack pointers is at
     /// most the board's number of stack words.
     ///
     /// # Errors
     ///
-    /// Cause 55 where the memory of the machine has other widths than that of the board. What was handed in is dropped then.
+    /// Cause 55 where the memory of the machine has other widths than that of the board. What was handed in is
+    /// dropped then.
     pub fn new(
         board: Board,
         store: Store,
@@ -97,7 +103,8 @@ impl Job {
             Err(Cause::ShapesDiffer)
         }
     }
-    /// The shape that the lines of its relation are over: the widths of the elements of both sides, and those of the memory.
+    /// The shape that the lines of its relation are over: the widths of the elements of both sides, and those of the
+    /// memory.
     pub fn shape(&self) -> &Shape
         ensures exact { result.now ≡ (job_of self.now).relation.shape }
         ensures valid { IsJob (job_of self.now) }

@@ -5,7 +5,8 @@ ghost use Rattle.mw_rel.specs.Lines.{stands_in, stands_in_one};
 
 use mw_expr::Expr;
 
-/// A line of a relation: at its boundary an element has the value of an expression. Contracts see the expression as a tree.
+/// A line of a relation: at its boundary an element has the value of an expression. Contracts see the expression as a
+/// tree.
 #[derive(Drop)]
 pub struct Line {
     /// The number of the element on the left.

@@ -18,7 +18,8 @@ use mw_expr::value;
 use mw_macro::MacState;
 use std::marker::Model;
 
-/// The most elements of both sides: the board's 16 registers, Q, `mar`, `ir`, 16 flip-flops, the counters and the stack, and the
+/// The most elements of both sides: the board's 16 registers, Q, `mar`, `ir`, 16 flip-flops, the counters and the
+/// stack, and the
 /// machine's 128 registers.
 pub(crate) const MOST_ELEMENTS: usize = 170;
 
@@ -39,7 +40,8 @@ impl Model for Pair {
     ghost view = { λ pair. pair_of pair.board pair.machine };
 }
 
-/// Puts the values of all elements into a list that has a place for each: those of a board's state, and behind them a machine's registers.
+/// Puts the values of all elements into a list that has a place for each: those of a board's state, and behind them a
+/// machine's registers.
 pub(crate) fn copy_values(board: &Board, state: &State, registers: &[u32], values: &mut [u32])
     requires fits { boards.Fits board.now state.now }
     requires places { length values.old ≡ element_count board.now + length registers.now }
@@ -110,7 +112,8 @@ fn fit(job: &Job, pair: &Pair) -> bool
     pair.board.fits(&job.board) && pair.machine.fits(&job.machine)
 }
 
-/// Whether a pair of states is in relation at the boundary of this number, from 0: both states fit, the board is at its address and
+/// Whether a pair of states is in relation at the boundary of this number, from 0: both states fit, the board is at
+/// its address and
 /// has its stack pointer, both memories are equal, and each line's left element has the value of its right side.
 pub fn holds(job: &Job, boundary: usize, pair: &Pair) -> bool
     requires there { boundary < length (job_of job.now).relation.boundaries }

@@ -10,7 +10,8 @@ loop-number-preserved c =
     let all = values_in board c.args.state.now c.args.registers.now in
     let values = c.loop-number.values in
     let n = c.loop-number.number in
-    let below : n < element_count board = omega (arith, c.loop-number-test.true, c.loop-number.auto.number-end, c.element_count-count.ensures) in
+    let below : n < element_count board = omega
+    (arith, c.loop-number-test.true, c.loop-number.auto.number-end, c.element_count-count.ensures) in
     let within : n < length values = omega (arith, c.loop-number.invariant.places) in
     let is = c.element.ensures.exact ∙ sym (board_value board c.args.state.now c.args.registers.now n below) in
     record {
@@ -26,15 +27,18 @@ loop-number-2-preserved c =
     let n = c.loop-number-2.number in
     let count = c.element_count-count.ensures in
     let word = slice_index c.args.registers.now n in
-    let within : element_count board + n < length values = omega (arith, c.loop-number-2.invariant.places, c.loop-number-2-test.true, c.loop-number-2.auto.number-end) in
+    let within : element_count board + n < length values = omega
+    (arith, c.loop-number-2.invariant.places, c.loop-number-2-test.true, c.loop-number-2.auto.number-end) in
     rw count (record {
       places = set_length values (element_count board + n) word ∙ c.loop-number-2.invariant.places;
       so_far = λ i before. put_more values all (element_count board + n) word i within
-          (sym (register_value board c.args.state.now c.args.registers.now n)) c.loop-number-2.invariant.so_far (omega arith);
+          (sym (register_value board c.args.state.now c.args.registers.now n)) c.loop-number-2.invariant.so_far
+          (omega arith);
     })
 
 pub returns : goal.returns
 returns c = record {
   exact = values_are c.args.board.now c.args.state.now c.args.registers.now c.loop-number-2.values c.loop-number-2.number
-      c.loop-number-2.invariant.places (omega (arith, c.loop-number-2-test.false, c.loop-number-2.auto.number-end)) c.loop-number-2.invariant.so_far;
+      c.loop-number-2.invariant.places
+      (omega (arith, c.loop-number-2-test.false, c.loop-number-2.auto.number-end)) c.loop-number-2.invariant.so_far;
 }

@@ -12,5 +12,6 @@ invariant-loop-number l = record {
 abbrev pub invariant-loop-number-2 : goal.invariant-loop-number-2
 invariant-loop-number-2 l = record {
   places : length l.values ≡ element_count l.board + length l.registers;
-  so_far : (i : ℕ) → i < element_count l.board + l.number → slice_index l.values i ≡ slice_index (values_in l.board l.state l.registers) i;
+  so_far : (i : ℕ) → i < element_count l.board + l.number
+      → slice_index l.values i ≡ slice_index (values_in l.board l.state l.registers) i;
 }

@@ -28,5 +28,6 @@ returns c =
     kept_at c.boundaries.result.now _ c.args.boundary c.index-boundaries-boundary.result no_boundary c.boundaries.ensures c.requires.there
     c.index-boundaries-boundary.is in
     related_if job (numbered job c.args.boundary) c.args.pair.now c.stands_at.result c.hold_at-lines.result
-    (c.fit.ensures.0 c.if-not-fit.false) (subst (λ b. IsTrue c.stands_at.result ↔ StandsAt b c.args.pair.now) here c.stands_at.ensures)
+    (c.fit.ensures.0 c.if-not-fit.false)
+    (subst (λ b. IsTrue c.stands_at.result ↔ StandsAt b c.args.pair.now) here c.stands_at.ensures)
     (c.hold_at-lines.ensures ∙ ap (λ (b : Boundary). list_all (line_holds job c.args.pair.now) b.lines) here)

@@ -5,7 +5,8 @@ use Rattle.mw_rel.proofs.pair.line_holds.Goals as goal
 
 pub value-right-requires-clause-values_fit : goal.value-right-requires-clause-values_fit
 value-right-requires-clause-values_fit c =
-    rw (c.shape.ensures.exact, c.requires.exact) (pair_words (job_of c.args.job.now) c.args.pair.now c.shape.ensures.valid c.requires.fit)
+    rw (c.shape.ensures.exact, c.requires.exact)
+    (pair_words (job_of c.args.job.now) c.args.pair.now c.shape.ensures.valid c.requires.fit)
 
 pub value-right-requires-clause-memory_fits : goal.value-right-requires-clause-memory_fits
 value-right-requires-clause-memory_fits c =

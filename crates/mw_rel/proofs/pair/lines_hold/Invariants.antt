@@ -7,4 +7,5 @@ use Rattle.mw_rel.proofs.pair.lines_hold.Given as goal
 
 abbrev pub invariant-loop-line : goal.invariant-loop-line
 invariant-loop-line l =
-    list_all (line_holds (job_of l.job) l.pair) (lines_of (drop l.line-index l.lines)) ≡ list_all (line_holds (job_of l.job) l.pair) (lines_of l.lines)
+    list_all (line_holds (job_of l.job) l.pair) (lines_of (drop l.line-index l.lines)) ≡ list_all
+    (line_holds (job_of l.job) l.pair) (lines_of l.lines)
