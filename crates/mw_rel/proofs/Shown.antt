@@ -1,23 +1,21 @@
 -- The difference that a start shows is the first of the five.
 use Rattle.std.proofs.Common.{◌≡◌, ◌≢◌, ℕ, zero, suc, ◌+◌, ◌<◌, List, [], ◌∷◌, take, map, Bool, true, false, not, ◌==◌, ◌⊎◌, inl, inr, cond, Option, Some, None, find, option_map, refl, sym, ap, ◌∙◌, subst, arith}
-use Rattle.std.specs.Prelude.{All, slice_get, slice_index, if◌then◌else◌}
+use Rattle.std.specs.Prelude.{All, slice_get, if◌then◌else◌}
 use Rattle.std.proofs.lemmas.Bool.{eqb-true, eq-eqb}
 use Rattle.std.proofs.lemmas.List.Elements.{All-nil, All-cons}
-use Rattle.mw_base.specs.declared.event.Event.{Event as EventOf}
-use Rattle.mw_cycle.specs.Boundary.{is_named, first_boundary, first_segment}
+use Rattle.mw_cycle.specs.Boundary.{is_named}
 use Rattle.mw_cycle.specs.Run.{BoardRun}
-use Rattle.mw_macro.specs.DescribedStep.{Stepped}
 use Rattle.mw_rel.specs.declared.difference.Difference.{Difference}
 use Rattle.mw_rel.specs.declared.difference.Difference.TheVariants.{Late, Event, StackPointer, Element, Memory}
-use Rattle.mw_rel.specs.Certified.{board_run, at_cycle, boundary_at}
+use Rattle.mw_rel.specs.Certified.{boundary_at}
 use Rattle.mw_rel.specs.Differs.{same_event, unlike_from, first_unlike, event_difference, pointer_difference, line_difference, memory_difference, first_of, difference_at, first_step, segment_of, shown_at, shown_by, difference_of}
-use Rattle.mw_rel.specs.InRelation.{Pair, pair_of, line_holds}
+use Rattle.mw_rel.specs.InRelation.{Pair, pair_of, Holds, line_holds}
 use Rattle.mw_rel.specs.Job.{Job}
 use Rattle.mw_rel.specs.Lines.{Line}
 use Rattle.mw_rel.specs.Relation.{Boundary}
-use Rattle.mw_rel.specs.Shown.{AreUnlikeAt, Holds, IsFirstToFail, Ends, IsShownAt, IsShown, DifferencesAreFirst}
+use Rattle.mw_rel.specs.Shown.{AreUnlikeAt, IsFirstToFail, Ends, IsShownAt, IsShown, DifferencesAreFirst}
 use Rattle.mw_rel.specs.Start.{Start, addresses_of}
-use Rattle.mw_rel.proofs.Same.{Segment, segment}
+use Rattle.mw_rel.proofs.Same.{segment}
 use Rattle.mw_rel.proofs.Unlike.{same_lists, event_is, event_itself, number_itself, nothing_made, pointer_is, none_fails}
 
 -- ---- lists that are unlike

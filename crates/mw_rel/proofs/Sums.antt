@@ -1,10 +1,10 @@
 -- Where no start differs, boundaries come within the sum of the bounds met.
-use Rattle.std.proofs.Common.{◌≡◌, ℕ, zero, suc, ◌+◌, ◌≤◌, refl, sym, subst, add-one, arith}
+use Rattle.std.proofs.Common.{◌≡◌, ℕ, zero, suc, ◌+◌, ◌≤◌, subst, add-one, arith}
 use Rattle.mw_cycle.specs.Boundary.{IsBoundary}
-use Rattle.mw_rel.specs.Certified.{at_cycle, IsBoundaryOf, IsKept}
-use Rattle.mw_rel.specs.Job.{Job, IsJob}
-use Rattle.mw_rel.specs.Laws.{NoneDiffers, IsSumOfBounds, ComesInTime, BoundariesComeInTime}
-use Rattle.mw_rel.specs.Start.{Start, IsStart, addresses_of}
+use Rattle.mw_rel.specs.Certified.{at_cycle, IsKept}
+use Rattle.mw_rel.specs.Job.{Job}
+use Rattle.mw_rel.specs.Laws.{IsSumOfBounds, ComesInTime, BoundariesComeInTime}
+use Rattle.mw_rel.specs.Start.{Start, addresses_of}
 use Rattle.mw_rel.proofs.Boundaries.{boundary_once}
 use Rattle.mw_rel.proofs.Law.{kept_each}
 

@@ -26,8 +26,8 @@ abbrev pub boundary_at : Job → ℕ → Option Boundary
 boundary_at job at = find (λ boundary. boundary.address == at) job.relation.boundaries
 
 -- Boundary k of a start's run comes; each segment up to it takes at most the bound of the boundary at which it
--- begins; there the board,
--- and the described machine after k steps, are in relation; and the board's events before it are those of the k steps.
+-- begins; there the board, and the described machine after k steps, are in relation; and the board's events before it
+-- are those of the k steps.
 pub record IsKept (job : Job) (start : Start) (k : ℕ) : Type 0 where
   pub cycle : ℕ
   pub steps : Stepped

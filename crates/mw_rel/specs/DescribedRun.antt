@@ -21,8 +21,8 @@ with_step m env c before =
     }
 
 -- The state that k steps leave, their events in one list, and how many inputs they took, where `at` gives the control
--- address of each
--- cycle start of the board's run. The request of each step is the line of the first cycle of its segment.
+-- address of each cycle start of the board's run. The request of each step is the line of the first cycle of its
+-- segment.
 pub data IsDescribedRun (m : Description) (addresses : List ℕ) (at : ℕ
     → ℕ) (env : Environment) (start : MachineState) : ℕ → Stepped → Type 0 where
   begins : IsDescribedRun m addresses at env start 0 (before_steps start)

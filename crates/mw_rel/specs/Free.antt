@@ -1,5 +1,5 @@
 -- The boundaries of a job by number, and the elements that are free at one.
-use Rattle.std.specs.Prelude.{ℕ, List, [], Bool, not, ◌==◌, slice_index_or}
+use Rattle.std.specs.Prelude.{ℕ, [], Bool, not, ◌==◌, slice_index_or}
 use Rattle.std.specs.List.{list_any}
 use Rattle.mw_rel.specs.Job.{Job}
 use Rattle.mw_rel.specs.Relation.{Boundary}

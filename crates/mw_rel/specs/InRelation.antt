@@ -34,6 +34,10 @@ abbrev pub right_value : Job → Pair → Line → ℕ
 right_value job pair line = value job.relation.shape (values_of job.board pair) pair.machine.memory line.right
 
 -- a line's left element has the value of its right side
+abbrev pub Holds : Job → Pair → Line → Type 0
+Holds job pair line = slice_index (values_of job.board pair) line.left ≡ right_value job pair line
+
+-- the test of it
 abbrev pub line_holds : Job → Pair → Line → Bool
 line_holds job pair line = slice_index (values_of job.board pair) line.left == right_value job pair line
 
@@ -49,12 +53,11 @@ pub record StandsAt (boundary : Boundary) (pair : Pair) : Type 0 where
   pub memory : pair.board.memory ≡ pair.machine.memory
 
 -- The pair is in relation at the boundary: both states fit, the board is at its address and has its stack pointer,
--- both memories are
--- equal, and each line's left element has the value of its right side.
+-- both memories are equal, and each line's left element has the value of its right side.
 pub record InRelation (job : Job) (boundary : Boundary) (pair : Pair) : Type 0 where
   pub board_fits : Fits job.board pair.board
   pub machine_fits : machines.Fits job.machine pair.machine
   pub at : pair.board.at ≡ boundary.address
   pub sp : pair.board.seq.sp ≡ boundary.sp
   pub memory : pair.board.memory ≡ pair.machine.memory
-  pub lines : All (λ line. slice_index (values_of job.board pair) line.left ≡ right_value job pair line) boundary.lines
+  pub lines : All (Holds job pair) boundary.lines

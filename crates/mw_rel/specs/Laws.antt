@@ -9,8 +9,7 @@ use Rattle.mw_rel.specs.Job.{Job, IsJob}
 use Rattle.mw_rel.specs.Start.{Start, IsStart}
 
 -- A start's segment keeps its bound; the pair reached, which is the board there and the machine after one step, is in
--- relation at the
--- boundary reached; and both have the same events.
+-- relation at the boundary reached; and both have the same events.
 pub record IsSame (job : Job) (start : Start) : Type 0 where
   pub run : BoardRun
   pub reached : Boundary

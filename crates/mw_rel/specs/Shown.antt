@@ -1,12 +1,12 @@
 -- What a difference says, without the order in which it is looked for.
-use Rattle.std.specs.Prelude.{◌≡◌, ◌≢◌, ℕ, ◌<◌, List, All, take, Some, None, slice_get, slice_index}
+use Rattle.std.specs.Prelude.{◌≡◌, ◌≢◌, ℕ, ◌<◌, List, All, take, Some, None, slice_get}
 use Rattle.mw_cycle.specs.Run.{BoardRun}
 use Rattle.mw_rel.specs.declared.difference.Difference.{Difference}
 use Rattle.mw_rel.specs.declared.difference.Difference.TheVariants.{Late, Event, StackPointer, Element, Memory}
 use Rattle.mw_rel.specs.Certified.{boundary_at}
 use Rattle.mw_rel.specs.Differs.{difference_of, first_step, segment_of}
-use Rattle.mw_rel.specs.InRelation.{Pair, pair_of, values_of, right_value}
-use Rattle.mw_rel.specs.Job.{Job, IsJob}
+use Rattle.mw_rel.specs.InRelation.{Pair, pair_of, Holds}
+use Rattle.mw_rel.specs.Job.{Job}
 use Rattle.mw_rel.specs.Lines.{Line}
 use Rattle.mw_rel.specs.Relation.{Boundary}
 use Rattle.mw_rel.specs.Start.{Start}
@@ -15,10 +15,6 @@ use Rattle.mw_rel.specs.Start.{Start}
 pub record AreUnlikeAt {A : Type 0} (xs ys : List A) (n : ℕ) : Type 0 where
   pub alike : (i : ℕ) → i < n → slice_get xs i ≡ slice_get ys i
   pub unlike : slice_get xs n ≢ slice_get ys n
-
--- a line's left element has the value of its right side
-abbrev pub Holds : Job → Pair → Line → Type 0
-Holds job pair line = slice_index (values_of job.board pair) line.left ≡ right_value job pair line
 
 -- the first line that doesn't hold has this element on its left side
 pub record IsFirstToFail (job : Job) (pair : Pair) (lines : List Line) (e : ℕ) : Type 0 where
@@ -35,8 +31,7 @@ pub record Ends (job : Job) (start : Start) (run : BoardRun) (reached : Boundary
   pub there : boundary_at job run.state.at ≡ Some reached
 
 -- What is so at the boundary reached where an event, the stack pointer, a line or a memory word is the difference:
--- each of those before
--- it in this order is the same on both sides.
+-- each of those before it in this order is the same on both sides.
 abbrev pub IsShownAt : Job → Start → BoardRun → Boundary → Difference → Type 0
 IsShownAt job start run reached Late = ⊥
 IsShownAt job start run reached (Event n) = AreUnlikeAt run.events (first_step job start).events n

@@ -21,6 +21,7 @@ fn widths_of(alloc: Global, board: &Board, machine: &Machine) -> Result<Vec<u8>,
 {
     let mut widths = Vec::new(alloc);
     for number in 0..board.element_count() {
+        // Each of these numbers has an element, so there is a width.
         widths.push(board.element_width(number).unwrap_or(0))?;
     }
     let registers = &machine.shape().widths.as_slice()[..machine.registers() as usize];
@@ -29,9 +30,8 @@ fn widths_of(alloc: Global, board: &Board, machine: &Machine) -> Result<Vec<u8>,
 }
 
 /// The shape of the lines of a relation between a board and a described machine: the widths of the elements, by
-/// number, and those of
-/// the machine's memory. The board's elements come first, in the order of its table, and behind them the machine's
-/// registers.
+/// number, and those of the machine's memory. The board's elements come first, in the order of its table, and behind
+/// them the machine's registers.
 ///
 /// # Errors
 ///
@@ -48,9 +48,8 @@ pub fn shape_of(alloc: Global, board: &Board, machine: &Machine) -> Result<Shape
 }
 
 /// What is certified: that a board with its microprogram does what a described machine does, as a relation between
-/// them says. Contracts
-/// see it as its parts; `are_matched` says of them that the relation was made for both, and that both memories have
-/// the same widths.
+/// them says. Contracts see it as its parts; `are_matched` says of them that the relation was made for both, and that
+/// both memories have the same widths.
 #[derive(Drop)]
 pub struct Job {
     /// The board.
@@ -71,8 +70,7 @@ impl Job {
     ghost use Rattle.mw_rel.specs.Views.{relation_of, job_of};
 
     /// The job of these parts. The relation was made for the shape of this board and this machine, and each of its
-    /// stack pointers is at
-    /// most the board's number of stack words.
+    /// stack pointers is at most the board's number of stack words.
     ///
     /// # Errors
     ///

@@ -9,7 +9,8 @@ use mw_expr::Expr;
 /// tree.
 #[derive(Drop)]
 pub struct Line {
-    /// The number of the element on the left.
+    /// The number of the element on the left: the board's elements come first, in the order of its table, and behind
+    /// them the machine's registers.
     pub left: u32,
     /// The expression on the right, over the elements and the described machine's memory.
     pub right: Expr,

@@ -19,8 +19,7 @@ use mw_macro::MacState;
 use std::marker::Model;
 
 /// The most elements of both sides: the board's 16 registers, Q, `mar`, `ir`, 16 flip-flops, the counters and the
-/// stack, and the
-/// machine's 128 registers.
+/// stack, and the machine's 128 registers.
 pub(crate) const MOST_ELEMENTS: usize = 170;
 
 /// A state of the board and one of the described machine.
@@ -113,8 +112,8 @@ fn fit(job: &Job, pair: &Pair) -> bool
 }
 
 /// Whether a pair of states is in relation at the boundary of this number, from 0: both states fit, the board is at
-/// its address and
-/// has its stack pointer, both memories are equal, and each line's left element has the value of its right side.
+/// its address and has its stack pointer, both memories are equal, and each line's left element has the value of its
+/// right side.
 pub fn holds(job: &Job, boundary: usize, pair: &Pair) -> bool
     requires there { boundary < length (job_of job.now).relation.boundaries }
     ensures { IsTrue result ↔ InRelation (job_of job.now) (numbered (job_of job.now) boundary) pair.now }
