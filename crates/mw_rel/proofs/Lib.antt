@@ -1,5 +1,6 @@
 pub mod Boundaries
 pub mod Cycles
+pub mod Decided
 pub mod Elements
 pub mod Law
 pub mod Pairs

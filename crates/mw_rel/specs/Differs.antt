@@ -97,7 +97,8 @@ start_after job start run boundary = record {
   env = rest_at start.env run.clock;
 }
 
--- a start differs at a step, counted from 1, where the steps before show no difference and this one does, from its own boundary
+-- a start differs at a step, counted from 1, where the steps before show no difference and this one does, from its
+-- own boundary
 pub data DiffersAt (job : Job) : Start → ℕ → Difference → Type 0 where
   here : (start : Start) (difference : Difference) → difference_of job start ≡ Some difference
       → DiffersAt job start 1 difference
