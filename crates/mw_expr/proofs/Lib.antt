@@ -1,4 +1,5 @@
 pub mod Accepted
+pub mod Complete
 pub mod Joins
 pub mod Parts
 pub mod Small
