@@ -363,7 +363,7 @@ is_next : (m : Meaning) (cursor : Cursor) (start rest : List Token) (fault : Tex
 is_next m cursor start rest fault tree None known further is = cc
 is_next m cursor start rest fault tree (Some next) known further is = further next known is
 
-sound : (m : Meaning) (cursor : Cursor) (start here : List Token) (s : State) (tree : Placed) → Known m start s.awaits s.open_now here
+pub sound : (m : Meaning) (cursor : Cursor) (start here : List Token) (s : State) (tree : Placed) → Known m start s.awaits s.open_now here
     → tree_from m cursor s here ≡ Ok tree → Begin m 0 start tree []
 unfolding tree_from
 sound m cursor start [] s tree known is = is_ended m start s.awaits s.open_now tree known (some_of_ok _ _ tree is)

@@ -82,7 +82,7 @@ weaker least n (by_join low brace parts two close) le = by_join (omega arith) br
 weaker least n (by_widening low word is_open e comma bits close) le = by_widening (omega arith) word is_open e comma bits close
 
 -- a sign is the one that is spelled so
-found_again : (s : SignOf) → sign_of (bytes_of s) ≡ Some s
+pub found_again : (s : SignOf) → sign_of (bytes_of s) ≡ Some s
 unfolding sign_of
 found_again signs.Equals = refl
 found_again signs.Colon = refl

@@ -1,4 +1,5 @@
 pub mod Faults
+pub mod Fronts
 pub mod Grammar
 pub mod Parts
 pub mod Placed

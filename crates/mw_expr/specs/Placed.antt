@@ -121,4 +121,4 @@ awaited (kept.Sign e) = a_sign (placed e)
 
 -- what the code knows after some tokens, as definitions see it
 abbrev pub known : KeptState → State
-known state = record { awaits = awaited state.awaits; open_now = opened state.open }
+known state = record { awaits = awaited state.awaits; open_now = opened state.pending }

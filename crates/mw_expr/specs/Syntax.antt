@@ -114,3 +114,7 @@ IsExpression m tokens tree = Begin m 0 tokens tree []
 -- a tree that is read from tokens is theirs by the rules
 abbrev pub IsReadByRule : Type 0
 IsReadByRule = (m : Meaning) (cursor : Cursor) (tree : Placed) → tree_of m cursor ≡ Ok tree → IsExpression m cursor.tokens tree
+
+-- tokens that are an expression by the rules are read, and to its tree: so they are one of one tree alone
+abbrev pub IsReadWhereRuled : Type 0
+IsReadWhereRuled = (m : Meaning) (cursor : Cursor) (tree : Placed) → IsExpression m cursor.tokens tree → tree_of m cursor ≡ Ok tree
