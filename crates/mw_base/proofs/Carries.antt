@@ -18,7 +18,7 @@ carry_at-zero r s true = grind (arith, nat_tests)
 carry_at-zero r s false = grind (arith, nat_tests)
 
 -- a number's low j + 1 bits are bit j above its low j bits
-low-suc : (r j : ℕ) → r % 2 ^ (j + 1) ≡ num (bit_of r j) * 2 ^ j + r % 2 ^ j
+pub low-suc : (r j : ℕ) → r % 2 ^ (j + 1) ≡ num (bit_of r j) * 2 ^ j + r % 2 ^ j
 low-suc r j =
     let turned : j + 1 ≡ 1 + j = omega arith in
     ap (λ (k : ℕ). r % 2 ^ k) turned ∙ mod-pow-add r 1 j ∙ ap (λ (b : ℕ). b * 2 ^ j + r % 2 ^ j) (sym (num_below (r / 2 ^ j % 2) (mod_below (r / 2 ^ j) 2 (omega arith))))

@@ -8,7 +8,7 @@ use Rattle.mw_expr.specs.Tree.{Tree, Trees, more}
 use Rattle.mw_expr.specs.Widths.{width, total_width, added, join_width}
 use Rattle.mw_expr.specs.Values.{value, joined}
 use Rattle.mw_expr.proofs.Parts.{width_if-some}
-use Rattle.mw_expr.proofs.Words.{joined_below}
+use Rattle.mw_base.proofs.Widths.{joined_below}
 
 -- how many bits some parts have together
 abbrev pub bits_of : Shape → Trees → ℕ

@@ -15,7 +15,7 @@ use Rattle.mw_base.specs.declared.cause.Cause.TheVariants.{TooWide}
 use Rattle.mw_base.specs.TokenLines.{fault_on}
 use Rattle.mw_expr.specs.Text.{IsShape}
 use Rattle.mw_expr.specs.Widths.{width_if, part_width}
-use Rattle.mw_expr.proofs.Words.{below_wider}
+use Rattle.mw_base.proofs.Widths.{below_wider}
 use Rattle.mw_expr.specs.Faults.{named_width, same_width, seen_choice, within_32, seen_width, seen_total, pair_breaks, is_other, part_breaks, is_past, deep, below, broken, unknown, is_improper, too_wide, faults, faults_in, first_fault}
 use Rattle.mw_base.proofs.FirstFaults.{no_first}
 

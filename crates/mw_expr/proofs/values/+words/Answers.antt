@@ -5,7 +5,7 @@ use Rattle.mw_expr.specs.Tree.{view, trees_of, element, choice, widened}
 use Rattle.mw_expr.specs.Values.{reads_memory, read_memory}
 use Rattle.mw_expr.proofs.Joins.{joins_more}
 use Rattle.mw_expr.proofs.Parts.{element_there, element_of_width, choice_of_first, widened_from, unless_one}
-use Rattle.mw_expr.proofs.Words.{below_wider}
+use Rattle.mw_base.proofs.Widths.{below_wider}
 use Rattle.mw_expr.proofs.values.+words.Goals as goal
 
 pub word_of-bounds-values-element : goal.word_of-bounds-values-element

@@ -1,6 +1,6 @@
 use Rattle.std.proofs.Common.{◌+◌, ◌*◌, ◌%◌, ◌^◌, w32}
 use Rattle.std.proofs.Math.Facts.{Fits-of_lt}
-use Rattle.mw_expr.proofs.Words.{below_wider, shifted_below}
+use Rattle.mw_base.proofs.Widths.{below_wider, shifted_below}
 use Rattle.mw_expr.proofs.values.above.Goals as goal
 
 pub overflow_cast-result-2 : goal.overflow_cast-result-2
