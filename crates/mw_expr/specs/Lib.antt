@@ -1,5 +1,6 @@
 pub mod Faults
 pub mod Grammar
+pub mod Mems
 pub mod Parts
 pub mod Placed
 pub mod Plain
@@ -9,3 +10,4 @@ pub mod Tree
 pub mod Values
 pub mod Widths
 pub mod Words
+pub mod Written
