@@ -328,3 +328,17 @@ pub wide_whole : (m : Meaning) (cursor : Cursor) (s : Shape) (tree : Placed) →
 wide_whole m cursor s tree shape read no_fault =
     let h = sees s 64 tree shape (no_first (faults s (Some 64) tree) no_fault) (paired (is_read_by_rule m cursor tree read)) in
     of_width s (plain tree) (record { known = h.known; wide = rw h.wide refl; shallow = h.shallow })
+
+-- the width that is seen of it is its width
+pub record HasSeenWidth (s : Shape) (tree : Placed) : Type 0 where
+  pub w : ℕ
+  pub seen : seen_width s tree ≡ Some w
+  pub known : is_known (length s.widths) (plain tree) ≡ true
+  pub wide : width s (plain tree) ≡ Some w
+  pub shallow : depth (plain tree) ≤ 64
+
+pub seen_whole : (m : Meaning) (cursor : Cursor) (s : Shape) (tree : Placed) → IsShape s → tree_of m cursor ≡ Ok tree → faults s (Some 64) tree ≡ []
+    → HasSeenWidth s tree
+seen_whole m cursor s tree shape read no_fault =
+    let h = sees s 64 tree shape no_fault (paired (is_read_by_rule m cursor tree read)) in
+    record { w = h.w; seen = h.seen; known = h.known; wide = h.wide; shallow = h.shallow }

@@ -193,7 +193,7 @@ fn widen_breaks(width: u128, seen: Option<u8>) -> bool
 /// The width that an expression has for what is around it, where there are so many levels from this one down: 0 at level 65, none
 /// past it. Keeps the first of its faults.
 #[cycle(faults)]
-fn check(
+pub(crate) fn check(
     shape: &Shape,
     levels: Option<u8>,
     tree: &Placed,

@@ -30,7 +30,7 @@ fn is_dotted(names: &[Name]) -> bool
 }
 
 /// What the words of a text mean, over the elements of these names and the memory of a shape.
-fn meaning_of<'a>(text: &'a [u8], names: &'a [Name], shape: &Shape) -> Meaning<'a>
+pub(crate) fn meaning_of<'a>(text: &'a [u8], names: &'a [Name], shape: &Shape) -> Meaning<'a>
     ensures { meaning_seen result ≡ meaning_of text.now names.now shape.now.address }
 {
     Meaning {

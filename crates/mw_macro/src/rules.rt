@@ -25,7 +25,7 @@ const MOST_LEVELS: u8 = 64;
 
 /// What may be wrong with statements, each with a cause of its own. More than one may hold of a machine, so each is asked apart.
 #[derive(Clone, Copy)]
-pub(crate) enum Fault {
+pub enum Fault {
     /// An expression names an element that there isn't, or a target is neither a register nor a temporary.
     NoElement,
     /// An expression breaks a rule of widths, or a width isn't the one that its place asks for.
@@ -50,8 +50,8 @@ fn is_within_limits(names: &[Name], registers: u32, shape: &Shape, statements: &
 /// The names that aren't free for elements.
 const RESERVED: [&[u8]; 3] = [b"mem", b"zext", b"request"];
 
-/// Whether a name isn't free for an element.
-fn is_reserved(name: &[u8]) -> bool
+/// Whether a name isn't free for an element: `mem`, `zext` and `request` aren't.
+pub fn is_reserved(name: &[u8]) -> bool
     ensures { result ≡ is_reserved name.now }
 {
     is_one_of(&RESERVED, name)

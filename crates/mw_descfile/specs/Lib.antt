@@ -1,0 +1,7 @@
+pub mod Declarations
+pub mod Expressions
+pub mod Kept
+pub mod Machine
+pub mod Statements
+pub mod Stating
+pub mod Views
