@@ -1,0 +1,10 @@
+pub mod Boundaries
+pub mod Cycles
+pub mod Law
+pub mod Relations
+pub mod Runs
+pub mod Same
+pub mod Seen
+pub mod Steps
+pub mod Unlike
+pub mod Values

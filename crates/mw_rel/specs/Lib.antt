@@ -1,0 +1,13 @@
+pub mod Begin
+pub mod Certified
+pub mod DescribedRun
+pub mod Differs
+pub mod InRelation
+pub mod Job
+pub mod Laws
+pub mod Lines
+pub mod Relation
+pub mod Rules
+pub mod Seen
+pub mod Start
+pub mod Views
