@@ -1,0 +1,8 @@
+//! Simulation: a board run from a state, over an environment, for so many cycles or to a boundary.
+#![tactic(auto)]
+
+mod parts;
+mod run;
+
+pub use parts::Parts;
+pub use run::{Late, run_cycles, run_to_boundary};
