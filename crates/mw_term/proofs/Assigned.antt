@@ -11,7 +11,8 @@ found word [] = refl
 found word (entry ∷ rest) = ap (cond (eq_by_cmp nat_cmp word entry.0) (Some entry.1)) (found word rest)
 
 -- what the entries say of a word
-pub seen : (entries : List (ℕ × ℕ)) (word : ℕ) → get (from_entries {R = nat_cmp} entries) word ≡ lookup (is_at (nat_cmp word)) entries
+pub seen : (entries : List (ℕ × ℕ)) (word : ℕ)
+    → get (from_entries {R = nat_cmp} entries) word ≡ lookup (is_at (nat_cmp word)) entries
 seen entries word = get-from_entries nat_cmp_total entries word ∙ sym (found word entries)
 
 -- after one more entry the map is the one with this number in place of that word's
@@ -24,5 +25,6 @@ one_more old new word number updates =
     seen new other
     ∙ updates other
     ∙ ap (cond (eq_by_cmp nat_cmp word other) (Some number)) (sym (seen old other))
-    ∙ ap (λ b. cond b (Some number) (get (from_entries {R = nat_cmp} old) other)) ((eq_by_cmp_equiv nat_cmp_total).symm word other)
+    ∙ ap (λ b. cond b (Some number) (get (from_entries {R = nat_cmp} old) other))
+    ((eq_by_cmp_equiv nat_cmp_total).symm word other)
     ∙ sym (get-insert nat_cmp_total (from_entries old) word number other))

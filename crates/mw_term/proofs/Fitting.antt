@@ -65,12 +65,14 @@ width_more map ws more (Join high low) h = ap₂ (λ (m n : ℕ). m + n) (stays 
 width_more map ws more (Tab i) h = refl
 
 -- and its value
-pub value_more : (map : List ℕ) (given : Given) (ws vs wider further : List ℕ) (op : Op) → OpFits map ws op → length vs ≡ length ws
+pub value_more : (map : List ℕ) (given : Given) (ws vs wider further : List ℕ) (op : Op) → OpFits map ws op
+    → length vs ≡ length ws
     → op_value map given (ws ++ wider) (vs ++ further) op ≡ op_value map given ws vs op
 unfolding op_value
 value_more map given ws vs wider further (Con number w) h same = refl
 value_more map given ws vs wider further (Var word w) h same = refl
-value_more map given ws vs wider further (Not a) h same = rw (stays ws wider a h, stays vs further a (omega (arith, same))) refl
+value_more map given ws vs wider further (Not a) h same =
+    rw (stays ws wider a h, stays vs further a (omega (arith, same))) refl
 value_more map given ws vs wider further (And a b) h same =
     rw (stays vs further a (omega (arith, same, h.0)), stays vs further b (omega (arith, same, h.1))) refl
 value_more map given ws vs wider further (Or a b) h same =
@@ -110,13 +112,18 @@ value_more map given ws vs wider further (Ite c a b) h same =
     ) refl
 value_more map given ws vs wider further (Part a low w) h same = rw (stays vs further a (omega (arith, same, h.0))) refl
 value_more map given ws vs wider further (Join high low) h same =
-    rw (stays ws wider low h.1, stays vs further high (omega (arith, same, h.0)), stays vs further low (omega (arith, same, h.1))) refl
+    rw (
+      stays ws wider low h.1,
+      stays vs further high (omega (arith, same, h.0)),
+      stays vs further low (omega (arith, same, h.1)),
+    ) refl
 value_more map given ws vs wider further (Tab i) h same = rw (stays vs further i (omega (arith, same, h.0))) refl
 
 -- ---- what an op is over terms
 
 -- an op has 1 to 32 bits
-pub width_range : (map ws : List ℕ) (op : Op) → ((i : ℕ) → i < length ws → IsWidth (slice_index ws i)) → OpFits map ws op
+pub width_range : (map ws : List ℕ) (op : Op) → ((i : ℕ) → i < length ws → IsWidth (slice_index ws i))
+    → OpFits map ws op
     → IsWidth (op_width ws op)
 unfolding op_width
 width_range map ws (Con number w) each h = h.0
@@ -140,19 +147,22 @@ either_below true x y most first second = first
 either_below false x y most first second = second
 
 -- its value has no more
-pub value_below : (map : List ℕ) (given : Given) (ws vs : List ℕ) (op : Op) → IsMap map → AreWords ws vs → OpFits map ws op
+pub value_below : (map : List ℕ) (given : Given) (ws vs : List ℕ) (op : Op) → IsMap map → AreWords ws vs
+    → OpFits map ws op
     → op_value map given ws vs op < 2 ^ op_width ws op
 unfolding op_value op_width
 value_below map given ws vs (Con number w) right words h = h.1
 value_below map given ws vs (Var word w) right words h = mod_below (given word) (2 ^ w) (pow_pos w)
 value_below map given ws vs (Not a) right words h = omega (arith, pow_pos (slice_index ws a))
-value_below map given ws vs (And a b) right words h = omega (arith, words.words a h.0, and_le_l (slice_index vs a) (slice_index vs b))
+value_below map given ws vs (And a b) right words h =
+    omega (arith, words.words a h.0, and_le_l (slice_index vs a) (slice_index vs b))
 value_below map given ws vs (Or a b) right words h =
     or_lt (slice_index ws a) (slice_index vs a) (slice_index vs b) (words.words a h.0) (rw h.2 (words.words b h.1))
 value_below map given ws vs (Xor a b) right words h =
     xor_lt (slice_index ws a) (slice_index vs a) (slice_index vs b) (words.words a h.0) (rw h.2 (words.words b h.1))
 value_below map given ws vs (Sum a b c) right words h =
-    mod_below (slice_index vs a + slice_index vs b + slice_index vs c) (2 ^ slice_index ws a) (pow_pos (slice_index ws a))
+    mod_below (slice_index vs a + slice_index vs b + slice_index vs c) (2 ^ slice_index ws a)
+    (pow_pos (slice_index ws a))
 value_below map given ws vs (Cout a b c) right words h = num_small _
 value_below map given ws vs (Ovf a b c) right words h = num_small _
 value_below map given ws vs (Eq a b) right words h = num_small _

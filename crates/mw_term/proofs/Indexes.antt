@@ -13,7 +13,8 @@ abbrev pub at : Given → List Function → ℕ → Bool
 at given functions k = get_or functions k never given
 
 -- half as many are left
-choices_count : (i : Function) (m : ℕ) (functions : List Function) → length functions ≡ m + m → length (choices i functions) ≡ m
+choices_count : (i : Function) (m : ℕ) (functions : List Function) → length functions ≡ m + m
+    → length (choices i functions) ≡ m
 choices_count i zero [] half = refl
 choices_count i zero (f ∷ rest) half = absurd (omega arith)
 choices_count i (suc m) [] half = absurd (omega arith)
@@ -22,7 +23,8 @@ choices_count i (suc m) (f ∷ g ∷ rest) half = omega (arith, choices_count i 
 
 -- each is the second or the first of its pair
 choice_at : (i : Function) (given : Given) (m k : ℕ) (functions : List Function) → length functions ≡ m + m → k < m
-    → at given (map made (choices i functions)) k ≡ (if i given then at given functions (k + k + 1) else at given functions (k + k))
+    → at given (map made (choices i functions)) k
+    ≡ (if i given then at given functions (k + k + 1) else at given functions (k + k))
 choice_at i given zero k functions half below = absurd (omega arith)
 choice_at i given (suc m) k [] half below = absurd (omega arith)
 choice_at i given (suc m) k (f ∷ []) half below = absurd (omega arith)
@@ -33,7 +35,8 @@ choice_at i given (suc m) (suc k) (f ∷ g ∷ rest) half below =
     rw (second, first) (choice_at i given m k rest (omega arith) (omega arith))
 
 -- operations in front of others leave what the last makes
-last_behind : (front : List Triple) (first : Triple) (rest : List Triple) → last_made (front ++ first ∷ rest) ≡ last_made (first ∷ rest)
+last_behind : (front : List Triple) (first : Triple) (rest : List Triple)
+    → last_made (front ++ first ∷ rest) ≡ last_made (first ∷ rest)
 last_behind [] first rest = refl
 last_behind (x ∷ []) first rest = refl
 last_behind (x ∷ y ∷ front) first rest = last_behind (y ∷ front) first rest
@@ -43,11 +46,18 @@ index_some : (index : ℕ → Function) (t n : ℕ) (functions : List Function) 
     → (first : Triple) × ((rest : List Triple) × (index_row index t (suc n) functions ≡ first ∷ rest))
 index_some index t n [] many = absurd (omega arith)
 index_some index t n (f ∷ []) many = absurd (omega arith)
-index_some index t n (f ∷ g ∷ rest) many =
-    (ite (index t) g f, (choices (index t) rest ++ index_row index (t + 1) n (map made (choices (index t) (f ∷ g ∷ rest))), refl))
+index_some index t n (f ∷ g ∷ rest) many = (
+  ite (index t) g f,
+  (
+    choices (index t) rest ++ index_row index (t + 1) n
+        (map made (choices (index t) (f ∷ g ∷ rest))),
+    refl,
+  ),
+)
 
 -- of two, the one that a bit chooses
-chosen : (given : Given) (f g : Function) (n : ℕ) → n < 2 → (if n == 1 then g given else f given) ≡ at given (f ∷ g ∷ []) n
+chosen : (given : Given) (f g : Function) (n : ℕ) → n < 2
+    → (if n == 1 then g given else f given) ≡ at given (f ∷ g ∷ []) n
 chosen given f g zero below = refl
 chosen given f g (suc zero) below = refl
 chosen given f g (suc (suc n)) below = absurd (omega arith)
@@ -80,14 +90,16 @@ low_place v n t =
     ∙ ap (λ (k : ℕ). v / 2 ^ t / 2 % 2 ^ k * 2 + v / 2 ^ t % 2) one
     ∙ sym (low_bits (v / 2 ^ t) (suc n))
 
--- The last operation makes the function at the place that the index bits from t on are, where there is one for each of their values.
+-- The last operation makes the function at the place that the index bits from t on are, where there is one for each
+-- of their values.
 pub index_made : (index : ℕ → Function) (given : Given) (v : ℕ) → ((k : ℕ) → index k given ≡ bit_of v k) → (n t : ℕ)
     → (functions : List Function) → length functions ≡ 2 ^ (n + 1)
     → last_made (index_row index t (suc n) functions) given ≡ at given functions (v / 2 ^ t % 2 ^ (n + 1))
 index_made index given v is zero t [] half = absurd (omega arith)
 index_made index given v is zero t (f ∷ []) half = absurd (omega arith)
 index_made index given v is zero t (f ∷ g ∷ []) half =
-    ap (λ (b : Bool). if b then g given else f given) (is t) ∙ chosen given f g (v / 2 ^ t % 2) (mod_below (v / 2 ^ t) 2 (omega arith))
+    ap (λ (b : Bool). if b then g given else f given) (is t)
+    ∙ chosen given f g (v / 2 ^ t % 2) (mod_below (v / 2 ^ t) 2 (omega arith))
 index_made index given v is zero t (f ∷ g ∷ h ∷ rest) half = absurd (omega arith)
 index_made index given v is (suc n) t functions half =
     let chosen_by = index t in

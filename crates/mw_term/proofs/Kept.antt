@@ -12,14 +12,16 @@ use Rattle.mw_term.proofs.Fitting.{stays}
 use Rattle.mw_term.proofs.Tables.{widths_append, widths_begin, values_append, values_begin, widths_count, widths_push, values_push, values_count, words_before, words_of, widths_range}
 
 -- there is a width for each term
-pub kept_inside : (ops : List Op) (widths map : List ℕ) (term : ℕ) → IsKept ops widths map → term < length ops → term < length widths
+pub kept_inside : (ops : List Op) (widths map : List ℕ) (term : ℕ) → IsKept ops widths map → term < length ops
+    → term < length widths
 kept_inside ops widths map term kept inside = omega (arith, inside, ap length kept.widths ∙ widths_count ops)
 
 -- which is the term's
 pub kept_width : (ops : List Op) (widths map : List ℕ) (term w : ℕ) → IsKept ops widths map → term < length ops
     → w ≡ get_or widths term w → w ≡ term_width (table_of ops map) term
 kept_width ops widths map term w kept inside read =
-    get_or_read widths term w (kept_inside ops widths map term kept inside) read 0 ∙ ap (λ ws. slice_index ws term) kept.widths
+    get_or_read widths term w (kept_inside ops widths map term kept inside) read 0
+    ∙ ap (λ ws. slice_index ws term) kept.widths
 
 -- and is 1 to 32 bits
 pub kept_range : (ops : List Op) (widths map : List ℕ) (term w : ℕ) → IsKept ops widths map → term < length ops
@@ -44,7 +46,8 @@ widths_take ops n within =
     let parted : widths_of ops ≡ widths_after front (drop n ops) =
     ap widths_of (sym (take-append-drop n ops)) ∙ widths_append [] (take n ops) (drop n ops) in
     let begun = widths_begin front (drop n ops) in
-    ap (take n) (parted ∙ begun.1) ∙ take-append-le n front begun.0 (omega (arith, size)) ∙ take_all n front (omega (arith, size))
+    ap (take n) (parted ∙ begun.1) ∙ take-append-le n front begun.0 (omega (arith, size))
+    ∙ take_all n front (omega (arith, size))
 
 -- the op at a place fits the terms before it
 pub kept_fits : (ops : List Op) (widths map : List ℕ) (place : ℕ) (op : Op) → IsKept ops widths map → place < length ops
@@ -54,19 +57,22 @@ kept_fits ops widths map place op kept inside read =
     rw (kept.widths, widths_take ops place (omega arith)) fits
 
 -- and these have words
-pub kept_words : (ops : List Op) (widths map values : List ℕ) (given : Given) (place : ℕ) → IsKept ops widths map → place < length ops
+pub kept_words : (ops : List Op) (widths map values : List ℕ) (given : Given) (place : ℕ) → IsKept ops widths map
+    → place < length ops
     → values ≡ values_of map given (take place ops) → AreWords (take place widths) values
 kept_words ops widths map values given place kept inside so_far =
     rw (kept.widths, widths_take ops place (omega arith), so_far)
     (words_before (table_of ops map) given kept.table place (omega arith))
 
 -- one value more
-pub value_next : (ops : List Op) (widths map values : List ℕ) (given : Given) (place value : ℕ) (op : Op) → IsKept ops widths map
+pub value_next : (ops : List Op) (widths map values : List ℕ) (given : Given) (place value : ℕ) (op : Op)
+    → IsKept ops widths map
     → place < length ops → op ≡ get_or ops place op → values ≡ values_of map given (take place ops)
     → value ≡ op_value map given (take place widths) values op
     → values ++ value ∷ [] ≡ values_of map given (take (place + 1) ops)
 value_next ops widths map values given place value op kept inside read so_far is =
-    let next : take (place + 1) ops ≡ take place ops ++ op ∷ [] = take_more ops place op inside ∙ ap (λ x. take place ops ++ x ∷ []) (sym read) in
+    let next : take (place + 1) ops ≡ take place ops ++ op ∷ [] = take_more ops place op inside
+    ∙ ap (λ x. take place ops ++ x ∷ []) (sym read) in
     let value_is : value ≡ op_value map given (widths_of (take place ops)) (values_of map given (take place ops)) op =
     is ∙ rw (kept.widths, widths_take ops place (omega arith), so_far) refl in
     rw (next, values_push map given (take place ops) op, so_far, value_is) refl
@@ -90,11 +96,14 @@ pub value_read : (map : List ℕ) (given : Given) (ops : List Op) (values : List
 value_read map given ops values place term v inside last is read =
     let within : place ≤ length ops = omega arith in
     let before : term < place = omega arith in
-    let size : length values ≡ place = ap length is ∙ values_count map given (take place ops) ∙ length-take-le place ops within in
+    let size : length values ≡ place = ap length is ∙ values_count map given (take place ops)
+    ∙ length-take-le place ops within in
     let there : term < length values = omega (arith, size) in
-    get_or_read values term v there read 0 ∙ ap (λ xs. slice_index xs term) is ∙ values_front map given ops place term within before
+    get_or_read values term v there read 0 ∙ ap (λ xs. slice_index xs term) is
+    ∙ values_front map given ops place term within before
 
-pub value_fits : (ops : List Op) (widths map : List ℕ) (given : Given) (term v : ℕ) → IsKept ops widths map → term < length ops
+pub value_fits : (ops : List Op) (widths map : List ℕ) (given : Given) (term v : ℕ) → IsKept ops widths map
+    → term < length ops
     → v ≡ term_value (table_of ops map) given term → v < 2 ^ term_width (table_of ops map) term
 value_fits ops widths map given term v kept inside is =
     let there : term < length (widths_of ops) = omega (arith, inside, widths_count ops) in
@@ -120,12 +129,14 @@ table_push ops map op table fits = record {
   map = table.map;
   fit = λ term found is. elim (pushed ops op term found is) [
     | inl h ↦ rw (take-append-le term ops (op ∷ []) (omega (arith, h.0))) (table.fit term found h.1)
-    | inr h ↦ let front : take term (ops ++ op ∷ []) ≡ ops = ap (λ n. take n (ops ++ op ∷ [])) h.0 ∙ take-append_seam ops (op ∷ []) in
+    | inr h ↦ let front : take term (ops ++ op ∷ []) ≡ ops = ap (λ n. take n (ops ++ op ∷ [])) h.0
+        ∙ take-append_seam ops (op ∷ []) in
         rw (front, ← h.1) fits
   ];
 }
 
-pub kept_push : (ops : List Op) (widths map : List ℕ) (op : Op) (w : ℕ) → IsKept ops widths map → Fits (table_of ops map) op
+pub kept_push : (ops : List Op) (widths map : List ℕ) (op : Op) (w : ℕ) → IsKept ops widths map
+    → Fits (table_of ops map) op
     → w ≡ width_over (table_of ops map) op → IsKept (ops ++ op ∷ []) (widths ++ w ∷ []) map
 kept_push ops widths map op w kept fits is = record {
   table = table_push ops map op kept.table fits;
@@ -133,13 +144,15 @@ kept_push ops widths map op w kept fits is = record {
 }
 
 -- the new term has the op's width and value
-pub push_made : (ops : List Op) (map : List ℕ) (op : Op) → IsTermOf (table_of ops map) (table_of (ops ++ op ∷ []) map) op (length ops)
+pub push_made : (ops : List Op) (map : List ℕ) (op : Op)
+    → IsTermOf (table_of ops map) (table_of (ops ++ op ∷ []) map) op (length ops)
 push_made ops map op = record {
   there = omega (arith, length-append ops (op ∷ []));
   width = ap (λ ws. slice_index ws (length ops)) (widths_push ops op)
       ∙ get_or_push (widths_of ops) (op_width (widths_of ops) op) 0 (length ops) (widths_count ops);
   value = λ given. ap (λ vs. slice_index vs (length ops)) (values_push map given ops op)
-      ∙ get_or_push (values_of map given ops) (op_value map given (widths_of ops) (values_of map given ops) op) 0 (length ops)
+      ∙ get_or_push (values_of map given ops) (op_value map given (widths_of ops) (values_of map given ops) op) 0
+      (length ops)
       (values_count map given ops);
 }
 

@@ -1,4 +1,5 @@
 pub mod Assigned
+pub mod Cofactors
 pub mod Fitting
 pub mod Fixed
 pub mod Indexes

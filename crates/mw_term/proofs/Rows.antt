@@ -40,7 +40,8 @@ differ_if true true = refl
 differ_if true false = refl
 differ_if false b = refl
 
-carry_if : (a b k : Bool) → (a && b || (a || b) && k) ≡ (if (if a then (if b then false else true) else b) then k else a)
+carry_if : (a b k : Bool)
+    → (a && b || (a || b) && k) ≡ (if (if a then (if b then false else true) else b) then k else a)
 carry_if true true true = refl
 carry_if true true false = refl
 carry_if true false true = refl
@@ -60,7 +61,8 @@ equal_if m r s false false p q = grind (arith, nat_tests)
 
 -- and one is less where it lacks that bit, or where that bit is the same and the others are less
 less_if : (m r s : ℕ) (x y : Bool) → r < m → s < m
-    → nat_lt (num x * m + r) (num y * m + s) ≡ (if (if x then (if y then false else true) else y) then y else nat_lt r s)
+    → nat_lt (num x * m + r) (num y * m + s)
+    ≡ (if (if x then (if y then false else true) else y) then y else nat_lt r s)
 less_if m r s true true p q = grind (arith, nat_tests)
 less_if m r s true false p q = grind (arith, nat_tests)
 less_if m r s false true p q = grind (arith, nat_tests)
@@ -97,7 +99,8 @@ module _ (t : Table) (given : Given) (a b : ℕ) where
   carry_is c (suc j) first =
       let one : j + 1 ≡ suc j = omega arith in
       let into : Bool = term_value t given c == 1 in
-      ap (λ (k : Bool). if (if bit_of va j then (if bit_of vb j then false else true) else bit_of vb j) then k else bit_of va j)
+      ap (λ (k : Bool). if (if bit_of va j then (if bit_of vb j then false else true) else bit_of vb j) then k else
+      bit_of va j)
       (carry_is c j first)
       ∙ sym (carry_if (bit_of va j) (bit_of vb j) (carry_at va vb into j))
       ∙ sym (carry_at-suc va vb into j)
@@ -111,8 +114,10 @@ module _ (t : Table) (given : Given) (a b : ℕ) where
   equal_is (suc j) =
       let one : suc j ≡ j + 1 = omega arith in
       let under = pow_pos j in
-      ap (λ (e : Bool). if (if bit_of va j then bit_of vb j else (if bit_of vb j then false else true)) then e else false) (equal_is j)
-      ∙ sym (equal_if (2 ^ j) (va % 2 ^ j) (vb % 2 ^ j) (bit_of va j) (bit_of vb j) (mod_below va (2 ^ j) under) (mod_below vb (2 ^ j) under))
+      ap (λ (e : Bool). if (if bit_of va j then bit_of vb j else (if bit_of vb j then false else true)) then e else
+      false) (equal_is j)
+      ∙ sym (equal_if (2 ^ j) (va % 2 ^ j) (vb % 2 ^ j) (bit_of va j) (bit_of vb j) (mod_below va (2 ^ j) under)
+      (mod_below vb (2 ^ j) under))
       ∙ ap₂ (λ (r s : ℕ). r == s) (sym (low-suc va j)) (sym (low-suc vb j))
       ∙ ap (λ (k : ℕ). va % 2 ^ k == vb % 2 ^ k) (sym one)
 
@@ -124,8 +129,10 @@ module _ (t : Table) (given : Given) (a b : ℕ) where
   less_is (suc j) =
       let one : suc j ≡ j + 1 = omega arith in
       let under = pow_pos j in
-      ap (λ (l : Bool). if (if bit_of va j then (if bit_of vb j then false else true) else bit_of vb j) then bit_of vb j else l) (less_is j)
-      ∙ sym (less_if (2 ^ j) (va % 2 ^ j) (vb % 2 ^ j) (bit_of va j) (bit_of vb j) (mod_below va (2 ^ j) under) (mod_below vb (2 ^ j) under))
+      ap (λ (l : Bool). if (if bit_of va j then (if bit_of vb j then false else true) else bit_of vb j) then bit_of vb
+      j else l) (less_is j)
+      ∙ sym (less_if (2 ^ j) (va % 2 ^ j) (vb % 2 ^ j) (bit_of va j) (bit_of vb j) (mod_below va (2 ^ j) under)
+      (mod_below vb (2 ^ j) under))
       ∙ ap₂ (λ (r s : ℕ). nat_lt r s) (sym (low-suc va j)) (sym (low-suc vb j))
       ∙ ap (λ (k : ℕ). nat_lt (va % 2 ^ k) (vb % 2 ^ k)) (sym one)
 
@@ -134,7 +141,8 @@ module _ (t : Table) (given : Given) (a b : ℕ) where
 -- a bit of a sum, from those of the words and the carry into it
 sum_made : (r s c j : ℕ) (k : Bool) → c < 2 → k ≡ carry_at r s (c == 1) j
     → bit_of (r + s + c) j
-    ≡ (if (if bit_of r j then (if bit_of s j then false else true) else bit_of s j) then (if k then false else true) else k)
+    ≡ (if (if bit_of r j then (if bit_of s j then false else true) else bit_of s j) then
+    (if k then false else true) else k)
 sum_made r s c j k below into =
     ap (λ (n : ℕ). bit_of (r + s + n) j) (sym (num_below c below))
     ∙ sum_bit r s (c == 1) j
@@ -157,7 +165,8 @@ joined_bit high low w j below = elim (cases_lt j w) [
       ∙ ap (λ (b : Bool). if b then bit_of low j else bit_of high (j - w)) (sym (le-ltb j w past))
 ]
 
-function_if : (b : Bool) (f g : Function) (given : Given) → (if b then f else g) given ≡ (if b then f given else g given)
+function_if : (b : Bool) (f g : Function) (given : Given)
+    → (if b then f else g) given ≡ (if b then f given else g given)
 function_if true f g given = refl
 function_if false f g given = refl
 
@@ -175,19 +184,24 @@ module _ (t : Table) (table : IsTable t) (given : Given) where
   flag : (c : ℕ) → IsBit ws c → slice_index vs c < 2
   flag c is = let below = words.words c is.0 in rw is.1 at below
 
-  pub each : (op : Op) → Fits t op → (j : ℕ) → j < width_over t op → bit_of (value_over t given op) j ≡ bit_made t op j given
+  pub each : (op : Op) → Fits t op → (j : ℕ) → j < width_over t op
+      → bit_of (value_over t given op) j ≡ bit_made t op j given
   unfolding op_value op_width row bit_made
   each (Con number w) fits j below = refl
   each (Var word w) fits j below = bit_of-low (given word) w j below
   each (Not a) fits j below =
       bit_of-complement (slice_index ws a) (slice_index vs a) j below (words.words a fits) ∙ not_if (bit t a j given)
-  each (And a b) fits j below = bit_of-and (slice_index vs a) (slice_index vs b) j ∙ and_if (bit t a j given) (bit t b j given)
-  each (Or a b) fits j below = bit_of-or (slice_index vs a) (slice_index vs b) j ∙ or_if (bit t a j given) (bit t b j given)
-  each (Xor a b) fits j below = bit_of-xor (slice_index vs a) (slice_index vs b) j ∙ differ_if (bit t a j given) (bit t b j given)
+  each (And a b) fits j below = bit_of-and (slice_index vs a) (slice_index vs b) j
+      ∙ and_if (bit t a j given) (bit t b j given)
+  each (Or a b) fits j below = bit_of-or (slice_index vs a) (slice_index vs b) j
+      ∙ or_if (bit t a j given) (bit t b j given)
+  each (Xor a b) fits j below = bit_of-xor (slice_index vs a) (slice_index vs b) j
+      ∙ differ_if (bit t a j given) (bit t b j given)
   each (Sum a b c) fits j below =
       let carry = flag c fits.1 in
       bit_of-low (slice_index vs a + slice_index vs b + slice_index vs c) (slice_index ws a) j below
-      ∙ sum_made (slice_index vs a) (slice_index vs b) (slice_index vs c) j (carry_into (bit t a) (bit t b) (bit t c 0) j given) carry
+      ∙ sum_made (slice_index vs a) (slice_index vs b) (slice_index vs c) j
+      (carry_into (bit t a) (bit t b) (bit t c 0) j given) carry
       (carry_is t given a b c j (one_bit (slice_index vs c) carry))
   each (Cout a b c) fits j below =
       let wide = words.range a fits.0.0 in
@@ -207,7 +221,8 @@ module _ (t : Table) (table : IsTable t) (given : Given) where
       let into = carry_into (bit t a) (bit t b) (bit t c 0) (w - 1) in
       let out = made (next_carry (bit t a (w - 1)) (bit t b (w - 1)) into) in
       only_bit (differ (carry (w - 1)) (carry w)) j below
-      ∙ ap₂ differ (sym (carry_is t given a b c (w - 1) first)) (ap carry (sym top) ∙ sym (carry_is t given a b c (suc (w - 1)) first))
+      ∙ ap₂ differ (sym (carry_is t given a b c (w - 1) first)) (ap carry (sym top)
+      ∙ sym (carry_is t given a b c (suc (w - 1)) first))
       ∙ differ_if (into given) (out given)
       ∙ ap (λ (x : Bool). last_made
       (carry_row (bit t a (w - 1)) (bit t b (w - 1)) into ++ (if x then xor_row into out else [])) given) (sym at_top)
@@ -215,7 +230,8 @@ module _ (t : Table) (table : IsTable t) (given : Given) where
       let wide = words.range a fits.0 in
       let top : suc (slice_index ws a - 1) ≡ slice_index ws a = omega (arith, wide) in
       let first : slice_index vs a % 2 ^ slice_index ws a ≡ slice_index vs a = mod-eq_of_lt (words.words a fits.0) in
-      let second : slice_index vs b % 2 ^ slice_index ws a ≡ slice_index vs b = mod-eq_of_lt (rw fits.2 (words.words b fits.1)) in
+      let second : slice_index vs b % 2 ^ slice_index ws a ≡ slice_index vs b =
+      mod-eq_of_lt (rw fits.2 (words.words b fits.1)) in
       only_bit (slice_index vs a == slice_index vs b) j below
       ∙ ap₂ (λ (r s : ℕ). r == s) (sym first) (sym second)
       ∙ ap (λ (k : ℕ). slice_index vs a % 2 ^ k == slice_index vs b % 2 ^ k) (sym top)
@@ -224,7 +240,8 @@ module _ (t : Table) (table : IsTable t) (given : Given) where
       let wide = words.range a fits.0 in
       let top : suc (slice_index ws a - 1) ≡ slice_index ws a = omega (arith, wide) in
       let first : slice_index vs a % 2 ^ slice_index ws a ≡ slice_index vs a = mod-eq_of_lt (words.words a fits.0) in
-      let second : slice_index vs b % 2 ^ slice_index ws a ≡ slice_index vs b = mod-eq_of_lt (rw fits.2 (words.words b fits.1)) in
+      let second : slice_index vs b % 2 ^ slice_index ws a ≡ slice_index vs b =
+      mod-eq_of_lt (rw fits.2 (words.words b fits.1)) in
       only_bit (nat_lt (slice_index vs a) (slice_index vs b)) j below
       ∙ ap₂ (λ (r s : ℕ). nat_lt r s) (sym first) (sym second)
       ∙ ap (λ (k : ℕ). nat_lt (slice_index vs a % 2 ^ k) (slice_index vs b % 2 ^ k)) (sym top)

@@ -18,17 +18,20 @@ widths_append ws [] ys = refl
 widths_append ws (x ∷ xs) ys = widths_append (ws ++ op_width ws x ∷ []) xs ys
 
 pub values_append : (map : List ℕ) (given : Given) (ws vs : List ℕ) (xs ys : List Op)
-    → values_after map given ws vs (xs ++ ys) ≡ values_after map given (widths_after ws xs) (values_after map given ws vs xs) ys
+    → values_after map given ws vs (xs ++ ys)
+    ≡ values_after map given (widths_after ws xs) (values_after map given ws vs xs) ys
 values_append map given ws vs [] ys = refl
 values_append map given ws vs (x ∷ xs) ys =
     values_append map given (ws ++ op_width ws x ∷ []) (vs ++ op_value map given ws vs x ∷ []) xs ys
 
 -- one op more
-pub widths_push : (ops : List Op) (op : Op) → widths_of (ops ++ op ∷ []) ≡ widths_of ops ++ op_width (widths_of ops) op ∷ []
+pub widths_push : (ops : List Op) (op : Op)
+    → widths_of (ops ++ op ∷ []) ≡ widths_of ops ++ op_width (widths_of ops) op ∷ []
 widths_push ops op = widths_append [] ops (op ∷ [])
 
 pub values_push : (map : List ℕ) (given : Given) (ops : List Op) (op : Op)
-    → values_of map given (ops ++ op ∷ []) ≡ values_of map given ops ++ op_value map given (widths_of ops) (values_of map given ops) op ∷ []
+    → values_of map given (ops ++ op ∷ [])
+    ≡ values_of map given ops ++ op_value map given (widths_of ops) (values_of map given ops) op ∷ []
 values_push map given ops op = values_append map given [] [] ops (op ∷ [])
 
 -- a list with some more behind it
@@ -44,7 +47,8 @@ widths_begin ws [] = ([], sym (append-nil ws))
 widths_begin ws (op ∷ rest) =
     longer ws (widths_after ws (op ∷ rest)) (op_width ws op) (widths_begin (ws ++ op_width ws op ∷ []) rest)
 
-pub values_begin : (map : List ℕ) (given : Given) (ws vs : List ℕ) (ops : List Op) → IsBegun vs (values_after map given ws vs ops)
+pub values_begin : (map : List ℕ) (given : Given) (ws vs : List ℕ) (ops : List Op)
+    → IsBegun vs (values_after map given ws vs ops)
 values_begin map given ws vs [] = ([], sym (append-nil vs))
 values_begin map given ws vs (op ∷ rest) =
     longer vs (values_after map given ws vs (op ∷ rest)) (op_value map given ws vs op)
@@ -54,7 +58,8 @@ values_begin map given ws vs (op ∷ rest) =
 
 widths_many : (ws : List ℕ) (ops : List Op) → length (widths_after ws ops) ≡ length ws + length ops
 widths_many ws [] = omega arith
-widths_many ws (op ∷ rest) = omega (arith, widths_many (ws ++ op_width ws op ∷ []) rest, length-append ws (op_width ws op ∷ []))
+widths_many ws (op ∷ rest) =
+    omega (arith, widths_many (ws ++ op_width ws op ∷ []) rest, length-append ws (op_width ws op ∷ []))
 
 pub widths_count : (ops : List Op) → length (widths_of ops) ≡ length ops
 widths_count ops = omega (arith, widths_many [] ops)
@@ -100,7 +105,8 @@ each_push P (x ∷ ws) (y ∷ vs) w v same each last (suc i) inside =
     each_push P ws vs w v (omega (arith, same)) (λ k below. each (suc k) (omega arith)) last i (omega arith)
 
 -- one word more
-pub words_push : (ws vs : List ℕ) (w v : ℕ) → AreWords ws vs → IsWidth w → v < 2 ^ w → AreWords (ws ++ w ∷ []) (vs ++ v ∷ [])
+pub words_push : (ws vs : List ℕ) (w v : ℕ) → AreWords ws vs → IsWidth w → v < 2 ^ w
+    → AreWords (ws ++ w ∷ []) (vs ++ v ∷ [])
 words_push ws vs w v words wide below = record {
   range = each_push (λ w v. IsWidth w) ws vs w v words.count words.range wide;
   count = omega (arith, length-append ws (w ∷ []), length-append vs (v ∷ []), words.count);
@@ -124,44 +130,56 @@ words_before t given table n within =
 pub words_of : (t : Table) (given : Given) → IsTable t → AreWords (widths_of t.ops) (values_of t.map given t.ops)
 words_of t given table =
     let whole : take (length t.ops) t.ops ≡ t.ops = take_all (length t.ops) t.ops (omega arith) in
-    subst (λ ops. AreWords (widths_of ops) (values_of t.map given ops)) whole (words_before t given table (length t.ops) (omega arith))
+    subst (λ ops. AreWords (widths_of ops) (values_of t.map given ops)) whole
+    (words_before t given table (length t.ops) (omega arith))
 
-pub widths_range : (t : Table) → IsTable t → (i : ℕ) → i < length (widths_of t.ops) → IsWidth (slice_index (widths_of t.ops) i)
+pub widths_range : (t : Table) → IsTable t → (i : ℕ) → i < length (widths_of t.ops)
+    → IsWidth (slice_index (widths_of t.ops) i)
 widths_range t table = (words_of t (λ word. 0) table).range
 
 -- ---- one term of a table
 
 -- the ops before a place, the op there, and those behind it
-split : (ops : List Op) (term : ℕ) (op : Op) → slice_get ops term ≡ Some op → ops ≡ take term ops ++ op ∷ drop (term + 1) ops
+split : (ops : List Op) (term : ℕ) (op : Op) → slice_get ops term ≡ Some op
+    → ops ≡ take term ops ++ op ∷ drop (term + 1) ops
 split ops term op is =
     let inside = slice_get_within ops term op is in
     sym (take-append-drop term ops) ∙ ap (λ rest. take term ops ++ rest)
     (drop_more ops term op inside ∙ ap (λ x. x ∷ drop (term + 1) ops) (get_or_from_slice_get ops term op op is))
 
 number_at : (front rest : List ℕ) (x n : ℕ) → length front ≡ n → slice_index ((front ++ x ∷ []) ++ rest) n ≡ x
-number_at front rest x n size = ap (λ xs. slice_index xs n) (append_assoc front (x ∷ []) rest) ∙ get_or_at front x rest 0 n size
+number_at front rest x n size = ap (λ xs. slice_index xs n) (append_assoc front (x ∷ []) rest)
+    ∙ get_or_at front x rest 0 n size
 
 -- the widths and values of a table are those of the terms before a place, then this op's, and others
 pub record Around (t : Table) (given : Given) (op : Op) (before : List Op) : Type 0 where
   pub widths : IsBegun (widths_of before ++ op_width (widths_of before) op ∷ []) (widths_of t.ops)
-  pub values : IsBegun (values_of t.map given before ++ op_value t.map given (widths_of before) (values_of t.map given before) op ∷ []) (values_of t.map given t.ops)
+  pub values : IsBegun (values_of t.map given before ++ op_value t.map given (widths_of before)
+      (values_of t.map given before) op ∷ []) (values_of t.map given t.ops)
 
-around : (t : Table) (given : Given) (term : ℕ) (op : Op) → slice_get t.ops term ≡ Some op → Around t given op (take term t.ops)
+around : (t : Table) (given : Given) (term : ℕ) (op : Op) → slice_get t.ops term ≡ Some op
+    → Around t given op (take term t.ops)
 around t given term op is =
     let before = take term t.ops in
     let rest = drop (term + 1) t.ops in
     let ws = widths_of before ++ op_width (widths_of before) op ∷ [] in
-    let vs = values_of t.map given before ++ op_value t.map given (widths_of before) (values_of t.map given before) op ∷ [] in
+    let vs = values_of t.map given before ++ op_value t.map given (widths_of before)
+    (values_of t.map given before) op ∷ [] in
     let parted = split t.ops term op is in
     let wider = widths_begin ws rest in
     let further = values_begin t.map given ws vs rest in
     record {
       widths = (wider.0, ap widths_of parted ∙ widths_append [] before (op ∷ rest) ∙ wider.1);
-      values = (further.0, ap (values_of t.map given) parted ∙ values_append t.map given [] [] before (op ∷ rest) ∙ further.1);
+      values = (
+        further.0,
+        ap (values_of t.map given) parted ∙ values_append t.map given [] [] before (op ∷ rest)
+            ∙ further.1,
+      );
     }
 
 -- an op is over all terms what it is over those before it
-over_all : (t : Table) (given : Given) (op : Op) (before : List Op) → Around t given op before → OpFits t.map (widths_of before) op
+over_all : (t : Table) (given : Given) (op : Op) (before : List Op) → Around t given op before
+    → OpFits t.map (widths_of before) op
     → (Fits t op) × (op_width (widths_of before) op ≡ width_over t op)
     × (op_value t.map given (widths_of before) (values_of t.map given before) op ≡ value_over t given op)
 over_all t given op before here fits =
@@ -170,7 +188,8 @@ over_all t given op before here fits =
     let w = op_width ws op in
     let v = op_value t.map given ws vs op in
     let wider : widths_of t.ops ≡ ws ++ (w ∷ here.widths.0) = here.widths.1 ∙ append_assoc ws (w ∷ []) here.widths.0 in
-    let further : values_of t.map given t.ops ≡ vs ++ (v ∷ here.values.0) = here.values.1 ∙ append_assoc vs (v ∷ []) here.values.0 in
+    let further : values_of t.map given t.ops ≡ vs ++ (v ∷ here.values.0) = here.values.1
+    ∙ append_assoc vs (v ∷ []) here.values.0 in
     let many : length vs ≡ length ws = values_count t.map given before ∙ sym (widths_count before) in (
       rw wider (fits_more t.map ws (w ∷ here.widths.0) op fits),
       sym (rw wider (width_more t.map ws (w ∷ here.widths.0) op fits)),
@@ -193,11 +212,13 @@ terms_have_ops t term op table is =
       is = record {
         there = inside;
         width = ap (λ ws. slice_index ws term) (here none).widths.1
-            ∙ number_at (widths_of before) (here none).widths.0 (op_width (widths_of before) op) term (widths_count before ∙ size)
+            ∙ number_at (widths_of before) (here none).widths.0 (op_width (widths_of before) op) term
+            (widths_count before ∙ size)
             ∙ (all none).1;
         value = λ given. ap (λ vs. slice_index vs term) (here given).values.1
             ∙ number_at (values_of t.map given before) (here given).values.0
-            (op_value t.map given (widths_of before) (values_of t.map given before) op) term (values_count t.map given before ∙ size)
+            (op_value t.map given (widths_of before) (values_of t.map given before) op) term
+            (values_count t.map given before ∙ size)
             ∙ (all given).2;
       };
       width = words.range term term_there;

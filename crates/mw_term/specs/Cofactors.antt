@@ -1,5 +1,5 @@
--- Joint cofactors of three Boolean functions, counted in functions (R. E. Bryant, Graph-Based Algorithms for Boolean Function
--- Manipulation).
+-- Joint cofactors of three Boolean functions, counted in functions (R. E. Bryant, Graph-Based Algorithms for Boolean
+-- Function Manipulation).
 use Rattle.std.specs.Prelude.{◌≡◌, ℕ, ◌+◌, ◌/◌, ◌%◌, ◌^◌, ◌<◌, ◌≤◌, List, length, Bool, ◌&&◌, ◌||◌, ◌==◌, nat_lt, if◌then◌else◌}
 use Rattle.std.specs.List.{All, AllPairs}
 use Rattle.mw_base.specs.Words.{bit_of, join}
@@ -49,13 +49,14 @@ pub record AreSame (t u : Triple) : Type 0 where
   pub g : Agree t.g u.g
   pub h : Agree t.h u.h
 
--- something is left to choose: what to choose by is not the same under every assignment, and what to choose from differs
+-- something is left to choose: what to choose by is not the same under every assignment, and what to choose from
+-- differs
 pub record IsOpen (t : Triple) : Type 0 where
   pub choice : (b : Bool) → ¬ Agree t.f (λ given. b)
   pub branches : ¬ Agree t.g t.h
 
--- A joint cofactor of a triple: what is left of it at some place for some values of the variables before, where something is left to
--- choose. Fixing a variable that no function of it sees leaves it as it is.
+-- A joint cofactor of a triple: what is left of it at some place for some values of the variables before, where
+-- something is left to choose. Fixing a variable that no function of it sees leaves it as it is.
 pub record IsCofactor (t u : Triple) : Type 0 where
   pub place : Variable
   pub fixed : Given

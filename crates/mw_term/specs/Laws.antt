@@ -3,13 +3,14 @@ use Rattle.std.specs.Prelude.{◌≡◌, ℕ, ◌<◌, ◌^◌, Some, slice_get,
 use Rattle.mw_base.specs.Words.{bit_of}
 use Rattle.mw_term.specs.declared.op.Op.{Op}
 use Rattle.mw_term.specs.Assigned.{Given}
-use Rattle.mw_term.specs.Cofactors.{Variable, value_of, is_before, with_fixed}
-use Rattle.mw_term.specs.Functions.{Function}
+use Rattle.mw_term.specs.Cofactors.{Variable, value_of, is_before, with_fixed, HasAtMost, HasMore}
+use Rattle.mw_term.specs.Functions.{Function, never, always, Triple, ite}
 use Rattle.mw_term.specs.Rows.{bit_made}
 use Rattle.mw_term.specs.Table.{Table, IsTable, Fits, IsWidth, term_width, width_over}
 use Rattle.mw_term.specs.Values.{IsTermOf, term_value, value_over}
 
--- what a term with an op has in a table: the op fits it, the width is one, and under every assignment the value has no more bits
+-- what a term with an op has in a table: the op fits it, the width is one, and under every assignment the value has
+-- no more bits
 pub record HasOp (t : Table) (term : ℕ) (op : Op) : Type 0 where
   pub fits : Fits t op
   pub is : IsTermOf t t op term
@@ -32,3 +33,11 @@ RowsMakeValues = (t : Table) (op : Op) → IsTable t → Fits t op → BitsAre t
 abbrev pub FixedAreBefore : Type 0
 FixedAreBefore = (place v : Variable) (fixed given : Given)
     → value_of v (with_fixed place fixed given) ≡ (if is_before v place then value_of v fixed else value_of v given)
+
+-- one by a variable, and else the other
+abbrev pub choice_by : Variable → Triple
+choice_by v = ite (value_of v) always never
+
+-- to choose by a variable alone has one joint cofactor, itself
+abbrev pub VariableHasOne : Type 0
+VariableHasOne = (v : Variable) → HasMore (choice_by v) 0 × HasAtMost (choice_by v) 1

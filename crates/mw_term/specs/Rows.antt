@@ -33,7 +33,8 @@ next_carry a b k = ite (made (difference a b)) k a
 abbrev pub next_equal : (a b e : Function) → Triple
 next_equal a b e = ite (made (sameness a b)) e never
 
--- up to a bit one word is less where that bit differs and the other word has it, or where it is the same and the one was less before it
+-- up to a bit one word is less where that bit differs and the other word has it, or where it is the same and the one
+-- was less before it
 abbrev pub next_less : (a b l : Function) → Triple
 next_less a b l = ite (made (difference a b)) b l
 
@@ -134,8 +135,9 @@ abbrev pub fourth_made : List Triple → Function
 fourth_made (first ∷ second ∷ third ∷ fourth ∷ rest) = made fourth
 fourth_made row = never
 
--- What makes bit j of an op: the fourth operation at that bit in a sum, the last at the operands' top bit where a carry or a comparison is
--- asked for, and else the last at that bit. An op without operations has its bits from where it takes them.
+-- What makes bit j of an op: the fourth operation at that bit in a sum, the last at the operands' top bit where a
+-- carry or a comparison is asked for, and else the last at that bit. An op without operations has its bits from where
+-- it takes them.
 unfoldable pub bit_made : Table → Op → (j : ℕ) → Function
 bit_made t (Con number w) j = λ given. bit_of number j
 bit_made t (Var word w) j = λ given. bit_of (given word) j

@@ -3,8 +3,8 @@ use Rattle.std.specs.Prelude.{◌≡◌, ℕ, ◌+◌, ◌<◌, ◌≤◌, ◌^�
 use Rattle.mw_term.specs.declared.op.Op.{Op}
 use Rattle.mw_term.specs.declared.op.Op.TheVariants.{Con, Var, Not, And, Or, Xor, Sum, Cout, Ovf, Eq, Lt, Ite, Part, Join, Tab}
 
--- The ops of the terms, in the order in which they were made, and the map of the board. A term is a place in the list of ops, and the
--- operands of an op are terms before its own.
+-- The ops of the terms, in the order in which they were made, and the map of the board. A term is a place in the list
+-- of ops, and the operands of an op are terms before its own.
 pub record Table : Type 0 where
   pub ops : List Op
   pub map : List ℕ
@@ -64,8 +64,8 @@ ArePair widths a b = (a < length widths) × (b < length widths) × (slice_index 
 abbrev pub IsBit : (widths : List ℕ) → ℕ → Type 0
 IsBit widths c = (c < length widths) × (slice_index widths c ≡ 1)
 
--- Whether an op fits terms of these widths: its operands are terms, as wide as the op asks for, and it has 1 to 32 bits. A part lies
--- within its operand, and an index has a value for each entry of the map and no more.
+-- Whether an op fits terms of these widths: its operands are terms, as wide as the op asks for, and it has 1 to 32
+-- bits. A part lies within its operand, and an index has a value for each entry of the map and no more.
 abbrev pub OpFits : (map widths : List ℕ) → Op → Type 0
 OpFits map widths (Con number w) = IsWidth w × (number < 2 ^ w)
 OpFits map widths (Var word w) = IsWidth w

@@ -7,9 +7,10 @@ use Rattle.mw_term.specs.declared.op.Op.TheVariants.{Con, Var, Not, And, Or, Xor
 use Rattle.mw_term.specs.Assigned.{Given}
 use Rattle.mw_term.specs.Table.{Table, IsWidth, op_width, widths_of, term_width, width_over}
 
--- What an op stands for, over terms of these widths and values: a constant is its number, and a variable that of its word, cut to its
--- width. Sums are modulo 2 ^ width; `Cout` is the carry out of the top bit, and `Ovf` is 1 where the carry into the top bit differs from
--- it. Words are compared as numbers. `Ite` is a where c is 1, and else b. `Tab` is an entry of the map.
+-- What an op stands for, over terms of these widths and values: a constant is its number, and a variable that of its
+-- word, cut to its width. Sums are modulo 2 ^ width; `Cout` is the carry out of the top bit, and `Ovf` is 1 where the
+-- carry into the top bit differs from it. Words are compared as numbers. `Ite` is a where c is 1, and else b. `Tab`
+-- is an entry of the map.
 unfoldable pub op_value : (map : List ℕ) → Given → (widths values : List ℕ) → Op → ℕ
 op_value map given widths values (Con number w) = number
 op_value map given widths values (Var word w) = given word % 2 ^ w
@@ -20,15 +21,18 @@ op_value map given widths values (Xor a b) = bit_xor (slice_index values a) (sli
 op_value map given widths values (Sum a b c) =
     (slice_index values a + slice_index values b + slice_index values c) % 2 ^ slice_index widths a
 op_value map given widths values (Cout a b c) =
-    words.num (carry_at (slice_index values a) (slice_index values b) (slice_index values c == 1) (slice_index widths a))
+    words.num (carry_at (slice_index values a) (slice_index values b) (slice_index values c == 1)
+    (slice_index widths a))
 op_value map given widths values (Ovf a b c) =
     let carry = carry_at (slice_index values a) (slice_index values b) (slice_index values c == 1) in
     words.num (words.differ (carry (slice_index widths a - 1)) (carry (slice_index widths a)))
 op_value map given widths values (Eq a b) = words.num (slice_index values a == slice_index values b)
 op_value map given widths values (Lt a b) = words.num (nat_lt (slice_index values a) (slice_index values b))
-op_value map given widths values (Ite c a b) = if slice_index values c == 1 then slice_index values a else slice_index values b
+op_value map given widths values (Ite c a b) =
+    if slice_index values c == 1 then slice_index values a else slice_index values b
 op_value map given widths values (Part a low w) = words.part low w (slice_index values a)
-op_value map given widths values (Join high low) = words.join (slice_index widths low) (slice_index values high) (slice_index values low)
+op_value map given widths values (Join high low) =
+    words.join (slice_index widths low) (slice_index values high) (slice_index values low)
 op_value map given widths values (Tab i) = slice_index map (slice_index values i)
 
 -- the values of terms: of those there are, with their widths, and then of each op from the widths and values before it
@@ -64,4 +68,5 @@ pub record IsTermOf (old new : Table) (op : Op) (term : ℕ) : Type 0 where
 -- earlier terms have the widths and values that they had
 pub record Keeps (old new : Table) : Type 0 where
   pub widths : (term : ℕ) → term < length old.ops → term_width new term ≡ term_width old term
-  pub values : (given : Given) (term : ℕ) → term < length old.ops → term_value new given term ≡ term_value old given term
+  pub values : (given : Given) (term : ℕ) → term < length old.ops
+      → term_value new given term ≡ term_value old given term

@@ -151,7 +151,8 @@ impl Valued<'_> {
     pub(crate) fn value(&self, op: Op) -> u32
         requires fits { OpFits self.now.earlier.map.now self.now.earlier.widths.now op }
         requires words { AreWords self.now.earlier.widths.now self.now.values.now }
-        ensures { result ≡ op_value self.now.earlier.map.now (given_by self.now.given.now) self.now.earlier.widths.now self.now.values.now op }
+        ensures { result ≡ op_value self.now.earlier.map.now (given_by self.now.given.now) self.now.earlier.widths.now
+            self.now.values.now op }
     {
         match op {
             Op::Con(number, _) => number,

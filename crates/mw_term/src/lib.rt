@@ -11,6 +11,9 @@ mod words;
 
 pub use assignment::Assignment;
 pub use kinds::{DecidedKind, WordKind};
-pub use laws::{fixed_are_before, rows_make_values, terms_have_ops};
+pub use laws::{fixed_are_before, rows_make_values, terms_have_ops, variable_has_one};
 pub use op::{Op, Term};
 pub use terms::Terms;
+
+#[cfg(test)]
+mod tests;

@@ -30,7 +30,8 @@ impl Model for Terms {
 }
 
 impl Terms {
-    /// A table without terms, with a map. The map is empty, or has an entry of 12 bits for each value of an index of 1 to 8 bits.
+    /// A table without terms, with a map. The map is empty, or has an entry of 12 bits for each value of an index of
+    /// 1 to 8 bits.
     ///
     /// # Errors
     ///
@@ -47,8 +48,9 @@ impl Terms {
         })
     }
 
-    /// Whether an op fits the table: its operands are terms of it, as wide as the op asks for, it has 1 to 32 bits, a constant is no wider than
-    /// that, a part lies within its operand, and an index has a value for each entry of the map and no more.
+    /// Whether an op fits the table: its operands are terms of it, as wide as the op asks for, it has 1 to 32 bits, a
+    /// constant is no wider than that, a part lies within its operand, and an index has a value for each entry of the
+    /// map and no more.
     pub fn fits(&self, op: &Op) -> bool
         ensures { IsTrue result ↔ Fits self.now op.now }
     {
@@ -71,8 +73,8 @@ impl Terms {
         earlier.width(*op)
     }
 
-    /// A term with an op's width and, under every assignment, its value. Earlier terms keep their ops. The op fits the table: its operands are
-    /// terms of it, as wide as the op asks for.
+    /// A term with an op's width and, under every assignment, its value. Earlier terms keep their ops. The op fits
+    /// the table: its operands are terms of it, as wide as the op asks for.
     ///
     /// # Errors
     ///

@@ -6,7 +6,8 @@ pub index-requires : goal.index-requires
 index-requires c =
     let there : c.args.term < length c.self.inside.ops.items = rw (← c.self.view_is) at c.requires in
     let inside =
-    kept_inside c.self.inside.ops.items c.self.inside.widths.items c.self.inside.map.items c.args.term c.self.invariant there in
+    kept_inside c.self.inside.ops.items c.self.inside.widths.items c.self.inside.map.items c.args.term
+    c.self.invariant there in
     omega (arith, inside, c.position.ensures.exact)
 
 pub returns-clause-exact : goal.returns-clause-exact
@@ -14,7 +15,8 @@ returns-clause-exact c =
     let there : c.args.term < length c.self.inside.ops.items = rw (← c.self.view_is) at c.requires in
     let read = rw c.position.ensures.exact at c.index.ensures in
     rw (← c.self.view_is)
-    (kept_width c.self.inside.ops.items c.self.inside.widths.items c.self.inside.map.items c.args.term c.index.result.now
+    (kept_width c.self.inside.ops.items c.self.inside.widths.items c.self.inside.map.items c.args.term
+    c.index.result.now
     c.self.invariant there read)
 
 pub returns-clause-range : goal.returns-clause-range
