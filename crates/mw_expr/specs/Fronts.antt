@@ -27,12 +27,14 @@ pub record IsFront (m : Meaning) (front : List Token) : Type 0 where
 
 -- a fault stands at the first token with which what stands before it is no front any more; or at the end of a front that is no expression
 pub data IsFrontFault (m : Meaning) (cursor : Cursor) (fault : TextFault) : Type 0 where
-  at_token : (front rest : List Token) (token : Token) → cursor.tokens ≡ front ++ token ∷ rest → fault ≡ misplaced token cursor
+  at_token : (front rest : List Token) (token : Token) → cursor.tokens ≡ front ++ token ∷ rest
+      → fault ≡ misplaced token cursor
       → IsFront m front → (IsFront m (front ++ token ∷ []) → ⊥) → IsFrontFault m cursor fault
   at_end : fault ≡ cursor.end → IsFront m cursor.tokens → ((tree : Placed) → IsExpression m cursor.tokens tree → ⊥)
       → IsFrontFault m cursor fault
 
 -- each fault of the grammar, where the tokens stand within the text
 abbrev pub FaultsEndFronts : Type 0
-FaultsEndFronts = (m : Meaning) (cursor : Cursor) (fault : TextFault) → All (IsWithin m.text) cursor.tokens → tree_of m cursor ≡ Err fault
+FaultsEndFronts = (m : Meaning) (cursor : Cursor) (fault : TextFault) → All (IsWithin m.text) cursor.tokens
+    → tree_of m cursor ≡ Err fault
     → IsFrontFault m cursor fault
