@@ -1,5 +1,5 @@
 // The rules of described machines.
-ghost use Rattle.std.specs.Prelude.{◌≡◌, ℕ, ◌≤◌, ◌<◌, ◌||◌, ◌&&◌, ◌-◌, nat_le, List, Option, None, Some, not, length, bytes_eq, slice_index};
+ghost use Rattle.std.specs.Prelude.{◌≡◌, ℕ, ◌≤◌, ◌<◌, ◌||◌, ◌-◌, nat_le, List, Option, None, Some, not, length, bytes_eq, slice_index};
 ghost use Rattle.std.specs.List.{list_all, list_any};
 ghost use Rattle.mw_expr.specs.Tree.{view};
 ghost use Rattle.mw_macro.specs.Machine.{described};
@@ -34,13 +34,11 @@ pub(crate) enum Fault {
     TooNested,
 }
 
-/// Whether there are no more registers and temporaries than a machine may have.
-fn are_few(names: &[Name], registers: u32) -> bool
-    requires { registers ≤ length names.now }
-    ensures { result ≡ (nat_le registers 128 && nat_le (length names.now - registers) 128) }
+/// Whether there are no more of these than a machine may have registers or temporaries.
+fn are_few(elements: usize) -> bool
+    ensures { result ≡ nat_le elements 128 }
 {
-    let registers = registers as usize;
-    registers <= MOST_REGISTERS && names.len() - registers <= MOST_REGISTERS
+    elements <= MOST_REGISTERS
 }
 
 /// Whether a machine keeps the limits of its counts.
@@ -49,7 +47,9 @@ fn is_within_limits(names: &[Name], registers: u32, shape: &Shape, statements: &
     requires { registers ≤ length names.now }
     ensures { result ≡ is_within_limits (described names.now registers shape.now (acts statements.now)) }
 {
-    are_few(names, registers)
+    let registers = registers as usize;
+    are_few(registers)
+        && are_few(names.len() - registers)
         && left_after(Counted::Statements, statements, MOST_STATEMENTS + 1) != 0
         && left_after(Counted::Reads, statements, MOST_READS + 1) != 0
 }
@@ -179,21 +179,16 @@ fn width_at(shape: &Shape, element: u32) -> u8
         .unwrap_or(0)
 }
 
-/// Whether an assignment has this fault.
-fn is_assignment_fault(fault: Fault, shape: &Shape, target: u32, value: &Expr) -> bool
-    ensures { result ≡ (is_target_fault fault shape.now target
-        || is_fault fault shape.now (slice_index shape.now.widths target) (view value.now)) }
-{
-    is_target_fault(fault, shape, target) || is_fault(fault, shape, width_at(shape, target), value)
-}
-
 /// Whether a statement has this fault, in itself or in its lists, where so many `if`s may stand in one another.
 #[cycle(faults)]
 fn has_fault(fault: Fault, shape: &Shape, levels: u8, statement: &Statement) -> bool
     ensures { result ≡ has_fault fault shape.now levels (act_of statement.now) }
 {
     match statement {
-        Statement::Assign { target, value } => is_assignment_fault(fault, shape, *target, value),
+        Statement::Assign { target, value } => {
+            is_target_fault(fault, shape, *target)
+                || is_fault(fault, shape, width_at(shape, *target), value)
+        }
         Statement::Write { address, value } => {
             is_fault(fault, shape, shape.address, address)
                 || is_fault(fault, shape, shape.word, value)
