@@ -68,30 +68,30 @@ read_behind m bytes other read = tt
 one_more : (m : Meaning) (cursor : Cursor) (awaits : Awaits) (below : Open) (kind : Kind) (bytes : List ℕ)
     (next : State) → Spells bytes kind
     → HasRead m awaits → follows (behind m bytes) (token_behind m kind bytes)
-        (symbol_of_kind kind bytes) awaits below ≡ Some next
+    (symbol_of_kind kind bytes) awaits below ≡ Some next
     → Closes (behind m bytes) cursor next → Closes m cursor (state awaits below)
 unfolding behind token_behind
 one_more m cursor awaits below kind bytes next spells read goes closes =
     let token = token_behind m kind bytes in
     let m2 = behind m bytes in
     let same : m2.text ++ closes.more ≡ m.text ++ ((32 ∷ bytes) ++ closes.more) =
-        append_assoc m.text (32 ∷ bytes) closes.more in
+    append_assoc m.text (32 ∷ bytes) closes.more in
     let spelled_as : spelled (m2.text ++ closes.more) token ≡ bytes =
-        spelled_longer m2 closes.more token (within_behind m kind bytes) ∙ spelled_behind m kind bytes in
+    spelled_longer m2 closes.more token (within_behind m kind bytes) ∙ spelled_behind m kind bytes in
     let follow : follows (longer m2 closes.more) token
-        (symbol_of (m2.text ++ closes.more) token) awaits below ≡ Some next =
-        follows_longer m2 closes.more token awaits below (within_behind m kind bytes) (read_behind m bytes awaits read)
-        ∙ ap (λ symbol. follows m2 token symbol awaits below) (symbol_behind m kind bytes) ∙ goes in
+    (symbol_of (m2.text ++ closes.more) token) awaits below ≡ Some next =
+    follows_longer m2 closes.more token awaits below (within_behind m kind bytes) (read_behind m bytes awaits read)
+    ∙ ap (λ symbol. follows m2 token symbol awaits below) (symbol_behind m kind bytes) ∙ goes in
     record {
       more = (32 ∷ bytes) ++ closes.more;
       rest = token ∷ closes.rest;
       tree = closes.tree;
       spelled_so = subst (λ text. All (λ token. Spells (spelled text token) token.kind) (token ∷ closes.rest)) same
-        (All-cons (λ token. Spells (spelled (m2.text ++ closes.more) token) token.kind) token closes.rest
-        (subst (λ text. Spells text kind) (sym spelled_as) spells) closes.spelled_so);
+          (All-cons (λ token. Spells (spelled (m2.text ++ closes.more) token) token.kind) token closes.rest
+          (subst (λ text. Spells text kind) (sym spelled_as) spells) closes.spelled_so);
       reads = subst (λ text. tree_from (record m { text = text }) cursor (state awaits below)
           (token ∷ closes.rest) ≡ Ok closes.tree) same
-        (step (longer m2 closes.more) cursor awaits below token closes.rest next follow ∙ closes.reads);
+          (step (longer m2 closes.more) cursor awaits below token closes.rest next follow ∙ closes.reads);
     }
 
 some_is : {A : Type 0} (o : Option A) (x : A) → o ≡ Some x → IsSome o
@@ -107,7 +107,7 @@ more_sign : (m : Meaning) (cursor : Cursor) (awaits : Awaits) (below : Open) (s 
 more_sign m cursor awaits below s next read goes =
     one_more m cursor awaits below Sign (bytes_of s) next (some_is (sign_of (bytes_of s)) s (found_again s)) read
     (ap (λ symbol. follows (behind m (bytes_of s)) (token_behind m Sign (bytes_of s)) symbol awaits below)
-        (of_sign_found s) ∙ goes)
+    (of_sign_found s) ∙ goes)
 
 more_number : (m : Meaning) (cursor : Cursor) (awaits : Awaits) (below : Open) (next : State) → HasRead m awaits
     → follows (behind m (codes "1")) (token_behind m (Number 1) (codes "1")) (symbols.Number 1) awaits below ≡ Some next
@@ -144,34 +144,34 @@ closes (otherwise token c a below) m cursor last inner tree same =
     closes below m cursor last inner (choice token c a tree) same
 closes (choosing token c below) m cursor last inner tree same =
     more_sign m cursor (a_sign last) inner signs.Colon (state an_operand (otherwise token c tree below)) tt
-        (rw same refl)
+    (rw same refl)
     (one_operand _ cursor (otherwise token c tree below)
     (λ m other. closes below m cursor other (otherwise token c tree below) (choice token c tree other) refl))
 closes (grouping token below) m cursor last inner tree same =
     more_sign m cursor (a_sign last) inner signs.CloseParenthesis (state (a_sign (group token tree)) below) tt
-        (rw same refl)
+    (rw same refl)
     (closes below _ cursor (group token tree) below (group token tree) refl)
 closes (joining token [] below) m cursor last inner tree same =
     more_sign m cursor (a_sign last) inner signs.Comma (state an_operand (joining token (tree ∷ []) below)) tt
-        (rw same refl)
+    (rw same refl)
     (one_operand _ cursor (joining token (tree ∷ []) below)
     (λ m other. more_sign m cursor (a_sign other) (joining token (tree ∷ []) below) signs.CloseBrace
-      (state (a_sign (join token (parts_of (tree ∷ other ∷ [])))) below) tt refl
-      (closes below _ cursor (join token (parts_of (tree ∷ other ∷ []))) below
-          (join token (parts_of (tree ∷ other ∷ []))) refl)))
+    (state (a_sign (join token (parts_of (tree ∷ other ∷ [])))) below) tt refl
+    (closes below _ cursor (join token (parts_of (tree ∷ other ∷ []))) below
+    (join token (parts_of (tree ∷ other ∷ []))) refl)))
 closes (joining token (first ∷ parts) below) m cursor last inner tree same =
     let all = join token (parts_of ((first ∷ parts) ++ tree ∷ [])) in
     more_sign m cursor (a_sign last) inner signs.CloseBrace (state (a_sign all) below) tt (rw same refl)
-        (closes below _ cursor all below all refl)
+    (closes below _ cursor all below all refl)
 closes (widening word below) m cursor last inner tree same =
     more_sign m cursor (a_sign last) inner signs.Comma (state (a_new_width word tree) below) tt (rw same refl)
     (more_number _ cursor (a_new_width word tree) below (state (a_widen_end word tree 1) below) tt refl
     (more_sign _ cursor (a_widen_end word tree 1) below signs.CloseParenthesis
-        (state (a_sign (widened word 1 tree)) below) tt refl
+    (state (a_sign (widened word 1 tree)) below) tt refl
     (closes below _ cursor (widened word 1 tree) below (widened word 1 tree) refl)))
 closes (reading word below) m cursor last inner tree same =
     more_sign m cursor (a_sign last) inner signs.CloseBracket (state (a_sign (memory word tree)) below) tt
-        (rw same refl)
+    (rw same refl)
     (closes below _ cursor (memory word tree) below (memory word tree) refl)
 
 -- a whole operand stands last
@@ -188,14 +188,14 @@ closes_part : (m : Meaning) (cursor : Cursor) (from : Token) (tree : Placed) (mo
     → Closes m cursor (state (a_close from tree most least) below)
 closes_part m cursor from tree most least below =
     more_sign m cursor (a_close from tree most least) below signs.CloseBracket
-        (state (a_sign (part from most least tree)) below) tt refl
+    (state (a_sign (part from most least tree)) below) tt refl
     (closes_operand _ cursor (part from most least tree) below)
 
 closes_bit : (m : Meaning) (cursor : Cursor) (from : Token) (tree : Placed) (most : ℕ) (below : Open)
     → Closes m cursor (state (a_colon from tree most) below)
 closes_bit m cursor from tree most below =
     more_sign m cursor (a_colon from tree most) below signs.CloseBracket
-        (state (a_sign (part from most most tree)) below) tt refl
+    (state (a_sign (part from most most tree)) below) tt refl
     (closes_operand _ cursor (part from most most tree) below)
 
 closes_member : (m : Meaning) (cursor : Cursor) (owner : Token) (below : Open) → IsWithin m.text owner
@@ -207,7 +207,7 @@ closes_widening : (m : Meaning) (cursor : Cursor) (word : Token) (tree : Placed)
     → Closes m cursor (state (a_widen_end word tree bits) below)
 closes_widening m cursor word tree bits below =
     more_sign m cursor (a_widen_end word tree bits) below signs.CloseParenthesis
-        (state (a_sign (widened word bits tree)) below) tt refl
+    (state (a_sign (widened word bits tree)) below) tt refl
     (closes_operand _ cursor (widened word bits tree) below)
 
 pub closes_any : (m : Meaning) (cursor : Cursor) (awaits : Awaits) (below : Open) → HasRead m awaits
@@ -219,25 +219,25 @@ closes_any m cursor (a_dot owner) below read =
 closes_any m cursor (a_member owner) below read = closes_member m cursor owner below read
 closes_any m cursor (a_bracket word) below read =
     more_sign m cursor (a_bracket word) below signs.OpenBracket (state an_operand (reading word below)) tt refl
-        (closes_begun _ cursor (reading word below))
+    (closes_begun _ cursor (reading word below))
 closes_any m cursor (a_parenthesis word) below read =
     more_sign m cursor (a_parenthesis word) below signs.OpenParenthesis (state an_operand (widening word below)) tt refl
     (closes_begun _ cursor (widening word below))
 closes_any m cursor (a_hash number) below read =
     more_sign m cursor (a_hash number) below signs.Hash _ tt refl
-        (more_number _ cursor (a_width number _) below _ tt refl (closes_operand _ cursor _ below))
+    (more_number _ cursor (a_width number _) below _ tt refl (closes_operand _ cursor _ below))
 closes_any m cursor (a_width number hash) below read =
     more_number m cursor (a_width number hash) below _ tt refl (closes_operand _ cursor (constant number hash 1) below)
 closes_any m cursor (a_high from tree) below read =
     more_number m cursor (a_high from tree) below (state (a_colon from tree 1) below) tt refl
-        (closes_bit _ cursor from tree 1 below)
+    (closes_bit _ cursor from tree 1 below)
 closes_any m cursor (a_colon from tree most) below read = closes_bit m cursor from tree most below
 closes_any m cursor (a_low from tree most) below read =
     more_number m cursor (a_low from tree most) below (state (a_close from tree most 1) below) tt refl
-        (closes_part _ cursor from tree most 1 below)
+    (closes_part _ cursor from tree most 1 below)
 closes_any m cursor (a_close from tree most least) below read = closes_part m cursor from tree most least below
 closes_any m cursor (a_new_width word tree) below read =
     more_number m cursor (a_new_width word tree) below (state (a_widen_end word tree 1) below) tt refl
-        (closes_widening _ cursor word tree 1 below)
+    (closes_widening _ cursor word tree 1 below)
 closes_any m cursor (a_widen_end word tree bits) below read = closes_widening m cursor word tree bits below
 closes_any m cursor (a_sign tree) below read = closes_operand m cursor tree below

@@ -30,7 +30,7 @@ is_front m cursor front s read leads =
       spelled_so = closes.spelled_so;
       whole = sound (longer m closes.more) cursor (front ++ closes.rest)
           (front ++ closes.rest) beginning closes.tree refl
-        (leads closes.more cursor closes.rest ∙ closes.reads);
+          (leads closes.more cursor closes.rest ∙ closes.reads);
     }
 
 -- a token that can't follow
@@ -54,9 +54,9 @@ is_no_front m cursor front s token within read leads is whole =
     let there : Cursor = record cursor { tokens = tokens } in
     let reads = is_read_where_ruled longest there whole.tree whole.whole in
     let refused = ap (λ all. tree_from longest there beginning all) (append_assoc front (token ∷ []) whole.rest)
-      ∙ leads whole.more there (token ∷ whole.rest)
-      ∙ stops longest there s token whole.rest
-          (follows_longer m whole.more token s.awaits s.open_now within read ∙ is) in
+    ∙ leads whole.more there (token ∷ whole.rest)
+    ∙ stops longest there s token whole.rest
+    (follows_longer m whole.more token s.awaits s.open_now within read ∙ is) in
     no_both (tree_of longest there) whole.tree (misplaced token there) reads refused
 
 one_further : (m : Meaning) (front : List Token) (s next : State) (token : Token) → IsWithin m.text token
@@ -66,7 +66,7 @@ one_further m front s next token within read leads is more cursor rest =
     ap (λ all. tree_from (longer m more) cursor beginning all) (append_assoc front (token ∷ []) rest)
     ∙ leads more cursor (token ∷ rest)
     ∙ step (longer m more) cursor s.awaits s.open_now token rest next
-        (follows_longer m more token s.awaits s.open_now within read ∙ is)
+    (follows_longer m more token s.awaits s.open_now within read ∙ is)
 
 of_none : {A F : Type 0} (o : Option A) (end fault : F) → ok_or o end ≡ Err fault → fault ≡ end
 of_none (Some x) end fault is = absurd cc
@@ -101,7 +101,7 @@ ends_front m cursor fault refused (token ∷ rest) front s all within read leads
     on None none later =
         at_token front rest token all
         (of_refusal (follows m token (symbol_of m.text token) s.awaits s.open_now) (misplaced token cursor) fault
-            (λ next. tree_from m cursor next rest) none is)
+        (λ next. tree_from m cursor next rest) none is)
         (is_front m cursor front s read leads) (is_no_front m cursor front s token first read leads none)
     on (Some next) follow later =
         later (front ++ token ∷ []) next (all ∙ sym (append_assoc front (token ∷ []) rest))

@@ -21,7 +21,7 @@ pub spelled_longer : (m : Meaning) (more : List ℕ) (token : Token) → IsWithi
 spelled_longer m more token within =
     let start : token.start ≤ length m.text = omega (arith, within.0, within.1) in
     let few : token.end - token.start ≤ length (drop token.start m.text) =
-        omega (arith, within.0, within.1, length-drop token.start m.text) in
+    omega (arith, within.0, within.1, length-drop token.start m.text) in
     ap (take (token.end - token.start)) (drop-append-le token.start m.text more start)
     ∙ take-append-le (token.end - token.start) (drop token.start m.text) more few
 
@@ -48,7 +48,7 @@ operand_longer m more token Other below within = refl
 pub follows_longer : (m : Meaning) (more : List ℕ) (token : Token) (awaits : Awaits) (below : Open)
     → IsWithin m.text token → HasRead m awaits
     → follows (longer m more) token (symbol_of (m.text ++ more) token) awaits below ≡ follows m token
-        (symbol_of m.text token) awaits below
+    (symbol_of m.text token) awaits below
 follows_longer m more token an_operand below within read =
     ap (λ symbol. begins (longer m more) token symbol below) (symbol_longer m more token within)
     ∙ operand_longer m more token (symbol_of m.text token) below within
@@ -110,7 +110,7 @@ of_operand m Name token below within =
     let plain = Some (state (a_sign (element m token)) below) in
     let name = if m.is_dotted then Some (state (a_dot token) below) else plain in
     let keyword = if bytes_eq (spelled m.text token) (codes "zext") then Some
-        (state (a_parenthesis token) below) else name in
+    (state (a_parenthesis token) below) else name in
     let memory = if m.has_memory then Some (state (a_bracket token) below) else None in
     either m (bytes_eq (spelled m.text token) (codes "mem")) memory keyword
     (either m m.has_memory (Some (state (a_bracket token) below)) None tt tt)
@@ -185,7 +185,7 @@ holds m token (a_colon from tree most) below within read =
     let bit = state (a_sign (part from most most tree)) below in
     either m (is_sign signs.Colon (symbol_of m.text token)) (Some (state (a_low from tree most) below))
     (this_follows signs.CloseBracket (symbol_of m.text token) bit) tt
-        (of_this m signs.CloseBracket (symbol_of m.text token) bit tt)
+    (of_this m signs.CloseBracket (symbol_of m.text token) bit tt)
 holds m token (a_low from tree most) below within read =
     of_number m (symbol_of m.text token) (λ least. state (a_close from tree most least) below) (λ value. tt)
 holds m token (a_close from tree most least) below within read =

@@ -74,8 +74,8 @@ ends m start least n tree (pairing op token left below) from here weak most low 
     on : (b : Bool) → nat_le least (strength op) ≡ b
         → (least ≤ strength op → Ends m start least (reduced least (pair op token left tree) below) here)
         → Ends m start least
-            (if b then reduced least
-                (pair op token left tree) below else record { tree = tree; below = pairing op token left below }) here
+        (if b then reduced least
+        (pair op token left tree) below else record { tree = tree; below = pairing op token left below }) here
     on true is further = further (grind (arith, nat_tests))
     on false is further =
         let past : suc (strength op) ≤ least = grind (arith, nat_tests) in
@@ -90,8 +90,8 @@ ends m start least n tree (otherwise token c a below) from here weak most low op
     on : (b : Bool) → (least == 0) ≡ b
         → (least ≤ 0 → Ends m start least (reduced least (choice token c a tree) below) here)
         → Ends m start least
-            (if b then reduced least
-                (choice token c a tree) below else record { tree = tree; below = otherwise token c a below }) here
+        (if b then reduced least
+        (choice token c a tree) below else record { tree = tree; below = otherwise token c a below }) here
     on true is further = further (grind (arith, nat_tests))
     on false is further =
         at_once m start least n tree (otherwise token c a below) from here opened begun weak (omega arith)
@@ -128,21 +128,21 @@ Known m start (a_colon bracket tree high) below here = (from : List Token) × (f
 Known m start (a_low bracket tree high) below here = (from : List Token) × (first : Token) × (colon : Token)
     × Opened m start below from
     × Begin m suffix from tree (bracket ∷ first ∷ colon ∷ here) × IsSign m signs.OpenBracket bracket
-        × IsNumber m high first
+    × IsNumber m high first
     × IsSign m signs.Colon colon
 Known m start (a_close bracket tree high low) below here = (from : List Token) × (first : Token) × (colon : Token)
     × (last : Token)
     × Opened m start below from × Begin m suffix from tree (bracket ∷ first ∷ colon ∷ last ∷ here)
-        × IsSign m signs.OpenBracket bracket
+    × IsSign m signs.OpenBracket bracket
     × IsNumber m high first × IsSign m signs.Colon colon × IsNumber m low last
 Known m start (a_new_width word tree) below here = (token : Token) × (from : List Token) × (comma : Token)
     × Opened m start below (word ∷ token ∷ from) × IsKeyword m (codes "zext") word
-        × IsSign m signs.OpenParenthesis token
+    × IsSign m signs.OpenParenthesis token
     × Begin m 0 from tree (comma ∷ here) × IsSign m signs.Comma comma
 Known m start (a_widen_end word tree width) below here = (token : Token) × (from : List Token) × (comma : Token)
     × (bits : Token)
     × Opened m start below (word ∷ token ∷ from) × IsKeyword m (codes "zext") word
-        × IsSign m signs.OpenParenthesis token
+    × IsSign m signs.OpenParenthesis token
     × Begin m 0 from tree (comma ∷ bits ∷ here) × IsSign m signs.Comma comma × IsNumber m width bits
 Known m start (a_sign tree) below here = (from : List Token) × Opened m start below from × Begin m suffix from tree here
 
@@ -178,18 +178,21 @@ of_name m start rest token below opened name = memory_or (bytes_eq (spelled m.te
     otherwise_name : bytes_eq (spelled m.text token) (codes "mem") ≡ false
         → bytes_eq (spelled m.text token) (codes "zext") ≡ false → (b : Bool) → m.is_dotted ≡ b
         → Goes m start (if b then Some (state (a_dot token) below) else Some (state (a_sign (element m token)) below))
-            rest
+        rest
     otherwise_name no_mem no_zext true is =
         (opened, is, record { name = name; no_memory = no_mem; no_widening = no_zext })
-    otherwise_name no_mem no_zext false is =
-        (token ∷ rest, opened, by_name (omega arith) is
-            (record { name = name; no_memory = no_mem; no_widening = no_zext }))
+    otherwise_name no_mem no_zext false is = (
+      token ∷ rest,
+      opened,
+      by_name (omega arith) is
+          (record { name = name; no_memory = no_mem; no_widening = no_zext }),
+    )
 
     widen_or : bytes_eq (spelled m.text token) (codes "mem") ≡ false → (b : Bool)
         → bytes_eq (spelled m.text token) (codes "zext") ≡ b
         → Goes m start (if b then Some (state (a_parenthesis token) below)
         else (if m.is_dotted then Some (state (a_dot token) below) else Some (state (a_sign (element m token)) below)))
-            rest
+        rest
     widen_or no_mem true is = (opened, record { name = name; same = is })
     widen_or no_mem false is = otherwise_name no_mem is m.is_dotted refl
 
@@ -202,7 +205,7 @@ of_name m start rest token below opened name = memory_or (bytes_eq (spelled m.te
         → Goes m start (if b then (if m.has_memory then Some (state (a_bracket token) below) else None)
         else (if bytes_eq (spelled m.text token) (codes "zext") then Some (state (a_parenthesis token) below)
         else (if m.is_dotted then Some (state (a_dot token) below) else Some
-            (state (a_sign (element m token)) below)))) rest
+        (state (a_sign (element m token)) below)))) rest
     memory_or true is = has_memory is m.has_memory refl
     memory_or false is = widen_or is (bytes_eq (spelled m.text token) (codes "zext")) refl
 
@@ -234,7 +237,7 @@ of_colon m start rest token tree other from opened begun is = tt
 of_parenthesis : (m : Meaning) (start rest : List Token) (token : Token) (tree : Placed) (below : Open)
     (from : List Token) → Opened m start below from
     → Begin m 0 from tree (token ∷ rest) → IsSign m signs.CloseParenthesis token
-        → Goes m start (parenthesis_ends tree below) rest
+    → Goes m start (parenthesis_ends tree below) rest
 of_parenthesis m start rest token tree (grouping first below) from opened begun is =
     (first ∷ from, opened.0, by_group (omega arith) opened.1 begun is)
 of_parenthesis m start rest token tree other from opened begun is = tt
@@ -242,7 +245,7 @@ of_parenthesis m start rest token tree other from opened begun is = tt
 of_bracket : (m : Meaning) (start rest : List Token) (token : Token) (tree : Placed) (below : Open) (from : List Token)
     → Opened m start below from
     → Begin m 0 from tree (token ∷ rest) → IsSign m signs.CloseBracket token
-        → Goes m start (bracket_ends tree below) rest
+    → Goes m start (bracket_ends tree below) rest
 of_bracket m start rest token tree (reading word below) from opened begun is =
     (word ∷ opened.0 ∷ from, opened.1, by_memory (omega arith) opened.3 opened.2 opened.4 begun is)
 of_bracket m start rest token tree other from opened begun is = tt
@@ -251,7 +254,7 @@ of_bracket m start rest token tree other from opened begun is = tt
 of_parts : (m : Meaning) (start rest : List Token) (brace token : Token) (parts : List Placed) (e : Placed)
     (below : Open) (from : List Token)
     → Opened m start below (brace ∷ from) → IsSign m signs.OpenBrace brace
-        → BeginParts m from (parts ++ e ∷ []) (token ∷ rest) → IsSign m signs.Comma token
+    → BeginParts m from (parts ++ e ∷ []) (token ∷ rest) → IsSign m signs.Comma token
     → Opened m start (joining brace (parts ++ e ∷ []) below) rest
 of_parts m start rest brace token [] e below from opened is begun comma = (from, token, opened, is, begun, comma)
 of_parts m start rest brace token (first ∷ parts) e below from opened is begun comma =
@@ -264,7 +267,7 @@ of_comma m start rest token tree (joining brace [] below) from opened begun is =
     (from, token, opened.0, opened.1, first_part begun, is)
 of_comma m start rest token tree (joining brace (first ∷ parts) below) from opened begun is =
     of_parts m start rest brace token (first ∷ parts) tree below opened.0 opened.2 opened.3
-        (next_part opened.4 opened.5 begun) is
+    (next_part opened.4 opened.5 begun) is
 of_comma m start rest token tree (widening word below) from opened begun is =
     (opened.0, from, token, opened.1, opened.2, opened.3, begun, is)
 of_comma m start rest token tree other from opened begun is = tt
@@ -272,9 +275,12 @@ of_comma m start rest token tree other from opened begun is = tt
 of_brace : (m : Meaning) (start rest : List Token) (token : Token) (tree : Placed) (below : Open) (from : List Token)
     → Opened m start below from
     → Begin m 0 from tree (token ∷ rest) → IsSign m signs.CloseBrace token → Goes m start (brace_ends tree below) rest
-of_brace m start rest token tree (joining brace (first ∷ parts) below) from opened begun is =
-    (brace ∷ opened.0, opened.2, by_join (omega arith) opened.3 (next_part opened.4 opened.5 begun)
-        (two_or_more first parts tree) is)
+of_brace m start rest token tree (joining brace (first ∷ parts) below) from opened begun is = (
+  brace ∷ opened.0,
+  opened.2,
+  by_join (omega arith) opened.3 (next_part opened.4 opened.5 begun)
+      (two_or_more first parts tree) is,
+)
   where
     two_or_more : (first : Placed) (parts : List Placed) (e : Placed) → 2 ≤ length ((first ∷ parts) ++ e ∷ [])
     two_or_more first parts e = omega (arith, length-append parts (e ∷ []))
@@ -287,23 +293,23 @@ of_pair : (m : Meaning) (start rest : List Token) (op : Option Pair2) (s : SignO
 of_pair m start rest None s token tree below from opened begun is pair_is = tt
 of_pair m start rest (Some op) s token tree below from opened begun is pair_is =
     let e = ends m start (strength op) suffix tree below from (token ∷ rest) (omega (arith, strength_most op))
-        (omega (arith, strength_most op)) (omega (arith, floor_most below)) opened begun in
+    (omega (arith, strength_most op)) (omega (arith, floor_most below)) opened begun in
     (e.from, s, e.opened, e.low, e.begun, is, pair_is)
 
 whole_operand : (m : Meaning) (start here : List Token) (tree : Placed) (below : Open) (from : List Token)
     → Opened m start below from → Begin m suffix from tree here → Ends m start 0 (reduced 0 tree below) here
 whole_operand m start here tree below from opened begun =
     ends m start 0 suffix tree below from here (omega arith) (omega arith)
-        (omega (arith, floor_most below)) opened begun
+    (omega (arith, floor_most below)) opened begun
 
 of_after : (m : Meaning) (start rest : List Token) (s : SignOf) (token : Token) (tree : Placed) (below : Open)
     (from : List Token)
     → Opened m start below from → Begin m suffix from tree (token ∷ rest) → IsSign m s token
-        → Goes m start (sign_follows s token tree below) rest
+    → Goes m start (sign_follows s token tree below) rest
 of_after m start rest signs.OpenBracket token tree below from opened begun is = (from, opened, begun, is)
 of_after m start rest signs.Question token tree below from opened begun is =
     let e = ends m start 1 suffix tree below from (token ∷ rest) (omega arith) (omega arith)
-        (omega (arith, floor_most below)) opened begun in
+    (omega (arith, floor_most below)) opened begun in
     (e.from, e.opened, floor_none _ e.low, e.begun, is)
 of_after m start rest signs.Colon token tree below from opened begun is =
     let e = whole_operand m start (token ∷ rest) tree below from opened begun in
@@ -358,19 +364,19 @@ goes : (m : Meaning) (start rest : List Token) (token : Token) (awaits : Awaits)
 goes m start rest token an_operand below known = of_operand m start rest (symbol_of m.text token) token below known refl
 goes m start rest token (a_dot owner) below known =
     of_sign m start rest signs.Dot (symbol_of m.text token) (state (a_member owner) below)
-        (λ is. (token, known.0, known.1, known.2, is))
+    (λ is. (token, known.0, known.1, known.2, is))
 goes m start rest token (a_member owner) below known =
     of_member m start rest (symbol_of m.text token) (state (a_sign (dotted_element m owner token)) below)
     (λ is. (owner ∷ known.0 ∷ token ∷ rest, known.1, by_dotted_name (omega arith) known.2 known.3 known.4 is))
 goes m start rest token (a_bracket word) below known =
     of_sign m start rest signs.OpenBracket (symbol_of m.text token) (state an_operand (reading word below))
-        (λ is. (token, known.0, known.1, known.2, is))
+    (λ is. (token, known.0, known.1, known.2, is))
 goes m start rest token (a_parenthesis word) below known =
     of_sign m start rest signs.OpenParenthesis (symbol_of m.text token) (state an_operand (widening word below))
-        (λ is. (token, known.0, known.1, is))
+    (λ is. (token, known.0, known.1, is))
 goes m start rest token (a_hash number) below known =
     of_sign m start rest signs.Hash (symbol_of m.text token) (state (a_width number token) below)
-        (λ is. (known.0, known.1, is))
+    (λ is. (known.0, known.1, is))
 goes m start rest token (a_width number hash) below known =
     of_number m start rest (symbol_of m.text token) (λ bits. state (a_sign (constant number hash bits)) below)
     (λ bits is. (number.token ∷ hash ∷ token ∷ rest, known.0, by_constant (omega arith) known.1 known.2 is))
@@ -379,7 +385,7 @@ goes m start rest token (a_high bracket tree) below known =
     (λ most is. (known.0, token, known.1, known.2, known.3, is))
 goes m start rest token (a_colon bracket tree most) below known =
     of_colon_or m start rest (symbol_of m.text token) (state (a_low bracket tree most) below)
-        (state (a_sign (part bracket most most tree)) below)
+    (state (a_sign (part bracket most most tree)) below)
     (λ is. (known.0, known.1, token, known.2, known.3, known.4, known.5, is))
     (λ is. (known.0, known.2, by_bit (omega arith) known.3 known.4 known.5 is))
 goes m start rest token (a_low bracket tree most) below known =
@@ -387,7 +393,7 @@ goes m start rest token (a_low bracket tree most) below known =
     (λ least is. (known.0, known.1, known.2, token, known.3, known.4, known.5, known.6, known.7, is))
 goes m start rest token (a_close bracket tree most least) below known =
     of_sign m start rest signs.CloseBracket (symbol_of m.text token)
-        (state (a_sign (part bracket most least tree)) below)
+    (state (a_sign (part bracket most least tree)) below)
     (λ is. (known.0, known.4, by_part (omega arith) known.5 known.6 known.7 known.8 known.9 is))
 goes m start rest token (a_new_width word tree) below known =
     of_number m start rest (symbol_of m.text token) (λ bits. state (a_widen_end word tree bits) below)
@@ -428,7 +434,7 @@ is_ended m start other below tree known is = cc
 is_next : (m : Meaning) (cursor : Cursor) (start rest : List Token) (fault : TextFault) (tree : Placed)
     (o : Option State) → Goes m start o rest
     → ((next : State) → Known m start next.awaits next.open_now rest → tree_from m cursor next rest ≡ Ok tree
-        → Begin m 0 start tree [])
+    → Begin m 0 start tree [])
     → (ok_or o fault >>= λ next. tree_from m cursor next rest) ≡ Ok tree → Begin m 0 start tree []
 is_next m cursor start rest fault tree None known further is = cc
 is_next m cursor start rest fault tree (Some next) known further is = further next known is
@@ -440,7 +446,7 @@ unfolding tree_from
 sound m cursor start [] s tree known is = is_ended m start s.awaits s.open_now tree known (some_of_ok _ _ tree is)
 sound m cursor start (token ∷ rest) s tree known is =
     is_next m cursor start rest (misplaced token cursor) tree
-        (follows m token (symbol_of m.text token) s.awaits s.open_now)
+    (follows m token (symbol_of m.text token) s.awaits s.open_now)
     (goes m start rest token s.awaits s.open_now known) (λ next. sound m cursor start rest next tree) is
 
 pub is_read_by_rule : IsReadByRule

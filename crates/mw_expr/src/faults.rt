@@ -1,7 +1,8 @@
 // What is at fault in a grammatical expression.
 ghost use Rattle.std.specs.Prelude.{◌≡◌, ◌^◌, nat_lt, Option, Some, true, map, ◌||◌};
 ghost use Rattle.mw_expr.specs.Widths.{width_if, part_width};
-ghost use Rattle.mw_expr.specs.Placed.{placed, parts_of};
+ghost use Rattle.mw_expr.specs.Placed.{placed, parts_of, named, constant};
+ghost use Rattle.mw_expr.specs.declared.shape.Shape.{Shape};
 ghost use Rattle.mw_expr.specs.Faults.{named_width, same_width, seen_pair, seen_choice, beside, within_32, seen_width, seen_total, pair_breaks, is_other, part_breaks, is_past, deep, below, broken, unknown, is_improper, too_wide, faults, faults_in, first_fault};
 ghost use Rattle.mw_base.specs.FirstFaults.{first_in};
 
@@ -190,8 +191,42 @@ fn widen_breaks(width: u128, seen: Option<u8>) -> bool
     is_improper(width) || is_past(width, seen)
 }
 
-/// The width that an expression has for what is around it, where there are so many levels from this one down: 0 at level 65, none
-/// past it. Keeps the first of its faults.
+/// The width of an element, if there is one of that name. Keeps the first of its faults.
+fn check_element(
+    shape: &Shape,
+    levels: Option<u8>,
+    token: Token,
+    number: Option<usize>,
+    first: &mut Option<TextFault>,
+) -> Option<u8>
+    ensures width { result ≡ seen_width shape.now (named token number) }
+    ensures faults { first.new ≡ first_in first.old (faults shape.now levels (named token number)) }
+{
+    note_deep(first, levels, token);
+    let width = named_width(shape, number);
+    note_unknown(first, width, token);
+    width
+}
+
+/// The width that a constant names, if it is one. Keeps the first of its faults.
+fn check_constant(
+    levels: Option<u8>,
+    number: Numeral,
+    hash: Token,
+    bits: u128,
+    first: &mut Option<TextFault>,
+) -> Option<u8>
+    ensures width { (s : Shape) → result ≡ seen_width s (constant number hash bits) }
+    ensures faults { (s : Shape) → first.new ≡ first_in first.old (faults s levels (constant number hash bits)) }
+{
+    note_deep(first, levels, number.token);
+    note_too_wide(first, number, bits);
+    note_broken(first, is_improper(bits), hash);
+    given_width(bits)
+}
+
+/// The width that an expression has for what is around it, where there are so many levels from this one down: 0 at level
+/// 65, none past it. Keeps the first of its faults.
 #[cycle(faults)]
 fn check(
     shape: &Shape,
@@ -203,18 +238,8 @@ fn check(
     ensures faults { first.new ≡ first_in first.old (faults shape.now levels (placed tree.now)) }
 {
     match tree {
-        Placed::Element(token, number) => {
-            note_deep(first, levels, *token);
-            let width = named_width(shape, *number);
-            note_unknown(first, width, *token);
-            width
-        }
-        Placed::Con(number, hash, bits) => {
-            note_deep(first, levels, number.token);
-            note_too_wide(first, *number, *bits);
-            note_broken(first, is_improper(*bits), *hash);
-            given_width(*bits)
-        }
+        Placed::Element(token, number) => check_element(shape, levels, *token, *number, first),
+        Placed::Con(number, hash, bits) => check_constant(levels, *number, *hash, *bits, first),
         Placed::Not(token, e) => {
             note_deep(first, levels, *token);
             check(shape, below(levels), e, first)
