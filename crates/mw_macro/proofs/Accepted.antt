@@ -76,7 +76,7 @@ all_between low high (w ∷ rest) zero all inside =
     between low w high (and_parts (is_within low w high) (list_all (λ w. is_within low w high) rest) all).0
 all_between low high (w ∷ rest) (suc i) all inside =
     all_between low high rest i (and_parts (is_within low w high) (list_all
-      (λ w. is_within low w high) rest) all).1 (omega arith)
+    (λ w. is_within low w high) rest) all).1 (omega arith)
 
 -- ---- statements without faults are right
 
@@ -119,7 +119,7 @@ mutual
       let wide = neither _ _ wide in
       let shallow = neither _ _ shallow in
       both _ _ (expr_right s s.address address known.0 wide.0 shallow.0)
-        (expr_right s s.word e known.1 wide.1 shallow.1)
+      (expr_right s s.word e known.1 wide.1 shallow.1)
   act_right s levels (put e) known wide shallow = expr_right s s.word e known wide shallow
   act_right s levels (take_in target) known wide shallow = both _ _ (holds _ (neither _ _ known).0) (holds _ wide)
   act_right s levels (choose condition first second) known wide shallow =
@@ -156,7 +156,7 @@ mutual
   act_nested s levels other shallow = omega arith
 
   acts_nested : (s : Shape) (levels : ℕ) (all : Acts) → have_fault TooNested s levels all ≡ false
-    → nesting_in all ≤ levels
+      → nesting_in all ≤ levels
   acts_nested s levels nothing shallow = omega arith
   acts_nested s levels (next act rest) shallow =
       let both = neither _ _ shallow in

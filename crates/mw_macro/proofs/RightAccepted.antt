@@ -45,7 +45,7 @@ asked_shallow false w asked right = absurd cc
 
 asked_known : (known : Bool) (deep : ℕ) (w : Option ℕ) (asked : ℕ)
     → is_asked asked (if known then width_at deep w else Err UnknownElement) ≡ true
-      → IsAsked known (nat_le deep 64) w asked
+    → IsAsked known (nat_le deep 64) w asked
 asked_known true deep (Some w) asked right = asked_shallow (nat_le deep 64) w asked right
 asked_known true deep None asked right = absurd cc
 asked_known false deep w asked right = absurd cc
@@ -78,7 +78,7 @@ level_free TooNested levels some = ap not (le_true 1 levels some)
 
 mutual
   act_free : (fault : Fault) (s : Shape) (levels : ℕ) (act : Act) → is_right s act ≡ true → nesting act ≤ levels
-    → has_fault fault s levels act ≡ false
+      → has_fault fault s levels act ≡ false
   act_free fault s levels (assign target e) right nested =
       let parts = and_parts _ _ right in
       neither_of _ _ (target_free fault s target parts.0) (expr_free fault s (slice_index s.widths target) e parts.1)
@@ -89,37 +89,49 @@ mutual
   act_free fault s levels (take_in target) right nested =
       let parts = and_parts _ _ right in
       neither_of _ _ (target_free fault s target parts.0) (input_free fault
-        (slice_index s.widths target) s.word parts.1)
+      (slice_index s.widths target) s.word parts.1)
   act_free fault s levels (choose condition first second) right nested =
+      let one : nesting_in first ≤ levels - 1 = omega (
+        arith,
+        nested,
+        le-max_left (nesting_in first)
+            (nesting_in second),
+      ) in
+      let other : nesting_in second ≤ levels - 1 = omega (
+        arith,
+        nested,
+        le-max_right (nesting_in first)
+            (nesting_in second),
+      ) in
       let parts = and_parts _ _ right in
       let lists = and_parts _ _ parts.1 in
-      let one : nesting_in first ≤ levels - 1 = omega (arith, nested, le-max_left (nesting_in first)
-        (nesting_in second)) in
-      let other : nesting_in second ≤ levels - 1 = omega (arith, nested, le-max_right (nesting_in first)
-        (nesting_in second)) in
       neither_of _ _ (level_free fault levels (omega (arith, nested)))
       (neither_of _ _ (expr_free fault s 1 condition parts.0)
       (neither_of _ _ (acts_free fault s (levels - 1) first lists.0 one) (acts_free fault s
-        (levels - 1) second lists.1 other)))
+      (levels - 1) second lists.1 other)))
 
   acts_free : (fault : Fault) (s : Shape) (levels : ℕ) (all : Acts) → are_right s all ≡ true → nesting_in all ≤ levels
       → have_fault fault s levels all ≡ false
   acts_free fault s levels nothing right nested = refl
   acts_free fault s levels (next act rest) right nested =
       let parts = and_parts _ _ right in
-      neither_of _ _ (act_free fault s levels act parts.0 (omega (arith, nested, le-max_left (nesting act)
-        (nesting_in rest))))
+      neither_of _ _ (act_free fault s levels act parts.0 (omega (
+        arith,
+        nested,
+        le-max_left (nesting act)
+            (nesting_in rest),
+      )))
       (acts_free fault s levels rest parts.1 (omega (arith, nested, le-max_right (nesting act) (nesting_in rest))))
 
 pub right_accepted : RightAreAccepted
 unfolding refusal_of is_within_limits are_ranges
 right_accepted m right =
     let limits : is_within_limits m ≡ true =
-        both _ _ (le_true _ _ right.registers) (both _ _ (le_true _ _ right.temporaries)
-        (both _ _ (le_true _ _ right.statements) (le_true _ _ right.reads))) in
+    both _ _ (le_true _ _ right.registers) (both _ _ (le_true _ _ right.temporaries)
+    (both _ _ (le_true _ _ right.statements) (le_true _ _ right.reads))) in
     let ranges : are_ranges m.names m.shape ≡ true =
-        both _ _ (both _ _ (both _ _ right.lengths (all_within 1 32 m.shape.widths right.widths))
-        (within 1 m.shape.address 16 right.address)) (within 4 m.shape.word 32 right.word) in
+    both _ _ (both _ _ (both _ _ right.lengths (all_within 1 32 m.shape.widths right.widths))
+    (within 1 m.shape.address 16 right.address)) (within 4 m.shape.word 32 right.word) in
     let free : (fault : Fault) → is_free_of fault m ≡ true =
-        λ fault. ap not (acts_free fault m.shape 64 m.acts right.right right.nested) in
+    λ fault. ap not (acts_free fault m.shape 64 m.acts right.right right.nested) in
     rw (limits, right.names, ranges, free NoElement, free OtherWidth, free TooNested) refl

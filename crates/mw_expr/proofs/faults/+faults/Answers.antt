@@ -13,31 +13,31 @@ check-returns-in-Not-clause-faults t c =
     let levels = c.args.levels in
     let s = c.args.shape.now in
     let seen : placed c.args.tree.now ≡ complement c.in-Not.token (placed c.in-Not.e.value) = rw c.in-Not.is
-      (search (rules, the_lemmas)) in
+    (search (rules, the_lemmas)) in
     let e = rw (c.below.ensures, c.deref.ensures) at c.check.ensures.faults in
     rw seen (after_two _ _ _ (deep levels c.in-Not.token) (faults s (below levels)
-      (placed c.in-Not.e.value)) c.note_deep.ensures e)
+    (placed c.in-Not.e.value)) c.note_deep.ensures e)
 
 pub check-returns-in-Group-clause-faults : goal.check-returns-in-Group-clause-faults
 check-returns-in-Group-clause-faults t c =
     let levels = c.args.levels in
     let s = c.args.shape.now in
     let seen : placed c.args.tree.now ≡ group c.in-Group.token (placed c.in-Group.e.value) = rw c.in-Group.is
-      (search (rules, the_lemmas)) in
+    (search (rules, the_lemmas)) in
     let e = rw (c.below-in-Group.ensures, c.deref-in-Group.ensures) at c.check-in-Group.ensures.faults in
     rw seen (after_two _ _ _ (deep levels c.in-Group.token) (faults s (below levels)
-      (placed c.in-Group.e.value)) c.note_deep-in-Group.ensures e)
+    (placed c.in-Group.e.value)) c.note_deep-in-Group.ensures e)
 
 pub check-returns-in-Con-clause-width : goal.check-returns-in-Con-clause-width
 check-returns-in-Con-clause-width t c =
     let seen : placed c.args.tree.now ≡ constant c.in-Con.number c.in-Con.hash c.in-Con.bits =
-        rw c.in-Con.is (search (rules, the_lemmas)) in
+    rw c.in-Con.is (search (rules, the_lemmas)) in
     rw seen (c.check_constant.ensures.width c.args.shape.now)
 
 pub check-returns-in-Con-clause-faults : goal.check-returns-in-Con-clause-faults
 check-returns-in-Con-clause-faults t c =
     let seen : placed c.args.tree.now ≡ constant c.in-Con.number c.in-Con.hash c.in-Con.bits =
-        rw c.in-Con.is (search (rules, the_lemmas)) in
+    rw c.in-Con.is (search (rules, the_lemmas)) in
     rw seen (c.check_constant.ensures.faults c.args.shape.now)
 
 pub check-returns-in-Two-clause-faults : goal.check-returns-in-Two-clause-faults
@@ -45,16 +45,16 @@ check-returns-in-Two-clause-faults t c =
     let levels = c.args.levels in
     let s = c.args.shape.now in
     let seen : placed c.args.tree.now ≡ pair c.in-Two.op c.in-Two.token (placed c.in-Two.a.value)
-      (placed c.in-Two.b.value) = rw c.in-Two.is (search (rules, the_lemmas)) in
+    (placed c.in-Two.b.value) = rw c.in-Two.is (search (rules, the_lemmas)) in
     let a = rw (c.below-in-Two.ensures, c.deref-in-Two.ensures) at c.check-one.ensures.faults in
     let b = rw (c.below-in-Two-2.ensures, c.deref-in-Two-2.ensures) at c.check-other.ensures.faults in
     let first = rw c.deref-in-Two.ensures at c.check-one.ensures.width in
     let second = rw c.deref-in-Two-2.ensures at c.check-other.ensures.width in
     let breaks = rw (c.pair_breaks.ensures, first, second) at c.note_broken.ensures in
     rw seen (after_four _ _ _ _ _ (deep levels c.in-Two.token) (faults s (below levels) (placed c.in-Two.a.value))
-      (faults s (below levels) (placed c.in-Two.b.value))
+    (faults s (below levels) (placed c.in-Two.b.value))
     (broken (pair_breaks (seen_width s (placed c.in-Two.a.value)) (seen_width s
-      (placed c.in-Two.b.value))) c.in-Two.token)
+    (placed c.in-Two.b.value))) c.in-Two.token)
     c.note_deep-in-Two.ensures a b breaks)
 
 pub check-returns-in-Choose-clause-faults : goal.check-returns-in-Choose-clause-faults
@@ -62,7 +62,7 @@ check-returns-in-Choose-clause-faults t c =
     let levels = c.args.levels in
     let s = c.args.shape.now in
     let seen : placed c.args.tree.now ≡ choice c.in-Choose.token (placed c.in-Choose.condition.value)
-      (placed c.in-Choose.a.value) (placed c.in-Choose.b.value) = rw c.in-Choose.is (search (rules, the_lemmas)) in
+    (placed c.in-Choose.a.value) (placed c.in-Choose.b.value) = rw c.in-Choose.is (search (rules, the_lemmas)) in
     let condition = rw (c.below-in-Choose.ensures, c.deref-in-Choose.ensures) at c.check-chosen_by.ensures.faults in
     let a = rw (c.below-in-Choose-2.ensures, c.deref-in-Choose-2.ensures) at c.check-one-in-Choose.ensures.faults in
     let b = rw (c.below-in-Choose-3.ensures, c.deref-in-Choose-3.ensures) at c.check-other-in-Choose.ensures.faults in
@@ -71,10 +71,10 @@ check-returns-in-Choose-clause-faults t c =
     let second = rw c.deref-in-Choose-3.ensures at c.check-other-in-Choose.ensures.width in
     let breaks = rw (c.choice_breaks.ensures, chosen_by, first, second) at c.note_broken-in-Choose.ensures in
     rw seen (after_five _ _ _ _ _ _ (deep levels c.in-Choose.token) (faults s (below levels)
-      (placed c.in-Choose.condition.value))
+    (placed c.in-Choose.condition.value))
     (faults s (below levels) (placed c.in-Choose.a.value)) (faults s (below levels) (placed c.in-Choose.b.value))
     (broken (is_other 1 (seen_width s (placed c.in-Choose.condition.value)) || pair_breaks (seen_width s
-      (placed c.in-Choose.a.value)) (seen_width s (placed c.in-Choose.b.value))) c.in-Choose.token)
+    (placed c.in-Choose.a.value)) (seen_width s (placed c.in-Choose.b.value))) c.in-Choose.token)
     c.note_deep-in-Choose.ensures condition a b breaks)
 
 pub check-returns-in-Part-clause-faults : goal.check-returns-in-Part-clause-faults
@@ -82,7 +82,7 @@ check-returns-in-Part-clause-faults t c =
     let levels = c.args.levels in
     let s = c.args.shape.now in
     let seen : placed c.args.tree.now ≡ part c.in-Part.token c.in-Part.high c.in-Part.low
-      (placed c.in-Part.e.value) = rw c.in-Part.is (search (rules, the_lemmas)) in
+    (placed c.in-Part.e.value) = rw c.in-Part.is (search (rules, the_lemmas)) in
     let e = rw (c.below-in-Part.ensures, c.deref-in-Part.ensures) at c.check-whole.ensures.faults in
     let width = rw c.deref-in-Part.ensures at c.check-whole.ensures.width in
     let breaks = rw (c.part_breaks.ensures, width) at c.note_broken-in-Part.ensures in
@@ -95,13 +95,13 @@ check-returns-in-Widen-clause-faults t c =
     let levels = c.args.levels in
     let s = c.args.shape.now in
     let seen : placed c.args.tree.now ≡ widened c.in-Widen.token c.in-Widen.width
-      (placed c.in-Widen.e.value) = rw c.in-Widen.is (search (rules, the_lemmas)) in
+    (placed c.in-Widen.e.value) = rw c.in-Widen.is (search (rules, the_lemmas)) in
     let e = rw (c.below-in-Widen.ensures, c.deref-in-Widen.ensures) at c.check-narrow.ensures.faults in
     let width = rw c.deref-in-Widen.ensures at c.check-narrow.ensures.width in
     let breaks = rw (c.widen_breaks.ensures, width) at c.note_broken-in-Widen.ensures in
     rw seen (after_three _ _ _ _ (deep levels c.in-Widen.token) (faults s (below levels) (placed c.in-Widen.e.value))
     (broken (is_improper c.in-Widen.width || is_past c.in-Widen.width (seen_width s
-      (placed c.in-Widen.e.value))) c.in-Widen.token)
+    (placed c.in-Widen.e.value))) c.in-Widen.token)
     c.note_deep-in-Widen.ensures e breaks)
 
 pub check-returns-in-Memory-clause-faults : goal.check-returns-in-Memory-clause-faults
@@ -109,7 +109,7 @@ check-returns-in-Memory-clause-faults t c =
     let levels = c.args.levels in
     let s = c.args.shape.now in
     let seen : placed c.args.tree.now ≡ memory c.in-Memory.token (placed c.in-Memory.e.value) = rw c.in-Memory.is
-      (search (rules, the_lemmas)) in
+    (search (rules, the_lemmas)) in
     let e = rw (c.below-in-Memory.ensures, c.deref-in-Memory.ensures) at c.check-address.ensures.faults in
     let width = rw c.deref-in-Memory.ensures at c.check-address.ensures.width in
     let breaks = rw (c.is_other.ensures, width) at c.note_broken-in-Memory.ensures in
@@ -122,12 +122,12 @@ check-returns-in-Join-clause-faults t c =
     let levels = c.args.levels in
     let s = c.args.shape.now in
     let seen : placed c.args.tree.now ≡ join c.in-Join.token (parts_of
-      (map placed c.in-Join.parts.items)) = rw c.in-Join.is (search (rules, the_lemmas)) in
+    (map placed c.in-Join.parts.items)) = rw c.in-Join.is (search (rules, the_lemmas)) in
     let parts = rw (c.below-in-Join.ensures, c.deref-in-Join.ensures.value) at c.check_parts-whole.ensures.faults in
     let width = rw c.deref-in-Join.ensures.value at c.check_parts-whole.ensures.width in
     let breaks = rw (c.is_past.ensures, width) at c.note_broken-in-Join.ensures in
     rw seen (after_three _ _ _ _ (deep levels c.in-Join.token) (faults_in s (below levels) (parts_of
-      (map placed c.in-Join.parts.items)))
+    (map placed c.in-Join.parts.items)))
     (broken (is_past 32 (seen_total s (Some 0) (parts_of (map placed c.in-Join.parts.items)))) c.in-Join.token)
     c.note_deep-in-Join.ensures parts breaks)
 
@@ -142,7 +142,7 @@ check_parts-loop-part-preserved t c =
     record {
       width = rw (c.beside-whole.ensures, c.check-width.ensures.width) width;
       faults = ap (λ x. first_in x (faults_in c.args.shape.now c.args.levels (parts_of
-        (map placed rest)))) c.check-width.ensures.faults ∙ sym (first_in_append c.loop-part.first
-        (faults c.args.shape.now c.args.levels (placed c.part-item.result))
-        (faults_in c.args.shape.now c.args.levels (parts_of (map placed rest)))) ∙ noted;
+          (map placed rest)))) c.check-width.ensures.faults ∙ sym (first_in_append c.loop-part.first
+          (faults c.args.shape.now c.args.levels (placed c.part-item.result))
+          (faults_in c.args.shape.now c.args.levels (parts_of (map placed rest)))) ∙ noted;
     }
