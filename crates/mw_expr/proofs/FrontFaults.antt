@@ -8,7 +8,7 @@ use Rattle.mw_base.specs.Reading.{◌>>=◌}
 use Rattle.mw_base.specs.Symbols.{symbol_of}
 use Rattle.mw_expr.specs.Fronts.{IsWithin, longer, IsFront, IsFrontFault, at_token, at_end, FaultsEndFronts}
 use Rattle.mw_expr.specs.Grammar.{Meaning, follows, ended, tree_from, tree_of, beginning}
-use Rattle.mw_expr.specs.Placed.{Placed, State}
+use Rattle.mw_expr.specs.Placed.{State}
 use Rattle.mw_expr.proofs.Closing.{closes_any}
 use Rattle.mw_expr.proofs.Complete.{step, is_read_where_ruled}
 use Rattle.mw_expr.proofs.Longer.{HasRead, follows_longer, Holds, holds}

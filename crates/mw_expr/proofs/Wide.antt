@@ -1,14 +1,12 @@
 -- A whole expression at which nothing is at fault has a width.
 use Rattle.std.proofs.Common.{◌≡◌, ℕ, zero, suc, ◌+◌, ◌-◌, ◌≤◌, ◌^◌, List, [], ◌∷◌, ◌++◌, length, Bool, true, false, refl, ap, ◌∙◌, sym, max, arith}
-use Rattle.std.specs.Prelude.{Option, Some, None, min, not, nat_le, nat_lt, ◌&&◌, ◌||◌, if◌then◌else◌, slice_get, Ok, IsOk}
+use Rattle.std.specs.Prelude.{Option, Some, None, min, nat_lt, ◌||◌, slice_get, Ok, IsOk}
 use Rattle.std.proofs.lemmas.Bool.{and_from}
 use Rattle.std.proofs.lemmas.Bool.Decides.{nat_tests}
 use Rattle.std.proofs.lemmas.Option.{slice_get_within}
 use Rattle.mw_base.specs.declared.cursor.Numeral.{Numeral}
 use Rattle.mw_base.specs.declared.token.Token.{Token}
-use Rattle.mw_base.specs.declared.cause.Cause.TheVariants.{TooWide, WidthsDiffer}
 use Rattle.mw_base.specs.Cursors.{Cursor}
-use Rattle.mw_base.specs.TokenLines.{fault_on}
 use Rattle.mw_expr.specs.declared.expr.Pair2.{Pair2}
 use Rattle.mw_expr.specs.declared.expr.Pair2.TheVariants.{And, Or, Xor, Add, Sub, Same, Differ, Less}
 use Rattle.mw_expr.specs.declared.shape.Shape.{Shape}
