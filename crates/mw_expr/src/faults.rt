@@ -1,7 +1,7 @@
 // What is at fault in a grammatical expression.
 ghost use Rattle.std.specs.Prelude.{◌≡◌, ◌^◌, nat_lt, Option, Some, true, map, ◌||◌};
 ghost use Rattle.mw_expr.specs.Widths.{width_if, part_width};
-ghost use Rattle.mw_expr.specs.Placed.{placed, parts_of, named, constant};
+ghost use Rattle.mw_expr.specs.Placed.{placed, parts_of, named, constant, pair, choice};
 ghost use Rattle.mw_expr.specs.declared.shape.Shape.{Shape};
 ghost use Rattle.mw_expr.specs.Faults.{named_width, same_width, seen_pair, seen_choice, beside, within_32, seen_width, seen_total, pair_breaks, is_other, part_breaks, is_past, deep, below, broken, unknown, is_improper, too_wide, faults, faults_in, first_fault};
 ghost use Rattle.mw_base.specs.FirstFaults.{first_in};
@@ -225,7 +225,8 @@ fn check_constant(
     given_width(bits)
 }
 
-/// The width that an expression has for what is around it, where there are so many levels from this one down: 0 at level
+/// The width that an expression has for what is around it, where there are so many levels from this one down: 0 at
+/// level
 /// 65, none past it. Keeps the first of its faults.
 #[cycle(faults)]
 fn check(
@@ -244,20 +245,9 @@ fn check(
             note_deep(first, levels, *token);
             check(shape, below(levels), e, first)
         }
-        Placed::Two(op, token, a, b) => {
-            note_deep(first, levels, *token);
-            let one = check(shape, below(levels), a, first);
-            let other = check(shape, below(levels), b, first);
-            note_broken(first, pair_breaks(one, other), *token);
-            seen_pair(*op, one, other)
-        }
+        Placed::Two(op, token, a, b) => check_pair(shape, levels, *op, *token, a, b, first),
         Placed::Choose(token, condition, a, b) => {
-            note_deep(first, levels, *token);
-            let chosen_by = check(shape, below(levels), condition, first);
-            let one = check(shape, below(levels), a, first);
-            let other = check(shape, below(levels), b, first);
-            note_broken(first, choice_breaks(chosen_by, one, other), *token);
-            seen_choice(chosen_by, one, other)
+            check_choice(shape, levels, *token, condition, a, b, first)
         }
         Placed::Part(token, high, low, e) => {
             note_deep(first, levels, *token);
@@ -290,7 +280,52 @@ fn check(
     }
 }
 
-/// The width of the parts of a join together, where 33 stands for all that pass 32 bits. Keeps the first of their faults.
+/// The width of a sign between two operands. Keeps the first of its faults.
+#[cycle(faults)]
+fn check_pair(
+    shape: &Shape,
+    levels: Option<u8>,
+    op: Pair2,
+    token: Token,
+    a: &Placed,
+    b: &Placed,
+    first: &mut Option<TextFault>,
+) -> Option<u8>
+    ensures width { result ≡ seen_width shape.now (pair op token (placed a.now) (placed b.now)) }
+    ensures faults { first.new ≡ first_in first.old (faults shape.now levels (pair op token (placed a.now) (placed b.now))) }
+{
+    note_deep(first, levels, token);
+    let one = check(shape, below(levels), a, first);
+    let other = check(shape, below(levels), b, first);
+    note_broken(first, pair_breaks(one, other), token);
+    seen_pair(op, one, other)
+}
+
+/// The width of a choice. Keeps the first of its faults.
+#[cycle(faults)]
+fn check_choice(
+    shape: &Shape,
+    levels: Option<u8>,
+    token: Token,
+    condition: &Placed,
+    a: &Placed,
+    b: &Placed,
+    first: &mut Option<TextFault>,
+) -> Option<u8>
+    ensures width { result ≡ seen_width shape.now (choice token (placed condition.now) (placed a.now) (placed b.now)) }
+    ensures faults { first.new
+        ≡ first_in first.old (faults shape.now levels (choice token (placed condition.now) (placed a.now) (placed b.now))) }
+{
+    note_deep(first, levels, token);
+    let chosen_by = check(shape, below(levels), condition, first);
+    let one = check(shape, below(levels), a, first);
+    let other = check(shape, below(levels), b, first);
+    note_broken(first, choice_breaks(chosen_by, one, other), token);
+    seen_choice(chosen_by, one, other)
+}
+
+/// The width of the parts of a join together, where 33 stands for all that pass 32 bits. Keeps the first of their
+/// faults.
 #[cycle(faults)]
 fn check_parts(
     shape: &Shape,

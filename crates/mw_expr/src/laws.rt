@@ -9,7 +9,8 @@ pub fn parts_have_widths()
     ensures { PartsHaveWidths }
 {}
 
-/// The law of widths: the width of an expression is the one that the rules of widths give, so what these ask of its parts holds.
+/// The law of widths: the width of an expression is the one that the rules of widths give, so what these ask of its
+/// parts holds.
 pub fn widths_are_by_rule()
     ensures { WidthsAreByRule }
 {}

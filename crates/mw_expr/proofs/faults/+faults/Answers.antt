@@ -2,7 +2,7 @@ use Rattle.std.proofs.Common.{◌≡◌, ◌+◌, map, drop, arith, rules, ap, �
 use Rattle.std.specs.Prelude.{Some, ◌||◌}
 use Rattle.mw_base.proofs.Lists as lists
 use Rattle.mw_expr.specs.declared.placed.Placed.{the_lemmas}
-use Rattle.mw_expr.specs.Placed.{placed, parts_of, constant, complement, pair, choice, part, join, widened, memory, group}
+use Rattle.mw_expr.specs.Placed.{placed, parts_of, constant, complement, part, join, widened, memory, group}
 use Rattle.mw_expr.specs.Faults.{seen_width, seen_total, pair_breaks, is_other, part_breaks, is_past, deep, below, broken, is_improper, faults, faults_in}
 use Rattle.mw_base.specs.FirstFaults.{first_in}
 use Rattle.mw_base.proofs.FirstFaults.{first_in_append, after_two, after_three, after_four, after_five}
@@ -40,42 +40,36 @@ check-returns-in-Con-clause-faults t c =
     rw c.in-Con.is (search (rules, the_lemmas)) in
     rw seen (c.check_constant.ensures.faults c.args.shape.now)
 
-pub check-returns-in-Two-clause-faults : goal.check-returns-in-Two-clause-faults
-check-returns-in-Two-clause-faults t c =
+pub check_pair-returns-clause-faults : goal.check_pair-returns-clause-faults
+check_pair-returns-clause-faults t c =
     let levels = c.args.levels in
     let s = c.args.shape.now in
-    let seen : placed c.args.tree.now ≡ pair c.in-Two.op c.in-Two.token (placed c.in-Two.a.value)
-    (placed c.in-Two.b.value) = rw c.in-Two.is (search (rules, the_lemmas)) in
-    let a = rw (c.below-in-Two.ensures, c.deref-in-Two.ensures) at c.check-one.ensures.faults in
-    let b = rw (c.below-in-Two-2.ensures, c.deref-in-Two-2.ensures) at c.check-other.ensures.faults in
-    let first = rw c.deref-in-Two.ensures at c.check-one.ensures.width in
-    let second = rw c.deref-in-Two-2.ensures at c.check-other.ensures.width in
-    let breaks = rw (c.pair_breaks.ensures, first, second) at c.note_broken.ensures in
-    rw seen (after_four _ _ _ _ _ (deep levels c.in-Two.token) (faults s (below levels) (placed c.in-Two.a.value))
-    (faults s (below levels) (placed c.in-Two.b.value))
-    (broken (pair_breaks (seen_width s (placed c.in-Two.a.value)) (seen_width s
-    (placed c.in-Two.b.value))) c.in-Two.token)
-    c.note_deep-in-Two.ensures a b breaks)
+    let left = placed c.args.a.now in
+    let right = placed c.args.b.now in
+    let a = rw c.below.ensures at c.check-one.ensures.faults in
+    let b = rw c.below-2.ensures at c.check-other.ensures.faults in
+    let breaks = rw (c.pair_breaks.ensures, c.check-one.ensures.width,
+        c.check-other.ensures.width) at c.note_broken.ensures in
+    after_four _ _ _ _ _ (deep levels c.args.token) (faults s (below levels) left) (faults s (below levels) right)
+    (broken (pair_breaks (seen_width s left) (seen_width s right)) c.args.token) c.note_deep.ensures a b breaks
 
-pub check-returns-in-Choose-clause-faults : goal.check-returns-in-Choose-clause-faults
-check-returns-in-Choose-clause-faults t c =
+pub check_choice-returns-clause-faults : goal.check_choice-returns-clause-faults
+check_choice-returns-clause-faults t c =
     let levels = c.args.levels in
     let s = c.args.shape.now in
-    let seen : placed c.args.tree.now ≡ choice c.in-Choose.token (placed c.in-Choose.condition.value)
-    (placed c.in-Choose.a.value) (placed c.in-Choose.b.value) = rw c.in-Choose.is (search (rules, the_lemmas)) in
-    let condition = rw (c.below-in-Choose.ensures, c.deref-in-Choose.ensures) at c.check-chosen_by.ensures.faults in
-    let a = rw (c.below-in-Choose-2.ensures, c.deref-in-Choose-2.ensures) at c.check-one-in-Choose.ensures.faults in
-    let b = rw (c.below-in-Choose-3.ensures, c.deref-in-Choose-3.ensures) at c.check-other-in-Choose.ensures.faults in
-    let chosen_by = rw c.deref-in-Choose.ensures at c.check-chosen_by.ensures.width in
-    let first = rw c.deref-in-Choose-2.ensures at c.check-one-in-Choose.ensures.width in
-    let second = rw c.deref-in-Choose-3.ensures at c.check-other-in-Choose.ensures.width in
-    let breaks = rw (c.choice_breaks.ensures, chosen_by, first, second) at c.note_broken-in-Choose.ensures in
-    rw seen (after_five _ _ _ _ _ _ (deep levels c.in-Choose.token) (faults s (below levels)
-    (placed c.in-Choose.condition.value))
-    (faults s (below levels) (placed c.in-Choose.a.value)) (faults s (below levels) (placed c.in-Choose.b.value))
-    (broken (is_other 1 (seen_width s (placed c.in-Choose.condition.value)) || pair_breaks (seen_width s
-    (placed c.in-Choose.a.value)) (seen_width s (placed c.in-Choose.b.value))) c.in-Choose.token)
-    c.note_deep-in-Choose.ensures condition a b breaks)
+    let asked = placed c.args.condition.now in
+    let left = placed c.args.a.now in
+    let right = placed c.args.b.now in
+    let condition = rw c.below.ensures at c.check-chosen_by.ensures.faults in
+    let a = rw c.below-2.ensures at c.check-one.ensures.faults in
+    let b = rw c.below-3.ensures at c.check-other.ensures.faults in
+    let breaks =
+        rw (c.choice_breaks.ensures, c.check-chosen_by.ensures.width, c.check-one.ensures.width,
+            c.check-other.ensures.width) at c.note_broken.ensures in
+    after_five _ _ _ _ _ _ (deep levels c.args.token) (faults s (below levels) asked) (faults s (below levels) left)
+    (faults s (below levels) right)
+    (broken (is_other 1 (seen_width s asked) || pair_breaks (seen_width s left) (seen_width s right)) c.args.token)
+    c.note_deep.ensures condition a b breaks
 
 pub check-returns-in-Part-clause-faults : goal.check-returns-in-Part-clause-faults
 check-returns-in-Part-clause-faults t c =
@@ -85,7 +79,7 @@ check-returns-in-Part-clause-faults t c =
     (placed c.in-Part.e.value) = rw c.in-Part.is (search (rules, the_lemmas)) in
     let e = rw (c.below-in-Part.ensures, c.deref-in-Part.ensures) at c.check-whole.ensures.faults in
     let width = rw c.deref-in-Part.ensures at c.check-whole.ensures.width in
-    let breaks = rw (c.part_breaks.ensures, width) at c.note_broken-in-Part.ensures in
+    let breaks = rw (c.part_breaks.ensures, width) at c.note_broken.ensures in
     rw seen (after_three _ _ _ _ (deep levels c.in-Part.token) (faults s (below levels) (placed c.in-Part.e.value))
     (broken (part_breaks c.in-Part.high c.in-Part.low (seen_width s (placed c.in-Part.e.value))) c.in-Part.token)
     c.note_deep-in-Part.ensures e breaks)
