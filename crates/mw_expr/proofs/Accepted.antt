@@ -85,8 +85,12 @@ listed_widths s (more tree rest) known wide shallow =
     let each = and_parts _ _ known in
     let widths = added-some _ _ wide in
     All-cons (Accepts s) tree (listed rest)
-    (of_width s tree (record { known = each.0; wide = widths.0; shallow = omega
-        (arith, le-max_left (depth tree) (deepest rest)) }))
+    (of_width s tree (record {
+      known = each.0;
+      wide = widths.0;
+      shallow = omega
+          (arith, le-max_left (depth tree) (deepest rest));
+    }))
     (listed_widths s rest each.1 widths.1 (omega (arith, le-max_right (depth tree) (deepest rest))))
 
 -- one part, two and three
@@ -113,12 +117,20 @@ parts_have s (choice c a b) h =
     let left = le-max_left (depth c) (max (depth a) (depth b)) in
     let right = le-max_right (depth c) (max (depth a) (depth b)) in
     All-cons (Accepts s) c (a ∷ b ∷ [])
-        (of_width s c (record { known = known.0; wide = wide.0; shallow = omega (arith, h.shallow, left) }))
+    (of_width s c (record { known = known.0; wide = wide.0; shallow = omega (arith, h.shallow, left) }))
     (two s a b
-    (record { known = both.0; wide = wide.1; shallow = omega
-        (arith, h.shallow, right, le-max_left (depth a) (depth b)) })
-    (record { known = both.1; wide = wide.2; shallow = omega
-        (arith, h.shallow, right, le-max_right (depth a) (depth b)) }))
+    (record {
+      known = both.0;
+      wide = wide.1;
+      shallow = omega
+          (arith, h.shallow, right, le-max_left (depth a) (depth b));
+    })
+    (record {
+      known = both.1;
+      wide = wide.2;
+      shallow = omega
+          (arith, h.shallow, right, le-max_right (depth a) (depth b));
+    }))
 parts_have s (part e high low) h = one s e
     (record { known = h.known; wide = part-some high low _ h.wide; shallow = omega (arith, h.shallow) })
 parts_have s (join parts) h = listed_widths s parts h.known (join-some _ _ h.wide) (omega (arith, h.shallow))

@@ -19,7 +19,7 @@ element_there (w ∷ rest) (suc n) some = omega (arith, element_there rest n som
 -- and has its own width
 pub element_of_width : (widths : List ℕ) (n : ℕ) → IsSome (element_width (slice_get widths n)) →
     (element_width (slice_get widths n) ≡ Some (slice_index widths n)) × (1 ≤ slice_index widths n) ×
-        (slice_index widths n ≤ 32)
+    (slice_index widths n ≤ 32)
 element_of_width [] n some = grind arith
 element_of_width (w ∷ rest) zero some = let h = width_if-some true w some in (h.0, h.1, h.2)
 element_of_width (w ∷ rest) (suc n) some = element_of_width rest n some

@@ -73,7 +73,7 @@ small_constant : (number : Numeral) (hash : Token) (w : ℕ) → too_wide number
     → (nat_lt number.value (2 ^ 32) && nat_lt w (2 ^ 8)) ≡ true
 small_constant number hash w is =
     let fits = value_fits (nat_lt number.value (2 ^ w)) number w refl
-        (nil_front (too_wide number w) (broken (is_improper w) hash) is) in
+    (nil_front (too_wide number w) (broken (is_improper w) hash) is) in
     let proper = not_broken (is_improper w) hash (nil_back (too_wide number w) (broken (is_improper w) hash) is) in
     let most : w ≤ 32 = grind (arith, nat_tests) in
     let below = below_wider number.value w 32 fits most in
@@ -141,7 +141,7 @@ mutual
       let parts = nil_back (deep levels token) (fa ++ (fb ++ breaks)) is in
       let after = nil_back fa (fb ++ breaks) parts in
       and_from _ _ (small s (below levels) a shape (nil_front fa (fb ++ breaks) parts))
-          (small s (below levels) b shape (nil_front fb breaks after))
+      (small s (below levels) b shape (nil_front fb breaks after))
   small s levels (choice token c a b) shape is =
       let fc = faults s (below levels) c in
       let fa = faults s (below levels) a in
@@ -152,7 +152,7 @@ mutual
       let after = nil_back fa (fb ++ breaks) both in
       and_from _ _ (small s (below levels) c shape (nil_front fc (fa ++ (fb ++ breaks)) parts))
       (and_from _ _ (small s (below levels) a shape (nil_front fa (fb ++ breaks) both))
-          (small s (below levels) b shape (nil_front fb breaks after)))
+      (small s (below levels) b shape (nil_front fb breaks after)))
   small s levels (part token high low e) shape is =
       let fe = faults s (below levels) e in
       let breaks = broken (part_breaks high low (seen_width s e)) token in
@@ -168,7 +168,7 @@ mutual
       let breaks = broken (is_improper w || is_past w (seen_width s e)) token in
       let parts = nil_back (deep levels token) (fe ++ breaks) is in
       and_from _ _ (small s (below levels) e shape (nil_front fe breaks parts))
-          (small_width w _ token (nil_back fe breaks parts))
+      (small_width w _ token (nil_back fe breaks parts))
   small s levels (memory token e) shape is =
       let fe = faults s (below levels) e in
       let breaks = broken (is_other s.address (seen_width s e)) token in

@@ -131,7 +131,7 @@ sees_constant : (s : Shape) (k : ℕ) (number : Numeral) (hash : Token) (w : ℕ
     → Sees s (suc k) (constant number hash w)
 sees_constant s k number hash w is =
     let fits = value_fits (nat_lt number.value (2 ^ w)) number w refl
-        (nil_front (too_wide number w) (broken (is_improper w) hash) is) in
+    (nil_front (too_wide number w) (broken (is_improper w) hash) is) in
     let proper = not_broken (is_improper w) hash (nil_back (too_wide number w) (broken (is_improper w) hash) is) in
     record {
       w = w;
@@ -146,7 +146,7 @@ sees_constant s k number hash w is =
 -- operands of a sign, of one width
 pair_sees : (op : Pair2) (a b : ℕ) → 1 ≤ a → a ≤ 32 → pair_breaks (Some a) (Some b) ≡ false
     → (pair_width op (Some a) (Some b) ≡ Some (width_after op a)) ×
-        (seen_pair op (Some a) (Some b) ≡ Some (width_after op a))
+    (seen_pair op (Some a) (Some b) ≡ Some (width_after op a))
     × (1 ≤ width_after op a) × (width_after op a ≤ 32)
 pair_sees And a b least most same = (grind (arith, nat_tests), grind (arith, nat_tests), least, most)
 pair_sees Or a b least most same = (grind (arith, nat_tests), grind (arith, nat_tests), least, most)
@@ -212,7 +212,7 @@ sees_pair s k op token a b ha hb is =
 
 sees_choice : (s : Shape) (k : ℕ) (token : Token) (c a b : Placed) → Sees s k c → Sees s k a → Sees s k b
     → broken (is_other 1 (seen_width s c) || pair_breaks (seen_width s a) (seen_width s b)) token ≡ []
-        → Sees s (suc k) (choice token c a b)
+    → Sees s (suc k) (choice token c a b)
 sees_choice s k token c a b hc ha hb is =
     let same = rw (hc.seen, ha.seen, hb.seen) at (not_broken _ token is) in
     let h = choice_sees hc.w ha.w hb.w ha.least ha.most same in
@@ -255,8 +255,16 @@ sees_widened : (s : Shape) (k : ℕ) (token : Token) (w : ℕ) (e : Placed) → 
 sees_widened s k token w e he is =
     let holds = rw he.seen at (not_broken _ token is) in
     let h = widened_sees w he.w holds in
-    record { w = w; known = he.known; wide = rw he.wide h.0; seen = h.1; least = h.2; most = h.3; shallow = omega
-        (arith, he.shallow) }
+    record {
+      w = w;
+      known = he.known;
+      wide = rw he.wide h.0;
+      seen = h.1;
+      least = h.2;
+      most = h.3;
+      shallow = omega
+          (arith, he.shallow);
+    }
 
 sees_memory : (s : Shape) (k : ℕ) (token : Token) (e : Placed) → IsShape s → Sees s k e
     → broken (is_other s.address (seen_width s e)) token ≡ []
@@ -273,15 +281,23 @@ mutual
   sees s (suc k) (constant number hash w) shape is two = sees_constant s k number hash w is
   sees s (suc k) (complement token e) shape is two =
       let h = sees s k e shape is two in
-      record { w = h.w; known = h.known; wide = h.wide; seen = h.seen; least = h.least; most = h.most; shallow = omega
-          (arith, h.shallow) }
+      record {
+        w = h.w;
+        known = h.known;
+        wide = h.wide;
+        seen = h.seen;
+        least = h.least;
+        most = h.most;
+        shallow = omega
+            (arith, h.shallow);
+      }
   sees s (suc k) (pair op token a b) shape is two =
       let fa = faults s (Some k) a in
       let fb = faults s (Some k) b in
       let breaks = broken (pair_breaks (seen_width s a) (seen_width s b)) token in
       let after = nil_back fa (fb ++ breaks) is in
       sees_pair s k op token a b (sees s k a shape (nil_front fa (fb ++ breaks) is) two.0)
-          (sees s k b shape (nil_front fb breaks after) two.1)
+      (sees s k b shape (nil_front fb breaks after) two.1)
       (nil_back fb breaks after)
   sees s (suc k) (choice token c a b) shape is two =
       let fc = faults s (Some k) c in
@@ -292,7 +308,7 @@ mutual
       let after = nil_back fa (fb ++ breaks) both in
       sees_choice s k token c a b (sees s k c shape (nil_front fc (fa ++ (fb ++ breaks)) is) two.0)
       (sees s k a shape (nil_front fa (fb ++ breaks) both) two.1) (sees s k b shape (nil_front fb breaks after) two.2)
-          (nil_back fb breaks after)
+      (nil_back fb breaks after)
   sees s (suc k) (part token high low e) shape is two =
       let fe = faults s (Some k) e in
       let breaks = broken (part_breaks high low (seen_width s e)) token in
@@ -301,7 +317,7 @@ mutual
       let all = faults_in s (Some k) parts in
       let breaks = broken (is_past 32 (seen_total s (Some 0) parts)) token in
       sees_join s k token parts (sees_parts s k parts shape (nil_front all breaks is) two.1) two.0
-          (nil_back all breaks is)
+      (nil_back all breaks is)
   sees s (suc k) (widened token w e) shape is two =
       let fe = faults s (Some k) e in
       let breaks = broken (is_improper w || is_past w (seen_width s e)) token in
@@ -312,8 +328,16 @@ mutual
       sees_memory s k token e shape (sees s k e shape (nil_front fe breaks is) two) (nil_back fe breaks is)
   sees s (suc k) (group token e) shape is two =
       let h = sees s k e shape is two in
-      record { w = h.w; known = h.known; wide = h.wide; seen = h.seen; least = h.least; most = h.most; shallow = omega
-          (arith, h.shallow) }
+      record {
+        w = h.w;
+        known = h.known;
+        wide = h.wide;
+        seen = h.seen;
+        least = h.least;
+        most = h.most;
+        shallow = omega
+            (arith, h.shallow);
+      }
 
   sees_parts : (s : Shape) (n : ℕ) (parts : Parts) → IsShape s → faults_in s (Some n) parts ≡ [] → ArePaired parts
       → SeesParts s n parts
@@ -344,5 +368,5 @@ pub wide_whole : (m : Meaning) (cursor : Cursor) (s : Shape) (tree : Placed) →
     → IsOk (width_of s (plain tree))
 wide_whole m cursor s tree shape read no_fault =
     let h = sees s 64 tree shape (no_first (faults s (Some 64) tree) no_fault)
-        (paired (is_read_by_rule m cursor tree read)) in
+    (paired (is_read_by_rule m cursor tree read)) in
     of_width s (plain tree) (record { known = h.known; wide = rw h.wide refl; shallow = h.shallow })

@@ -129,7 +129,7 @@ abbrev mutual
   faults s levels (complement token e) = deep levels token ++ faults s (below levels) e
   faults s levels (pair op token a b) =
       deep levels token ++ (faults s (below levels) a ++
-          (faults s (below levels) b ++ broken (pair_breaks (seen_width s a) (seen_width s b)) token))
+      (faults s (below levels) b ++ broken (pair_breaks (seen_width s a) (seen_width s b)) token))
   faults s levels (choice token c a b) =
       deep levels token ++ (faults s (below levels) c ++ (faults s (below levels) a ++ (faults s (below levels) b
       ++ broken (is_other 1 (seen_width s c) || pair_breaks (seen_width s a) (seen_width s b)) token)))

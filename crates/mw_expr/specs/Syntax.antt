@@ -75,7 +75,7 @@ mutual
         → least ≤ suffix
         → IsNumber m value number → IsSign m signs.Hash hash → IsNumber m width bits
         → Begin m least (number ∷ hash ∷ bits ∷ rest)
-            (constant (record { token = number; value = value }) hash width) rest
+        (constant (record { token = number; value = value }) hash width) rest
     by_name : {least : ℕ} {rest : List Token} {token : Token}
         → least ≤ suffix
         → m.is_dotted ≡ false → IsElementName m token
@@ -96,7 +96,7 @@ mutual
     by_join : {least : ℕ} {from rest : List Token} {brace close : Token} {parts : List Placed}
         → least ≤ suffix
         → IsSign m signs.OpenBrace brace → BeginParts m from parts (close ∷ rest) → 2 ≤ length parts
-            → IsSign m signs.CloseBrace close
+        → IsSign m signs.CloseBrace close
         → Begin m least (brace ∷ from) (join brace (parts_of parts)) rest
     by_widening : {least width : ℕ} {from rest : List Token} {word open_sign comma bits close : Token} {e : Placed}
         → least ≤ suffix

@@ -1,7 +1,7 @@
 // What is at fault in a grammatical expression.
 ghost use Rattle.std.specs.Prelude.{◌≡◌, ◌^◌, nat_lt, Option, Some, true, map, ◌||◌};
 ghost use Rattle.mw_expr.specs.Widths.{width_if, part_width};
-ghost use Rattle.mw_expr.specs.Placed.{placed, parts_of, named, constant, pair, choice};
+ghost use Rattle.mw_expr.specs.Placed.{placed, parts_of, named, constant, pair, choice, part, join, widened, memory};
 ghost use Rattle.mw_expr.specs.declared.shape.Shape.{Shape};
 ghost use Rattle.mw_expr.specs.Faults.{named_width, same_width, seen_pair, seen_choice, beside, within_32, seen_width, seen_total, pair_breaks, is_other, part_breaks, is_past, deep, below, broken, unknown, is_improper, too_wide, faults, faults_in, first_fault};
 ghost use Rattle.mw_base.specs.FirstFaults.{first_in};
@@ -250,29 +250,11 @@ fn check(
             check_choice(shape, levels, *token, condition, a, b, first)
         }
         Placed::Part(token, high, low, e) => {
-            note_deep(first, levels, *token);
-            let whole = check(shape, below(levels), e, first);
-            note_broken(first, part_breaks(*high, *low, whole), *token);
-            seen_part(*high, *low, whole)
+            check_part(shape, levels, *token, *high, *low, e, first)
         }
-        Placed::Join(token, parts) => {
-            note_deep(first, levels, *token);
-            let whole = check_parts(shape, below(levels), parts, first);
-            note_broken(first, is_past(32, whole), *token);
-            within_32(whole)
-        }
-        Placed::Widen(token, width, e) => {
-            note_deep(first, levels, *token);
-            let narrow = check(shape, below(levels), e, first);
-            note_broken(first, widen_breaks(*width, narrow), *token);
-            given_width(*width)
-        }
-        Placed::Memory(token, e) => {
-            note_deep(first, levels, *token);
-            let address = check(shape, below(levels), e, first);
-            note_broken(first, is_other(shape.address, address), *token);
-            Some(shape.word)
-        }
+        Placed::Join(token, parts) => check_join(shape, levels, *token, parts, first),
+        Placed::Widen(token, width, e) => check_widening(shape, levels, *token, *width, e, first),
+        Placed::Memory(token, e) => check_memory(shape, levels, *token, e, first),
         Placed::Group(token, e) => {
             note_deep(first, levels, *token);
             check(shape, below(levels), e, first)
@@ -322,6 +304,81 @@ fn check_choice(
     let other = check(shape, below(levels), b, first);
     note_broken(first, choice_breaks(chosen_by, one, other), token);
     seen_choice(chosen_by, one, other)
+}
+
+/// The width of a part. Keeps the first of its faults.
+#[cycle(faults)]
+fn check_part(
+    shape: &Shape,
+    levels: Option<u8>,
+    token: Token,
+    high: u128,
+    low: u128,
+    e: &Placed,
+    first: &mut Option<TextFault>,
+) -> Option<u8>
+    ensures width { result ≡ seen_width shape.now (part token high low (placed e.now)) }
+    ensures faults { first.new ≡ first_in first.old (faults shape.now levels (part token high low (placed e.now))) }
+{
+    note_deep(first, levels, token);
+    let whole = check(shape, below(levels), e, first);
+    note_broken(first, part_breaks(high, low, whole), token);
+    seen_part(high, low, whole)
+}
+
+/// The width of a join. Keeps the first of its faults.
+#[cycle(faults)]
+fn check_join(
+    shape: &Shape,
+    levels: Option<u8>,
+    token: Token,
+    parts: &[Placed],
+    first: &mut Option<TextFault>,
+) -> Option<u8>
+    ensures width { result ≡ seen_width shape.now (join token (parts_of (map placed parts.now))) }
+    ensures faults { first.new ≡ first_in first.old (faults shape.now levels (join token (parts_of (map placed parts.now)))) }
+{
+    note_deep(first, levels, token);
+    let whole = check_parts(shape, below(levels), parts, first);
+    note_broken(first, is_past(32, whole), token);
+    within_32(whole)
+}
+
+/// The width that `zext` names. Keeps the first of its faults.
+#[cycle(faults)]
+fn check_widening(
+    shape: &Shape,
+    levels: Option<u8>,
+    token: Token,
+    width: u128,
+    e: &Placed,
+    first: &mut Option<TextFault>,
+) -> Option<u8>
+    ensures width { result ≡ seen_width shape.now (widened token width (placed e.now)) }
+    ensures faults { first.new ≡ first_in first.old (faults shape.now levels (widened token width (placed e.now))) }
+{
+    note_deep(first, levels, token);
+    let narrow = check(shape, below(levels), e, first);
+    note_broken(first, widen_breaks(width, narrow), token);
+    given_width(width)
+}
+
+/// The width of a word of the memory. Keeps the first fault of its address.
+#[cycle(faults)]
+fn check_memory(
+    shape: &Shape,
+    levels: Option<u8>,
+    token: Token,
+    e: &Placed,
+    first: &mut Option<TextFault>,
+) -> Option<u8>
+    ensures width { result ≡ seen_width shape.now (memory token (placed e.now)) }
+    ensures faults { first.new ≡ first_in first.old (faults shape.now levels (memory token (placed e.now))) }
+{
+    note_deep(first, levels, token);
+    let address = check(shape, below(levels), e, first);
+    note_broken(first, is_other(shape.address, address), token);
+    Some(shape.word)
 }
 
 /// The width of the parts of a join together, where 33 stands for all that pass 32 bits. Keeps the first of their

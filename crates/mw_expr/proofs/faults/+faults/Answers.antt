@@ -2,7 +2,7 @@ use Rattle.std.proofs.Common.{◌≡◌, ◌+◌, map, drop, arith, rules, ap, �
 use Rattle.std.specs.Prelude.{Some, ◌||◌}
 use Rattle.mw_base.proofs.Lists as lists
 use Rattle.mw_expr.specs.declared.placed.Placed.{the_lemmas}
-use Rattle.mw_expr.specs.Placed.{placed, parts_of, constant, complement, part, join, widened, memory, group}
+use Rattle.mw_expr.specs.Placed.{placed, parts_of, constant, complement, group}
 use Rattle.mw_expr.specs.Faults.{seen_width, seen_total, pair_breaks, is_other, part_breaks, is_past, deep, below, broken, is_improper, faults, faults_in}
 use Rattle.mw_base.specs.FirstFaults.{first_in}
 use Rattle.mw_base.proofs.FirstFaults.{first_in_append, after_two, after_three, after_four, after_five}
@@ -48,8 +48,11 @@ check_pair-returns-clause-faults t c =
     let right = placed c.args.b.now in
     let a = rw c.below.ensures at c.check-one.ensures.faults in
     let b = rw c.below-2.ensures at c.check-other.ensures.faults in
-    let breaks = rw (c.pair_breaks.ensures, c.check-one.ensures.width,
-        c.check-other.ensures.width) at c.note_broken.ensures in
+    let breaks = rw (
+      c.pair_breaks.ensures,
+      c.check-one.ensures.width,
+      c.check-other.ensures.width,
+    ) at c.note_broken.ensures in
     after_four _ _ _ _ _ (deep levels c.args.token) (faults s (below levels) left) (faults s (below levels) right)
     (broken (pair_breaks (seen_width s left) (seen_width s right)) c.args.token) c.note_deep.ensures a b breaks
 
@@ -64,66 +67,56 @@ check_choice-returns-clause-faults t c =
     let a = rw c.below-2.ensures at c.check-one.ensures.faults in
     let b = rw c.below-3.ensures at c.check-other.ensures.faults in
     let breaks =
-        rw (c.choice_breaks.ensures, c.check-chosen_by.ensures.width, c.check-one.ensures.width,
-            c.check-other.ensures.width) at c.note_broken.ensures in
+    rw (
+      c.choice_breaks.ensures,
+      c.check-chosen_by.ensures.width,
+      c.check-one.ensures.width,
+      c.check-other.ensures.width,
+    ) at c.note_broken.ensures in
     after_five _ _ _ _ _ _ (deep levels c.args.token) (faults s (below levels) asked) (faults s (below levels) left)
     (faults s (below levels) right)
     (broken (is_other 1 (seen_width s asked) || pair_breaks (seen_width s left) (seen_width s right)) c.args.token)
     c.note_deep.ensures condition a b breaks
 
-pub check-returns-in-Part-clause-faults : goal.check-returns-in-Part-clause-faults
-check-returns-in-Part-clause-faults t c =
+pub check_part-returns-clause-faults : goal.check_part-returns-clause-faults
+check_part-returns-clause-faults t c =
     let levels = c.args.levels in
     let s = c.args.shape.now in
-    let seen : placed c.args.tree.now ≡ part c.in-Part.token c.in-Part.high c.in-Part.low
-    (placed c.in-Part.e.value) = rw c.in-Part.is (search (rules, the_lemmas)) in
-    let e = rw (c.below-in-Part.ensures, c.deref-in-Part.ensures) at c.check-whole.ensures.faults in
-    let width = rw c.deref-in-Part.ensures at c.check-whole.ensures.width in
-    let breaks = rw (c.part_breaks.ensures, width) at c.note_broken.ensures in
-    rw seen (after_three _ _ _ _ (deep levels c.in-Part.token) (faults s (below levels) (placed c.in-Part.e.value))
-    (broken (part_breaks c.in-Part.high c.in-Part.low (seen_width s (placed c.in-Part.e.value))) c.in-Part.token)
-    c.note_deep-in-Part.ensures e breaks)
+    let inside = placed c.args.e.now in
+    let e = rw c.below.ensures at c.check-whole.ensures.faults in
+    let breaks = rw (c.part_breaks.ensures, c.check-whole.ensures.width) at c.note_broken.ensures in
+    after_three _ _ _ _ (deep levels c.args.token) (faults s (below levels) inside)
+    (broken (part_breaks c.args.high c.args.low (seen_width s inside)) c.args.token) c.note_deep.ensures e breaks
 
-pub check-returns-in-Widen-clause-faults : goal.check-returns-in-Widen-clause-faults
-check-returns-in-Widen-clause-faults t c =
+pub check_join-returns-clause-faults : goal.check_join-returns-clause-faults
+check_join-returns-clause-faults t c =
     let levels = c.args.levels in
     let s = c.args.shape.now in
-    let seen : placed c.args.tree.now ≡ widened c.in-Widen.token c.in-Widen.width
-    (placed c.in-Widen.e.value) = rw c.in-Widen.is (search (rules, the_lemmas)) in
-    let e = rw (c.below-in-Widen.ensures, c.deref-in-Widen.ensures) at c.check-narrow.ensures.faults in
-    let width = rw c.deref-in-Widen.ensures at c.check-narrow.ensures.width in
-    let breaks = rw (c.widen_breaks.ensures, width) at c.note_broken-in-Widen.ensures in
-    rw seen (after_three _ _ _ _ (deep levels c.in-Widen.token) (faults s (below levels) (placed c.in-Widen.e.value))
-    (broken (is_improper c.in-Widen.width || is_past c.in-Widen.width (seen_width s
-    (placed c.in-Widen.e.value))) c.in-Widen.token)
-    c.note_deep-in-Widen.ensures e breaks)
+    let inside = parts_of (map placed c.args.parts.now) in
+    let e = rw c.below.ensures at c.check_parts-whole.ensures.faults in
+    let breaks = rw (c.is_past.ensures, c.check_parts-whole.ensures.width) at c.note_broken.ensures in
+    after_three _ _ _ _ (deep levels c.args.token) (faults_in s (below levels) inside)
+    (broken (is_past 32 (seen_total s (Some 0) inside)) c.args.token) c.note_deep.ensures e breaks
 
-pub check-returns-in-Memory-clause-faults : goal.check-returns-in-Memory-clause-faults
-check-returns-in-Memory-clause-faults t c =
+pub check_widening-returns-clause-faults : goal.check_widening-returns-clause-faults
+check_widening-returns-clause-faults t c =
     let levels = c.args.levels in
     let s = c.args.shape.now in
-    let seen : placed c.args.tree.now ≡ memory c.in-Memory.token (placed c.in-Memory.e.value) = rw c.in-Memory.is
-    (search (rules, the_lemmas)) in
-    let e = rw (c.below-in-Memory.ensures, c.deref-in-Memory.ensures) at c.check-address.ensures.faults in
-    let width = rw c.deref-in-Memory.ensures at c.check-address.ensures.width in
-    let breaks = rw (c.is_other.ensures, width) at c.note_broken-in-Memory.ensures in
-    rw seen (after_three _ _ _ _ (deep levels c.in-Memory.token) (faults s (below levels) (placed c.in-Memory.e.value))
-    (broken (is_other s.address (seen_width s (placed c.in-Memory.e.value))) c.in-Memory.token)
-    c.note_deep-in-Memory.ensures e breaks)
+    let inside = placed c.args.e.now in
+    let e = rw c.below.ensures at c.check-narrow.ensures.faults in
+    let breaks = rw (c.widen_breaks.ensures, c.check-narrow.ensures.width) at c.note_broken.ensures in
+    after_three _ _ _ _ (deep levels c.args.token) (faults s (below levels) inside)
+    (broken (is_improper c.args.width || is_past c.args.width (seen_width s inside)) c.args.token) c.note_deep.ensures e breaks
 
-pub check-returns-in-Join-clause-faults : goal.check-returns-in-Join-clause-faults
-check-returns-in-Join-clause-faults t c =
+pub check_memory-returns-clause-faults : goal.check_memory-returns-clause-faults
+check_memory-returns-clause-faults t c =
     let levels = c.args.levels in
     let s = c.args.shape.now in
-    let seen : placed c.args.tree.now ≡ join c.in-Join.token (parts_of
-    (map placed c.in-Join.parts.items)) = rw c.in-Join.is (search (rules, the_lemmas)) in
-    let parts = rw (c.below-in-Join.ensures, c.deref-in-Join.ensures.value) at c.check_parts-whole.ensures.faults in
-    let width = rw c.deref-in-Join.ensures.value at c.check_parts-whole.ensures.width in
-    let breaks = rw (c.is_past.ensures, width) at c.note_broken-in-Join.ensures in
-    rw seen (after_three _ _ _ _ (deep levels c.in-Join.token) (faults_in s (below levels) (parts_of
-    (map placed c.in-Join.parts.items)))
-    (broken (is_past 32 (seen_total s (Some 0) (parts_of (map placed c.in-Join.parts.items)))) c.in-Join.token)
-    c.note_deep-in-Join.ensures parts breaks)
+    let inside = placed c.args.e.now in
+    let e = rw c.below.ensures at c.check-address.ensures.faults in
+    let breaks = rw (c.is_other.ensures, c.check-address.ensures.width) at c.note_broken.ensures in
+    after_three _ _ _ _ (deep levels c.args.token) (faults s (below levels) inside)
+    (broken (is_other s.address (seen_width s inside)) c.args.token) c.note_deep.ensures e breaks
 
 pub check_parts-loop-part-preserved : goal.check_parts-loop-part-preserved
 check_parts-loop-part-preserved t c =

@@ -16,13 +16,25 @@ invariant-check_parts-loop-part l =
     }
 
 abbrev pub decreases-check : goal.decreases-check
-decreases-check l = 2 * size-Placed l.tree.now
+decreases-check l = 3 * size-Placed l.tree.now
 
 abbrev pub decreases-check_pair : goal.decreases-check_pair
-decreases-check_pair l = 2 * max (size-Placed l.a.now) (size-Placed l.b.now) + 1
+decreases-check_pair l = 3 * max (size-Placed l.a.now) (size-Placed l.b.now) + 1
 
 abbrev pub decreases-check_choice : goal.decreases-check_choice
-decreases-check_choice l = 2 * max (size-Placed l.condition.now) (max (size-Placed l.a.now) (size-Placed l.b.now)) + 1
+decreases-check_choice l = 3 * max (size-Placed l.condition.now) (max (size-Placed l.a.now) (size-Placed l.b.now)) + 1
+
+abbrev pub decreases-check_part : goal.decreases-check_part
+decreases-check_part l = 3 * size-Placed l.e.now + 1
+
+abbrev pub decreases-check_join : goal.decreases-check_join
+decreases-check_join l = 3 * goal.size-check_join l + 2
+
+abbrev pub decreases-check_widening : goal.decreases-check_widening
+decreases-check_widening l = 3 * size-Placed l.e.now + 1
+
+abbrev pub decreases-check_memory : goal.decreases-check_memory
+decreases-check_memory l = 3 * size-Placed l.e.now + 1
 
 abbrev pub decreases-check_parts : goal.decreases-check_parts
-decreases-check_parts l = 2 * goal.size-check_parts l + 1
+decreases-check_parts l = 3 * goal.size-check_parts l + 1
