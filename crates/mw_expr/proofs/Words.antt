@@ -1,6 +1,6 @@
 -- Numbers that texts give.
 use Rattle.std.proofs.Common.{◌≡◌, ℕ, ◌^◌, ◌<◌, ◌≤◌}
-use Rattle.std.specs.Prelude.{Bool, true, nat_lt}
+use Rattle.std.specs.Prelude.{true, nat_lt}
 use Rattle.std.proofs.lemmas.Bool.{lt-ltb}
 use Rattle.mw_base.proofs.Widths.{below_wider}
 

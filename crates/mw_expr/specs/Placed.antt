@@ -1,4 +1,5 @@
--- Expressions as they stand in a text: trees whose operations keep the tokens at which their faults stand, and what is open before a token.
+-- Expressions as they stand in a text: trees whose operations keep the tokens at which their faults stand, and what
+-- is open before a token.
 use Rattle.std.specs.Prelude.{ℕ, List, [], ◌∷◌, map, Option}
 use Rattle.mw_base.specs.declared.cursor.Numeral.{Numeral}
 use Rattle.mw_base.specs.declared.token.Token.{Token}

@@ -9,19 +9,21 @@ pub fn parts_have_widths()
     ensures { PartsHaveWidths }
 {}
 
-/// The law of widths: the width of an expression is the one that the rules of widths give, so what these ask of its parts holds.
+/// The law of widths: the width of an expression is the one that the rules of widths give, so what these ask of its
+/// parts holds.
 pub fn widths_are_by_rule()
     ensures { WidthsAreByRule }
 {}
 
-/// The law of the grammar: tokens are read exactly where they are an expression by the rules of the format, and to its tree.
+/// The law of the grammar: tokens are read exactly where they are an expression by the rules of the format, and to the
+/// tree that these give.
 pub fn trees_are_by_rule()
     ensures by_rule { IsReadByRule }
     ensures complete { IsReadWhereRuled }
 {}
 
-/// The law of the grammar's faults: each stands at the first token with which the tokens up to it are no front of an expression,
-/// or at the end of a front that is no expression.
+/// The law of the grammar's faults: each stands at the first token with which the tokens up to it are no front of an
+/// expression, or at the end of a front that is no expression.
 pub fn faults_end_fronts()
     ensures { FaultsEndFronts }
 {}

@@ -98,9 +98,11 @@ fn last(tree: Placed, below: Open) -> Step
 fn end_one(alloc: Global, least: u8, operand: Reduced) -> Result<Step, NoMemory>
     ensures same { IfOk result (λ step. reduced least (placed step.operand.tree) (opened step.operand.below)
         ≡ reduced least (placed operand.tree) (opened operand.below)) }
-    ensures last { IfOk result (λ step. step.is_last ≡ true → reduced least (placed step.operand.tree) (opened step.operand.below)
+    ensures last { IfOk result (λ step. step.is_last ≡ true
+        → reduced least (placed step.operand.tree) (opened step.operand.below)
         ≡ record { tree = placed step.operand.tree; below = opened step.operand.below }) }
-    ensures fewer { IfOk result (λ step. step.is_last ≡ false → size-Open step.operand.below < size-Open operand.below) }
+    ensures fewer { IfOk result (λ step. step.is_last ≡ false
+        → size-Open step.operand.below < size-Open operand.below) }
 {
     let Reduced { tree, below } = operand;
     match below {
@@ -128,7 +130,8 @@ fn end_one(alloc: Global, least: u8, operand: Reduced) -> Result<Step, NoMemory>
     }
 }
 
-/// The operation that an operand ends, as far as those that are open bind at least this strongly; a choice binds with strength 0.
+/// The operation that an operand ends, as far as those that are open bind at least this strongly; a choice binds with
+/// strength 0. A line may have thousands of operations open, so they are ended in a loop and not by recursion.
 pub(crate) fn reduce(
     alloc: Global,
     least: u8,

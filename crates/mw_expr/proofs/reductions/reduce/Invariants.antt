@@ -6,7 +6,8 @@ use Rattle.mw_expr.proofs.reductions.reduce.Given as goal
 
 abbrev pub invariant-loop-step : goal.invariant-loop-step
 invariant-loop-step l = record {
-  told : reduced l.least (placed l.operand.tree) (opened l.operand.below) ≡ reduced l.least (placed l.fn.tree) (opened l.fn.pending);
+  told : reduced l.least (placed l.operand.tree) (opened l.operand.below) ≡ reduced l.least (placed l.fn.tree)
+      (opened l.fn.pending);
 }
 
 abbrev pub decreases-loop-step : goal.decreases-loop-step
