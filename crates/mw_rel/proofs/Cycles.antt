@@ -104,7 +104,8 @@ up_in w x low some below = up_below w x (num low) some (bit_at_most low)
 
 down_below : (w x : ℕ) (high : Bool) → 1 ≤ w → x < 2 ^ w → down w x high < 2 ^ w
 down_below w x high some below =
-    let size : 2 ^ w ≡ 2 * 2 ^ (w - 1) = (let e : w ≡ 1 + (w - 1) = omega arith in ap (λ n. 2 ^ n) e ∙ pow-add 2 1 (w - 1)) in
+    let size : 2 ^ w ≡ 2 * 2 ^ (w - 1) = (let e : w ≡ 1 + (w - 1) = omega arith in ap (λ n. 2 ^ n) e
+    ∙ pow-add 2 1 (w - 1)) in
     down_half (2 ^ (w - 1)) (2 ^ w) x high size below
 
 b_below : (destination : Destination) (w f : ℕ) (pins : Pins) → 1 ≤ w → f < 2 ^ w → b_of destination w f pins < 2 ^ w
@@ -117,7 +118,8 @@ b_below Ramd w f pins some below = down_below w f pins.ram_high some below
 b_below Ramqu w f pins some below = up_in w f pins.ram_low some below
 b_below Ramu w f pins some below = up_in w f pins.ram_low some below
 
-q_below : (destination : Destination) (w f q : ℕ) (pins : Pins) → 1 ≤ w → f < 2 ^ w → q < 2 ^ w → q_of destination w f q pins < 2 ^ w
+q_below : (destination : Destination) (w f q : ℕ) (pins : Pins) → 1 ≤ w → f < 2 ^ w → q < 2 ^ w
+    → q_of destination w f q pins < 2 ^ w
 q_below Qreg w f q pins some f_in q_in = f_in
 q_below Nop w f q pins some f_in q_in = pow_pos w
 q_below Rama w f q pins some f_in q_in = pow_pos w
@@ -130,7 +132,8 @@ q_below Ramu w f q pins some f_in q_in = pow_pos w
 -- ---- the Am2910
 
 -- a word put into a list, or not
-set_word : (xs : List ℕ) (n v i most : ℕ) → ((k : ℕ) → slice_index xs k < most) → v < most → slice_index (slice_set xs n v) i < most
+set_word : (xs : List ℕ) (n v i most : ℕ) → ((k : ℕ) → slice_index xs k < most) → v < most
+    → slice_index (slice_set xs n v) i < most
 set_word [] n v i most old new = old i
 set_word (x ∷ rest) zero v zero most old new = new
 set_word (x ∷ rest) zero v (suc i) most old new = old (suc i)
@@ -161,7 +164,8 @@ pushed_at depth s false is fits = record {
   sp = fits.sp;
 }
 
-stack_fits : (move : StackMove) (depth : ℕ) (s : Sequencer) → IsSequencer depth s → IsStack depth (stack_after move depth s)
+stack_fits : (move : StackMove) (depth : ℕ) (s : Sequencer) → IsSequencer depth s
+    → IsStack depth (stack_after move depth s)
 unfolding stack_after pushed
 stack_fits Held depth s fits = record { words = fits.words; size = fits.size; sp = fits.sp }
 stack_fits Pushed depth s fits = pushed_at depth s (nat_lt s.sp depth) refl fits
@@ -177,7 +181,8 @@ top_at : (empty : Bool) (word other : ℕ) → word < 2 ^ 12 → other < 2 ^ 12 
 top_at true word other one two = one
 top_at false word other one two = two
 
-address_below : (from : AddressFrom) (depth d noise : ℕ) (s : Sequencer) → IsSequencer depth s → d < 2 ^ 12 → address from d noise s < 2 ^ 12
+address_below : (from : AddressFrom) (depth d noise : ℕ) (s : Sequencer) → IsSequencer depth s → d < 2 ^ 12
+    → address from d noise s < 2 ^ 12
 unfolding top
 address_below from.Zero depth d noise s fits below = omega arith
 address_below from.Pc depth d noise s fits below = fits.pc
@@ -186,11 +191,13 @@ address_below from.R depth d noise s fits below = fits.r
 address_below from.F depth d noise s fits below =
     top_at (s.sp == 0) (noise % 2 ^ 12) (slice_index s.stack (s.sp - 1)) (omega arith) (fits.words (s.sp - 1))
 
-next_below : (depth ins : ℕ) (pass : Bool) (d noise : ℕ) (s : Sequencer) → IsSequencer depth s → d < 2 ^ 12 → next_of ins pass d noise s < 2 ^ 12
+next_below : (depth ins : ℕ) (pass : Bool) (d noise : ℕ) (s : Sequencer) → IsSequencer depth s → d < 2 ^ 12
+    → next_of ins pass d noise s < 2 ^ 12
 unfolding next_of
 next_below depth ins pass d noise s fits below = address_below (effect ins pass s).next depth d noise s fits below
 
-sequencer_fits : (depth ins : ℕ) (pass : Bool) (d : ℕ) (ci rld : Bool) (noise : ℕ) (s : Sequencer) → IsSequencer depth s → d < 2 ^ 12
+sequencer_fits : (depth ins : ℕ) (pass : Bool) (d : ℕ) (ci rld : Bool) (noise : ℕ) (s : Sequencer)
+    → IsSequencer depth s → d < 2 ^ 12
     → IsSequencer depth (step_of depth ins pass d ci rld noise s)
 unfolding step_of
 sequencer_fits depth ins pass d ci rld noise s fits below =
@@ -212,7 +219,8 @@ field_below : (there : Option NamedField) (word bits : ℕ) → width_of there �
 field_below (Some f) word bits within = short_below (in_field (Some f) word) f.field.width bits within (part_in f word)
 field_below None word bits within = pow_pos bits
 
-point_below : (fields : List NamedField) (word bits : ℕ) (control : Control) → IsPoint bits fields control → value_at fields word control < 2 ^ bits
+point_below : (fields : List NamedField) (word bits : ℕ) (control : Control) → IsPoint bits fields control
+    → value_at fields word control < 2 ^ bits
 point_below fields word bits (controls.Field n) is = field_below (slice_get fields n) word bits is.1
 point_below fields word bits (controls.Fixed value) is = is
 
@@ -224,7 +232,8 @@ word_of_list xs most i some all = elim (cases_lt i (length xs)) [
   | inr past ↦ rw (get_or_past xs i 0 past) some
 ]
 
-source_below : (board : BoardParts) (word : ℕ) (source : DFrom) (s : BoardState) (given : CycleIn) → IsBoard board → Fits board s
+source_below : (board : BoardParts) (word : ℕ) (source : DFrom) (s : BoardState) (given : CycleIn) → IsBoard board
+    → Fits board s
     → given.input < 2 ^ board.width → from_source board word source s given < 2 ^ board.width
 unfolding from_source
 source_below board word sources.Zero s given is fits input = pow_pos board.width
@@ -232,14 +241,17 @@ source_below board word sources.Memory s given is fits input = fits.memory s.mar
 source_below board word sources.Ir s given is fits input = fits.ir
 source_below board word sources.Mar s given is fits input = short_below s.mar board.address board.width is.sizes.address_within fits.mar
 source_below board word sources.Input s given is fits input = input
-source_below board word (sources.Field n) s given is fits input = mod_below (in_field (slice_get board.fields n) word) (2 ^ board.width) (pow_pos board.width)
-source_below board word (sources.Flip n) s given is fits input = bit_below (bit_of s.flips n) board.width (omega (arith, is.sizes.least))
+source_below board word (sources.Field n) s given is fits input = mod_below (in_field (slice_get board.fields n) word)
+    (2 ^ board.width) (pow_pos board.width)
+source_below board word (sources.Flip n) s given is fits input = bit_below (bit_of s.flips n) board.width
+    (omega (arith, is.sizes.least))
 
 masked_below : (mask : Option ℕ) (d most : ℕ) → d < most → masked mask d < most
 masked_below None d most below = below
 masked_below (Some mask) d most below = omega (arith, and_le_l d mask)
 
-direct_below : (instruction : Instruction) (board : BoardParts) (m : Microword) (s : BoardState) → IsBoard board → m.branch < 2 ^ 12
+direct_below : (instruction : Instruction) (board : BoardParts) (m : Microword) (s : BoardState) → IsBoard board
+    → m.branch < 2 ^ 12
     → direct_for instruction board m s < 2 ^ 12
 direct_below codes.Jmap board m s is branch = word_of_list board.map_entries (2 ^ 12) _ (omega arith) is.map.entries
 direct_below codes.Cjv board m s is branch = is.sizes.vector
@@ -260,7 +272,8 @@ direct_below codes.Twb board m s is branch = branch
 
 -- ---- flip-flops
 
-flips_below : (board : BoardParts) (m : Microword) (answer : AluOut) (s : BoardState) (given : CycleIn) (n : ℕ) (fs : List FlipFlop)
+flips_below : (board : BoardParts) (m : Microword) (answer : AluOut) (s : BoardState) (given : CycleIn) (n : ℕ)
+    (fs : List FlipFlop)
     → flips_from board m answer s given n fs < 2 ^ length fs
 unfolding flips_from
 flips_below board m answer s given n [] = omega arith
@@ -273,8 +286,10 @@ flips_below board m answer s given n (f ∷ rest) =
 
 -- ---- a cycle, and runs
 
-cycle_fits : (board : BoardParts) (m : Microword) (s : BoardState) (given : CycleIn) (pass : Bool) → IsBoard board → Fits board s
-    → given.input < 2 ^ board.width → m.branch < 2 ^ 12 → Fits board (edge board m (answer_of board m s given) pass s given)
+cycle_fits : (board : BoardParts) (m : Microword) (s : BoardState) (given : CycleIn) (pass : Bool) → IsBoard board
+    → Fits board s
+    → given.input < 2 ^ board.width → m.branch < 2 ^ 12
+    → Fits board (edge board m (answer_of board m s given) pass s given)
 unfolding answer_of operands_of alu_of writes_of shift_of next_address direct_address edge
 cycle_fits board m s given pass is fits input branch =
     let w = board.width in
@@ -308,4 +323,5 @@ unfolding run_of longer_run
 run_fits board store env start zero is outside fits = fits
 run_fits board store env start (suc n) is outside fits =
     let run = run_of board store env start n in
-    after_fits board store run.state (given_at env run.clock) is (run_fits board store env start n is outside fits) (outside.inputs run.clock.taken)
+    after_fits board store run.state (given_at env run.clock) is (run_fits board store env start n is outside fits)
+    (outside.inputs run.clock.taken)

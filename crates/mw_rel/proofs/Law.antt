@@ -31,7 +31,8 @@ start_at job start k kept = record {
   env = rest_at start.env (board_run job start kept.cycle).clock;
 }
 
-begins_there : (job : Job) (start : Start) (k : ℕ) (kept : IsKept job start k) → IsStart job start → IsStart job (start_at job start k kept)
+begins_there : (job : Job) (start : Start) (k : ℕ) (kept : IsKept job start k) → IsStart job start
+    → IsStart job (start_at job start k kept)
 begins_there job start k kept begins = record {
   boundary = is_there job _ kept.reached kept.there;
   related = kept.related;
@@ -39,7 +40,8 @@ begins_there job start k kept begins = record {
 }
 
 -- boundary 0
-first_there : (job : Job) (start : Start) → IsJob job → IsStart job start → boundary_at job (at_cycle job start 0) ≡ Some start.boundary
+first_there : (job : Job) (start : Start) → IsJob job → IsStart job start
+    → boundary_at job (at_cycle job start 0) ≡ Some start.boundary
 unfolding run_of
 first_there job start is begins =
     ap (boundary_at job) begins.related.at ∙ there_is job begins.boundary.0 start.boundary is begins.boundary.1
@@ -60,36 +62,47 @@ kept_first job start is begins = record {
 
 -- the run from boundary k on is the rest of the whole run
 goes_on : (job : Job) (start : Start) (k : ℕ) (kept : IsKept job start k) (n : ℕ)
-    → board_run job start (kept.cycle + n) ≡ then_run (board_run job start kept.cycle) (board_run job (start_at job start k kept) n)
+    → board_run job start (kept.cycle + n) ≡ then_run (board_run job start kept.cycle)
+    (board_run job (start_at job start k kept) n)
 goes_on job start k kept n = run_further job.board job.store start.env start.pair.board kept.cycle n
 
 -- the step of the segment that begins at boundary k is the next step of the described run
 next_step : (job : Job) (start : Start) (k : ℕ) (kept : IsKept job start k)
     → first_step job (start_at job start k kept)
-    ≡ step_of job.machine kept.steps.state (slice_index_or start.env.line kept.cycle false) start.env.inputs kept.steps.taken
+    ≡ step_of job.machine kept.steps.state
+    (slice_index_or start.env.line kept.cycle false) start.env.inputs kept.steps.taken
 next_step job start k kept =
     let run = board_run job start kept.cycle in
     let cycles : run.clock.cycle ≡ kept.cycle = cycles_are job.board job.store start.env start.pair.board kept.cycle in
     let taken : run.clock.taken ≡ kept.steps.taken =
     inputs_are job.board job.store start.env start.pair.board kept.cycle
     ∙ ap inputs_in kept.events
-    ∙ sym (steps_take job.machine (addresses_of job) (at_cycle job start) start.env start.pair.machine k kept.steps kept.described) in
-    let line : slice_index_or (drop run.clock.cycle start.env.line) 0 false ≡ slice_index_or start.env.line kept.cycle false =
+    ∙ sym (steps_take job.machine (addresses_of job)
+    (at_cycle job start) start.env start.pair.machine k kept.steps kept.described) in
+    let line : slice_index_or
+    (drop run.clock.cycle start.env.line) 0 false ≡ slice_index_or start.env.line kept.cycle false =
     line_left start.env run.clock.cycle ∙ ap (λ c. slice_index_or start.env.line c false) cycles in
     ap (λ request. step_of job.machine kept.steps.state request (drop run.clock.taken start.env.inputs) 0) line
-    ∙ ap (λ n. step_of job.machine kept.steps.state (slice_index_or start.env.line kept.cycle false) (drop n start.env.inputs) 0) taken
-    ∙ sym (steps_take_from_first job.machine kept.steps.state (slice_index_or start.env.line kept.cycle false) start.env.inputs kept.steps.taken)
+    ∙ ap (λ n. step_of job.machine kept.steps.state (slice_index_or start.env.line kept.cycle false)
+    (drop n start.env.inputs) 0) taken
+    ∙ sym (steps_take_from_first job.machine kept.steps.state
+    (slice_index_or start.env.line kept.cycle false) start.env.inputs kept.steps.taken)
 
 -- the bounds up to boundary k + 1: those up to k, and that of the last segment
-bounded : (job : Job) (start : Start) (k : ℕ) (kept : IsKept job start k) (n : ℕ) → IsBoundaryOf job start (k + 1) (kept.cycle + n)
-    → n ≤ kept.reached.bound → (j c d : ℕ) (from : Boundary) → j < k + 1 → IsBoundaryOf job start j c → IsBoundaryOf job start (j + 1) d
+bounded : (job : Job) (start : Start) (k : ℕ) (kept : IsKept job start k) (n : ℕ)
+    → IsBoundaryOf job start (k + 1) (kept.cycle + n)
+    → n ≤ kept.reached.bound → (j c d : ℕ) (from : Boundary) → j < k + 1 → IsBoundaryOf job start j c
+    → IsBoundaryOf job start (j + 1) d
     → boundary_at job (at_cycle job start c) ≡ Some from → d ≤ c + from.bound
 bounded job start k kept n comes within j c d from below here later there = elim (cases_lt j k) [
   | inl before ↦ kept.bounds j c d from before here later there
   | inr past ↦ (let last : j ≡ k = omega arith in
-      let begin : c ≡ kept.cycle = boundary_once (addresses_of job) (at_cycle job start) k c kept.cycle (subst (λ x. IsBoundaryOf job start x c) last here) kept.comes in
-      let end : d ≡ kept.cycle + n = boundary_once (addresses_of job) (at_cycle job start) (k + 1) d (kept.cycle + n) (subst (λ x. IsBoundaryOf job start (x + 1) d) last later) comes in
-      let same : Some from ≡ Some kept.reached = sym there ∙ ap (λ x. boundary_at job (at_cycle job start x)) begin ∙ kept.there in
+      let begin : c ≡ kept.cycle = boundary_once (addresses_of job) (at_cycle job start) k c kept.cycle
+      (subst (λ x. IsBoundaryOf job start x c) last here) kept.comes in
+      let end : d ≡ kept.cycle + n = boundary_once (addresses_of job) (at_cycle job start) (k + 1) d (kept.cycle + n)
+      (subst (λ x. IsBoundaryOf job start (x + 1) d) last later) comes in
+      let same : Some from ≡ Some kept.reached = sym there ∙ ap (λ x. boundary_at job (at_cycle job start x)) begin
+      ∙ kept.there in
       let one : from ≡ kept.reached = cc in
       let bound : from.bound ≡ kept.reached.bound = ap (λ (b : Boundary). b.bound) one in
       omega arith)
@@ -117,19 +130,23 @@ kept_next job start k kept same =
       bounds = bounded job start k kept n comes ran.within;
       described = IsDescribedRun.steps k kept.cycle kept.steps kept.described kept.comes;
       there = ap (λ s. boundary_at job s.at) (sym state) ∙ same.there;
-      related = subst (λ s. InRelation job same.reached (pair_of (board_run job start (kept.cycle + n)).state s)) (ap (λ (s : Stepped). s.state) step)
+      related = subst (λ s. InRelation job same.reached (pair_of (board_run job start (kept.cycle + n)).state s))
+          (ap (λ (s : Stepped). s.state) step)
           (subst (λ s. InRelation job same.reached (pair_of s (first_step job next).state)) state same.related);
       events = ap (λ (r : BoardRun). r.events) on
-          ∙ ap₂ (λ xs ys. xs ++ ys) kept.events (ap (λ (r : BoardRun). r.events) (sym ran.is) ∙ same.events ∙ ap (λ (s : Stepped). s.events) step);
+          ∙ ap₂ (λ xs ys. xs ++ ys) kept.events (ap (λ (r : BoardRun). r.events) (sym ran.is) ∙ same.events
+          ∙ ap (λ (s : Stepped). s.events) step);
     }
 
-kept_each : (job : Job) → IsJob job → NoneDiffers job → (start : Start) → IsStart job start → (k : ℕ) → IsKept job start k
+pub kept_each : (job : Job) → IsJob job → NoneDiffers job → (start : Start) → IsStart job start → (k : ℕ)
+    → IsKept job start k
 kept_each job is none start begins zero = kept_first job start is begins
 kept_each job is none start begins (suc k) =
     let kept = kept_each job is none start begins k in
     let there = begins_there job start k kept begins in
     let next = start_at job start k kept in
-    subst (IsKept job start) (add-one k) (kept_next job start k kept (same_where_none job next is there (none next there)))
+    subst (IsKept job start) (add-one k)
+    (kept_next job start k kept (same_where_none job next is there (none next there)))
 
 -- ---- and from what is certified back
 
@@ -137,20 +154,27 @@ same_where_kept : (job : Job) (start : Start) → IsJob job → IsStart job star
 same_where_kept job start is begins kept =
     let next = first_next (addresses_of job) (at_cycle job start) kept.cycle kept.comes in
     let within : kept.cycle ≤ start.boundary.bound =
-    omega (arith, kept.bounds 0 0 kept.cycle start.boundary (omega arith) IsBoundary.first kept.comes (first_there job start is begins)) in
+    omega (
+      arith,
+      kept.bounds 0 0 kept.cycle start.boundary (omega arith) IsBoundary.first kept.comes
+          (first_there job start is begins),
+    ) in
     let step : kept.steps ≡ with_step job.machine start.env 0 (before_steps start.pair.machine) =
-    one_step job.machine (addresses_of job) (at_cycle job start) start.env start.pair.machine kept.steps kept.described in
+    one_step job.machine (addresses_of job)
+    (at_cycle job start) start.env start.pair.machine kept.steps kept.described in
     record {
       run = board_run job start kept.cycle;
       reached = kept.reached;
       segment = segment_is job start kept.cycle next within;
       there = kept.there;
-      related = subst (λ s. InRelation job kept.reached (pair_of (board_run job start kept.cycle).state s)) (ap (λ (s : Stepped). s.state) step) kept.related;
+      related = subst (λ s. InRelation job kept.reached (pair_of (board_run job start kept.cycle).state s))
+          (ap (λ (s : Stepped). s.state) step) kept.related;
       events = kept.events ∙ ap (λ (s : Stepped). s.events) step;
     }
 
 pub certified_where_none_differs : CertifiedWhereNoneDiffers
 certified_where_none_differs job is = (
-  (λ certified start begins. none_where_same job start (same_where_kept job start is begins (certified start begins 1))),
+  (λ certified start begins. none_where_same job start
+      (same_where_kept job start is begins (certified start begins 1))),
   kept_each job is,
 )

@@ -31,7 +31,8 @@ cycle_more (Some (Taken v)) clock = refl
 cycle_more (Some (Out v)) clock = refl
 cycle_more None clock = refl
 
-taken_more : (event : Option Event) (clock : Clock) → (clock_after event clock).taken ≡ clock.taken + inputs_in (option_to_list event)
+taken_more : (event : Option Event) (clock : Clock)
+    → (clock_after event clock).taken ≡ clock.taken + inputs_in (option_to_list event)
 taken_more (Some (Taken v)) clock = refl
 taken_more (Some (Out v)) clock = sym (add-zero clock.taken)
 taken_more None clock = sym (add-zero clock.taken)
@@ -54,10 +55,17 @@ inputs_are board store env start zero = refl
 inputs_are board store env start (suc n) =
     let run = run_of board store env start n in
     let event = (nets_of board store run.state (given_at env run.clock)).event in
-    omega (arith, taken_more event run.clock, inputs_are board store env start n, inputs_together run.events (option_to_list event))
+    omega (
+      arith,
+      taken_more event run.clock,
+      inputs_are board store env start n,
+      inputs_together run.events
+          (option_to_list event),
+    )
 
 -- so has the described machine
-pub steps_take : (m : Description) (addresses : List ℕ) (at : ℕ → ℕ) (env : Environment) (start : MachineState) (k : ℕ) (steps : Stepped)
+pub steps_take : (m : Description) (addresses : List ℕ) (at : ℕ
+    → ℕ) (env : Environment) (start : MachineState) (k : ℕ) (steps : Stepped)
     → IsDescribedRun m addresses at env start k steps → steps.taken ≡ inputs_in steps.events
 steps_take m addresses at env start k steps IsDescribedRun.begins = refl
 steps_take m addresses at env start k steps (IsDescribedRun.steps i c before described comes) =
@@ -76,12 +84,14 @@ pub line_left : (env : Environment) (c : ℕ) → slice_index_or (drop c env.lin
 line_left env c = get_or-drop c env.line 0 false ∙ ap (λ n. slice_index_or env.line n false) (add-zero c)
 
 -- the first step of a run
-only_step : (m : Description) (addresses : List ℕ) (at : ℕ → ℕ) (env : Environment) (start : MachineState) (k : ℕ) (steps : Stepped)
+only_step : (m : Description) (addresses : List ℕ) (at : ℕ
+    → ℕ) (env : Environment) (start : MachineState) (k : ℕ) (steps : Stepped)
     → IsDescribedRun m addresses at env start k steps → k ≡ 0 → steps ≡ before_steps start
 only_step m addresses at env start k steps IsDescribedRun.begins same = refl
 only_step m addresses at env start k steps (IsDescribedRun.steps i c before described comes) same = absurd (omega arith)
 
-first_step : (m : Description) (addresses : List ℕ) (at : ℕ → ℕ) (env : Environment) (start : MachineState) (k : ℕ) (steps : Stepped)
+first_step : (m : Description) (addresses : List ℕ) (at : ℕ
+    → ℕ) (env : Environment) (start : MachineState) (k : ℕ) (steps : Stepped)
     → IsDescribedRun m addresses at env start k steps → k ≡ 1 → steps ≡ with_step m env 0 (before_steps start)
 first_step m addresses at env start k steps IsDescribedRun.begins same = absurd (omega arith)
 first_step m addresses at env start k steps (IsDescribedRun.steps i c before described comes) same =
@@ -90,6 +100,7 @@ first_step m addresses at env start k steps (IsDescribedRun.steps i c before des
     let zero_at : c ≡ 0 = once addresses at i 0 c 0 comes IsBoundary.first none in
     ap₂ (λ n s. with_step m env n s) zero_at here
 
-pub one_step : (m : Description) (addresses : List ℕ) (at : ℕ → ℕ) (env : Environment) (start : MachineState) (steps : Stepped)
+pub one_step : (m : Description) (addresses : List ℕ) (at : ℕ
+    → ℕ) (env : Environment) (start : MachineState) (steps : Stepped)
     → IsDescribedRun m addresses at env start 1 steps → steps ≡ with_step m env 0 (before_steps start)
 one_step m addresses at env start steps described = first_step m addresses at env start 1 steps described refl

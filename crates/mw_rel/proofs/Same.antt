@@ -41,14 +41,16 @@ ran job start run (Some n) is made =
 
 pub segment : (job : Job) (start : Start) (run : BoardRun) → segment_of job start ≡ Some run → Segment job start run
 unfolding first_segment
-segment job start run is = ran job start run (first_boundary (addresses_of job) (at_cycle job start) start.boundary.bound) refl is
+segment job start run is = ran job start run
+    (first_boundary (addresses_of job) (at_cycle job start) start.boundary.bound) refl is
 
 -- a run up to the next boundary, within the bound, is the segment
 pub segment_is : (job : Job) (start : Start) (n : ℕ) → IsNextBoundary (addresses_of job) (at_cycle job start) 0 n
     → n ≤ start.boundary.bound → segment_of job start ≡ Some (board_run job start n)
 unfolding first_segment
 segment_is job start n next within =
-    ap (option_map (board_run job start)) (found_within (addresses_of job) (at_cycle job start) start.boundary.bound n next within)
+    ap (option_map (board_run job start))
+    (found_within (addresses_of job) (at_cycle job start) start.boundary.bound n next within)
 
 -- ---- what is shown at the boundary reached
 
@@ -56,10 +58,13 @@ segment_is job start n next within =
 pub record Agree (job : Job) (boundary : Boundary) (run : BoardRun) (step : Stepped) : Type 0 where
   pub events : run.events ≡ step.events
   pub sp : run.state.seq.sp ≡ boundary.sp
-  pub lines : All (λ line. slice_index (values_of job.board (pair_of run.state step.state)) line.left ≡ right_value job (pair_of run.state step.state) line) boundary.lines
+  pub lines : All (λ line. slice_index
+      (values_of job.board (pair_of run.state step.state)) line.left ≡ right_value job
+      (pair_of run.state step.state) line) boundary.lines
   pub memory : run.state.memory ≡ step.state.memory
 
-agree_at : (job : Job) (boundary : Boundary) (run : BoardRun) (step : Stepped) → difference_at job boundary run step ≡ None
+agree_at : (job : Job) (boundary : Boundary) (run : BoardRun) (step : Stepped)
+    → difference_at job boundary run step ≡ None
     → Agree job boundary run step
 unfolding difference_at
 agree_at job boundary run step none =
@@ -71,9 +76,11 @@ agree_at job boundary run step none =
     record {
       events = same_lists same_event event_is 0 run.events step.events (nothing_made _ _ one.0);
       sp = pointer_is (run.state.seq.sp == boundary.sp) run.state.seq.sp boundary.sp refl two.0;
-      lines = none_fails (line_holds job pair) (λ (line : Line). slice_index (values_of job.board pair) line.left ≡ right_value job pair line)
+      lines = none_fails (line_holds job pair)
+          (λ (line : Line). slice_index (values_of job.board pair) line.left ≡ right_value job pair line)
           (λ line holds. eqb-true _ _ holds) boundary.lines (nothing_made _ _ three.0);
-      memory = same_lists (λ x y. x == y) (λ x y same. eqb-true x y same) 0 run.state.memory step.state.memory (nothing_made _ _ four.0);
+      memory = same_lists (λ x y. x == y) (λ x y same. eqb-true x y same) 0 run.state.memory step.state.memory
+          (nothing_made _ _ four.0);
     }
 
 nothing_at : (job : Job) (boundary : Boundary) (run : BoardRun) (step : Stepped) → Agree job boundary run step
@@ -86,7 +93,8 @@ nothing_at job boundary run step agree =
       never_unlike same_event event_itself 0 step.events,
       agree.sp,
       number_itself boundary.sp,
-      all_pass (line_holds job pair) (λ (line : Line). slice_index (values_of job.board pair) line.left ≡ right_value job pair line)
+      all_pass (line_holds job pair)
+          (λ (line : Line). slice_index (values_of job.board pair) line.left ≡ right_value job pair line)
           (λ line holds. eq-eqb _ _ holds) boundary.lines agree.lines,
       agree.memory,
       never_unlike (λ x y. x == y) number_itself 0 step.state.memory,
@@ -101,7 +109,8 @@ shown_run job start (Some run) none = (run, refl, none)
 shown_run job start None none = cc
 
 -- and it ends at a boundary
-shown_boundary : (job : Job) (start : Start) (run : BoardRun) (there : Option Boundary) → shown_at job start run there ≡ None
+shown_boundary : (job : Job) (start : Start) (run : BoardRun) (there : Option Boundary)
+    → shown_at job start run there ≡ None
     → (boundary : Boundary) × (there ≡ Some boundary) × (difference_at job boundary run (first_step job start) ≡ None)
 shown_boundary job start run (Some boundary) none = (boundary, refl, none)
 shown_boundary job start run None none = cc
@@ -117,12 +126,14 @@ reached_fits job start run is begins ran_to =
     rw ran_to.is (run_fits job.board job.store start.env start.pair.board ran_to.cycles is.board begins.env begins.related.board_fits)
 
 -- the machine after its step fits
-stepped_fits : (job : Job) (start : Start) → IsJob job → IsStart job start → machines.Fits job.machine (first_step job start).state
+stepped_fits : (job : Job) (start : Start) → IsJob job → IsStart job start
+    → machines.Fits job.machine (first_step job start).state
 stepped_fits job start is begins =
     step_fits job.machine start.pair.machine (slice_index_or start.env.line 0 false) start.env.inputs 0 is.machine
     begins.related.machine_fits (inputs_fit job start is begins)
 
-pub same_where_none : (job : Job) (start : Start) → IsJob job → IsStart job start → difference_of job start ≡ None → IsSame job start
+pub same_where_none : (job : Job) (start : Start) → IsJob job → IsStart job start → difference_of job start ≡ None
+    → IsSame job start
 unfolding difference_of
 same_where_none job start is begins none =
     let shown = shown_run job start (segment_of job start) none in

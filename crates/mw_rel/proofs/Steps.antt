@@ -30,18 +30,24 @@ asked_is asked (Err cause) is = absurd cc
 asked_below : (s : Shape) (x : Now) (asked : ℕ) (e : Tree) → is_asked asked (width_of s e) ≡ true → InRange s x
     → value s x.values x.memory e < 2 ^ asked
 asked_below s x asked e is in_range =
-    value_below s x.values x.memory e asked in_range.values in_range.memory (widths_are_by_rule s e asked (asked_is asked (width_of s e) is))
+    value_below s x.values x.memory e asked in_range.values in_range.memory
+    (widths_are_by_rule s e asked (asked_is asked (width_of s e) is))
 
 either_in : (s : Shape) (test : Bool) (a b : Now) → InRange s a → InRange s b → InRange s (if test then a else b)
 either_in s true a b one other = one
 either_in s false a b one other = other
 
 mutual
-  act_keeps : (s : Shape) (inputs : List ℕ) (first : ℕ) (act : Act) (x : Now) → ((i : ℕ) → slice_index inputs i < 2 ^ s.word)
+  act_keeps : (s : Shape) (inputs : List ℕ) (first : ℕ) (act : Act) (x : Now)
+      → ((i : ℕ) → slice_index inputs i < 2 ^ s.word)
       → is_right s act ≡ true → InRange s x → InRange s (after s inputs first act x)
   act_keeps s inputs first (assign target e) x given right old =
       let h = and_parts _ _ right in
-      record { values = set_words s.widths x.values target _ old.values (asked_below s x (slice_index s.widths target) e h.1 old); memory = old.memory }
+      record {
+        values = set_words s.widths x.values target _ old.values
+            (asked_below s x (slice_index s.widths target) e h.1 old);
+        memory = old.memory;
+      }
   act_keeps s inputs first (write address e) x given right old =
       let h = and_parts _ _ right in
       record { values = old.values; memory = set_image s x.memory _ _ old.memory (asked_below s x s.word e h.1 old) }
@@ -60,15 +66,18 @@ mutual
       either_in s (value s x.values x.memory condition == 1) _ _
       (acts_keep s inputs first one x given lists.0 old) (acts_keep s inputs first other x given lists.1 old)
 
-  acts_keep : (s : Shape) (inputs : List ℕ) (first : ℕ) (all : Acts) (x : Now) → ((i : ℕ) → slice_index inputs i < 2 ^ s.word)
+  acts_keep : (s : Shape) (inputs : List ℕ) (first : ℕ) (all : Acts) (x : Now)
+      → ((i : ℕ) → slice_index inputs i < 2 ^ s.word)
       → are_right s all ≡ true → InRange s x → InRange s (after_all s inputs first all x)
   acts_keep s inputs first nothing x given right old = old
   acts_keep s inputs first (next act rest) x given right old =
       let h = and_parts _ _ right in
-      acts_keep s inputs first rest (after s inputs first act x) given h.1 (act_keeps s inputs first act x given h.0 old)
+      acts_keep s inputs first rest (after s inputs first act x) given h.1
+      (act_keeps s inputs first act x given h.0 old)
 
 -- a step leaves a state that fits
-pub step_fits : (m : Description) (state : MachineState) (request : Bool) (inputs : List ℕ) (first : ℕ) → IsMachine m → Fits m state
+pub step_fits : (m : Description) (state : MachineState) (request : Bool) (inputs : List ℕ) (first : ℕ) → IsMachine m
+    → Fits m state
     → AreInputs m inputs → Fits m (step_of m state request inputs first).state
 unfolding step_of
 step_fits m state request inputs first is fits given =

@@ -11,7 +11,8 @@ use Rattle.mw_rel.specs.declared.difference.Difference.TheVariants as difference
 use Rattle.mw_rel.specs.Differs.{same_event, unlike_from, first_of}
 
 -- two lists that are unlike nowhere
-alike : {A : Type 0} (test : Bool) (n : ℕ) (x y : A) (xs ys : List A) (rest : Option ℕ) → (test ≡ true → x ≡ y) → (rest ≡ None → xs ≡ ys)
+alike : {A : Type 0} (test : Bool) (n : ℕ) (x y : A) (xs ys : List A) (rest : Option ℕ) → (test ≡ true → x ≡ y)
+    → (rest ≡ None → xs ≡ ys)
     → (if test then rest else Some n) ≡ None → x ∷ xs ≡ y ∷ ys
 alike true n x y xs ys rest one others none = ap₂ (λ a rest. a ∷ rest) (one refl) (others none)
 alike false n x y xs ys rest one others none = cc
@@ -25,7 +26,8 @@ same_lists same sound n (x ∷ xs) (y ∷ ys) none =
     alike (same x y) n x y xs ys (unlike_from same (n + 1) xs ys) (sound x y) (same_lists same sound (n + 1) xs ys) none
 
 -- a list and itself
-pub never_unlike : {A : Type 0} (same : A → A → Bool) → ((x : A) → same x x ≡ true) → (n : ℕ) (xs : List A) → unlike_from same n xs xs ≡ None
+pub never_unlike : {A : Type 0} (same : A → A → Bool) → ((x : A) → same x x ≡ true) → (n : ℕ) (xs : List A)
+    → unlike_from same n xs xs ≡ None
 never_unlike same itself n [] = refl
 never_unlike same itself n (x ∷ xs) = rw (itself x) (never_unlike same itself (n + 1) xs)
 

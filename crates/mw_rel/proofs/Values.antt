@@ -46,7 +46,8 @@ join_some : (n : ℕ) (whole : Option ℕ) (w : ℕ) → join_width n whole ≡ 
 join_some n (Some v) w is = ap Some (if_some _ v w is).1
 join_some n None w is = absurd cc
 
-widened_some : (to : ℕ) (e : Option ℕ) (w : ℕ) → widened_width to e ≡ Some w → (v : ℕ) × (e ≡ Some v) × (v ≤ to) × (to ≡ w)
+widened_some : (to : ℕ) (e : Option ℕ) (w : ℕ) → widened_width to e ≡ Some w
+    → (v : ℕ) × (e ≡ Some v) × (v ≤ to) × (to ≡ w)
 widened_some to (Some v) w is = let h = if_some (nat_le v to) to w is in (v, refl, leb-true v to h.0, h.1)
 widened_some to None w is = absurd cc
 
@@ -54,18 +55,22 @@ memory_some : (address word : ℕ) (e : Option ℕ) (w : ℕ) → memory_width a
 memory_some address word (Some v) w is = (if_some (v == address) word w is).1
 memory_some address word None w is = absurd cc
 
-added_some : (a b : Option ℕ) (w : ℕ) → added a b ≡ Some w → (x : ℕ) × (y : ℕ) × (a ≡ Some x) × (b ≡ Some y) × (x + y ≡ w)
+added_some : (a b : Option ℕ) (w : ℕ) → added a b ≡ Some w
+    → (x : ℕ) × (y : ℕ) × (a ≡ Some x) × (b ≡ Some y) × (x + y ≡ w)
 added_some (Some x) (Some y) w is = (x, y, refl, refl, (let h : x + y ≡ w = cc in h))
 added_some None b w is = absurd cc
 added_some (Some x) None w is = absurd cc
 
 -- an element's value
-element_below : (widths values : List ℕ) (n w : ℕ) → ((i : ℕ) → i < length widths → slice_index values i < 2 ^ slice_index widths i)
+element_below : (widths values : List ℕ) (n w : ℕ)
+    → ((i : ℕ) → i < length widths → slice_index values i < 2 ^ slice_index widths i)
     → element_width (slice_get widths n) ≡ Some w → slice_index values n < 2 ^ w
 element_below [] values n w each is = absurd cc
-element_below (v ∷ rest) values zero w each is = let h = if_some true v w is in subst (λ x. slice_index values 0 < 2 ^ x) h.1 (each 0 (omega arith))
+element_below (v ∷ rest) values zero w each is = let h = if_some true v w is in subst
+    (λ x. slice_index values 0 < 2 ^ x) h.1 (each 0 (omega arith))
 element_below (v ∷ rest) [] (suc n) w each is = pow_pos w
-element_below (v ∷ rest) (x ∷ values) (suc n) w each is = element_below rest values n w (λ i below. each (suc i) (omega arith)) is
+element_below (v ∷ rest) (x ∷ values) (suc n) w each is = element_below rest values n w
+    (λ i below. each (suc i) (omega arith)) is
 
 -- ---- values
 
@@ -90,7 +95,8 @@ either_below true a b most one other = one
 either_below false a b most one other = other
 
 mutual
-  pub value_below : (s : Shape) (values image : List ℕ) (tree : Tree) (w : ℕ) → AreWords s.widths values → IsImage s image
+  pub value_below : (s : Shape) (values image : List ℕ) (tree : Tree) (w : ℕ) → AreWords s.widths values
+      → IsImage s image
       → width s tree ≡ Some w → value s values image tree < 2 ^ w
   value_below s values image (element n) w words_fit image_fits is = element_below s.widths values n w words_fit.each is
   value_below s values image (constant number v) w words_fit image_fits is =
@@ -101,11 +107,13 @@ mutual
       let h = pair_some sign (width s a) (width s b) w is in
       let one = value_below s values image a h.0 words_fit image_fits h.1 in
       let other = value_below s values image b h.0 words_fit image_fits h.2 in
-      rw h.1 (subst (λ x. pair_value sign h.0 (value s values image a) (value s values image b) < 2 ^ x) h.3 (pair_below sign h.0 _ _ one other))
+      rw h.1 (subst (λ x. pair_value sign h.0 (value s values image a) (value s values image b) < 2 ^ x) h.3
+      (pair_below sign h.0 _ _ one other))
   value_below s values image (choice c a b) w words_fit image_fits is =
       let h = choice_some (width s c) (width s a) (width s b) w is in
       either_below (value s values image c == 1) _ _ (2 ^ w)
-      (value_below s values image a w words_fit image_fits h.0) (value_below s values image b w words_fit image_fits h.1)
+      (value_below s values image a w words_fit image_fits h.0)
+      (value_below s values image b w words_fit image_fits h.1)
   value_below s values image (part e high low) w words_fit image_fits is =
       let h = part_some high low (width s e) w is in
       subst (λ x. words.part low (high - low + 1) (value s values image e) < 2 ^ x) h
@@ -114,16 +122,20 @@ mutual
       joined_words s values image parts w words_fit image_fits (join_some (count parts) (total_width s parts) w is)
   value_below s values image (widened e to) w words_fit image_fits is =
       let h = widened_some to (width s e) w is in
-      below_wider (value s values image e) h.0 w (value_below s values image e h.0 words_fit image_fits h.1) (omega (arith, h.2, h.3))
+      below_wider (value s values image e) h.0 w (value_below s values image e h.0 words_fit image_fits h.1)
+      (omega (arith, h.2, h.3))
   value_below s values image (memory address) w words_fit image_fits is =
-      subst (λ x. slice_index image (value s values image address) < 2 ^ x) (memory_some s.address s.word (width s address) w is)
+      subst (λ x. slice_index image (value s values image address) < 2 ^ x)
+      (memory_some s.address s.word (width s address) w is)
       (image_fits.words (value s values image address))
 
-  pub joined_words : (s : Shape) (values image : List ℕ) (parts : Trees) (w : ℕ) → AreWords s.widths values → IsImage s image
+  pub joined_words : (s : Shape) (values image : List ℕ) (parts : Trees) (w : ℕ) → AreWords s.widths values
+      → IsImage s image
       → total_width s parts ≡ Some w → joined s values image parts < 2 ^ w
   joined_words s values image none w words_fit image_fits is = pow_pos w
   joined_words s values image (more tree rest) w words_fit image_fits is =
       let h = added_some (width s tree) (total_width s rest) w is in
       let one = value_below s values image tree h.0 words_fit image_fits h.2 in
       let others = joined_words s values image rest h.1 words_fit image_fits h.3 in
-      rw h.3 (subst (λ x. words.join h.1 (value s values image tree) (joined s values image rest) < 2 ^ x) h.4 (joined_below _ _ h.0 h.1 one others))
+      rw h.3 (subst (λ x. words.join h.1 (value s values image tree) (joined s values image rest) < 2 ^ x) h.4
+      (joined_below _ _ h.0 h.1 one others))

@@ -25,8 +25,9 @@ IsBoundaryOf job start k c = IsBoundary (addresses_of job) (at_cycle job start) 
 abbrev pub boundary_at : Job → ℕ → Option Boundary
 boundary_at job at = find (λ boundary. boundary.address == at) job.relation.boundaries
 
--- Boundary k of a start's run comes; each segment up to it takes at most the bound of the boundary at which it begins; there the board,
--- and the described machine after k steps, are in relation; and the board's events before it are those of the k steps.
+-- Boundary k of a start's run comes; each segment up to it takes at most the bound of the boundary at which it
+-- begins; there the board, and the described machine after k steps, are in relation; and the board's events before it
+-- are those of the k steps.
 pub record IsKept (job : Job) (start : Start) (k : ℕ) : Type 0 where
   pub cycle : ℕ
   pub steps : Stepped
@@ -34,7 +35,8 @@ pub record IsKept (job : Job) (start : Start) (k : ℕ) : Type 0 where
   pub comes : IsBoundaryOf job start k cycle
   pub bounds : (j c d : ℕ) (from : Boundary) → j < k → IsBoundaryOf job start j c → IsBoundaryOf job start (j + 1) d
       → boundary_at job (at_cycle job start c) ≡ Some from → d ≤ c + from.bound
-  pub described : IsDescribedRun job.machine (addresses_of job) (at_cycle job start) start.env start.pair.machine k steps
+  pub described : IsDescribedRun job.machine (addresses_of job)
+      (at_cycle job start) start.env start.pair.machine k steps
   pub there : boundary_at job (at_cycle job start cycle) ≡ Some reached
   pub related : InRelation job reached (pair_of (board_run job start cycle).state steps.state)
   pub events : (board_run job start cycle).events ≡ steps.events

@@ -20,9 +20,11 @@ with_step m env c before =
       taken = before.taken + step.taken;
     }
 
--- The state that k steps leave, their events in one list, and how many inputs they took, where `at` gives the control address of each
--- cycle start of the board's run. The request of each step is the line of the first cycle of its segment.
-pub data IsDescribedRun (m : Description) (addresses : List ℕ) (at : ℕ → ℕ) (env : Environment) (start : MachineState) : ℕ → Stepped → Type 0 where
+-- The state that k steps leave, their events in one list, and how many inputs they took, where `at` gives the control
+-- address of each cycle start of the board's run. The request of each step is the line of the first cycle of its
+-- segment.
+pub data IsDescribedRun (m : Description) (addresses : List ℕ) (at : ℕ
+    → ℕ) (env : Environment) (start : MachineState) : ℕ → Stepped → Type 0 where
   begins : IsDescribedRun m addresses at env start 0 (before_steps start)
   steps : (k c : ℕ) (before : Stepped) → IsDescribedRun m addresses at env start k before → IsBoundary addresses at k c
       → IsDescribedRun m addresses at env start (k + 1) (with_step m env c before)

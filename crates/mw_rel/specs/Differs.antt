@@ -68,9 +68,11 @@ difference_at job boundary run step = first_of
 abbrev pub first_step : Job → Start → Stepped
 first_step job start = step_of job.machine start.pair.machine (slice_index_or start.env.line 0 false) start.env.inputs 0
 
--- a start's first segment, where it keeps its bound; nothing where the bound's number of cycles passes without a boundary
+-- a start's first segment, where it keeps its bound; nothing where the bound's number of cycles passes without a
+-- boundary
 abbrev pub segment_of : Job → Start → Option BoardRun
-segment_of job start = first_segment job.board job.store start.env start.pair.board (addresses_of job) start.boundary.bound
+segment_of job start = first_segment job.board job.store start.env start.pair.board
+    (addresses_of job) start.boundary.bound
 
 -- what a run shows that stands at a boundary; a segment ends at one, so there is one
 abbrev pub shown_at : Job → Start → BoardRun → Option Boundary → Option Difference
@@ -86,7 +88,8 @@ shown_by job start (Some run) = shown_at job start run (boundary_at job run.stat
 unfoldable pub difference_of : Job → Start → Option Difference
 difference_of job start = shown_by job start (segment_of job start)
 
--- where the next segment of a run begins: at the boundary reached, with both states there, and what is left of the environment
+-- where the next segment of a run begins: at the boundary reached, with both states there, and what is left of the
+-- environment
 abbrev pub start_after : Job → Start → BoardRun → Boundary → Start
 start_after job start run boundary = record {
   boundary = boundary;
@@ -94,9 +97,12 @@ start_after job start run boundary = record {
   env = rest_at start.env run.clock;
 }
 
--- a start differs at a step, where the steps before show no difference and this one does, from its own boundary
+-- a start differs at a step, counted from 1, where the steps before show no difference and this one does, from its
+-- own boundary
 pub data DiffersAt (job : Job) : Start → ℕ → Difference → Type 0 where
-  here : (start : Start) (difference : Difference) → difference_of job start ≡ Some difference → DiffersAt job start 1 difference
-  later : (start : Start) (run : BoardRun) (boundary : Boundary) (step : ℕ) (difference : Difference) → difference_of job start ≡ None
+  here : (start : Start) (difference : Difference) → difference_of job start ≡ Some difference
+      → DiffersAt job start 1 difference
+  later : (start : Start) (run : BoardRun) (boundary : Boundary) (step : ℕ) (difference : Difference)
+      → difference_of job start ≡ None
       → segment_of job start ≡ Some run → boundary_at job run.state.at ≡ Some boundary
       → DiffersAt job (start_after job start run boundary) step difference → DiffersAt job start (step + 1) difference

@@ -1,7 +1,7 @@
-pub mod Begin
 pub mod Certified
 pub mod DescribedRun
 pub mod Differs
+pub mod Free
 pub mod InRelation
 pub mod Job
 pub mod Laws
@@ -9,5 +9,6 @@ pub mod Lines
 pub mod Relation
 pub mod Rules
 pub mod Seen
+pub mod Shown
 pub mod Start
 pub mod Views

@@ -4,7 +4,8 @@ use Rattle.mw_expr.specs.declared.shape.Shape.{Shape}
 use Rattle.mw_expr.specs.Widths.{is_known, depth}
 use Rattle.mw_rel.specs.Lines.{Line, reads_of}
 
--- a boundary: its control address, the bound in cycles of the segment that begins there, the stack pointer, and its lines
+-- a boundary: its control address, the bound in cycles of the segment that begins there, the stack pointer, and its
+-- lines
 pub record Boundary : Type 0 where
   pub address : ℕ
   pub bound : ℕ

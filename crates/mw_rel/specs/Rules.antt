@@ -1,5 +1,5 @@
 -- The rules of relations.
-use Rattle.std.specs.Prelude.{◌≡◌, ℕ, List, [], ◌∷◌, length, map, Bool, true, not, ◌&&◌, nat_lt, ◌==◌, Option, None, slice_index}
+use Rattle.std.specs.Prelude.{◌≡◌, ℕ, ◌<◌, ◌≤◌, List, [], All, Ok, ◌∷◌, length, map, Bool, true, not, ◌&&◌, nat_lt, ◌==◌, Option, None, slice_index}
 use Rattle.std.specs.List.{list_all, list_any}
 use Rattle.mw_base.specs.declared.cause.Cause.{Cause}
 use Rattle.mw_base.specs.declared.cause.Cause.TheVariants.{Twice, WidthsDiffer, LeftTwice, LeftUsedOnRight, NoBoundary, BadBound}
@@ -62,3 +62,20 @@ refusal_of r = first_broken (rules_of r)
 pub record IsRelation (r : Relation) : Type 0 where
   pub formed : IsFormed r
   pub accepted : refusal_of r ≡ None
+
+-- what each line of a relation has: an element on the left, and as wide an expression on the right
+pub record IsLineOf (s : Shape) (line : Line) : Type 0 where
+  pub left : line.left < length s.widths
+  pub right : width_of s line.right ≡ Ok (slice_index s.widths line.left)
+
+-- what each of its boundaries has: such lines, no left side twice or on a right side, and a bound of 1 to 500
+pub record IsSolved (s : Shape) (boundary : Boundary) : Type 0 where
+  pub lines : All (IsLineOf s) boundary.lines
+  pub once : lefts_are_once boundary ≡ true
+  pub free : rights_are_free boundary ≡ true
+  pub some : 1 ≤ boundary.bound
+  pub most : boundary.bound ≤ 500
+
+-- the boundaries of an accepted relation are solved
+abbrev pub AcceptedAreSolved : Type 0
+AcceptedAreSolved = (r : Relation) → IsRelation r → All (IsSolved r.shape) r.boundaries

@@ -1,4 +1,5 @@
--- Lines and boundaries that the code keeps, seen as what they are made of.
+-- Lines and boundaries that the code keeps, seen as what they are made of. Relations and jobs, whose types speak of
+-- this page, have theirs in another.
 use Rattle.std.specs.Prelude.{List, map}
 use Rattle.mw_expr.specs.Tree.{view}
 use Rattle.mw_rel.specs.declared.boundary.Boundary.{Boundary as KeptBoundary}

@@ -21,6 +21,7 @@ fn widths_of(alloc: Global, board: &Board, machine: &Machine) -> Result<Vec<u8>,
 {
     let mut widths = Vec::new(alloc);
     for number in 0..board.element_count() {
+        // Each of these numbers has an element, so there is a width.
         widths.push(board.element_width(number).unwrap_or(0))?;
     }
     let registers = &machine.shape().widths.as_slice()[..machine.registers() as usize];
@@ -28,8 +29,9 @@ fn widths_of(alloc: Global, board: &Board, machine: &Machine) -> Result<Vec<u8>,
     Ok(widths)
 }
 
-/// The shape of the lines of a relation between a board and a described machine: the widths of the elements, by number, and those of
-/// the machine's memory. The board's elements come first, in the order of its table, and behind them the machine's registers.
+/// The shape of the lines of a relation between a board and a described machine: the widths of the elements, by
+/// number, and those of the machine's memory. The board's elements come first, in the order of its table, and behind
+/// them the machine's registers.
 ///
 /// # Errors
 ///
@@ -45,8 +47,9 @@ pub fn shape_of(alloc: Global, board: &Board, machine: &Machine) -> Result<Shape
     })
 }
 
-/// What is certified: that a board with its microprogram does what a described machine does, as a relation between them says. Contracts
-/// see it as its parts; `are_matched` says of them that the relation was made for both, and that both memories have the same widths.
+/// What is certified: that a board with its microprogram does what a described machine does, as a relation between
+/// them says. Contracts see it as its parts; `are_matched` says of them that the relation was made for both, and that
+/// both memories have the same widths.
 #[derive(Drop)]
 pub struct Job {
     /// The board.
@@ -61,15 +64,18 @@ pub struct Job {
 }
 
 impl Job {
+    ghost use Rattle.std.specs.Prelude.{length};
+    ghost use Rattle.mw_board.specs.Elements.{element_count};
     ghost use Rattle.mw_rel.specs.Job.{job_with, AreForEachOther, memories_agree, IsJob};
     ghost use Rattle.mw_rel.specs.Views.{relation_of, job_of};
 
-    /// The job of these parts. The relation was made for the shape of this board and this machine, and each of its stack pointers is at
-    /// most the board's number of stack words.
+    /// The job of these parts. The relation was made for the shape of this board and this machine, and each of its
+    /// stack pointers is at most the board's number of stack words.
     ///
     /// # Errors
     ///
-    /// Cause 55 where the memory of the machine has other widths than that of the board. What was handed in is dropped then.
+    /// Cause 55 where the memory of the machine has other widths than that of the board. What was handed in is
+    /// dropped then.
     pub fn new(
         board: Board,
         store: Store,
@@ -95,7 +101,8 @@ impl Job {
             Err(Cause::ShapesDiffer)
         }
     }
-    /// The shape that the lines of its relation are over: the widths of the elements of both sides, and those of the memory.
+    /// The shape that the lines of its relation are over: the widths of the elements of both sides, and those of the
+    /// memory.
     pub fn shape(&self) -> &Shape
         ensures exact { result.now ≡ (job_of self.now).relation.shape }
         ensures valid { IsJob (job_of self.now) }
@@ -103,5 +110,15 @@ impl Job {
         // A call for the proof: its clause `valid` says what holds of every board.
         let _ = self.board.parts();
         self.relation.shape()
+    }
+
+    /// How many elements both sides have: those of the board and, behind them, the machine's registers.
+    pub fn element_count(&self) -> usize
+        ensures exact { result ≡ length (job_of self.now).relation.shape.widths }
+        ensures both { result ≡ element_count (job_of self.now).board + (job_of self.now).machine.registers }
+        ensures few { result ≤ 170 }
+        ensures valid { IsJob (job_of self.now) }
+    {
+        self.shape().widths.as_slice().len()
     }
 }

@@ -5,10 +5,12 @@ ghost use Rattle.mw_rel.specs.Lines.{stands_in, stands_in_one};
 
 use mw_expr::Expr;
 
-/// A line of a relation: at its boundary an element has the value of an expression. Contracts see the expression as a tree.
+/// A line of a relation: at its boundary an element has the value of an expression. Contracts see the expression as a
+/// tree.
 #[derive(Drop)]
 pub struct Line {
-    /// The number of the element on the left.
+    /// The number of the element on the left: the board's elements come first, in the order of its table, and behind
+    /// them the machine's registers.
     pub left: u32,
     /// The expression on the right, over the elements and the described machine's memory.
     pub right: Expr,

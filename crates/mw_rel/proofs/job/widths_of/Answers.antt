@@ -9,7 +9,13 @@ pub loop-number-preserved : goal.loop-number-preserved
 loop-number-preserved c =
     let board = c.args.board.now in
     let within : c.loop-number.number < length (map (λ (e : Element). e.width) (elements_of board)) =
-    omega (arith, length-map (elements_of board) (λ (e : Element). e.width), c.loop-number-test.true, c.loop-number.auto.number-end) in
+    omega (
+      arith,
+      length-map (elements_of board) (λ (e : Element). e.width),
+      c.loop-number-test.true,
+      c.loop-number.auto.number-end,
+    ) in
     c.in_ok-push.ensures.items
-    ∙ ap (λ width. c.loop-number.widths.items ++ width ∷ []) (c.unwrap_or.ensures ∙ ap (λ width. unwrap_or width 0) c.element_width.ensures)
+    ∙ ap (λ width. c.loop-number.widths.items ++ width ∷ []) (c.unwrap_or.ensures
+    ∙ ap (λ width. unwrap_or width 0) c.element_width.ensures)
     ∙ width_more board c.loop-number.number c.loop-number.widths.items within c.loop-number.invariant

@@ -5,4 +5,5 @@ use Rattle.mw_rel.specs.Seen.{boundaries_of}
 use Rattle.mw_rel.proofs.rules.are_bounded.Given as goal
 
 abbrev pub invariant-loop-boundary : goal.invariant-loop-boundary
-invariant-loop-boundary l = list_all is_bounded (boundaries_of (drop l.boundary-index l.boundaries)) ≡ list_all is_bounded (boundaries_of l.boundaries)
+invariant-loop-boundary l = list_all is_bounded
+    (boundaries_of (drop l.boundary-index l.boundaries)) ≡ list_all is_bounded (boundaries_of l.boundaries)

@@ -6,4 +6,5 @@ use Rattle.mw_rel.proofs.rules.lefts_are_once.Given as goal
 
 abbrev pub invariant-loop-boundary : goal.invariant-loop-boundary
 invariant-loop-boundary l =
-    list_all lefts_are_once (boundaries_of (drop l.boundary-index l.boundaries)) ≡ list_all lefts_are_once (boundaries_of l.boundaries)
+    list_all lefts_are_once (boundaries_of (drop l.boundary-index l.boundaries)) ≡ list_all lefts_are_once
+    (boundaries_of l.boundaries)
