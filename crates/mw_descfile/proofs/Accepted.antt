@@ -49,7 +49,8 @@ no_fault true is = absurd cc
 no_fault false is = refl
 
 -- a rule that is kept, before others that are
-rule_kept : (k : Bool) (cause : Cause) (rest : Option Cause) → k ≡ true → rest ≡ None → (if k then rest else Some cause) ≡ None
+rule_kept : (k : Bool) (cause : Cause) (rest : Option Cause) → k ≡ true → rest ≡ None
+    → (if k then rest else Some cause) ≡ None
 rule_kept true cause rest is none = none
 rule_kept false cause rest is none = absurd cc
 
@@ -83,9 +84,11 @@ accepted s none kept =
     and_from (nat_le m.registers 128) _ (le_is _ _ over.registers)
     (and_from (nat_le (length m.names - m.registers) 128) _ few
     (and_from (nat_le (total Statements m.acts) 4096) _ (le_is _ _ all.statements) (le_is _ _ all.reads))) in
-    let short = and_from (are_short m.names) (list_all (λ w. is_within 1 w 32) m.shape.widths) over.names.short over.wide in
+    let short = and_from (are_short m.names) (list_all (λ w. is_within 1 w 32) m.shape.widths) over.names.short
+    over.wide in
     let addressed = and_from _ (is_within 1 m.shape.address 16) short (within_is _ _ _ over.address) in
-    let ranges : are_ranges m.names m.shape ≡ true = and_from _ (is_within 4 m.shape.word 32) addressed (within_is _ _ _ over.word) in
+    let ranges : are_ranges m.names m.shape ≡ true =
+    and_from _ (is_within 4 m.shape.word 32) addressed (within_is _ _ _ over.word) in
     rule_kept (is_within_limits m) TooMany _ limits
     (rule_kept (are_free m.names) Twice _ over.names.free
     (rule_kept (are_ranges m.names m.shape) ValueTooWide _ ranges

@@ -19,19 +19,23 @@ use Rattle.mw_descfile.specs.Stating.{OpenIf, closed_if}
 abbrev pub AreFree : Fault → Shape → (levels : ℕ) → List Act → Type 0
 AreFree f s levels acts = have_fault f s levels (acts_of acts) ≡ false
 
-both_free : (f : Fault) (s : Shape) (levels : ℕ) (xs ys : List Act) → AreFree f s levels xs → AreFree f s levels ys → AreFree f s levels (xs ++ ys)
+both_free : (f : Fault) (s : Shape) (levels : ℕ) (xs ys : List Act) → AreFree f s levels xs → AreFree f s levels ys
+    → AreFree f s levels (xs ++ ys)
 both_free f s levels [] ys one other = other
 both_free f s levels (x ∷ xs) ys one other =
     let parts = or_parts (has_fault f s levels x) (have_fault f s levels (acts_of xs)) one in
-    or_from (has_fault f s levels x) (have_fault f s levels (acts_of (xs ++ ys))) parts.0 (both_free f s levels xs ys parts.1 other)
+    or_from (has_fault f s levels x) (have_fault f s levels (acts_of (xs ++ ys))) parts.0
+    (both_free f s levels xs ys parts.1 other)
 
-front_free : (f : Fault) (s : Shape) (levels : ℕ) (xs ys : List Act) → AreFree f s levels (xs ++ ys) → AreFree f s levels xs
+front_free : (f : Fault) (s : Shape) (levels : ℕ) (xs ys : List Act) → AreFree f s levels (xs ++ ys)
+    → AreFree f s levels xs
 front_free f s levels [] ys all = refl
 front_free f s levels (x ∷ xs) ys all =
     let parts = or_parts (has_fault f s levels x) (have_fault f s levels (acts_of (xs ++ ys))) all in
     or_from (has_fault f s levels x) (have_fault f s levels (acts_of xs)) parts.0 (front_free f s levels xs ys parts.1)
 
-back_free : (f : Fault) (s : Shape) (levels : ℕ) (xs ys : List Act) → AreFree f s levels (xs ++ ys) → AreFree f s levels ys
+back_free : (f : Fault) (s : Shape) (levels : ℕ) (xs ys : List Act) → AreFree f s levels (xs ++ ys)
+    → AreFree f s levels ys
 back_free f s levels [] ys all = all
 back_free f s levels (x ∷ xs) ys all =
     back_free f s levels xs ys (or_parts (has_fault f s levels x) (have_fault f s levels (acts_of (xs ++ ys))) all).1
@@ -42,7 +46,8 @@ one_free f s levels x is = or_from (has_fault f s levels x) false is refl
 -- an `if` whose last list is another without faults
 if_free : (f : Fault) (s : Shape) (levels : ℕ) (condition : Tree) (first : Option (List Act)) (old new : List Act)
     → (AreFree f s (levels - 1) old → AreFree f s (levels - 1) new)
-    → has_fault f s levels (closed_if condition first old) ≡ false → has_fault f s levels (closed_if condition first new) ≡ false
+    → has_fault f s levels (closed_if condition first old) ≡ false
+    → has_fault f s levels (closed_if condition first new) ≡ false
 if_free f s levels condition None old new step is =
     let one = or_parts (is_nesting_fault f levels) _ is in
     let two = or_parts (is_fault f s 1 condition) _ one.1 in
@@ -52,9 +57,11 @@ if_free f s levels condition None old new step is =
 if_free f s levels condition (Some first) old new step is =
     let one = or_parts (is_nesting_fault f levels) _ is in
     let two = or_parts (is_fault f s 1 condition) _ one.1 in
-    let lists = or_parts (have_fault f s (levels - 1) (acts_of first)) (have_fault f s (levels - 1) (acts_of old)) two.1 in
+    let lists = or_parts (have_fault f s (levels - 1) (acts_of first))
+    (have_fault f s (levels - 1) (acts_of old)) two.1 in
     or_from (is_nesting_fault f levels) _ one.0 (or_from (is_fault f s 1 condition) _ two.0
-    (or_from (have_fault f s (levels - 1) (acts_of first)) (have_fault f s (levels - 1) (acts_of new)) lists.0 (step lists.1)))
+    (or_from (have_fault f s (levels - 1) (acts_of first)) (have_fault f s (levels - 1) (acts_of new)) lists.0
+    (step lists.1)))
 
 -- other statements without faults in the list that is open
 pub others_free : (f : Fault) (s : Shape) (all : List OpenIf) (old new : List Act)
@@ -83,7 +90,8 @@ more_free f s all acts act is free =
 
 -- ---- counts
 
-total_both : (what : Counted) (xs ys : List Act) → total what (acts_of (xs ++ ys)) ≡ total what (acts_of xs) + total what (acts_of ys)
+total_both : (what : Counted) (xs ys : List Act)
+    → total what (acts_of (xs ++ ys)) ≡ total what (acts_of xs) + total what (acts_of ys)
 total_both what [] ys = omega arith
 total_both what (x ∷ xs) ys = let both = total_both what xs ys in omega (arith, both)
 

@@ -67,7 +67,8 @@ record IsNew (names : List ℕ → Option Element) (all : Elements) (name : List
   wide : is_within 1 bits 32 ≡ true
 
 two_tests : (a b : Bool) (first second : TextFault) (done : Unit {0})
-    → (if a then Err first else (if b then ok_of {F = TextFault} tt else Err second)) ≡ Ok done → (a ≡ false) × (b ≡ true)
+    → (if a then Err first else (if b then ok_of {F = TextFault} tt else Err second)) ≡ Ok done
+    → (a ≡ false) × (b ≡ true)
 two_tests true b first second done is = absurd cc
 two_tests false true first second done is = (refl, refl)
 two_tests false false first second done is = absurd cc
@@ -78,7 +79,8 @@ unfolding new_width new_name
 is_new text names all name width bits is =
     let one = bind_ok (few all name) _ bits is in
     let two = bind_ok (new_name text names (is_reserved (spelled text name)) name) _ bits one.2 in
-    let tests = two_tests (is_some (names (spelled text name)) || is_reserved (spelled text name)) (nat_le (length (spelled text name)) 64)
+    let tests = two_tests (is_some (names (spelled text name)) || is_reserved (spelled text name))
+    (nat_le (length (spelled text name)) 64)
     (fault_on name Twice) (fault_on name ValueTooWide) two.0 two.1 in
     let taken = or_parts (is_some (names (spelled text name))) (is_reserved (spelled text name)) tests.0 in
     let room = (if_ok (nat_lt (length all.names) 128) tt one.0 (fault_on name TooMany) one.1).0 in
@@ -92,7 +94,8 @@ is_new text names all name width bits is =
 
 -- ---- one element more
 
-elements_more : (all : Elements) (name : List ℕ) (bits : ℕ) → AreElements all → length all.names < 128 → is_within 1 bits 32 ≡ true
+elements_more : (all : Elements) (name : List ℕ) (bits : ℕ) → AreElements all → length all.names < 128
+    → is_within 1 bits 32 ≡ true
     → AreElements (with_element name bits all)
 elements_more all name bits kept few wide =
     let names = length_both all.names (name ∷ []) in
@@ -105,12 +108,15 @@ elements_more all name bits kept few wide =
     }
 
 -- where a name stands for one of some elements, it still does when there are more
-still_placed : (d next : Declared) (meant : Option Element) → ((kind : Kind) → length (of_kind kind d).names ≤ length (of_kind kind next).names)
-    → IfSome meant (λ (e : Element). e.place < length (of_kind e.kind d).names) → IfSome meant (λ (e : Element). e.place < length (of_kind e.kind next).names)
+still_placed : (d next : Declared) (meant : Option Element)
+    → ((kind : Kind) → length (of_kind kind d).names ≤ length (of_kind kind next).names)
+    → IfSome meant (λ (e : Element). e.place < length (of_kind e.kind d).names)
+    → IfSome meant (λ (e : Element). e.place < length (of_kind e.kind next).names)
 still_placed d next None more is = tt
 still_placed d next (Some e) more is = let grown = more e.kind in omega (arith, is, grown)
 
-register_kept : (d : Declared) (name : List ℕ) (bits : ℕ) → IsDeclared d → IsNew d.names d.registers name bits → is_spelled_as_name name ≡ true
+register_kept : (d : Declared) (name : List ℕ) (bits : ℕ) → IsDeclared d → IsNew d.names d.registers name bits
+    → is_spelled_as_name name ≡ true
     → IsDeclared (with_more Register name bits d)
 register_kept d name bits kept new spelled =
     let r = d.registers.names in
@@ -119,7 +125,8 @@ register_kept d name bits kept new spelled =
     let names = names_between d.names r t name new.none kept.found new.reserved spelled new.short kept.names in
     let found = has_more d.names r t name (record { kind = Register; place = length r }) kept.found in
     let longer = length_both r (name ∷ []) in
-    let grown : (kind : Kind) → length (of_kind kind d).names ≤ length (of_kind kind next).names = λ kind. elim kind as (λ k. length (of_kind k d).names ≤ length (of_kind k next).names) [
+    let grown : (kind : Kind) → length (of_kind kind d).names ≤ length (of_kind kind next).names =
+    λ kind. elim kind as (λ k. length (of_kind k d).names ≤ length (of_kind k next).names) [
       | Register ↦ omega (arith, longer)
       | Temporary ↦ omega arith
     ] in
@@ -130,13 +137,16 @@ register_kept d name bits kept new spelled =
       temporaries = kept.temporaries;
       names = subst AreNames (sym (append_assoc r (name ∷ []) t)) names;
       found = subst (λ xs. All (λ x. IsSome (next.names x)) xs) (sym (append_assoc r (name ∷ []) t)) found;
-      placed = λ x. elim (bytes_eq name x) as (λ b. IfSome (cond b (Some (record { kind = Register; place = length r })) (d.names x)) (λ (e : Element). e.place < length (of_kind e.kind next).names)) [
-        | true ↦ omega (arith, longer)
-        | false ↦ still_placed d next (d.names x) grown (kept.placed x)
-      ];
+      placed = λ x. elim (bytes_eq name x) as (λ b. IfSome
+          (cond b (Some (record { kind = Register; place = length r })) (d.names x))
+          (λ (e : Element). e.place < length (of_kind e.kind next).names)) [
+            | true ↦ omega (arith, longer)
+            | false ↦ still_placed d next (d.names x) grown (kept.placed x)
+          ];
     }
 
-temporary_kept : (d : Declared) (name : List ℕ) (bits : ℕ) → IsDeclared d → IsNew d.names d.temporaries name bits → is_spelled_as_name name ≡ true
+temporary_kept : (d : Declared) (name : List ℕ) (bits : ℕ) → IsDeclared d → IsNew d.names d.temporaries name bits
+    → is_spelled_as_name name ≡ true
     → IsDeclared (with_more Temporary name bits d)
 temporary_kept d name bits kept new spelled =
     let r = d.registers.names in
@@ -145,10 +155,12 @@ temporary_kept d name bits kept new spelled =
     let meant : Element = record { kind = Temporary; place = length t } in
     let all_before = subst (λ xs. All (λ x. IsSome (d.names x)) xs) (sym (append-nil (r ++ t))) kept.found in
     let names_before = subst AreNames (sym (append-nil (r ++ t))) kept.names in
-    let names = names_between d.names (r ++ t) [] name new.none all_before new.reserved spelled new.short names_before in
+    let names = names_between d.names (r ++ t) [] name new.none all_before new.reserved spelled new.short
+    names_before in
     let found = has_more d.names (r ++ t) [] name meant all_before in
     let longer = length_both t (name ∷ []) in
-    let grown : (kind : Kind) → length (of_kind kind d).names ≤ length (of_kind kind next).names = λ kind. elim kind as (λ k. length (of_kind k d).names ≤ length (of_kind k next).names) [
+    let grown : (kind : Kind) → length (of_kind kind d).names ≤ length (of_kind kind next).names =
+    λ kind. elim kind as (λ k. length (of_kind k d).names ≤ length (of_kind k next).names) [
       | Register ↦ omega arith
       | Temporary ↦ omega (arith, longer)
     ] in
@@ -159,13 +171,15 @@ temporary_kept d name bits kept new spelled =
       temporaries = elements_more d.temporaries name bits kept.temporaries new.few new.wide;
       names = subst AreNames (append_assoc r t (name ∷ [])) names;
       found = subst (λ xs. All (λ x. IsSome (next.names x)) xs) (append_assoc r t (name ∷ [])) found;
-      placed = λ x. elim (bytes_eq name x) as (λ b. IfSome (cond b (Some meant) (d.names x)) (λ (e : Element). e.place < length (of_kind e.kind next).names)) [
-        | true ↦ omega (arith, longer)
-        | false ↦ still_placed d next (d.names x) grown (kept.placed x)
-      ];
+      placed = λ x. elim (bytes_eq name x) as (λ b. IfSome (cond b (Some meant) (d.names x))
+          (λ (e : Element). e.place < length (of_kind e.kind next).names)) [
+            | true ↦ omega (arith, longer)
+            | false ↦ still_placed d next (d.names x) grown (kept.placed x)
+          ];
     }
 
-more_kept : (kind : Kind) (d : Declared) (name : List ℕ) (bits : ℕ) → IsDeclared d → IsNew d.names (of_kind kind d) name bits
+more_kept : (kind : Kind) (d : Declared) (name : List ℕ) (bits : ℕ) → IsDeclared d
+    → IsNew d.names (of_kind kind d) name bits
     → is_spelled_as_name name ≡ true → IsDeclared (with_more kind name bits d)
 more_kept Register d name bits kept new spelled = register_kept d name bits kept new spelled
 more_kept Temporary d name bits kept new spelled = temporary_kept d name bits kept new spelled
@@ -177,20 +191,25 @@ unfolding with_declared
 declared_kept text kind name width d next kept as_name is =
     let one = bind_ok (new_width text d.names (of_kind kind d) name width) _ next is in
     subst IsDeclared (ok_is {F = TextFault} (with_more kind (spelled text name) one.0 d) next one.2)
-    (more_kept kind d (spelled text name) one.0 kept (is_new text d.names (of_kind kind d) name width one.0 one.1) as_name)
+    (more_kept kind d (spelled text name) one.0 kept
+    (is_new text d.names (of_kind kind d) name width one.0 one.1) as_name)
 
 -- ---- the first statement
 
 -- the number of an element among all
-number_below : (r t : ℕ) (kind : Kind) (place : ℕ) (d : Declared) → length (of_kind Register d).names ≡ r → length (of_kind Temporary d).names ≡ t
+number_below : (r t : ℕ) (kind : Kind) (place : ℕ) (d : Declared) → length (of_kind Register d).names ≡ r
+    → length (of_kind Temporary d).names ≡ t
     → place < length (of_kind kind d).names → number_in r kind place < r + t
 number_below r t Register place d first second is = omega (arith, first, is)
 number_below r t Temporary place d first second is = omega (arith, second, is)
 
-meant_below : (d : Declared) (meant : Option Element) → IfSome meant (λ (e : Element). e.place < length (of_kind e.kind d).names)
-    → IfSome meant (λ (e : Element). number_in (length d.registers.names) e.kind e.place < length d.registers.names + length d.temporaries.names)
+meant_below : (d : Declared) (meant : Option Element)
+    → IfSome meant (λ (e : Element). e.place < length (of_kind e.kind d).names)
+    → IfSome meant (λ (e : Element). number_in (length d.registers.names) e.kind e.place < length d.registers.names +
+    length d.temporaries.names)
 meant_below d None is = tt
-meant_below d (Some e) is = number_below (length d.registers.names) (length d.temporaries.names) e.kind e.place d refl refl is
+meant_below d (Some e) is = number_below (length d.registers.names)
+    (length d.temporaries.names) e.kind e.place d refl refl is
 
 over_kept : (d : Declared) → IsDeclared d → IsOver (begun d).over
 over_kept d kept =
@@ -208,13 +227,16 @@ over_kept d kept =
     let r_sized = rs.sized in
     let t_sized = ts.sized in
     let sum : length r.names + length t.names ≡ length (r.names ++ t.names) = omega (arith, together) in
-    let sum_wide : length r.names + length t.names ≡ length (r.widths ++ t.widths) = omega (arith, wide, r_sized, t_sized) in
+    let sum_wide : length r.names + length t.names ≡ length (r.widths ++ t.widths) =
+    omega (arith, wide, r_sized, t_sized) in
     let front : take (length r.names + length t.names) (r.names ++ t.names ++ request) ≡ r.names ++ t.names =
     rw sum (take-append_seam (r.names ++ t.names) request) in
     let last : slice_index (r.widths ++ t.widths ++ 1 ∷ []) (length r.names + length t.names) ≡ 1 =
     rw sum_wide (get_or-append_seam (r.widths ++ t.widths) 1 [] 0) in
-    let named : length (r.names ++ t.names ++ request) ≡ length r.names + length t.names + 1 = omega (arith, one, together) in
-    let sized : length (r.widths ++ t.widths ++ 1 ∷ []) ≡ length r.names + length t.names + 1 = omega (arith, first, wide, r_sized, t_sized) in
+    let named : length (r.names ++ t.names ++ request) ≡ length r.names + length t.names + 1 =
+    omega (arith, one, together) in
+    let sized : length (r.widths ++ t.widths ++ 1 ∷ []) ≡ length r.names + length t.names + 1 =
+    omega (arith, first, wide, r_sized, t_sized) in
     record {
       registers = r_few;
       temporaries = omega (arith, t_few);
@@ -222,7 +244,8 @@ over_kept d kept =
       named = named;
       names = subst AreNames (sym front) kept.names;
       sized = sized;
-      wide = all_more (λ w. is_within 1 w 32) (r.widths ++ t.widths) 1 (all_both (λ w. is_within 1 w 32) r.widths t.widths rs.wide ts.wide) refl;
+      wide = all_more (λ w. is_within 1 w 32) (r.widths ++ t.widths) 1
+          (all_both (λ w. is_within 1 w 32) r.widths t.widths rs.wide ts.wide) refl;
       request = last;
       address = kept.address;
       word = kept.word;

@@ -40,7 +40,8 @@ mutual
   mems_are_reads (named token number) = refl
   mems_are_reads (constant number hash w) = refl
   mems_are_reads (complement token e) = mems_are_reads e
-  mems_are_reads (pair op token a b) = let both = length_both (mems a) (mems b) in omega (arith, both, mems_are_reads a, mems_are_reads b)
+  mems_are_reads (pair op token a b) = let both = length_both (mems a) (mems b) in
+      omega (arith, both, mems_are_reads a, mems_are_reads b)
   mems_are_reads (choice token c a b) =
       let both = length_both (mems a) (mems b) in
       let all = length_both (mems c) (mems a ++ mems b) in
@@ -54,7 +55,8 @@ mutual
   mems_in_are_reads : (parts : Parts) → length (mems_in parts) ≡ reads_in (plain_parts parts)
   mems_in_are_reads none = refl
   mems_in_are_reads (more tree rest) =
-      let both = length_both (mems tree) (mems_in rest) in omega (arith, both, mems_are_reads tree, mems_in_are_reads rest)
+      let both = length_both (mems tree) (mems_in rest) in
+      omega (arith, both, mems_are_reads tree, mems_in_are_reads rest)
 
 -- ---- an expression that was accepted
 
@@ -89,18 +91,22 @@ no_surplus None is = refl
 no_surplus (Some mem) is = absurd cc
 
 -- where a test gives no fault
-pub no_test : (b : Bool) (fault : TextFault) (done : Unit {0}) → (if b then Err fault else ok_of {F = TextFault} tt) ≡ Ok done → b ≡ false
+pub no_test : (b : Bool) (fault : TextFault) (done : Unit {0})
+    → (if b then Err fault else ok_of {F = TextFault} tt) ≡ Ok done → b ≡ false
 no_test true fault done is = absurd cc
 no_test false fault done is = refl
 
 -- the first fault, where it is known of the expression itself
 pub first_with : (s : Shape) (left : ℕ) (tree : Placed) (own now : Option TextFault) (mem : Option Token)
-    → own ≡ first_in None (faults s (Some 64) tree) → now ≡ first_in own (surplus mem) → mem ≡ slice_get (mems tree) left
+    → own ≡ first_in None (faults s (Some 64) tree) → now ≡ first_in own (surplus mem)
+    → mem ≡ slice_get (mems tree) left
     → now ≡ first_of_whole s left tree
 first_with s left tree own now mem is next read =
-    after_two None own now (faults s (Some 64) tree) (surplus (slice_get (mems tree) left)) is (next ∙ ap (λ m. first_in own (surplus m)) read)
+    after_two None own now (faults s (Some 64) tree) (surplus (slice_get (mems tree) left)) is
+    (next ∙ ap (λ m. first_in own (surplus m)) read)
 
-pub whole_fails : (s : Shape) (left : ℕ) (tree : Placed) (fault : TextFault) → Some fault ≡ first_of_whole s left tree → whole_of s left tree ≡ Err fault
+pub whole_fails : (s : Shape) (left : ℕ) (tree : Placed) (fault : TextFault)
+    → Some fault ≡ first_of_whole s left tree → whole_of s left tree ≡ Err fault
 unfolding whole_of
 whole_fails s left tree fault is = rw (sym is) refl
 
@@ -116,18 +122,22 @@ own_none s left tree is =
     rw own refl
 
 -- a width that isn't other than the one asked for
-pub asked_same : (width w : ℕ) (token : Token) (seen : Option ℕ) (done : Unit {0}) → asked width token seen ≡ Ok done → seen ≡ Some w
+pub asked_same : (width w : ℕ) (token : Token) (seen : Option ℕ) (done : Unit {0}) → asked width token seen ≡ Ok done
+    → seen ≡ Some w
     → not (w == width) ≡ false
 asked_same width w token seen done is has = no_test (not (w == width)) (fault_on token WidthsDiffer) done (rw has at is)
 
-pub whole_has : (s : Shape) (left : ℕ) (tree : Placed) (whole : Whole) → IsShape s → WasRead tree → whole_of s left tree ≡ Ok whole
+pub whole_has : (s : Shape) (left : ℕ) (tree : Placed) (whole : Whole) → IsShape s → WasRead tree
+    → whole_of s left tree ≡ Ok whole
     → HasSeenWidth s tree × (whole.tree ≡ plain tree) × (reads whole.tree + whole.left ≡ left)
 unfolding whole_of
 whole_has s left tree whole shape read is =
-    let made = unless_ok (first_of_whole s left tree) (record { tree = plain tree; left = left - length (mems tree) }) whole is in
+    let made = unless_ok (first_of_whole s left tree)
+    (record { tree = plain tree; left = left - length (mems tree) }) whole is in
     let all = no_first (faults s (Some 64) tree ++ surplus (slice_get (mems tree) left)) made.0 in
     let own = nil_front (faults s (Some 64) tree) (surplus (slice_get (mems tree) left)) all in
-    let few = few_left (mems tree) left (no_surplus _ (nil_back (faults s (Some 64) tree) (surplus (slice_get (mems tree) left)) all)) in
+    let few = few_left (mems tree) left (no_surplus _
+    (nil_back (faults s (Some 64) tree) (surplus (slice_get (mems tree) left)) all)) in
     let same = mems_are_reads tree in
     let sum : reads (plain tree) + (left - length (mems tree)) ≡ left = omega (arith, few, same) in (
       seen_whole read.m read.cursor s tree shape read.is own,
@@ -136,7 +146,8 @@ whole_has s left tree whole shape read is =
     )
 
 -- one with a width has none of the faults
-pub no_fault : (s : Shape) (tree : Placed) (width : ℕ) (h : HasSeenWidth s tree) → not (h.w == width) ≡ false → (f : Fault) → is_fault f s width (plain tree) ≡ false
+pub no_fault : (s : Shape) (tree : Placed) (width : ℕ) (h : HasSeenWidth s tree) → not (h.w == width) ≡ false
+    → (f : Fault) → is_fault f s width (plain tree) ≡ false
 no_fault s tree width h same NoElement = rw h.known refl
 no_fault s tree width h same OtherWidth = rw h.wide same
 no_fault s tree width h same TooNested = let shallow = h.shallow in grind (arith, nat_tests, shallow)

@@ -25,15 +25,18 @@ WasSaid blocks (to_choose word condition) = WasRead condition
 WasSaid blocks to_turn = blocks.can_else ≡ true
 WasSaid blocks to_end = blocks.can_end ≡ true
 
-assign_said : (blocks : Blocks) (scope : Scope) (line : Cursor) (said : Said) → assign_of scope line ≡ Ok said → WasSaid blocks said
+assign_said : (blocks : Blocks) (scope : Scope) (line : Cursor) (said : Said) → assign_of scope line ≡ Ok said
+    → WasSaid blocks said
 unfolding assign_of
 assign_said blocks scope line said is =
     let one = bind_ok (name_at 0 line) _ said is in
     let two = bind_ok (sign_at signs.Assign 1 line) _ said one.2 in
     let three = bind_ok (written_of scope (after 2 line)) _ said two.2 in
-    subst (WasSaid blocks) (ok_is {F = TextFault} (to_assign one.0 two.0 three.0) said three.2) (record { m = _; cursor = _; is = three.1 })
+    subst (WasSaid blocks) (ok_is {F = TextFault} (to_assign one.0 two.0 three.0) said three.2)
+    (record { m = _; cursor = _; is = three.1 })
 
-write_said : (blocks : Blocks) (scope : Scope) (line : Cursor) (said : Said) → write_of scope line ≡ Ok said → WasSaid blocks said
+write_said : (blocks : Blocks) (scope : Scope) (line : Cursor) (said : Said) → write_of scope line ≡ Ok said
+    → WasSaid blocks said
 unfolding write_of
 write_said blocks scope line said is =
     let one = bind_ok (token_at 0 line) _ said is in
@@ -45,12 +48,14 @@ write_said blocks scope line said is =
     subst (WasSaid blocks) (ok_is {F = TextFault} (to_write one.0 three.0 five.0 six.0) said six.2)
     (record { m = _; cursor = _; is = three.1 }, record { m = _; cursor = _; is = six.1 })
 
-put_said : (blocks : Blocks) (scope : Scope) (line : Cursor) (said : Said) → put_of scope line ≡ Ok said → WasSaid blocks said
+put_said : (blocks : Blocks) (scope : Scope) (line : Cursor) (said : Said) → put_of scope line ≡ Ok said
+    → WasSaid blocks said
 unfolding put_of
 put_said blocks scope line said is =
     let one = bind_ok (token_at 0 line) _ said is in
     let two = bind_ok (written_of scope (after 1 line)) _ said one.2 in
-    subst (WasSaid blocks) (ok_is {F = TextFault} (to_put one.0 two.0) said two.2) (record { m = _; cursor = _; is = two.1 })
+    subst (WasSaid blocks) (ok_is {F = TextFault} (to_put one.0 two.0) said two.2)
+    (record { m = _; cursor = _; is = two.1 })
 
 take_said : (blocks : Blocks) (line : Cursor) (said : Said) → take_of line ≡ Ok said → WasSaid blocks said
 unfolding take_of
@@ -60,12 +65,14 @@ take_said blocks line said is =
     let three = bind_ok (end_at 2 line) _ said two.2 in
     subst (WasSaid blocks) (ok_is {F = TextFault} (to_take one.0 two.0) said three.2) tt
 
-if_said : (blocks : Blocks) (scope : Scope) (line : Cursor) (said : Said) → if_of scope line ≡ Ok said → WasSaid blocks said
+if_said : (blocks : Blocks) (scope : Scope) (line : Cursor) (said : Said) → if_of scope line ≡ Ok said
+    → WasSaid blocks said
 unfolding if_of
 if_said blocks scope line said is =
     let one = bind_ok (token_at 0 line) _ said is in
     let two = bind_ok (written_of scope (after 1 line)) _ said one.2 in
-    subst (WasSaid blocks) (ok_is {F = TextFault} (to_choose one.0 two.0) said two.2) (record { m = _; cursor = _; is = two.1 })
+    subst (WasSaid blocks) (ok_is {F = TextFault} (to_choose one.0 two.0) said two.2)
+    (record { m = _; cursor = _; is = two.1 })
 
 pub allowed_only : (b : Bool) (fault : TextFault) (done : Unit {0}) → allowed b fault ≡ Ok done → b ≡ true
 allowed_only true fault done is = refl
@@ -78,7 +85,8 @@ can can_stand line done is =
     let two = bind_ok (allowed can_stand (misplaced one.0 line)) _ done one.2 in
     allowed_only can_stand (misplaced one.0 line) two.0 two.1
 
-alone_said : (can_stand : Bool) (blocks : Blocks) (one said : Said) (line : Cursor) → (can_stand ≡ true → WasSaid blocks one)
+alone_said : (can_stand : Bool) (blocks : Blocks) (one said : Said) (line : Cursor)
+    → (can_stand ≡ true → WasSaid blocks one)
     → alone_of can_stand one line ≡ Ok said → WasSaid blocks said
 alone_said can_stand blocks one said line so is =
     let stands = bind_ok (alone can_stand line) (λ stands. ok_of {F = TextFault} one) said is in
@@ -90,11 +98,14 @@ after_said scope blocks line (Some keywords.Mem) said is = write_said blocks sco
 after_said scope blocks line (Some keywords.Put) said is = put_said blocks scope line said is
 after_said scope blocks line (Some keywords.Take) said is = take_said blocks line said is
 after_said scope blocks line (Some keywords.If) said is = if_said blocks scope line said is
-after_said scope blocks line (Some keywords.Else) said is = alone_said blocks.can_else blocks to_turn said line (λ can. can) is
-after_said scope blocks line (Some keywords.End) said is = alone_said blocks.can_end blocks to_end said line (λ can. can) is
+after_said scope blocks line (Some keywords.Else) said is =
+    alone_said blocks.can_else blocks to_turn said line (λ can. can) is
+after_said scope blocks line (Some keywords.End) said is =
+    alone_said blocks.can_end blocks to_end said line (λ can. can) is
 after_said scope blocks line None said is = assign_said blocks scope line said is
 
 -- what a line says
-pub was_said : (scope : Scope) (blocks : Blocks) (line : Cursor) (said : Said) → said_of scope blocks line ≡ Ok said → WasSaid blocks said
+pub was_said : (scope : Scope) (blocks : Blocks) (line : Cursor) (said : Said) → said_of scope blocks line ≡ Ok said
+    → WasSaid blocks said
 unfolding said_of
 was_said scope blocks line said is = after_said scope blocks line (keyword_in line) said is

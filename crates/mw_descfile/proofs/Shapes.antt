@@ -13,7 +13,8 @@ use Rattle.mw_descfile.specs.Stating.{Over}
 between : (low n high : ℕ) → is_within low n high ≡ true → (low ≤ n) × (n ≤ high)
 between low n high is = (grind (arith, nat_tests, is), grind (arith, nat_tests, is))
 
-all_between : (low high : ℕ) (ws : List ℕ) → list_all (λ w. is_within low w high) ws ≡ true → All (λ w. (low ≤ w) × (w ≤ high)) ws
+all_between : (low high : ℕ) (ws : List ℕ) → list_all (λ w. is_within low w high) ws ≡ true
+    → All (λ w. (low ≤ w) × (w ≤ high)) ws
 all_between low high [] all = All-nil (λ w. (low ≤ w) × (w ≤ high))
 all_between low high (w ∷ rest) all =
     let parts = and_parts (is_within low w high) (list_all (λ w. is_within low w high) rest) all in

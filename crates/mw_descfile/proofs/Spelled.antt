@@ -12,18 +12,21 @@ use Rattle.mw_descfile.specs.Kept.{AreSpelled}
 
 all_front : {A : Type 0} (P : A → Type 0) (xs ys : List A) → All P (xs ++ ys) → All P xs
 all_front P [] ys all = All-nil P
-all_front P (x ∷ xs) ys all = All-cons P x xs (All-head P x (xs ++ ys) all) (all_front P xs ys (All-tail P x (xs ++ ys) all))
+all_front P (x ∷ xs) ys all = All-cons P x xs (All-head P x (xs ++ ys) all)
+    (all_front P xs ys (All-tail P x (xs ++ ys) all))
 
 all_back : {A : Type 0} (P : A → Type 0) (xs ys : List A) → All P (xs ++ ys) → All P ys
 all_back P [] ys all = all
 all_back P (x ∷ xs) ys all = all_back P xs ys (All-tail P x (xs ++ ys) all)
 
-each_line : (text : List ℕ) (lines : List Line) → AreSpelled text (tokens_in lines) → All (λ line. AreSpelled text line.tokens) lines
+each_line : (text : List ℕ) (lines : List Line) → AreSpelled text (tokens_in lines)
+    → All (λ line. AreSpelled text line.tokens) lines
 each_line text [] all = All-nil (λ line. AreSpelled text line.tokens)
 each_line text (line ∷ rest) all =
     let P = λ (token : Token). Spells (spelled text token) token.kind in
     All-cons (λ line. AreSpelled text line.tokens) line rest (all_front P line.tokens (tokens_in rest) all)
     (each_line text rest (all_back P line.tokens (tokens_in rest) all))
 
-pub lines_spelled : (text : List ℕ) (lines : List Line) → InOrder text (length text) (tokens_in lines) → All (λ line. AreSpelled text line.tokens) lines
+pub lines_spelled : (text : List ℕ) (lines : List Line) → InOrder text (length text) (tokens_in lines)
+    → All (λ line. AreSpelled text line.tokens) lines
 lines_spelled text lines ordered = each_line text lines ordered.spelled

@@ -86,7 +86,8 @@ no_elements = record { names = []; widths = [] }
 abbrev pub with_element : List ℕ → ℕ → Elements → Elements
 with_element name width all = record { names = all.names ++ name ∷ []; widths = all.widths ++ width ∷ [] }
 
--- what is declared by some lines: the widths of the memory's addresses and words, the registers and the temporaries, and what names
+-- what is declared by some lines: the widths of the memory's addresses and words, the registers and the temporaries,
+-- and what names
 -- stand for
 pub record Declared : Type 0 where
   pub names : List ℕ → Option Meant
@@ -98,7 +99,8 @@ pub record Declared : Type 0 where
 -- a number in a range
 abbrev pub ranged : (low high : ℕ) → Numeral → Result ℕ TextFault
 ranged low high number =
-    if nat_le low number.value && nat_le number.value high then Ok number.value else Err (fault_on number.token ValueTooWide)
+    if nat_le low number.value && nat_le number.value high then Ok number.value else Err
+    (fault_on number.token ValueTooWide)
 
 -- a memory: 1 to 16 bits for an address, and 4 to 32 for a word
 unfoldable pub with_sizes : Sizes → Result Declared TextFault
@@ -111,7 +113,8 @@ with_sizes sizes = do
 abbrev pub few : Elements → Token → Result (Unit {0}) TextFault
 few all name = if nat_lt (length all.names) 128 then Ok tt else Err (fault_on name TooMany)
 
--- the width of an element that can be declared beside these: there are few, the name is new and short and not reserved, and the
+-- the width of an element that can be declared beside these: there are few, the name is new and short and not
+-- reserved, and the
 -- width is 1 to 32
 unfoldable pub new_width : List ℕ → (List ℕ → Option Meant) → Elements → Token → Numeral → Result ℕ TextFault
 new_width text names all name width = do

@@ -45,7 +45,8 @@ unless (Some fault) x = Err fault
 
 -- an expression that may have so many memory reads, or its first fault
 unfoldable pub whole_of : Shape → (left : ℕ) → Placed → Result Whole TextFault
-whole_of s left tree = unless (first_of_whole s left tree) (record { tree = plain tree; left = left - length (mems tree) })
+whole_of s left tree = unless (first_of_whole s left tree)
+    (record { tree = plain tree; left = left - length (mems tree) })
 
 -- one that has to have this width, where another is at fault at a token before it
 unfoldable pub asked_whole : Shape → (left width : ℕ) → Token → Placed → Result Whole TextFault

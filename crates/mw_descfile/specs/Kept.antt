@@ -56,14 +56,16 @@ pub record IsOver (over : Over) : Type 0 where
   pub request : slice_index over.scope.shape.widths over.elements ≡ 1
   pub address : IsBetween 1 over.scope.shape.address 16
   pub word : IsBetween 4 over.scope.shape.word 32
-  pub placed : (name : List ℕ) → IfSome (over.names name) (λ (e : Element). number_in over.registers e.kind e.place < over.elements)
+  pub placed : (name : List ℕ) → IfSome (over.names name)
+      (λ (e : Element). number_in over.registers e.kind e.place < over.elements)
 
 -- the statements of a machine that would end here
 abbrev pub closed : List Act → List OpenIf → List Act
 closed acts [] = acts
 closed acts (top ∷ rest) = closed (top.before ++ closed_if top.condition top.first acts ∷ []) rest
 
--- what is stated: as many statements and memory reads as were left at first are there or left still, and no statement has a fault
+-- what is stated: as many statements and memory reads as were left at first are there or left still, and no statement
+-- has a fault
 pub record IsStated (s : Stated) : Type 0 where
   pub over : IsOver s.over
   pub statements : total Statements (acts_of (closed s.acts s.open_ifs)) + s.statements_left ≡ 4096

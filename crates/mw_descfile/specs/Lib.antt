@@ -1,4 +1,5 @@
 pub mod Declarations
+pub mod Examples
 pub mod Expressions
 pub mod Kept
 pub mod Machine

@@ -28,7 +28,8 @@ with_declaration text d (Element kind name width) = do
   Ok (declaring more)
 with_declaration text d Step = Ok (stating (begun d))
 
--- what is known after a line that isn't blank: first the memory, then the registers and temporaries up to `step`, then the statements
+-- what is known after a line that isn't blank: first the memory, then the registers and temporaries up to `step`,
+-- then the statements
 unfoldable pub with_tokens : List ℕ → Known → Line → Result Known TextFault
 with_tokens text nothing line = do
   sizes ← sizes_of (at_line text line BadSyntax)
@@ -63,7 +64,8 @@ abbrev pub finished : Known → TextFault → Result Description TextFault
 finished (stating s) fault = machine_unless s fault
 finished other fault = Err fault
 
--- the machine of a text, or its first fault: those of its bytes, then those of its lines one after another, then that of its end
+-- the machine of a text, or its first fault: those of its bytes, then those of its lines one after another, then that
+-- of its end
 unfoldable pub machine_of : List ℕ → Result Description TextFault
 machine_of text = do
   lines ← token_lines text

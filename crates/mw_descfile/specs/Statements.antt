@@ -53,7 +53,8 @@ abbrev pub one_more : Option ℕ → (ℕ → ℕ) → ℕ
 one_more None later = 0
 one_more (Some n) later = later n + 1
 
--- how many of these tokens of a text stand before the "]" that closes the "[" before them, where so many more are open; all where none does
+-- how many of these tokens of a text stand before the "]" that closes the "[" before them, where so many more are
+-- open; all where none does
 abbrev pub before_close : List ℕ → ℕ → List Token → ℕ
 before_close text n [] = 0
 before_close text n (token ∷ rest) = one_more (nested (symbol_of text token) n) (λ inner. before_close text inner rest)
@@ -151,6 +152,7 @@ said_after scope blocks line (Some keywords.Else) = alone_of blocks.can_else to_
 said_after scope blocks line (Some keywords.End) = alone_of blocks.can_end to_end line
 said_after scope blocks line None = assign_of scope line
 
--- what a line of statements says, or where it leaves its grammar: at the first token that can't follow those before it, or at its end
+-- what a line of statements says, or where it leaves its grammar: at the first token that can't follow those before
+-- it, or at its end
 unfoldable pub said_of : Scope → Blocks → Cursor → Result Said TextFault
 said_of scope blocks line = said_after scope blocks line (keyword_in line)

@@ -21,7 +21,8 @@ use Rattle.mw_descfile.specs.Declarations.{Declared}
 use Rattle.mw_descfile.specs.Expressions.{Whole, asked, whole_of, asked_whole}
 use Rattle.mw_descfile.specs.Statements.{Said, to_assign, to_write, to_put, to_take, to_choose, to_turn, to_end, said_of}
 
--- what the statements are over: what names stand for as targets, how many registers there are, how many registers and temporaries
+-- what the statements are over: what names stand for as targets, how many registers there are, how many registers and
+-- temporaries
 -- together, and the elements of expressions, of which the last is the request
 pub record Over : Type 0 where
   pub names : List ℕ → Option Element
@@ -29,14 +30,16 @@ pub record Over : Type 0 where
   pub elements : ℕ
   pub scope : Scope
 
--- an `if` whose `end` hasn't come: its condition, the statements before it in the list in which it stands, and its first list where its
+-- an `if` whose `end` hasn't come: its condition, the statements before it in the list in which it stands, and its
+-- first list where its
 -- `else` has come
 pub record OpenIf : Type 0 where
   pub condition : Tree
   pub before : List Act
   pub first : Option (List Act)
 
--- what is known after some lines of statements: what they are over, how many statements and how many memory reads are left, the
+-- what is known after some lines of statements: what they are over, how many statements and how many memory reads are
+-- left, the
 -- statements so far of the list that is open, and the open `if`s, the innermost first
 pub record Stated : Type 0 where
   pub over : Over
@@ -45,7 +48,8 @@ pub record Stated : Type 0 where
   pub acts : List Act
   pub open_ifs : List OpenIf
 
--- the elements that expressions of these declarations are over: the registers, the temporaries and the request, of one bit
+-- the elements that expressions of these declarations are over: the registers, the temporaries and the request, of
+-- one bit
 abbrev pub scope_of : Declared → Scope
 scope_of d = record {
   names = d.registers.names ++ d.temporaries.names ++ codes "request" ∷ [];
@@ -89,7 +93,8 @@ number_in registers Temporary place = registers + place
 -- the register or temporary that a name stands for
 unfoldable pub target_of : List ℕ → Over → Token → Result ℕ TextFault
 target_of text over name =
-    ok_or (option_map (λ (e : Element). number_in over.registers e.kind e.place) (over.names (spelled text name))) (fault_on name UnknownElement)
+    ok_or (option_map (λ (e : Element). number_in over.registers e.kind e.place) (over.names (spelled text name)))
+    (fault_on name UnknownElement)
 
 -- a statement more may stand; the first token of another is one too many
 abbrev pub room : ℕ → Token → Result (Unit {0}) TextFault
@@ -101,7 +106,12 @@ shallow all word = if nat_lt (length all) 64 then Ok tt else Err (fault_on word 
 
 -- with a statement more in the list that is open
 abbrev pub with_act : Act → (reads_left : ℕ) → Stated → Stated
-with_act act reads_left s = record s { statements_left = s.statements_left - 1; reads_left = reads_left; acts = s.acts ++ act ∷ [] }
+with_act act reads_left s = record s {
+  statements_left = s.statements_left - 1;
+  reads_left = reads_left;
+  acts =
+      s.acts ++ act ∷ [];
+}
 
 -- NAME := E
 unfoldable pub with_assign : List ℕ → Token → Token → Placed → Stated → Result Stated TextFault

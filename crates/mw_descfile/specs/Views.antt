@@ -47,11 +47,22 @@ said_seen saids.End = to_end
 
 -- what statements are over
 abbrev pub over_seen : statements.Over.Over → Over
-over_seen over = record { names = names_seen over.names; registers = over.registers; elements = over.elements; scope = over.scope }
+over_seen over = record {
+  names = names_seen over.names;
+  registers = over.registers;
+  elements =
+      over.elements;
+  scope = over.scope;
+}
 
 -- an open `if`
 abbrev pub open_seen : statements.OpenIf.OpenIf → OpenIf
-open_seen o = record { condition = view o.condition; before = map act_of o.before.items; first = option_map (λ acts. map act_of acts.items) o.first }
+open_seen o = record {
+  condition = view o.condition;
+  before = map act_of o.before.items;
+  first =
+      option_map (λ acts. map act_of acts.items) o.first;
+}
 
 -- what is stated, the innermost open `if` first
 abbrev pub stated_seen : statements.Stated.Stated → Stated

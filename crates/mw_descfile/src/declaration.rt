@@ -92,7 +92,8 @@ fn step_of(line: &Cursor) -> Result<Declaration, TextFault>
     Ok(Declaration::Step)
 }
 
-/// What a line between the memory and the statements says: cause 60 at the first token that can't follow, or at the line's end.
+/// What a line between the memory and the statements says: cause 60 at the first token that can't follow, or at the
+/// line's end.
 #[tactic(auto, unfolding(crate::specs::Declarations::declaration_of))]
 pub(crate) fn declaration_of(line: &Cursor) -> Result<Declaration, TextFault>
     ensures { result ≡ declaration_of line.now }

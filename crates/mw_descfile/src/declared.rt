@@ -118,7 +118,8 @@ impl<'a> Declared<'a> {
         name: Token,
         width: Numeral,
     ) -> Result<u8, TextFault>
-        ensures exact { result ≡ new_width text.now (names_seen self.now.names) (of_kind kind (declared_seen self.now)) name width }
+        ensures exact { result ≡ new_width text.now (names_seen self.now.names)
+            (of_kind kind (declared_seen self.now)) name width }
         ensures few { IfOk result (λ bits. length (of_kind kind (declared_seen self.now)).names < 128) }
     {
         self.of_kind(kind).check_room(name)?;
@@ -150,7 +151,8 @@ impl<'a> Declared<'a> {
         name: Token,
         width: Numeral,
     ) -> Result<(), Refusal>
-        ensures { Gives (λ done. declared_seen self.new) result (with_declared text.now kind name width (declared_seen self.old)) }
+        ensures { Gives (λ done. declared_seen self.new) result
+            (with_declared text.now kind name width (declared_seen self.old)) }
     {
         let bits = self
             .new_width(text, kind, name, width)

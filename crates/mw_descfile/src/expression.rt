@@ -52,7 +52,8 @@ pub(crate) fn check_asked(width: u8, token: Token, seen: Option<u8>) -> Result<(
     }
 }
 
-/// Keeps the first of the fault of a memory read that is one too many, if there is one, and of what was the first before: cause 14.
+/// Keeps the first of the fault of a memory read that is one too many, if there is one, and of what was the first
+/// before: cause 14.
 fn note_surplus(first: &mut Option<TextFault>, mem: Option<Token>)
     ensures { first.new ≡ first_in first.old (surplus mem) }
 {
@@ -69,7 +70,8 @@ fn read_after(mems: &[Token], left: usize) -> Option<Token>
     mems.get(left).copied()
 }
 
-/// An expression that may have so many memory reads, where the first fault of its own is known: that fault, or 14 at the read after
+/// An expression that may have so many memory reads, where the first fault of its own is known: that fault, or 14 at
+/// the read after
 /// those, whichever stands first.
 #[tactic(auto, unfolding(crate::specs::Expressions::whole_of))]
 pub(crate) fn whole_of(

@@ -11,3 +11,6 @@ mod scope;
 mod stated;
 
 pub use machine::read_machine;
+
+#[cfg(test)]
+mod computed_examples;

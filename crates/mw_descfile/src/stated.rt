@@ -106,7 +106,8 @@ impl<'a> Over<'a> {
             .unwrap_or(0)
     }
 
-    /// An expression of this width that may have so many memory reads: cause 41 at the token, then its own causes, and 14, by place.
+    /// An expression of this width that may have so many memory reads: cause 41 at the token, then its own causes,
+    /// and 14, by place.
     #[tactic(auto, unfolding(crate::specs::Expressions::asked_whole))]
     fn whole_of(
         &self,
@@ -233,7 +234,8 @@ impl<'a> Stated<'a> {
         value: &Written,
     ) -> Result<(), Refusal>
         requires proper { IsShape self.old.over.scope.shape }
-        ensures { Gives (λ done. stated_seen self.new) result (with_assign text.now name sign (written value.now) (stated_seen self.old)) }
+        ensures { Gives (λ done. stated_seen self.new) result
+            (with_assign text.now name sign (written value.now) (stated_seen self.old)) }
     {
         self.check_room(name).map_err(Refused::At)?;
         let target = self.over.target_of(text, name).map_err(Refused::At)?;
@@ -262,7 +264,8 @@ impl<'a> Stated<'a> {
         value: &Written,
     ) -> Result<(), Refusal>
         requires proper { IsShape self.old.over.scope.shape }
-        ensures { Gives (λ done. stated_seen self.new) result (with_write word (written address.now) sign (written value.now) (stated_seen self.old)) }
+        ensures { Gives (λ done. stated_seen self.new) result
+            (with_write word (written address.now) sign (written value.now) (stated_seen self.old)) }
     {
         self.check_room(word).map_err(Refused::At)?;
         let shape = self.over.shape();
@@ -286,7 +289,8 @@ impl<'a> Stated<'a> {
     #[tactic(auto, unfolding(crate::specs::Stating::with_put))]
     fn add_put(&mut self, alloc: Global, word: Token, value: &Written) -> Result<(), Refusal>
         requires proper { IsShape self.old.over.scope.shape }
-        ensures { Gives (λ done. stated_seen self.new) result (with_put word (written value.now) (stated_seen self.old)) }
+        ensures { Gives (λ done. stated_seen self.new) result
+            (with_put word (written value.now) (stated_seen self.old)) }
     {
         self.check_room(word).map_err(Refused::At)?;
         let width = self.over.shape().word;
@@ -314,7 +318,8 @@ impl<'a> Stated<'a> {
     #[tactic(auto, unfolding(crate::specs::Stating::with_if))]
     fn add_if(&mut self, alloc: Global, word: Token, condition: &Written) -> Result<(), Refusal>
         requires proper { IsShape self.old.over.scope.shape }
-        ensures { Gives (λ done. stated_seen self.new) result (with_if word (written condition.now) (stated_seen self.old)) }
+        ensures { Gives (λ done. stated_seen self.new) result
+            (with_if word (written condition.now) (stated_seen self.old)) }
     {
         self.check_room(word).map_err(Refused::At)?;
         let mut first = None;
@@ -344,7 +349,8 @@ impl<'a> Stated<'a> {
     /// Opens the second list of the innermost `if`. After a refusal this may only be dropped.
     #[tactic(auto, using(crate::proofs::Opens::last_first))]
     fn add_else(&mut self, alloc: Global) -> Result<(), NoMemory>
-        ensures { OnOk result (stated_seen self.new ≡ other_list (stated_seen self.old) (stated_seen self.old).open_ifs) }
+        ensures { OnOk result (stated_seen self.new ≡ other_list (stated_seen self.old)
+            (stated_seen self.old).open_ifs) }
     {
         match self.open_ifs.pop() {
             Some(top) => {
@@ -379,7 +385,8 @@ impl<'a> Stated<'a> {
     /// What a line says: its causes but 60, by place.
     fn add_said(&mut self, alloc: Global, text: &[u8], said: Said) -> Result<(), Refusal>
         requires proper { IsShape self.old.over.scope.shape }
-        ensures { Gives (λ done. stated_seen self.new) result (with_said text.now (stated_seen self.old) (said_seen said)) }
+        ensures { Gives (λ done. stated_seen self.new) result
+            (with_said text.now (stated_seen self.old) (said_seen said)) }
     {
         match said {
             Said::Assign(name, sign, value) => self.add_assign(alloc, text, name, sign, &value),
@@ -442,7 +449,8 @@ fn closed_if(
     first: Option<Vec<Statement>>,
     acts: Vec<Statement>,
 ) -> Statement
-    ensures { act_of result ≡ closed_if (view condition) (option_map (λ list. map act_of list.items) first) (map act_of acts.items) }
+    ensures { act_of result ≡ closed_if (view condition) (option_map (λ list. map act_of list.items) first)
+        (map act_of acts.items) }
 {
     match first {
         None => Statement::If {

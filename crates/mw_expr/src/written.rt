@@ -21,7 +21,8 @@ use crate::width::DEEPEST;
 use mw_base::{Cursor, Name, NoMemory, Refusal, TextFault, Token};
 use std::alloc::Global;
 
-/// An expression as it stands in a text: grammatical, with the tokens at which its faults stand. Contracts see it as that tree.
+/// An expression as it stands in a text: grammatical, with the tokens at which its faults stand. Contracts see it as
+/// that tree.
 #[derive(Drop)]
 pub struct Written {
     tree: Placed,
@@ -32,7 +33,8 @@ impl Written {
     ///
     /// # Errors
     ///
-    /// The cursor's own cause at the first token that can't follow those before it, or at its end, where the tokens are no expression.
+    /// The cursor's own cause at the first token that can't follow those before it, or at its end, where the tokens
+    /// are no expression.
     /// Want of memory.
     pub fn read(
         alloc: Global,
@@ -46,7 +48,8 @@ impl Written {
         Ok(Written { tree })
     }
 
-    /// The width that the expression has for what is around it, where it has one. Keeps the first of its faults and of what was the
+    /// The width that the expression has for what is around it, where it has one. Keeps the first of its faults and
+    /// of what was the
     /// first before: causes 3, 40, 41 and 42.
     pub fn check(&self, shape: &Shape, first: &mut Option<TextFault>) -> Option<u8>
         ensures width { result ≡ seen_width shape.now (written self.now) }

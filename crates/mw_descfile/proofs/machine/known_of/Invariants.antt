@@ -7,6 +7,7 @@ use Rattle.mw_descfile.proofs.machine.known_of.Given as goal
 
 abbrev pub invariant-loop-line : goal.invariant-loop-line
 invariant-loop-line l = record {
-  told : steps (with_line l.text) (known_seen l.known) (drop l.line-index l.lines) ≡ steps (with_line l.text) nothing l.lines;
+  told : steps (with_line l.text) (known_seen l.known) (drop l.line-index l.lines) ≡ steps
+      (with_line l.text) nothing l.lines;
   kept : IsKept (known_seen l.known);
 }

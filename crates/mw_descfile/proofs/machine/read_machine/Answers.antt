@@ -8,4 +8,7 @@ use Rattle.mw_descfile.proofs.machine.read_machine.Goals as goal
 pub known_of-requires : goal.known_of-requires
 known_of-requires c =
     let text = c.args.text.now in
-    record { spelled = subst (λ (lines : List Line). All (λ line. AreSpelled text line.tokens) lines) (sym c.deref.ensures.value) (lines_spelled text c.in_ok-lines.lines.items c.in_ok-lines.ensures.ordered) }
+    record {
+      spelled = subst (λ (lines : List Line). All (λ line. AreSpelled text line.tokens) lines)
+          (sym c.deref.ensures.value) (lines_spelled text c.in_ok-lines.lines.items c.in_ok-lines.ensures.ordered);
+    }
