@@ -89,7 +89,7 @@ fn value_below(bound: u64, numeral: Numeral) -> Result<u32, TextFault>
 
 /// 2 to the power of bits.
 #[tactic(auto, using(std::proofs::lemmas::Nat::one_shl))]
-fn two_to(bits: u8) -> u64
+pub(crate) fn two_to(bits: u8) -> u64
     requires { bits ≤ 32 }
     ensures { result ≡ 2 ^ bits }
 {

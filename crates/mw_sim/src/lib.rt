@@ -5,7 +5,9 @@ mod given;
 mod lines;
 mod parts;
 mod run;
+mod start;
 
-pub use given::{Given, Owner, Settable};
+pub use given::{Given, Owner, Settable, given_by};
 pub use parts::Parts;
 pub use run::{Late, run_cycles, run_to_boundary};
+pub use start::{Start, read_start};
