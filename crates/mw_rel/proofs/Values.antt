@@ -11,7 +11,7 @@ use Rattle.mw_expr.specs.declared.shape.Shape.{Shape}
 use Rattle.mw_expr.specs.Tree.{Tree, element, constant, complement, pair, choice, part, join, widened, memory, Trees, none, more}
 use Rattle.mw_expr.specs.Values.{pair_value, value, joined, AreWords, IsImage}
 use Rattle.mw_expr.specs.Widths.{width_if, element_width, width_after, pair_width, choice_width, part_width, added, count, join_width, widened_width, memory_width, width, total_width}
-use Rattle.mw_expr.proofs.Words.{below_wider, joined_below}
+use Rattle.mw_base.proofs.Widths.{below_wider, joined_below}
 
 -- ---- what it takes to have a width
 
