@@ -4,8 +4,9 @@ ghost use Rattle.mw_rel.specs.Rules.{AcceptedAreSolved};
 ghost use Rattle.mw_rel.specs.Shown.{DifferencesAreFirst};
 ghost use Rattle.mw_rel.specs.Laws.{SameShowsNothing, CertifiedWhereNoneDiffers, BoundariesComeInTime};
 
-/// The law of relations: in an accepted relation each right side is as wide as its left element, no element is left
-/// of two lines of a boundary or stands on a right side there, and each bound is 1 to 500.
+/// The law of relations: a relation is accepted exactly where it has a boundary, no two boundaries have one address,
+/// each right side is as wide as its left element, no element is left of two lines of a boundary, none that is left of
+/// one stands on a right side there, and each bound is 1 to 500.
 pub fn accepted_are_solved()
     ensures { AcceptedAreSolved }
 {}
