@@ -37,7 +37,7 @@ chosen_same : (test other : ℕ) (a b c d : ℕ) → test ≡ other → a ≡ c 
 chosen_same test other a b c d same one two = rw (same, one, two) refl
 
 mutual
-  same_value : (s : Shape) (xs ys image : List ℕ) (tree : Tree)
+  pub same_value : (s : Shape) (xs ys image : List ℕ) (tree : Tree)
       → ((e : ℕ) → stands_in e tree ≡ true → slice_index xs e ≡ slice_index ys e)
       → value s xs image tree ≡ value s ys image tree
   same_value s xs ys image (element n) same = same n (eq-eqb n n refl)
@@ -80,7 +80,7 @@ free_on other rest line e true is apart stands behind =
     absurd cc
 free_on other rest line e false is apart stands behind = rw is behind
 
-no_left : (lines : List Line) (line : Line) (e : ℕ) → reads_no_left lines line ≡ true → stands_in e line.right ≡ true
+pub no_left : (lines : List Line) (line : Line) (e : ℕ) → reads_no_left lines line ≡ true → stands_in e line.right ≡ true
     → list_any (λ l. l.left == e) lines ≡ false
 no_left [] line e free stands = refl
 no_left (other ∷ rest) line e free stands =

@@ -176,7 +176,7 @@ element_in : (board : BoardParts) (s : BoardState) (n : ℕ) → Fits board s �
 element_in board s n fits below = rw (width_is board n below) (value_in board s (element_of board n) fits)
 
 -- the width of an element of the board is that of the shape
-board_width : (job : Job) → IsJob job → (n : ℕ) → n < element_count job.board
+pub board_width : (job : Job) → IsJob job → (n : ℕ) → n < element_count job.board
     → slice_index job.relation.shape.widths n ≡ unwrap_or (element_width job.board n) 0
 unfolding shape_of
 board_width job is n below =
@@ -189,7 +189,7 @@ board_width job is n below =
     ∙ ap (λ x. unwrap_or x 0) (slice_get-map (λ (e : Element). e.width) (elements_of job.board) n)
 
 -- and that of a register that of the machine's shape
-register_width : (job : Job) → IsJob job → (n : ℕ) → n < job.machine.registers
+pub register_width : (job : Job) → IsJob job → (n : ℕ) → n < job.machine.registers
     → slice_index job.relation.shape.widths (element_count job.board + n) ≡ slice_index job.machine.shape.widths n
 unfolding shape_of
 register_width job is n below =

@@ -1,4 +1,6 @@
 pub mod Boundaries
+pub mod Completed
+pub mod Chosen
 pub mod Cycles
 pub mod Decided
 pub mod Elements
@@ -9,6 +11,7 @@ pub mod Runs
 pub mod Same
 pub mod Seen
 pub mod Shown
+pub mod Standing
 pub mod States
 pub mod Steps
 pub mod Sums

@@ -1,4 +1,6 @@
+pub mod Begin
 pub mod Certified
+pub mod Completed
 pub mod DescribedRun
 pub mod Differs
 pub mod Free

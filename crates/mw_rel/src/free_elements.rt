@@ -9,7 +9,7 @@ use crate::job::Job;
 use crate::line::Line;
 
 /// Whether an element is left of one of some lines.
-fn is_left(lines: &[Line], element: u32) -> bool
+pub(crate) fn is_left(lines: &[Line], element: u32) -> bool
     ensures { result ≡ list_any (λ line. line.left == element) (lines_of lines.now) }
 {
     for line in lines {

@@ -2,6 +2,7 @@
 #![tactic(auto)]
 
 mod boundary;
+mod completion;
 mod difference;
 mod free_elements;
 mod job;
@@ -12,6 +13,7 @@ mod relation;
 mod rules;
 
 pub use boundary::Boundary;
+pub use completion::{Begin, complete};
 pub use difference::Difference;
 pub use free_elements::free;
 pub use job::{Job, shape_of};
