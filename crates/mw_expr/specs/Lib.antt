@@ -1,4 +1,5 @@
 pub mod Faults
+pub mod Fronts
 pub mod Grammar
 pub mod Mems
 pub mod Parts

@@ -1,5 +1,5 @@
 // The rules of described machines.
-ghost use Rattle.std.specs.Prelude.{◌≡◌, ℕ, ◌≤◌, ◌<◌, ◌||◌, ◌-◌, List, Option, None, Some, not, length, bytes_eq, slice_index};
+ghost use Rattle.std.specs.Prelude.{◌≡◌, ℕ, ◌≤◌, ◌<◌, ◌||◌, ◌-◌, nat_le, List, Option, None, Some, not, length, bytes_eq, slice_index};
 ghost use Rattle.std.specs.List.{list_all, list_any};
 ghost use Rattle.mw_expr.specs.Tree.{view};
 ghost use Rattle.mw_macro.specs.Machine.{described};
@@ -34,6 +34,13 @@ pub enum Fault {
     TooNested,
 }
 
+/// Whether there are no more of these than a machine may have registers or temporaries.
+fn are_few(elements: usize) -> bool
+    ensures { result ≡ nat_le elements 128 }
+{
+    elements <= MOST_REGISTERS
+}
+
 /// Whether a machine keeps the limits of its counts.
 #[tactic(auto, unfolding(crate::specs::Rules::is_within_limits))]
 fn is_within_limits(names: &[Name], registers: u32, shape: &Shape, statements: &[Statement]) -> bool
@@ -41,8 +48,8 @@ fn is_within_limits(names: &[Name], registers: u32, shape: &Shape, statements: &
     ensures { result ≡ is_within_limits (described names.now registers shape.now (acts statements.now)) }
 {
     let registers = registers as usize;
-    registers <= MOST_REGISTERS
-        && names.len() - registers <= MOST_REGISTERS
+    are_few(registers)
+        && are_few(names.len() - registers)
         && left_after(Counted::Statements, statements, MOST_STATEMENTS + 1) != 0
         && left_after(Counted::Reads, statements, MOST_READS + 1) != 0
 }

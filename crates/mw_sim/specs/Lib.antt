@@ -1,0 +1,5 @@
+pub mod Run
+pub mod Lines
+pub mod Given
+pub mod Start
+pub mod Views

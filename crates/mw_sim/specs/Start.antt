@@ -1,0 +1,104 @@
+-- The start of a run that an environment file gives.
+use Rattle.std.specs.Prelude.{ℕ, zero, suc, ◌+◌, ◌^◌, List, [], ◌∷◌, ◌++◌, codes, length, drop, map, slice_index, true, if◌then◌else◌, ◌==◌, find, option_map, Option, Result, Ok, Err}
+use Rattle.std.specs.List.{prefix_len}
+use Rattle.std.specs.Str.{bytes_eq}
+use Rattle.mw_base.specs.declared.cause.Cause.TheVariants.{BadSyntax}
+use Rattle.mw_base.specs.declared.line.Line.{Line}
+use Rattle.mw_base.specs.declared.place.Place.{Place}
+use Rattle.mw_base.specs.declared.refusal.TextFault.{TextFault}
+use Rattle.mw_base.specs.declared.token.Token.{Token}
+use Rattle.mw_base.specs.Cursors.{Cursor, at_line, misplaced, token_at, place_at, end_at}
+use Rattle.mw_base.specs.Places.{address_of}
+use Rattle.mw_base.specs.Reading.{◌>>=◌}
+use Rattle.mw_base.specs.Symbols.{spelled}
+use Rattle.mw_base.specs.TokenLines.{token_lines, text_end}
+use Rattle.mw_board.specs.declared.parts.BoardParts.{BoardParts}
+use Rattle.mw_board.specs.Elements.{Element, elements_of, element_count, stack_pointer_name}
+use Rattle.mw_cycle.specs.State.{BoardState, cleared}
+use Rattle.mw_cycle.specs.Elements.{with_element}
+use Rattle.mw_cycle.specs.Environment.{Environment}
+use Rattle.mw_asm.specs.declared.assembled.Label.{Label}
+use Rattle.mw_sim.specs.declared.given.Owner.TheVariants.{Board}
+use Rattle.mw_sim.specs.declared.given.Settable.{Settable}
+use Rattle.mw_sim.specs.Given.{Given, given_by, trimmed}
+
+-- the state in which a run begins, and its environment
+pub record Start : Type 0 where
+  pub state : BoardState
+  pub env : Environment
+
+-- an element of a board, as a line of an environment may set it
+abbrev pub settable : Element → Settable
+settable element = record { owner = Board; name = element.name; bound = 2 ^ element.width; is_free = true }
+
+-- the stack pointer, which is at most 5
+abbrev pub stack_pointer : Settable
+stack_pointer = record { owner = Board; name = stack_pointer_name; bound = 6; is_free = true }
+
+-- what an environment may set: the board's elements, and behind them the stack pointer
+abbrev pub settables_of : BoardParts → List Settable
+settables_of board = map settable (elements_of board) ++ (stack_pointer ∷ [])
+
+-- the address of the label with a name
+abbrev pub label_named : List Label → List ℕ → Option ℕ
+label_named labels name = option_map (λ (label : Label). label.address) (find (λ (label : Label). bytes_eq name label.name) labels)
+
+-- the first token, which has to be this word
+unfoldable pub first_word : List ℕ → Cursor → Result Token TextFault
+first_word word line = do
+  first ← token_at 0 line
+  if bytes_eq (spelled line.text first) word then Ok first else Err (misplaced first line)
+
+-- at PLACE
+unfoldable pub at_of : Cursor → Result Place TextFault
+at_of line = do
+  first ← first_word (codes "at") line
+  place ← place_at 1 line
+  end ← end_at 2 line
+  Ok place
+
+-- how many lines stand before the first that has tokens
+abbrev pub blank_lines : List Line → ℕ
+blank_lines lines = prefix_len (λ (line : Line). length line.tokens == 0) lines
+
+-- the lines from the first on that has tokens
+abbrev pub from_first : List Line → List Line
+from_first lines = drop (blank_lines lines) lines
+
+-- a state in which the elements before number n have these values
+unfoldable pub with_values : BoardParts → List ℕ → BoardState → ℕ → BoardState
+with_values board values s zero = s
+with_values board values s (suc n) = with_element board (with_values board values s n) n (slice_index values n)
+
+-- a state with this stack pointer
+abbrev pub with_pointer : ℕ → BoardState → BoardState
+with_pointer sp s = record s { seq = record s.seq { sp = sp } }
+
+-- the state at a control address that has what is given
+unfoldable pub state_with : BoardParts → ℕ → Given → BoardState
+state_with board address given =
+    with_pointer (slice_index given.values (element_count board))
+    (with_values board given.values (record (cleared board) { at = address; memory = given.memory }) (element_count board))
+
+-- the environment that is given, without the zeros at its lists' ends
+unfoldable pub environment_with : Given → Environment
+environment_with given = record {
+  line = map (λ bit. bit == 1) (trimmed given.interrupts);
+  noise = trimmed given.noise;
+  inputs = trimmed given.inputs;
+}
+
+-- what the lines of an environment say, from its first on: at PLACE, and then what is given
+abbrev pub start_in : BoardParts → List Label → List ℕ → TextFault → List Line → Result Start TextFault
+start_in board labels text end [] = Err end
+start_in board labels text end (head ∷ rest) =
+    at_of (at_line text head BadSyntax) >>= λ place.
+    address_of text (label_named labels) place >>= λ address.
+    given_by board (settables_of board) text rest >>= λ given.
+    Ok (record { state = state_with board address given; env = environment_with given })
+
+-- the start that an environment file gives, or its first fault
+unfoldable pub start_of : BoardParts → List Label → List ℕ → Result Start TextFault
+start_of board labels text = do
+  lines ← token_lines text
+  start_in board labels text (text_end lines BadSyntax) (from_first lines)

@@ -1,0 +1,13 @@
+//! Simulation: a board run from a state, over an environment, for so many cycles or to a boundary.
+#![tactic(auto)]
+
+mod given;
+mod lines;
+mod parts;
+mod run;
+mod start;
+
+pub use given::{Given, Owner, Settable, given_by};
+pub use parts::Parts;
+pub use run::{Late, run_cycles, run_to_boundary};
+pub use start::{Start, read_start};

@@ -1,0 +1,319 @@
+// The start of a run that an environment file gives.
+ghost use Rattle.std.specs.Prelude.{◌≡◌, ℕ, ◌+◌, ◌<◌, ◌≤◌, ◌^◌, ◌++◌, ◌==◌, IfOk, OnOk, length, map, slice_get, slice_index, take};
+ghost use Rattle.std.specs.Option.{option_to_list};
+ghost use Rattle.mw_base.specs.Places.{address_of};
+ghost use Rattle.mw_base.specs.Reading.{Gives};
+ghost use Rattle.mw_board.specs.Elements.{element_count, elements_of};
+ghost use Rattle.mw_cycle.specs.Elements.{IsValueOf};
+ghost use Rattle.mw_cycle.specs.Environment.{IsEnvironment};
+ghost use Rattle.mw_cycle.specs.State.{Fits};
+ghost use Rattle.mw_sim.specs.Given.{AreBounded, HasSeries, IsGiven, trimmed};
+ghost use Rattle.mw_sim.specs.Start.{settable, settables_of, label_named, first_word, at_of, blank_lines, from_first, with_values, state_with, environment_with, start_in, start_of};
+ghost use Rattle.mw_sim.specs.Views.{given_seen};
+
+use crate::given::{Given, Owner, Settable, given_by, two_to};
+use mw_asm::{Assembled, Label};
+use mw_base::{
+    Cause, Cursor, Line, Name, NoMemory, Place, Refusal, Refused, TextFault, Token, fault_on,
+    lines, low_address, spelled, text_end,
+};
+use mw_board::Board;
+use mw_cycle::{Env, State};
+use mw_seq::Seq;
+use std::alloc::Global;
+use std::marker::Model;
+
+/// Where a run begins.
+#[derive(Debug, Drop)]
+pub struct Start {
+    /// The state of the board.
+    pub state: State,
+    /// What the outside has for the run.
+    pub env: Env,
+}
+
+impl Model for Start {
+    ghost use Rattle.mw_sim.specs.Start.{Start};
+
+    ghost Value = { Start };
+
+    ghost view = { λ start. record { state = start.state; env = start.env } };
+}
+
+/// Appends the element of a board with this number, as a line may set it.
+fn push_element(
+    alloc: Global,
+    elements: &mut Vec<Settable>,
+    board: &Board,
+    number: usize,
+) -> Result<(), NoMemory>
+    ensures { OnOk result (elements.new.items ≡ elements.old.items ++ map settable (option_to_list (slice_get (elements_of board.now) number))) }
+{
+    // A call for the proof: its clause `valid` says that no element of a board has over 32 bits.
+    let _ = board.parts();
+    if let (Some(name), Some(width)) = (board.element_name(number), board.element_width(number)) {
+        elements.push(Settable {
+            owner: Owner::Board,
+            name: Name::new(alloc, name)?,
+            bound: two_to(width),
+            is_free: true,
+        })?;
+    }
+    Ok(())
+}
+
+/// What an environment may set: the board's elements, and behind them the stack pointer.
+fn settables_of(alloc: Global, board: &Board) -> Result<Vec<Settable>, NoMemory>
+    ensures exact { IfOk result (λ elements. elements.items ≡ settables_of board.now) }
+    ensures bounded { IfOk result (λ elements. AreBounded elements.items) }
+{
+    // A call for the proof: its clause `valid` says that no element of a board has over 32 bits.
+    let _ = board.parts();
+    let mut elements = Vec::new(alloc);
+    for number in 0..board.element_count() {
+        push_element(alloc, &mut elements, board, number)?;
+    }
+    elements.push(Settable {
+        owner: Owner::Board,
+        name: Name::new(alloc, b"sp")?,
+        bound: 6,
+        is_free: true,
+    })?;
+    Ok(elements)
+}
+
+/// The address of the label with a name, if there is one.
+fn label_named(labels: &[Label], name: &[u8]) -> Option<u16>
+    ensures { result ≡ label_named labels.now name.now }
+{
+    match labels.iter().find(|label| name == label.name.as_slice()) {
+        Some(label) => Some(label.address),
+        None => None,
+    }
+}
+
+/// The address that a PLACE stands for: cause 30 or 33.
+#[tactic(auto, unfolding(mw_base::specs::Places::address_of))]
+fn address_of(place: Place, text: &[u8], labels: &[Label]) -> Result<u16, TextFault>
+    ensures exact { result ≡ address_of text.now (label_named labels.now) place }
+    ensures low { IfOk result (λ address. address < 4096) }
+{
+    match place {
+        Place::Label(token) => {
+            let unknown = fault_on(token, Cause::UnknownName);
+            let address = label_named(labels, spelled(text, token)).ok_or(unknown)?;
+            low_address(token, u128::from(address))
+        }
+        Place::Address(numeral) => low_address(numeral.token, numeral.value),
+    }
+}
+
+/// The first token, which has to be this word: cause 60.
+#[tactic(auto, unfolding(crate::specs::Start::first_word))]
+fn first_word(line: &Cursor, word: &[u8]) -> Result<Token, TextFault>
+    ensures { result ≡ first_word word.now line.now }
+{
+    let first = line.token(0)?;
+    if line.spelled(first) == word {
+        Ok(first)
+    } else {
+        Err(line.misplaced(first))
+    }
+}
+
+/// at PLACE: cause 60.
+#[tactic(auto, unfolding(crate::specs::Start::at_of))]
+fn at_of(line: &Cursor) -> Result<Place, TextFault>
+    ensures { result ≡ at_of line.now }
+{
+    first_word(line, b"at")?;
+    let place = line.place(1)?;
+    line.end(2)?;
+    Ok(place)
+}
+
+/// Whether a line has no tokens.
+fn is_blank(line: &Line) -> bool
+    ensures { result ≡ (length line.now.tokens == 0) }
+{
+    line.tokens.as_slice().is_empty()
+}
+
+/// How many lines stand before the first that has tokens.
+fn blank_lines(lines: &[Line]) -> usize
+    ensures exact { result ≡ blank_lines lines.now }
+    ensures within { result ≤ length lines.now }
+{
+    lines.iter().take_while(|line| is_blank(*line)).count()
+}
+
+/// The lines from the first on that has tokens.
+#[tactic(auto, using(std::proofs::lemmas::List::take_rest))]
+fn from_first(lines: &[Line]) -> &[Line]
+    ensures { result.now ≡ from_first lines.now }
+{
+    &lines[blank_lines(lines)..]
+}
+
+/// Gives each element of a board its value.
+fn set_elements(board: &Board, state: &mut State, values: &[u32])
+    requires fits { Fits board.now state.old }
+    requires each { element_count board.now ≤ length values.now }
+    requires values_in { (n : ℕ) → n < element_count board.now → IsValueOf board.now n (slice_index values.now n) }
+    ensures exact { state.new ≡ with_values board.now values.now state.old (element_count board.now) }
+    ensures fits { Fits board.now state.new }
+{
+    for number in 0..board.element_count() {
+        state.set_element(board, number, values[number]);
+    }
+}
+
+/// The least length of a list's front that has all its numbers but 0.
+fn kept_length(items: &[u32]) -> usize
+    ensures exact { take result items.now ≡ trimmed items.now }
+    ensures within { result ≤ length items.now }
+{
+    let mut kept = 0;
+    for (n, item) in items.iter().enumerate() {
+        if *item != 0 {
+            kept = n + 1;
+        }
+    }
+    kept
+}
+
+/// The numbers without the zeros at their end.
+fn without_zeros(items: &[u32]) -> &[u32]
+    ensures { result.now ≡ trimmed items.now }
+{
+    &items[..kept_length(items)]
+}
+
+/// Numbers as bits.
+fn bits(alloc: Global, numbers: &[u32]) -> Result<Vec<bool>, NoMemory>
+    ensures { IfOk result (λ bits. bits.items ≡ map (λ number. number == 1) numbers.now) }
+{
+    let mut bits = Vec::new(alloc);
+    for number in numbers {
+        bits.push(*number == 1)?;
+    }
+    Ok(bits)
+}
+
+/// Numbers of 14 bits as words.
+fn noise_words(alloc: Global, numbers: &[u32]) -> Result<Vec<u16>, NoMemory>
+    requires { (n : ℕ) → slice_index numbers.now n < 2 ^ 14 }
+    ensures { IfOk result (λ words. words.items ≡ numbers.now) }
+{
+    let mut words = Vec::new(alloc);
+    for number in numbers {
+        words.push(*number as u16)?;
+    }
+    Ok(words)
+}
+
+/// The environment that is given, without the zeros at its lists' ends.
+#[tactic(auto, unfolding(crate::specs::Start::environment_with))]
+fn environment_with(alloc: Global, board: &Board, given: &Given) -> Result<Env, NoMemory>
+    requires { HasSeries board.now (given_seen given.now) }
+    ensures exact { IfOk result (λ env. env ≡ environment_with (given_seen given.now)) }
+    ensures valid { IfOk result (λ env. IsEnvironment board.now env) }
+{
+    let line = bits(alloc, without_zeros(&given.interrupts))?;
+    let noise = noise_words(alloc, without_zeros(&given.noise))?;
+    let inputs = Vec::from_slice(alloc, without_zeros(&given.inputs))?;
+    Ok(Env {
+        line,
+        noise,
+        inputs,
+    })
+}
+
+/// The state at a control address that has what is given.
+#[tactic(auto, unfolding(crate::specs::Start::state_with, mw_cycle::specs::State::cleared, mw_board::specs::Depth::depth_of))]
+fn state_with(board: &Board, address: u16, given: Given) -> State
+    requires low { address < 4096 }
+    requires given { IsGiven board.now (settables_of board.now) (given_seen given) }
+    ensures exact { result ≡ state_with board.now address (given_seen given) }
+    ensures fits { Fits board.now result }
+{
+    let Given { values, memory, .. } = given;
+    let mut state = State {
+        at: address,
+        regs: [0; 16],
+        q: 0,
+        mar: 0,
+        ir: 0,
+        flips: 0,
+        seq: Seq {
+            pc: 0,
+            r: 0,
+            stack: [0; 5],
+            sp: 0,
+        },
+        memory,
+    };
+    set_elements(board, &mut state, &values);
+    state.seq.sp = values[board.element_count()] as u8;
+    state
+}
+
+/// What the lines of an environment say, from its first on.
+fn start_in(
+    alloc: Global,
+    board: &Board,
+    labels: &[Label],
+    text: &[u8],
+    end: TextFault,
+    lines: &[Line],
+) -> Result<Start, Refusal>
+    ensures gives { Gives (λ start. start) result (start_in board.now labels.now text.now end lines.now) }
+    ensures fits { IfOk result (λ start. Fits board.now start.state) }
+    ensures env { IfOk result (λ start. IsEnvironment board.now start.env) }
+{
+    let [head, rest @ ..] = lines else {
+        return Err(Refused::At(end));
+    };
+    let place = at_of(&Cursor::new(text, head, Cause::BadSyntax)).map_err(Refused::At)?;
+    let address = address_of(place, text, labels).map_err(Refused::At)?;
+    let elements = settables_of(alloc, board)?;
+    let given = given_by(alloc, board, &elements, text, rest)?;
+    let env = environment_with(alloc, board, &given)?;
+    Ok(Start {
+        state: state_with(board, address, given),
+        env,
+    })
+}
+
+/// The start that an environment file gives: the state of the board, and what the outside has for the run.
+///
+/// The text has fewer than 2^32 bytes.
+///
+/// # Errors
+///
+/// The first fault of the text: causes 1 to 4 of its bytes; then cause 60, 30 or 33 of its first line that isn't blank, `at PLACE`; then,
+/// line by line, cause 60 of the line and, by place, 40 and 31 of an element and 33 of its value, 31 and 33 of a memory word, 14 and 33 of a
+/// list's entry. Want of memory.
+#[tactic(auto, unfolding(crate::specs::Start::start_of))]
+pub fn read_start(
+    alloc: Global,
+    board: &Board,
+    made: &Assembled,
+    text: &[u8],
+) -> Result<Start, Refusal>
+    requires { length text.now < 2 ^ 32 }
+    ensures gives { Gives (λ start. start) result (start_of board.now made.now.labels text.now) }
+    ensures fits { IfOk result (λ start. Fits board.now start.state) }
+    ensures env { IfOk result (λ start. IsEnvironment board.now start.env) }
+{
+    let lines = lines(alloc, text)?;
+    let end = text_end(&lines, Cause::BadSyntax);
+    start_in(
+        alloc,
+        board,
+        made.labels.as_slice(),
+        text,
+        end,
+        from_first(&lines),
+    )
+}
