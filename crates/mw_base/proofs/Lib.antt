@@ -16,3 +16,4 @@ pub mod Spellings
 pub mod Steps
 pub mod Stretches
 pub mod Totals
+pub mod Widths

@@ -35,7 +35,8 @@ unfolding width_of
 has_width s tree ok = from (is_known (length s.widths) tree) refl ok
   where
     from : (known : Bool) → is_known (length s.widths) tree ≡ known → IsOk (width_of s tree) → HasWidth s tree
-    from true e ok = let h = width_at-ok (depth tree) (width s tree) (rw e at ok) in record { known = e; wide = h.0; shallow = h.1 }
+    from true e ok = let h = width_at-ok (depth tree) (width s tree)
+        (rw e at ok) in record { known = e; wide = h.0; shallow = h.1 }
     from false e ok = let refused = rw e at ok in grind arith
 
 pub of_width : (s : Shape) (tree : Tree) → HasWidth s tree → IsOk (width_of s tree)
@@ -76,14 +77,20 @@ memory-some address word (Some v) some = refl
 memory-some address word None some = grind arith
 
 -- the parts of a join
-listed_widths : (s : Shape) (parts : Trees) → are_known (length s.widths) parts ≡ true → IsSome (total_width s parts) → deepest parts ≤ 64
+listed_widths : (s : Shape) (parts : Trees) → are_known (length s.widths) parts ≡ true → IsSome (total_width s parts)
+    → deepest parts ≤ 64
     → All (Accepts s) (listed parts)
 listed_widths s none known wide shallow = All-nil (Accepts s)
 listed_widths s (more tree rest) known wide shallow =
     let each = and_parts _ _ known in
     let widths = added-some _ _ wide in
     All-cons (Accepts s) tree (listed rest)
-    (of_width s tree (record { known = each.0; wide = widths.0; shallow = omega (arith, le-max_left (depth tree) (deepest rest)) }))
+    (of_width s tree (record {
+      known = each.0;
+      wide = widths.0;
+      shallow = omega
+          (arith, le-max_left (depth tree) (deepest rest));
+    }))
     (listed_widths s rest each.1 widths.1 (omega (arith, le-max_right (depth tree) (deepest rest))))
 
 -- one part, two and three
@@ -109,14 +116,28 @@ parts_have s (choice c a b) h =
     let wide = choice-some _ _ _ h.wide in
     let left = le-max_left (depth c) (max (depth a) (depth b)) in
     let right = le-max_right (depth c) (max (depth a) (depth b)) in
-    All-cons (Accepts s) c (a ∷ b ∷ []) (of_width s c (record { known = known.0; wide = wide.0; shallow = omega (arith, h.shallow, left) }))
+    All-cons (Accepts s) c (a ∷ b ∷ [])
+    (of_width s c (record { known = known.0; wide = wide.0; shallow = omega (arith, h.shallow, left) }))
     (two s a b
-    (record { known = both.0; wide = wide.1; shallow = omega (arith, h.shallow, right, le-max_left (depth a) (depth b)) })
-    (record { known = both.1; wide = wide.2; shallow = omega (arith, h.shallow, right, le-max_right (depth a) (depth b)) }))
-parts_have s (part e high low) h = one s e (record { known = h.known; wide = part-some high low _ h.wide; shallow = omega (arith, h.shallow) })
+    (record {
+      known = both.0;
+      wide = wide.1;
+      shallow = omega
+          (arith, h.shallow, right, le-max_left (depth a) (depth b));
+    })
+    (record {
+      known = both.1;
+      wide = wide.2;
+      shallow = omega
+          (arith, h.shallow, right, le-max_right (depth a) (depth b));
+    }))
+parts_have s (part e high low) h = one s e
+    (record { known = h.known; wide = part-some high low _ h.wide; shallow = omega (arith, h.shallow) })
 parts_have s (join parts) h = listed_widths s parts h.known (join-some _ _ h.wide) (omega (arith, h.shallow))
-parts_have s (widened e w) h = one s e (record { known = h.known; wide = widened-some w _ h.wide; shallow = omega (arith, h.shallow) })
-parts_have s (memory address) h = one s address (record { known = h.known; wide = memory-some s.address s.word _ h.wide; shallow = omega (arith, h.shallow) })
+parts_have s (widened e w) h = one s e
+    (record { known = h.known; wide = widened-some w _ h.wide; shallow = omega (arith, h.shallow) })
+parts_have s (memory address) h = one s address
+    (record { known = h.known; wide = memory-some s.address s.word _ h.wide; shallow = omega (arith, h.shallow) })
 
 pub parts_have_widths : PartsHaveWidths
 parts_have_widths s tree ok = parts_have s tree (has_width s tree ok)

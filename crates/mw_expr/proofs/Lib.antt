@@ -1,5 +1,9 @@
 pub mod Accepted
+pub mod Closing
+pub mod Complete
+pub mod FrontFaults
 pub mod Joins
+pub mod Longer
 pub mod Parts
 pub mod Small
 pub mod Sound

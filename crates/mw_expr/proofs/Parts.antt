@@ -5,7 +5,8 @@ use Rattle.std.proofs.lemmas.Bool.Decides.{nat_tests}
 use Rattle.mw_expr.specs.Widths.{width_if, element_width, choice_width, widened_width}
 
 -- a width where its rule holds
-pub width_if-some : (rule : Bool) (w : ℕ) → IsSome (width_if rule w) → (width_if rule w ≡ Some w) × (1 ≤ w) × (w ≤ 32) × (rule ≡ true)
+pub width_if-some : (rule : Bool) (w : ℕ) → IsSome (width_if rule w)
+    → (width_if rule w ≡ Some w) × (1 ≤ w) × (w ≤ 32) × (rule ≡ true)
 width_if-some true w some = grind (arith, nat_tests)
 width_if-some false w some = grind (arith, nat_tests)
 
@@ -17,7 +18,8 @@ element_there (w ∷ rest) (suc n) some = omega (arith, element_there rest n som
 
 -- and has its own width
 pub element_of_width : (widths : List ℕ) (n : ℕ) → IsSome (element_width (slice_get widths n)) →
-    (element_width (slice_get widths n) ≡ Some (slice_index widths n)) × (1 ≤ slice_index widths n) × (slice_index widths n ≤ 32)
+    (element_width (slice_get widths n) ≡ Some (slice_index widths n)) × (1 ≤ slice_index widths n) ×
+    (slice_index widths n ≤ 32)
 element_of_width [] n some = grind arith
 element_of_width (w ∷ rest) zero some = let h = width_if-some true w some in (h.0, h.1, h.2)
 element_of_width (w ∷ rest) (suc n) some = element_of_width rest n some

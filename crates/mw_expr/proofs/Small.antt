@@ -1,11 +1,10 @@
 -- Where nothing is at fault, the numbers of a tree fit an expression.
 use Rattle.std.proofs.Common.{◌≡◌, ℕ, ◌+◌, ◌-◌, ◌<◌, ◌≤◌, ◌^◌, List, [], ◌∷◌, ◌++◌, Bool, true, false, refl, arith}
-use Rattle.std.specs.Prelude.{Option, Some, None, not, nat_le, nat_lt, ◌&&◌, ◌||◌, if◌then◌else◌, slice_get}
+use Rattle.std.specs.Prelude.{Option, Some, None, nat_le, nat_lt, ◌&&◌, ◌||◌, if◌then◌else◌, slice_get}
 use Rattle.std.proofs.lemmas.Bool.{and_from, ltb-true}
 use Rattle.std.proofs.lemmas.Bool.Decides.{nat_tests}
 use Rattle.std.proofs.lemmas.Option.{slice_get_within, get_or_from_slice_get}
 use Rattle.mw_base.specs.declared.cursor.Numeral.{Numeral}
-use Rattle.mw_base.specs.declared.refusal.TextFault.{TextFault}
 use Rattle.mw_base.specs.declared.token.Token.{Token}
 use Rattle.mw_expr.specs.declared.expr.Pair2.TheVariants.{And, Or, Xor, Add, Sub, Same, Differ, Less}
 use Rattle.mw_expr.specs.declared.shape.Shape.{Shape}
@@ -15,7 +14,7 @@ use Rattle.mw_base.specs.declared.cause.Cause.TheVariants.{TooWide}
 use Rattle.mw_base.specs.TokenLines.{fault_on}
 use Rattle.mw_expr.specs.Text.{IsShape}
 use Rattle.mw_expr.specs.Widths.{width_if, part_width}
-use Rattle.mw_expr.proofs.Words.{below_wider}
+use Rattle.mw_base.proofs.Widths.{below_wider}
 use Rattle.mw_expr.specs.Faults.{named_width, same_width, seen_choice, within_32, seen_width, seen_total, pair_breaks, is_other, part_breaks, is_past, deep, below, broken, unknown, is_improper, too_wide, faults, faults_in, first_fault}
 use Rattle.mw_base.proofs.FirstFaults.{no_first}
 
@@ -40,7 +39,8 @@ pub width_if-most : (rule : Bool) (w v : ℕ) → width_if rule w ≡ Some v →
 width_if-most true w v is = grind (arith, nat_tests)
 width_if-most false w v is = cc
 
-pub named-most : (s : Shape) (number : Option ℕ) (w : ℕ) → IsShape s → named_width s number ≡ Some w → (w ≤ 32) × (1 ≤ w)
+pub named-most : (s : Shape) (number : Option ℕ) (w : ℕ) → IsShape s → named_width s number ≡ Some w
+    → (w ≤ 32) × (1 ≤ w)
 named-most s None w shape is = cc
 named-most s (Some n) w shape is =
     let h = rw (get_or_from_slice_get s.widths n w w is) at (shape.widths n w (slice_get_within s.widths n w is)) in
@@ -53,33 +53,41 @@ same-most (Some a) None w is = cc
 
 -- ---- numbers that fit
 
-small_number : (s : Shape) (number : Option ℕ) (token : Token) → IsShape s → unknown (named_width s number) token ≡ [] → is_small_number number ≡ true
+small_number : (s : Shape) (number : Option ℕ) (token : Token) → IsShape s → unknown (named_width s number) token ≡ []
+    → is_small_number number ≡ true
 small_number s None token shape is = cc
 small_number s (Some n) token shape is = found (slice_get s.widths n) refl is
   where
     found : (w : Option ℕ) → slice_get s.widths n ≡ w → unknown w token ≡ [] → nat_lt n (2 ^ 32) ≡ true
     found None e fault = cc
-    found (Some w) e fault = let within = slice_get_within s.widths n w e in let few = shape.few in grind (arith, nat_tests)
+    found (Some w) e fault = let within = slice_get_within s.widths n w e in let few = shape.few in grind
+        (arith, nat_tests)
 
-pub value_fits : (b : Bool) (number : Numeral) (w : ℕ) → nat_lt number.value (2 ^ w) ≡ b → (if b then [] else fault_on number.token TooWide ∷ []) ≡ []
+pub value_fits : (b : Bool) (number : Numeral) (w : ℕ) → nat_lt number.value (2 ^ w) ≡ b
+    → (if b then [] else fault_on number.token TooWide ∷ []) ≡ []
     → number.value < 2 ^ w
 value_fits true number w e is = ltb-true number.value (2 ^ w) e
 value_fits false number w e is = cc
 
-small_constant : (number : Numeral) (hash : Token) (w : ℕ) → too_wide number w ++ broken (is_improper w) hash ≡ [] → (nat_lt number.value (2 ^ 32) && nat_lt w (2 ^ 8)) ≡ true
+small_constant : (number : Numeral) (hash : Token) (w : ℕ) → too_wide number w ++ broken (is_improper w) hash ≡ []
+    → (nat_lt number.value (2 ^ 32) && nat_lt w (2 ^ 8)) ≡ true
 small_constant number hash w is =
-    let fits = value_fits (nat_lt number.value (2 ^ w)) number w refl (nil_front (too_wide number w) (broken (is_improper w) hash) is) in
+    let fits = value_fits (nat_lt number.value (2 ^ w)) number w refl
+    (nil_front (too_wide number w) (broken (is_improper w) hash) is) in
     let proper = not_broken (is_improper w) hash (nil_back (too_wide number w) (broken (is_improper w) hash) is) in
     let most : w ≤ 32 = grind (arith, nat_tests) in
     let below = below_wider number.value w 32 fits most in
     grind (arith, nat_tests)
 
-small_part : (high low : ℕ) (e : Option ℕ) (token : Token) → ((w : ℕ) → e ≡ Some w → w ≤ 32) → broken (part_breaks high low e) token ≡ []
+small_part : (high low : ℕ) (e : Option ℕ) (token : Token) → ((w : ℕ) → e ≡ Some w → w ≤ 32)
+    → broken (part_breaks high low e) token ≡ []
     → (nat_lt high (2 ^ 8) && nat_lt low (2 ^ 8)) ≡ true
-small_part high low (Some w) token most is = let no = not_broken _ token is in let at_most = most w refl in grind (arith, nat_tests)
+small_part high low (Some w) token most is = let no = not_broken _ token is in let at_most = most w refl in grind
+    (arith, nat_tests)
 small_part high low None token most is = let no = not_broken _ token is in grind (arith, nat_tests)
 
-small_width : (w : ℕ) (past : Bool) (token : Token) → broken (is_improper w || past) token ≡ [] → nat_lt w (2 ^ 8) ≡ true
+small_width : (w : ℕ) (past : Bool) (token : Token) → broken (is_improper w || past) token ≡ []
+    → nat_lt w (2 ^ 8) ≡ true
 small_width w past token is = let no = not_broken _ token is in grind (arith, nat_tests)
 
 -- ---- the width that a part has is 1 to 32
@@ -108,7 +116,9 @@ seen-most s (pair Sub token a b) w shape is = seen-most s a w shape (same-most _
 seen-most s (pair Same token a b) w shape is = grind arith
 seen-most s (pair Differ token a b) w shape is = grind arith
 seen-most s (pair Less token a b) w shape is = grind arith
-seen-most s (choice token c a b) w shape is = seen-most s a w shape (same-most (seen_width s a) (seen_width s b) w (choice-same (seen_width s c) (seen_width s a) (seen_width s b) w is))
+seen-most s (choice token c a b) w shape is = seen-most s a w shape
+    (same-most (seen_width s a) (seen_width s b) w
+    (choice-same (seen_width s c) (seen_width s a) (seen_width s b) w is))
 seen-most s (part token high low e) w shape is = part-most high low (seen_width s e) w is
 seen-most s (join token parts) w shape is = within-most (seen_total s (Some 0) parts) w is
 seen-most s (widened token to e) w shape is = (width_if-most true to w is).0
@@ -116,17 +126,22 @@ seen-most s (memory token e) w shape is = let most = shape.word in grind arith
 seen-most s (group token e) w shape is = seen-most s e w shape is
 
 mutual
-  pub small : (s : Shape) (levels : Option ℕ) (tree : Placed) → IsShape s → faults s levels tree ≡ [] → is_small tree ≡ true
-  small s levels (named token number) shape is = small_number s number token shape (nil_back (deep levels token) (unknown (named_width s number) token) is)
-  small s levels (constant number hash w) shape is = small_constant number hash w (nil_back (deep levels number.token) (too_wide number w ++ broken (is_improper w) hash) is)
-  small s levels (complement token e) shape is = small s (below levels) e shape (nil_back (deep levels token) (faults s (below levels) e) is)
+  pub small : (s : Shape) (levels : Option ℕ) (tree : Placed) → IsShape s → faults s levels tree ≡ []
+      → is_small tree ≡ true
+  small s levels (named token number) shape is = small_number s number token shape
+      (nil_back (deep levels token) (unknown (named_width s number) token) is)
+  small s levels (constant number hash w) shape is = small_constant number hash w
+      (nil_back (deep levels number.token) (too_wide number w ++ broken (is_improper w) hash) is)
+  small s levels (complement token e) shape is = small s (below levels) e shape
+      (nil_back (deep levels token) (faults s (below levels) e) is)
   small s levels (pair op token a b) shape is =
       let fa = faults s (below levels) a in
       let fb = faults s (below levels) b in
       let breaks = broken (pair_breaks (seen_width s a) (seen_width s b)) token in
       let parts = nil_back (deep levels token) (fa ++ (fb ++ breaks)) is in
       let after = nil_back fa (fb ++ breaks) parts in
-      and_from _ _ (small s (below levels) a shape (nil_front fa (fb ++ breaks) parts)) (small s (below levels) b shape (nil_front fb breaks after))
+      and_from _ _ (small s (below levels) a shape (nil_front fa (fb ++ breaks) parts))
+      (small s (below levels) b shape (nil_front fb breaks after))
   small s levels (choice token c a b) shape is =
       let fc = faults s (below levels) c in
       let fa = faults s (below levels) a in
@@ -136,7 +151,8 @@ mutual
       let both = nil_back fc (fa ++ (fb ++ breaks)) parts in
       let after = nil_back fa (fb ++ breaks) both in
       and_from _ _ (small s (below levels) c shape (nil_front fc (fa ++ (fb ++ breaks)) parts))
-      (and_from _ _ (small s (below levels) a shape (nil_front fa (fb ++ breaks) both)) (small s (below levels) b shape (nil_front fb breaks after)))
+      (and_from _ _ (small s (below levels) a shape (nil_front fa (fb ++ breaks) both))
+      (small s (below levels) b shape (nil_front fb breaks after)))
   small s levels (part token high low e) shape is =
       let fe = faults s (below levels) e in
       let breaks = broken (part_breaks high low (seen_width s e)) token in
@@ -151,14 +167,17 @@ mutual
       let fe = faults s (below levels) e in
       let breaks = broken (is_improper w || is_past w (seen_width s e)) token in
       let parts = nil_back (deep levels token) (fe ++ breaks) is in
-      and_from _ _ (small s (below levels) e shape (nil_front fe breaks parts)) (small_width w _ token (nil_back fe breaks parts))
+      and_from _ _ (small s (below levels) e shape (nil_front fe breaks parts))
+      (small_width w _ token (nil_back fe breaks parts))
   small s levels (memory token e) shape is =
       let fe = faults s (below levels) e in
       let breaks = broken (is_other s.address (seen_width s e)) token in
       small s (below levels) e shape (nil_front fe breaks (nil_back (deep levels token) (fe ++ breaks) is))
-  small s levels (group token e) shape is = small s (below levels) e shape (nil_back (deep levels token) (faults s (below levels) e) is)
+  small s levels (group token e) shape is = small s (below levels) e shape
+      (nil_back (deep levels token) (faults s (below levels) e) is)
 
-  small_parts : (s : Shape) (levels : Option ℕ) (parts : Parts) → IsShape s → faults_in s levels parts ≡ [] → are_small parts ≡ true
+  small_parts : (s : Shape) (levels : Option ℕ) (parts : Parts) → IsShape s → faults_in s levels parts ≡ []
+      → are_small parts ≡ true
   small_parts s levels none shape is = refl
   small_parts s levels (more tree rest) shape is =
       and_from _ _ (small s levels tree shape (nil_front (faults s levels tree) (faults_in s levels rest) is))

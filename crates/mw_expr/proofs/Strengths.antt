@@ -66,12 +66,14 @@ floor_none (widening token below) low = omega arith
 floor_none (reading token below) low = omega arith
 
 -- what binds so strongly binds at least as strongly as anything weaker
-pub weaker : {m : Meaning} (least n : ℕ) {from rest : List Token} {tree : Placed} → Begin m n from tree rest → least ≤ n → Begin m least from tree rest
+pub weaker : {m : Meaning} (least n : ℕ) {from rest : List Token} {tree : Placed} → Begin m n from tree rest
+    → least ≤ n → Begin m least from tree rest
 weaker zero n (by_choice c is_q a is_colon b) le = by_choice c is_q a is_colon b
 weaker (suc least) n (by_choice c is_q a is_colon b) le = absurd (omega arith)
 weaker least n (by_pair low a is_sign is_pair b) le = by_pair (omega arith) a is_sign is_pair b
 weaker least n (by_complement low is_not e) le = by_complement (omega arith) is_not e
-weaker least n (by_part low e bracket high colon low_bit close) le = by_part (omega arith) e bracket high colon low_bit close
+weaker least n (by_part low e bracket high colon low_bit close) le = by_part
+    (omega arith) e bracket high colon low_bit close
 weaker least n (by_bit low e bracket place close) le = by_bit (omega arith) e bracket place close
 weaker least n (by_constant low number hash bits) le = by_constant (omega arith) number hash bits
 weaker least n (by_name low plain name) le = by_name (omega arith) plain name
@@ -79,10 +81,11 @@ weaker least n (by_dotted_name low dotted owner dot name) le = by_dotted_name (o
 weaker least n (by_memory low there word bracket e close) le = by_memory (omega arith) there word bracket e close
 weaker least n (by_group low is_open e close) le = by_group (omega arith) is_open e close
 weaker least n (by_join low brace parts two close) le = by_join (omega arith) brace parts two close
-weaker least n (by_widening low word is_open e comma bits close) le = by_widening (omega arith) word is_open e comma bits close
+weaker least n (by_widening low word is_open e comma bits close) le = by_widening
+    (omega arith) word is_open e comma bits close
 
 -- a sign is the one that is spelled so
-found_again : (s : SignOf) → sign_of (bytes_of s) ≡ Some s
+pub found_again : (s : SignOf) → sign_of (bytes_of s) ≡ Some s
 unfolding sign_of
 found_again signs.Equals = refl
 found_again signs.Colon = refl
@@ -111,7 +114,8 @@ pub some_same : {A : Type 0} (x y : A) → Some x ≡ Some y → x ≡ y
 some_same x y same = cc
 
 spelled_alike : (a b : SignOf) → bytes_eq (bytes_of a) (bytes_of b) ≡ true → a ≡ b
-spelled_alike a b same = some_same a b (sym (found_again a) ∙ ap sign_of ((bytes_eq-Decides (bytes_of a) (bytes_of b)).0 same) ∙ found_again b)
+spelled_alike a b same = some_same a b (sym (found_again a)
+    ∙ ap sign_of ((bytes_eq-Decides (bytes_of a) (bytes_of b)).0 same) ∙ found_again b)
 
 -- a symbol that is a sign
 pub sign_is : (s : SignOf) (symbol : Symbol) → is_sign s symbol ≡ true → symbol ≡ Sign s

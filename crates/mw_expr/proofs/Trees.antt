@@ -13,6 +13,7 @@ count_view [] = refl
 count_view (part ∷ rest) = omega (arith, count_view rest)
 
 -- the parts of a join without their places, one by one and together
-pub plain_all : (parts : List Kept) → trees_of (map (λ part. plain (placed part)) parts) ≡ plain_parts (parts_of (map placed parts))
+pub plain_all : (parts : List Kept)
+    → trees_of (map (λ part. plain (placed part)) parts) ≡ plain_parts (parts_of (map placed parts))
 plain_all [] = refl
 plain_all (part ∷ rest) = ap (more (plain (placed part))) (plain_all rest)

@@ -1,14 +1,12 @@
 -- A whole expression at which nothing is at fault has a width.
 use Rattle.std.proofs.Common.{◌≡◌, ℕ, zero, suc, ◌+◌, ◌-◌, ◌≤◌, ◌^◌, List, [], ◌∷◌, ◌++◌, length, Bool, true, false, refl, ap, ◌∙◌, sym, max, arith}
-use Rattle.std.specs.Prelude.{Option, Some, None, min, not, nat_le, nat_lt, ◌&&◌, ◌||◌, if◌then◌else◌, slice_get, Ok, IsOk}
+use Rattle.std.specs.Prelude.{Option, Some, None, min, nat_lt, ◌||◌, slice_get, Ok, IsOk}
 use Rattle.std.proofs.lemmas.Bool.{and_from}
 use Rattle.std.proofs.lemmas.Bool.Decides.{nat_tests}
 use Rattle.std.proofs.lemmas.Option.{slice_get_within}
 use Rattle.mw_base.specs.declared.cursor.Numeral.{Numeral}
 use Rattle.mw_base.specs.declared.token.Token.{Token}
-use Rattle.mw_base.specs.declared.cause.Cause.TheVariants.{TooWide, WidthsDiffer}
 use Rattle.mw_base.specs.Cursors.{Cursor}
-use Rattle.mw_base.specs.TokenLines.{fault_on}
 use Rattle.mw_expr.specs.declared.expr.Pair2.{Pair2}
 use Rattle.mw_expr.specs.declared.expr.Pair2.TheVariants.{And, Or, Xor, Add, Sub, Same, Differ, Less}
 use Rattle.mw_expr.specs.declared.shape.Shape.{Shape}
@@ -47,7 +45,8 @@ counted : (parts : List Placed) → count (plain_parts (parts_of parts)) ≡ len
 counted [] = refl
 counted (e ∷ rest) = omega (arith, counted rest)
 
-one_more : (parts : List Placed) (e : Placed) → ArePaired (parts_of parts) → Paired e → ArePaired (parts_of (parts ++ e ∷ []))
+one_more : (parts : List Placed) (e : Placed) → ArePaired (parts_of parts) → Paired e
+    → ArePaired (parts_of (parts ++ e ∷ []))
 one_more [] e all last = (last, tt)
 one_more (first ∷ rest) e all last = (all.0, one_more rest e all.1 last)
 
@@ -66,7 +65,8 @@ mutual
   paired (by_join {parts = parts} low brace all two close) = (rw (counted parts) two, are_paired all)
   paired (by_widening low word is_open e comma bits close) = paired e
 
-  are_paired : {m : Meaning} {from rest : List Token} {parts : List Placed} → BeginParts m from parts rest → ArePaired (parts_of parts)
+  are_paired : {m : Meaning} {from rest : List Token} {parts : List Placed} → BeginParts m from parts rest
+      → ArePaired (parts_of parts)
   are_paired (first_part e) = (paired e, tt)
   are_paired (next_part {parts = parts} {e = e} all comma last) = one_more parts e (are_paired all) (paired last)
 
@@ -106,7 +106,8 @@ none_past s (widened token w e) is = cc
 none_past s (memory token e) is = cc
 none_past s (group token e) is = cc
 
-sees_element : (s : Shape) (k : ℕ) (token : Token) (number : Option ℕ) → IsShape s → unknown (named_width s number) token ≡ [] → Sees s (suc k) (named token number)
+sees_element : (s : Shape) (k : ℕ) (token : Token) (number : Option ℕ) → IsShape s
+    → unknown (named_width s number) token ≡ [] → Sees s (suc k) (named token number)
 sees_element s k token None shape is = cc
 sees_element s k token (Some n) shape is = found (slice_get s.widths n) refl is
   where
@@ -125,10 +126,12 @@ sees_element s k token (Some n) shape is = found (slice_get s.widths n) refl is
           shallow = omega arith;
         }
 
-sees_constant : (s : Shape) (k : ℕ) (number : Numeral) (hash : Token) (w : ℕ) → too_wide number w ++ broken (is_improper w) hash ≡ []
+sees_constant : (s : Shape) (k : ℕ) (number : Numeral) (hash : Token) (w : ℕ)
+    → too_wide number w ++ broken (is_improper w) hash ≡ []
     → Sees s (suc k) (constant number hash w)
 sees_constant s k number hash w is =
-    let fits = value_fits (nat_lt number.value (2 ^ w)) number w refl (nil_front (too_wide number w) (broken (is_improper w) hash) is) in
+    let fits = value_fits (nat_lt number.value (2 ^ w)) number w refl
+    (nil_front (too_wide number w) (broken (is_improper w) hash) is) in
     let proper = not_broken (is_improper w) hash (nil_back (too_wide number w) (broken (is_improper w) hash) is) in
     record {
       w = w;
@@ -142,7 +145,8 @@ sees_constant s k number hash w is =
 
 -- operands of a sign, of one width
 pair_sees : (op : Pair2) (a b : ℕ) → 1 ≤ a → a ≤ 32 → pair_breaks (Some a) (Some b) ≡ false
-    → (pair_width op (Some a) (Some b) ≡ Some (width_after op a)) × (seen_pair op (Some a) (Some b) ≡ Some (width_after op a))
+    → (pair_width op (Some a) (Some b) ≡ Some (width_after op a)) ×
+    (seen_pair op (Some a) (Some b) ≡ Some (width_after op a))
     × (1 ≤ width_after op a) × (width_after op a ≤ 32)
 pair_sees And a b least most same = (grind (arith, nat_tests), grind (arith, nat_tests), least, most)
 pair_sees Or a b least most same = (grind (arith, nat_tests), grind (arith, nat_tests), least, most)
@@ -163,7 +167,8 @@ part_sees high low w most inside = (grind (arith, nat_tests), omega arith, grind
 
 widened_sees : (w v : ℕ) → (is_improper w || is_past w (Some v)) ≡ false
     → (widened_width w (Some v) ≡ Some w) × (width_if true w ≡ Some w) × (1 ≤ w) × (w ≤ 32)
-widened_sees w v holds = (grind (arith, nat_tests), grind (arith, nat_tests), grind (arith, nat_tests), grind (arith, nat_tests))
+widened_sees w v holds =
+    (grind (arith, nat_tests), grind (arith, nat_tests), grind (arith, nat_tests), grind (arith, nat_tests))
 
 memory_sees : (s : Shape) (w : ℕ) → IsShape s → 1 ≤ w → is_other s.address (Some w) ≡ false
     → (memory_width s.address s.word (Some w) ≡ Some s.word) × (1 ≤ s.word) × (s.word ≤ 32)
@@ -206,7 +211,8 @@ sees_pair s k op token a b ha hb is =
     }
 
 sees_choice : (s : Shape) (k : ℕ) (token : Token) (c a b : Placed) → Sees s k c → Sees s k a → Sees s k b
-    → broken (is_other 1 (seen_width s c) || pair_breaks (seen_width s a) (seen_width s b)) token ≡ [] → Sees s (suc k) (choice token c a b)
+    → broken (is_other 1 (seen_width s c) || pair_breaks (seen_width s a) (seen_width s b)) token ≡ []
+    → Sees s (suc k) (choice token c a b)
 sees_choice s k token c a b hc ha hb is =
     let same = rw (hc.seen, ha.seen, hb.seen) at (not_broken _ token is) in
     let h = choice_sees hc.w ha.w hb.w ha.least ha.most same in
@@ -221,7 +227,8 @@ sees_choice s k token c a b hc ha hb is =
       shallow = omega (arith, max_most (depth (plain c)) (max (depth (plain a)) (depth (plain b))) k hc.shallow deeper);
     }
 
-sees_part : (s : Shape) (k : ℕ) (token : Token) (high low : ℕ) (e : Placed) → Sees s k e → broken (part_breaks high low (seen_width s e)) token ≡ []
+sees_part : (s : Shape) (k : ℕ) (token : Token) (high low : ℕ) (e : Placed) → Sees s k e
+    → broken (part_breaks high low (seen_width s e)) token ≡ []
     → Sees s (suc k) (part token high low e)
 sees_part s k token high low e he is =
     let inside = rw he.seen at (not_broken _ token is) in
@@ -248,9 +255,19 @@ sees_widened : (s : Shape) (k : ℕ) (token : Token) (w : ℕ) (e : Placed) → 
 sees_widened s k token w e he is =
     let holds = rw he.seen at (not_broken _ token is) in
     let h = widened_sees w he.w holds in
-    record { w = w; known = he.known; wide = rw he.wide h.0; seen = h.1; least = h.2; most = h.3; shallow = omega (arith, he.shallow) }
+    record {
+      w = w;
+      known = he.known;
+      wide = rw he.wide h.0;
+      seen = h.1;
+      least = h.2;
+      most = h.3;
+      shallow = omega
+          (arith, he.shallow);
+    }
 
-sees_memory : (s : Shape) (k : ℕ) (token : Token) (e : Placed) → IsShape s → Sees s k e → broken (is_other s.address (seen_width s e)) token ≡ []
+sees_memory : (s : Shape) (k : ℕ) (token : Token) (e : Placed) → IsShape s → Sees s k e
+    → broken (is_other s.address (seen_width s e)) token ≡ []
     → Sees s (suc k) (memory token e)
 sees_memory s k token e shape he is =
     let same = rw he.seen at (not_broken _ token is) in
@@ -264,13 +281,23 @@ mutual
   sees s (suc k) (constant number hash w) shape is two = sees_constant s k number hash w is
   sees s (suc k) (complement token e) shape is two =
       let h = sees s k e shape is two in
-      record { w = h.w; known = h.known; wide = h.wide; seen = h.seen; least = h.least; most = h.most; shallow = omega (arith, h.shallow) }
+      record {
+        w = h.w;
+        known = h.known;
+        wide = h.wide;
+        seen = h.seen;
+        least = h.least;
+        most = h.most;
+        shallow = omega
+            (arith, h.shallow);
+      }
   sees s (suc k) (pair op token a b) shape is two =
       let fa = faults s (Some k) a in
       let fb = faults s (Some k) b in
       let breaks = broken (pair_breaks (seen_width s a) (seen_width s b)) token in
       let after = nil_back fa (fb ++ breaks) is in
-      sees_pair s k op token a b (sees s k a shape (nil_front fa (fb ++ breaks) is) two.0) (sees s k b shape (nil_front fb breaks after) two.1)
+      sees_pair s k op token a b (sees s k a shape (nil_front fa (fb ++ breaks) is) two.0)
+      (sees s k b shape (nil_front fb breaks after) two.1)
       (nil_back fb breaks after)
   sees s (suc k) (choice token c a b) shape is two =
       let fc = faults s (Some k) c in
@@ -280,7 +307,8 @@ mutual
       let both = nil_back fc (fa ++ (fb ++ breaks)) is in
       let after = nil_back fa (fb ++ breaks) both in
       sees_choice s k token c a b (sees s k c shape (nil_front fc (fa ++ (fb ++ breaks)) is) two.0)
-      (sees s k a shape (nil_front fa (fb ++ breaks) both) two.1) (sees s k b shape (nil_front fb breaks after) two.2) (nil_back fb breaks after)
+      (sees s k a shape (nil_front fa (fb ++ breaks) both) two.1) (sees s k b shape (nil_front fb breaks after) two.2)
+      (nil_back fb breaks after)
   sees s (suc k) (part token high low e) shape is two =
       let fe = faults s (Some k) e in
       let breaks = broken (part_breaks high low (seen_width s e)) token in
@@ -288,7 +316,8 @@ mutual
   sees s (suc k) (join token parts) shape is two =
       let all = faults_in s (Some k) parts in
       let breaks = broken (is_past 32 (seen_total s (Some 0) parts)) token in
-      sees_join s k token parts (sees_parts s k parts shape (nil_front all breaks is) two.1) two.0 (nil_back all breaks is)
+      sees_join s k token parts (sees_parts s k parts shape (nil_front all breaks is) two.1) two.0
+      (nil_back all breaks is)
   sees s (suc k) (widened token w e) shape is two =
       let fe = faults s (Some k) e in
       let breaks = broken (is_improper w || is_past w (seen_width s e)) token in
@@ -299,9 +328,19 @@ mutual
       sees_memory s k token e shape (sees s k e shape (nil_front fe breaks is) two) (nil_back fe breaks is)
   sees s (suc k) (group token e) shape is two =
       let h = sees s k e shape is two in
-      record { w = h.w; known = h.known; wide = h.wide; seen = h.seen; least = h.least; most = h.most; shallow = omega (arith, h.shallow) }
+      record {
+        w = h.w;
+        known = h.known;
+        wide = h.wide;
+        seen = h.seen;
+        least = h.least;
+        most = h.most;
+        shallow = omega
+            (arith, h.shallow);
+      }
 
-  sees_parts : (s : Shape) (n : ℕ) (parts : Parts) → IsShape s → faults_in s (Some n) parts ≡ [] → ArePaired parts → SeesParts s n parts
+  sees_parts : (s : Shape) (n : ℕ) (parts : Parts) → IsShape s → faults_in s (Some n) parts ≡ [] → ArePaired parts
+      → SeesParts s n parts
   sees_parts s n none shape is two = record {
     w = 0;
     known = refl;
@@ -317,14 +356,31 @@ mutual
         w = h.w + hs.w;
         known = and_from _ _ h.known hs.known;
         wide = rw (h.wide, hs.wide) refl;
-        seen = λ before low. rw h.seen (hs.seen (min (before + h.w) 33) (min_low (before + h.w)) ∙ ap Some (add_min before h.w hs.w));
+        seen = λ before low. rw h.seen (hs.seen (min (before + h.w) 33) (min_low (before + h.w))
+            ∙ ap Some (add_min before h.w hs.w));
         least = omega (arith, h.least, hs.least);
         shallow = max_most (depth (plain tree)) (deepest (plain_parts rest)) n h.shallow hs.shallow;
       }
 
 -- what is read and has no fault has a width
-pub wide_whole : (m : Meaning) (cursor : Cursor) (s : Shape) (tree : Placed) → IsShape s → tree_of m cursor ≡ Ok tree → first_fault s tree ≡ None
+pub wide_whole : (m : Meaning) (cursor : Cursor) (s : Shape) (tree : Placed) → IsShape s → tree_of m cursor ≡ Ok tree
+    → first_fault s tree ≡ None
     → IsOk (width_of s (plain tree))
 wide_whole m cursor s tree shape read no_fault =
-    let h = sees s 64 tree shape (no_first (faults s (Some 64) tree) no_fault) (paired (is_read_by_rule m cursor tree read)) in
+    let h = sees s 64 tree shape (no_first (faults s (Some 64) tree) no_fault)
+    (paired (is_read_by_rule m cursor tree read)) in
     of_width s (plain tree) (record { known = h.known; wide = rw h.wide refl; shallow = h.shallow })
+
+-- the width that is seen of it is its width
+pub record HasSeenWidth (s : Shape) (tree : Placed) : Type 0 where
+  pub w : ℕ
+  pub seen : seen_width s tree ≡ Some w
+  pub known : is_known (length s.widths) (plain tree) ≡ true
+  pub wide : width s (plain tree) ≡ Some w
+  pub shallow : depth (plain tree) ≤ 64
+
+pub seen_whole : (m : Meaning) (cursor : Cursor) (s : Shape) (tree : Placed) → IsShape s → tree_of m cursor ≡ Ok tree → faults s (Some 64) tree ≡ []
+    → HasSeenWidth s tree
+seen_whole m cursor s tree shape read no_fault =
+    let h = sees s 64 tree shape no_fault (paired (is_read_by_rule m cursor tree read)) in
+    record { w = h.w; seen = h.seen; known = h.known; wide = h.wide; shallow = h.shallow }

@@ -1,24 +1,8 @@
--- Words of some bits.
-use Rattle.std.proofs.Common.{◌≡◌, ℕ, ◌+◌, ◌*◌, ◌%◌, ◌^◌, ◌<◌, ◌≤◌, arith}
-use Rattle.std.proofs.Math.Nat.{pow-le-pow_right}
-use Rattle.std.proofs.lemmas.Nat.{shl_whole, mul-add-lt, pow-add}
-use Rattle.std.specs.Prelude.{Bool, true, nat_lt}
+-- Numbers that texts give.
+use Rattle.std.proofs.Common.{◌≡◌, ℕ, ◌^◌, ◌<◌, ◌≤◌}
+use Rattle.std.specs.Prelude.{true, nat_lt}
 use Rattle.std.proofs.lemmas.Bool.{lt-ltb}
-
--- a word of some bits is one of more bits
-pub below_wider : (x v w : ℕ) → x < 2 ^ v → v ≤ w → x < 2 ^ w
-below_wider x v w below wider =
-    let powers : 2 ^ v ≤ 2 ^ w = pow-le-pow_right (omega arith) wider in
-    omega arith
-
--- a word of w bits above one of v bits
-pub joined_below : (a b w v : ℕ) → a < 2 ^ w → b < 2 ^ v → a * 2 ^ v + b < 2 ^ (w + v)
-joined_below a b w v high low =
-    rw (pow-add 2 w v) (omega (arith, mul-add-lt a (2 ^ v) b (2 ^ w) high low))
-
--- the same, as it is shifted in 64 bits
-pub shifted_below : (a b w v : ℕ) → a < 2 ^ w → b < 2 ^ v → w + v ≤ 32 → a * 2 ^ v % 2 ^ 64 + b < 2 ^ (w + v)
-shifted_below a b w v high low most = rw (shl_whole a w v 64 high (omega arith)) (joined_below a b w v high low)
+use Rattle.mw_base.proofs.Widths.{below_wider}
 
 -- a number of 128 bits fits each width from 128 on
 pub fits_wider : (v w : ℕ) → v < 2 ^ 128 → 128 ≤ w → nat_lt v (2 ^ w) ≡ true

@@ -124,18 +124,23 @@ too_wide number w = if nat_lt number.value (2 ^ w) then [] else fault_on number.
 abbrev mutual
   pub faults : Shape → Option ℕ → Placed → List TextFault
   faults s levels (named token number) = deep levels token ++ unknown (named_width s number) token
-  faults s levels (constant number hash w) = deep levels number.token ++ (too_wide number w ++ broken (is_improper w) hash)
+  faults s levels (constant number hash w) = deep levels number.token ++
+      (too_wide number w ++ broken (is_improper w) hash)
   faults s levels (complement token e) = deep levels token ++ faults s (below levels) e
   faults s levels (pair op token a b) =
-      deep levels token ++ (faults s (below levels) a ++ (faults s (below levels) b ++ broken (pair_breaks (seen_width s a) (seen_width s b)) token))
+      deep levels token ++ (faults s (below levels) a ++
+      (faults s (below levels) b ++ broken (pair_breaks (seen_width s a) (seen_width s b)) token))
   faults s levels (choice token c a b) =
       deep levels token ++ (faults s (below levels) c ++ (faults s (below levels) a ++ (faults s (below levels) b
       ++ broken (is_other 1 (seen_width s c) || pair_breaks (seen_width s a) (seen_width s b)) token)))
-  faults s levels (part token high low e) = deep levels token ++ (faults s (below levels) e ++ broken (part_breaks high low (seen_width s e)) token)
-  faults s levels (join token parts) = deep levels token ++ (faults_in s (below levels) parts ++ broken (is_past 32 (seen_total s (Some 0) parts)) token)
+  faults s levels (part token high low e) = deep levels token ++
+      (faults s (below levels) e ++ broken (part_breaks high low (seen_width s e)) token)
+  faults s levels (join token parts) = deep levels token ++
+      (faults_in s (below levels) parts ++ broken (is_past 32 (seen_total s (Some 0) parts)) token)
   faults s levels (widened token w e) =
       deep levels token ++ (faults s (below levels) e ++ broken (is_improper w || is_past w (seen_width s e)) token)
-  faults s levels (memory token e) = deep levels token ++ (faults s (below levels) e ++ broken (is_other s.address (seen_width s e)) token)
+  faults s levels (memory token e) = deep levels token ++
+      (faults s (below levels) e ++ broken (is_other s.address (seen_width s e)) token)
   faults s levels (group token e) = deep levels token ++ faults s (below levels) e
 
   -- the faults of the parts of a join, where so many levels may stand below it

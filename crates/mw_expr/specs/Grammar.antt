@@ -1,4 +1,5 @@
--- The grammar of expressions, one token at a time. From weakest to strongest: the choice, which groups to the right; the signs between
+-- The grammar of expressions, one token at a time. From weakest to strongest: the choice, which groups to the right;
+-- the signs between
 -- two operands, which group to the left; the prefix; the suffixes; the operands.
 use Rattle.std.specs.Prelude.{ℕ, List, [], ◌∷◌, ◌++◌, codes, Bool, ◌==◌, nat_le, nat_lt, if◌then◌else◌, Option, Some, None, option_map, ok_or, position, Result}
 use Rattle.std.specs.List.{list_any}
@@ -16,7 +17,8 @@ use Rattle.mw_expr.specs.declared.expr.Pair2.{Pair2}
 use Rattle.mw_expr.specs.declared.expr.Pair2.TheVariants.{And, Or, Xor, Add, Sub, Same, Differ, Less}
 use Rattle.mw_expr.specs.Placed.{Placed, named, constant, complement, pair, choice, part, join, widened, memory, group, parts_of, Open, nothing, complementing, pairing, choosing, otherwise, grouping, joining, widening, reading, Awaits, an_operand, a_dot, a_member, a_bracket, a_parenthesis, a_hash, a_width, a_high, a_colon, a_low, a_close, a_new_width, a_widen_end, a_sign, State}
 
--- what the words of a text mean: the names of the elements, whether elements are NAME . NAME, else NAME, and whether there is a memory
+-- what the words of a text mean: the names of the elements, whether elements are NAME . NAME, else NAME, and whether
+-- there is a memory
 pub record Meaning : Type 0 where
   pub text : List ℕ
   pub names : List (List ℕ)
@@ -51,7 +53,8 @@ pub record Reduced : Type 0 where
   pub tree : Placed
   pub below : Open
 
--- the operation that an operand ends, as far as those that are open bind at least this strongly; a choice binds with strength 0
+-- the operation that an operand ends, as far as those that are open bind at least this strongly; a choice binds with
+-- strength 0
 unfoldable pub reduced : ℕ → Placed → Open → Reduced
 reduced least tree (complementing token below) = reduced least (complement token tree) below
 reduced least tree (pairing op token left below) =
@@ -123,7 +126,8 @@ comma_ends tree other = None
 
 -- one that a '}' ends, which isn't the first of its join
 abbrev pub brace_ends : Placed → Open → Option State
-brace_ends tree (joining token (first ∷ parts) below) = Some (state (a_sign (join token (parts_of ((first ∷ parts) ++ tree ∷ [])))) below)
+brace_ends tree (joining token (first ∷ parts) below) = Some
+    (state (a_sign (join token (parts_of ((first ∷ parts) ++ tree ∷ [])))) below)
 brace_ends tree other = None
 
 -- a sign between an operand and another
@@ -171,19 +175,28 @@ operand_follows _ token tree below = None
 abbrev pub follows : Meaning → Token → Symbol → Awaits → Open → Option State
 follows m token symbol an_operand below = begins m token symbol below
 follows m token symbol (a_dot owner) below = this_follows signs.Dot symbol (state (a_member owner) below)
-follows m token symbol (a_member owner) below = name_follows symbol (state (a_sign (dotted_element m owner token)) below)
-follows m token symbol (a_bracket word) below = this_follows signs.OpenBracket symbol (state an_operand (reading word below))
-follows m token symbol (a_parenthesis word) below = this_follows signs.OpenParenthesis symbol (state an_operand (widening word below))
+follows m token symbol (a_member owner) below = name_follows symbol
+    (state (a_sign (dotted_element m owner token)) below)
+follows m token symbol (a_bracket word) below = this_follows signs.OpenBracket symbol
+    (state an_operand (reading word below))
+follows m token symbol (a_parenthesis word) below = this_follows signs.OpenParenthesis symbol
+    (state an_operand (widening word below))
 follows m token symbol (a_hash number) below = this_follows signs.Hash symbol (state (a_width number token) below)
-follows m token symbol (a_width number hash) below = option_map (λ bits. state (a_sign (constant number hash bits)) below) (number_in symbol)
-follows m token symbol (a_high from tree) below = option_map (λ most. state (a_colon from tree most) below) (number_in symbol)
+follows m token symbol (a_width number hash) below = option_map
+    (λ bits. state (a_sign (constant number hash bits)) below) (number_in symbol)
+follows m token symbol (a_high from tree) below = option_map (λ most. state (a_colon from tree most) below)
+    (number_in symbol)
 follows m token symbol (a_colon from tree most) below =
     if is_sign signs.Colon symbol then Some (state (a_low from tree most) below)
     else this_follows signs.CloseBracket symbol (state (a_sign (part from most most tree)) below)
-follows m token symbol (a_low from tree most) below = option_map (λ least. state (a_close from tree most least) below) (number_in symbol)
-follows m token symbol (a_close from tree most least) below = this_follows signs.CloseBracket symbol (state (a_sign (part from most least tree)) below)
-follows m token symbol (a_new_width word tree) below = option_map (λ bits. state (a_widen_end word tree bits) below) (number_in symbol)
-follows m token symbol (a_widen_end word tree bits) below = this_follows signs.CloseParenthesis symbol (state (a_sign (widened word bits tree)) below)
+follows m token symbol (a_low from tree most) below = option_map (λ least. state (a_close from tree most least) below)
+    (number_in symbol)
+follows m token symbol (a_close from tree most least) below = this_follows signs.CloseBracket symbol
+    (state (a_sign (part from most least tree)) below)
+follows m token symbol (a_new_width word tree) below = option_map (λ bits. state (a_widen_end word tree bits) below)
+    (number_in symbol)
+follows m token symbol (a_widen_end word tree bits) below = this_follows signs.CloseParenthesis symbol
+    (state (a_sign (widened word bits tree)) below)
 follows m token symbol (a_sign tree) below = operand_follows symbol token tree below
 
 -- the tree of an expression after which nothing is open

@@ -23,7 +23,8 @@ parts_of (memory address) = address ∷ []
 
 -- where a tree has a width, so has each of its parts
 abbrev pub PartsHaveWidths : Type 0
-PartsHaveWidths = (s : Shape) (tree : Tree) → IsOk (width_of s tree) → All (λ part. IsOk (width_of s part)) (parts_of tree)
+PartsHaveWidths = (s : Shape) (tree : Tree) → IsOk (width_of s tree)
+    → All (λ part. IsOk (width_of s part)) (parts_of tree)
 
 -- the width of a tree is that of the rules of widths
 abbrev pub WidthsAreByRule : Type 0

@@ -1,4 +1,5 @@
--- Expressions as they stand in a text: trees whose operations keep the tokens at which their faults stand, and what is open before a token.
+-- Expressions as they stand in a text: trees whose operations keep the tokens at which their faults stand, and what
+-- is open before a token.
 use Rattle.std.specs.Prelude.{ℕ, List, [], ◌∷◌, map, Option}
 use Rattle.mw_base.specs.declared.cursor.Numeral.{Numeral}
 use Rattle.mw_base.specs.declared.token.Token.{Token}
@@ -121,4 +122,4 @@ awaited (kept.Sign e) = a_sign (placed e)
 
 -- what the code knows after some tokens, as definitions see it
 abbrev pub known : KeptState → State
-known state = record { awaits = awaited state.awaits; open_now = opened state.open }
+known state = record { awaits = awaited state.awaits; open_now = opened state.pending }

@@ -1,5 +1,7 @@
--- The format's rules of expressions, between tokens and trees. From weakest to strongest: C ? A : B, to the right; |; ^; &; ==, != and <;
--- + and -, each of these to the left; the prefix ~; the suffixes [HI:LO] and [N]; the operands VALUE#WIDTH, an element, mem[E], (E),
+-- The format's rules of expressions, between tokens and trees. From weakest to strongest: C ? A : B, to the right; |;
+-- ^; &; ==, != and <;
+-- + and -, each of these to the left; the prefix ~; the suffixes [HI:LO] and [N]; the operands VALUE#WIDTH, an
+-- element, mem[E], (E),
 -- {E, E, ..} and zext(E, W).
 use Rattle.std.specs.Prelude.{◌≡◌, ℕ, suc, ◌≤◌, List, [], ◌∷◌, ◌++◌, length, codes, true, false, Some, Ok}
 use Rattle.std.specs.Str.{bytes_eq}
@@ -41,7 +43,8 @@ abbrev pub suffix : ℕ
 suffix = 7
 
 mutual
-  -- some tokens begin with an expression of this tree, and these follow it; what it is outside of brackets binds at least so strongly
+  -- some tokens begin with an expression of this tree, and these follow it; what it is outside of brackets binds at
+  -- least so strongly
   pub data Begin (m : Meaning) : (least : ℕ) → List Token → Placed → (rest : List Token) → Type 0 where
     by_choice : {from second third rest : List Token} {question colon : Token} {c a b : Placed}
         → Begin m 1 from c (question ∷ second) → IsSign m signs.Question question
@@ -71,7 +74,8 @@ mutual
     by_constant : {least value width : ℕ} {rest : List Token} {number hash bits : Token}
         → least ≤ suffix
         → IsNumber m value number → IsSign m signs.Hash hash → IsNumber m width bits
-        → Begin m least (number ∷ hash ∷ bits ∷ rest) (constant (record { token = number; value = value }) hash width) rest
+        → Begin m least (number ∷ hash ∷ bits ∷ rest)
+        (constant (record { token = number; value = value }) hash width) rest
     by_name : {least : ℕ} {rest : List Token} {token : Token}
         → least ≤ suffix
         → m.is_dotted ≡ false → IsElementName m token
@@ -91,7 +95,8 @@ mutual
         → Begin m least (token ∷ from) (group token e) rest
     by_join : {least : ℕ} {from rest : List Token} {brace close : Token} {parts : List Placed}
         → least ≤ suffix
-        → IsSign m signs.OpenBrace brace → BeginParts m from parts (close ∷ rest) → 2 ≤ length parts → IsSign m signs.CloseBrace close
+        → IsSign m signs.OpenBrace brace → BeginParts m from parts (close ∷ rest) → 2 ≤ length parts
+        → IsSign m signs.CloseBrace close
         → Begin m least (brace ∷ from) (join brace (parts_of parts)) rest
     by_widening : {least width : ℕ} {from rest : List Token} {word open_sign comma bits close : Token} {e : Placed}
         → least ≤ suffix
@@ -113,4 +118,10 @@ IsExpression m tokens tree = Begin m 0 tokens tree []
 
 -- a tree that is read from tokens is theirs by the rules
 abbrev pub IsReadByRule : Type 0
-IsReadByRule = (m : Meaning) (cursor : Cursor) (tree : Placed) → tree_of m cursor ≡ Ok tree → IsExpression m cursor.tokens tree
+IsReadByRule = (m : Meaning) (cursor : Cursor) (tree : Placed) → tree_of m cursor ≡ Ok tree
+    → IsExpression m cursor.tokens tree
+
+-- tokens that are an expression by the rules are read, and to its tree: so they are one of one tree alone
+abbrev pub IsReadWhereRuled : Type 0
+IsReadWhereRuled = (m : Meaning) (cursor : Cursor) (tree : Placed) → IsExpression m cursor.tokens tree
+    → tree_of m cursor ≡ Ok tree

@@ -22,7 +22,8 @@ abbrev pub unless_at_fault : Placed → Option TextFault → Result Tree TextFau
 unless_at_fault tree None = Ok (plain tree)
 unless_at_fault tree (Some fault) = Err fault
 
--- the expression that the tokens of a line are, over elements of these names and widths and a memory; or the fault of the grammar; or
+-- the expression that the tokens of a line are, over elements of these names and widths and a memory; or the fault of
+-- the grammar; or
 -- the first of the other faults
 unfoldable pub expr_of : Cursor → List (List ℕ) → Shape → Result Tree TextFault
 expr_of cursor names s = do

@@ -38,7 +38,8 @@ abbrev mutual
   -- the parts of a join put one above another, the first highest
   pub joined : Shape → (values image : List ℕ) → Trees → ℕ
   joined s values image none = 0
-  joined s values image (more tree rest) = words.join (unwrap_or (total_width s rest) 0) (value s values image tree) (joined s values image rest)
+  joined s values image (more tree rest) = words.join (unwrap_or (total_width s rest) 0) (value s values image tree)
+      (joined s values image rest)
 
 -- some part of a tree reads the memory
 abbrev mutual

@@ -126,6 +126,7 @@ abbrev pub width_at : ℕ → Option ℕ → Result ℕ Cause
 width_at deep None = Err WidthsDiffer
 width_at deep (Some w) = if nat_le deep 64 then Ok w else Err TooDeep
 
--- the width of a tree; or cause 40 where an element isn't one of the shape, else 41 where a rule of widths is broken, else 42
+-- the width of a tree; or cause 40 where an element isn't one of the shape, else 41 where a rule of widths is broken,
+-- else 42
 unfoldable pub width_of : Shape → Tree → Result ℕ Cause
 width_of s tree = if is_known (length s.widths) tree then width_at (depth tree) (width s tree) else Err UnknownElement

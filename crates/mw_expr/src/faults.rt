@@ -1,7 +1,8 @@
 // What is at fault in a grammatical expression.
 ghost use Rattle.std.specs.Prelude.{◌≡◌, ◌^◌, nat_lt, Option, Some, true, map, ◌||◌};
 ghost use Rattle.mw_expr.specs.Widths.{width_if, part_width};
-ghost use Rattle.mw_expr.specs.Placed.{placed, parts_of};
+ghost use Rattle.mw_expr.specs.Placed.{placed, parts_of, named, constant, pair, choice, part, join, widened, memory};
+ghost use Rattle.mw_expr.specs.declared.shape.Shape.{Shape};
 ghost use Rattle.mw_expr.specs.Faults.{named_width, same_width, seen_pair, seen_choice, beside, within_32, seen_width, seen_total, pair_breaks, is_other, part_breaks, is_past, deep, below, broken, unknown, is_improper, too_wide, faults, faults_in, first_fault};
 ghost use Rattle.mw_base.specs.FirstFaults.{first_in};
 
@@ -190,10 +191,45 @@ fn widen_breaks(width: u128, seen: Option<u8>) -> bool
     is_improper(width) || is_past(width, seen)
 }
 
-/// The width that an expression has for what is around it, where there are so many levels from this one down: 0 at level 65, none
-/// past it. Keeps the first of its faults.
+/// The width of an element, if there is one of that name. Keeps the first of its faults.
+fn check_element(
+    shape: &Shape,
+    levels: Option<u8>,
+    token: Token,
+    number: Option<usize>,
+    first: &mut Option<TextFault>,
+) -> Option<u8>
+    ensures width { result ≡ seen_width shape.now (named token number) }
+    ensures faults { first.new ≡ first_in first.old (faults shape.now levels (named token number)) }
+{
+    note_deep(first, levels, token);
+    let width = named_width(shape, number);
+    note_unknown(first, width, token);
+    width
+}
+
+/// The width that a constant names, if it is one. Keeps the first of its faults.
+fn check_constant(
+    levels: Option<u8>,
+    number: Numeral,
+    hash: Token,
+    bits: u128,
+    first: &mut Option<TextFault>,
+) -> Option<u8>
+    ensures width { (s : Shape) → result ≡ seen_width s (constant number hash bits) }
+    ensures faults { (s : Shape) → first.new ≡ first_in first.old (faults s levels (constant number hash bits)) }
+{
+    note_deep(first, levels, number.token);
+    note_too_wide(first, number, bits);
+    note_broken(first, is_improper(bits), hash);
+    given_width(bits)
+}
+
+/// The width that an expression has for what is around it, where there are so many levels from this one down: 0 at
+/// level
+/// 65, none past it. Keeps the first of its faults.
 #[cycle(faults)]
-fn check(
+pub(crate) fn check(
     shape: &Shape,
     levels: Option<u8>,
     tree: &Placed,
@@ -203,61 +239,22 @@ fn check(
     ensures faults { first.new ≡ first_in first.old (faults shape.now levels (placed tree.now)) }
 {
     match tree {
-        Placed::Element(token, number) => {
-            note_deep(first, levels, *token);
-            let width = named_width(shape, *number);
-            note_unknown(first, width, *token);
-            width
-        }
-        Placed::Con(number, hash, bits) => {
-            note_deep(first, levels, number.token);
-            note_too_wide(first, *number, *bits);
-            note_broken(first, is_improper(*bits), *hash);
-            given_width(*bits)
-        }
+        Placed::Element(token, number) => check_element(shape, levels, *token, *number, first),
+        Placed::Con(number, hash, bits) => check_constant(levels, *number, *hash, *bits, first),
         Placed::Not(token, e) => {
             note_deep(first, levels, *token);
             check(shape, below(levels), e, first)
         }
-        Placed::Two(op, token, a, b) => {
-            note_deep(first, levels, *token);
-            let one = check(shape, below(levels), a, first);
-            let other = check(shape, below(levels), b, first);
-            note_broken(first, pair_breaks(one, other), *token);
-            seen_pair(*op, one, other)
-        }
+        Placed::Two(op, token, a, b) => check_pair(shape, levels, *op, *token, a, b, first),
         Placed::Choose(token, condition, a, b) => {
-            note_deep(first, levels, *token);
-            let chosen_by = check(shape, below(levels), condition, first);
-            let one = check(shape, below(levels), a, first);
-            let other = check(shape, below(levels), b, first);
-            note_broken(first, choice_breaks(chosen_by, one, other), *token);
-            seen_choice(chosen_by, one, other)
+            check_choice(shape, levels, *token, condition, a, b, first)
         }
         Placed::Part(token, high, low, e) => {
-            note_deep(first, levels, *token);
-            let whole = check(shape, below(levels), e, first);
-            note_broken(first, part_breaks(*high, *low, whole), *token);
-            seen_part(*high, *low, whole)
+            check_part(shape, levels, *token, *high, *low, e, first)
         }
-        Placed::Join(token, parts) => {
-            note_deep(first, levels, *token);
-            let whole = check_parts(shape, below(levels), parts, first);
-            note_broken(first, is_past(32, whole), *token);
-            within_32(whole)
-        }
-        Placed::Widen(token, width, e) => {
-            note_deep(first, levels, *token);
-            let narrow = check(shape, below(levels), e, first);
-            note_broken(first, widen_breaks(*width, narrow), *token);
-            given_width(*width)
-        }
-        Placed::Memory(token, e) => {
-            note_deep(first, levels, *token);
-            let address = check(shape, below(levels), e, first);
-            note_broken(first, is_other(shape.address, address), *token);
-            Some(shape.word)
-        }
+        Placed::Join(token, parts) => check_join(shape, levels, *token, parts, first),
+        Placed::Widen(token, width, e) => check_widening(shape, levels, *token, *width, e, first),
+        Placed::Memory(token, e) => check_memory(shape, levels, *token, e, first),
         Placed::Group(token, e) => {
             note_deep(first, levels, *token);
             check(shape, below(levels), e, first)
@@ -265,7 +262,127 @@ fn check(
     }
 }
 
-/// The width of the parts of a join together, where 33 stands for all that pass 32 bits. Keeps the first of their faults.
+/// The width of a sign between two operands. Keeps the first of its faults.
+#[cycle(faults)]
+fn check_pair(
+    shape: &Shape,
+    levels: Option<u8>,
+    op: Pair2,
+    token: Token,
+    a: &Placed,
+    b: &Placed,
+    first: &mut Option<TextFault>,
+) -> Option<u8>
+    ensures width { result ≡ seen_width shape.now (pair op token (placed a.now) (placed b.now)) }
+    ensures faults { first.new ≡ first_in first.old (faults shape.now levels (pair op token (placed a.now) (placed b.now))) }
+{
+    note_deep(first, levels, token);
+    let one = check(shape, below(levels), a, first);
+    let other = check(shape, below(levels), b, first);
+    note_broken(first, pair_breaks(one, other), token);
+    seen_pair(op, one, other)
+}
+
+/// The width of a choice. Keeps the first of its faults.
+#[cycle(faults)]
+fn check_choice(
+    shape: &Shape,
+    levels: Option<u8>,
+    token: Token,
+    condition: &Placed,
+    a: &Placed,
+    b: &Placed,
+    first: &mut Option<TextFault>,
+) -> Option<u8>
+    ensures width { result ≡ seen_width shape.now (choice token (placed condition.now) (placed a.now) (placed b.now)) }
+    ensures faults { first.new
+        ≡ first_in first.old (faults shape.now levels (choice token (placed condition.now) (placed a.now) (placed b.now))) }
+{
+    note_deep(first, levels, token);
+    let chosen_by = check(shape, below(levels), condition, first);
+    let one = check(shape, below(levels), a, first);
+    let other = check(shape, below(levels), b, first);
+    note_broken(first, choice_breaks(chosen_by, one, other), token);
+    seen_choice(chosen_by, one, other)
+}
+
+/// The width of a part. Keeps the first of its faults.
+#[cycle(faults)]
+fn check_part(
+    shape: &Shape,
+    levels: Option<u8>,
+    token: Token,
+    high: u128,
+    low: u128,
+    e: &Placed,
+    first: &mut Option<TextFault>,
+) -> Option<u8>
+    ensures width { result ≡ seen_width shape.now (part token high low (placed e.now)) }
+    ensures faults { first.new ≡ first_in first.old (faults shape.now levels (part token high low (placed e.now))) }
+{
+    note_deep(first, levels, token);
+    let whole = check(shape, below(levels), e, first);
+    note_broken(first, part_breaks(high, low, whole), token);
+    seen_part(high, low, whole)
+}
+
+/// The width of a join. Keeps the first of its faults.
+#[cycle(faults)]
+fn check_join(
+    shape: &Shape,
+    levels: Option<u8>,
+    token: Token,
+    parts: &[Placed],
+    first: &mut Option<TextFault>,
+) -> Option<u8>
+    ensures width { result ≡ seen_width shape.now (join token (parts_of (map placed parts.now))) }
+    ensures faults { first.new ≡ first_in first.old (faults shape.now levels (join token (parts_of (map placed parts.now)))) }
+{
+    note_deep(first, levels, token);
+    let whole = check_parts(shape, below(levels), parts, first);
+    note_broken(first, is_past(32, whole), token);
+    within_32(whole)
+}
+
+/// The width that `zext` names. Keeps the first of its faults.
+#[cycle(faults)]
+fn check_widening(
+    shape: &Shape,
+    levels: Option<u8>,
+    token: Token,
+    width: u128,
+    e: &Placed,
+    first: &mut Option<TextFault>,
+) -> Option<u8>
+    ensures width { result ≡ seen_width shape.now (widened token width (placed e.now)) }
+    ensures faults { first.new ≡ first_in first.old (faults shape.now levels (widened token width (placed e.now))) }
+{
+    note_deep(first, levels, token);
+    let narrow = check(shape, below(levels), e, first);
+    note_broken(first, widen_breaks(width, narrow), token);
+    given_width(width)
+}
+
+/// The width of a word of the memory. Keeps the first fault of its address.
+#[cycle(faults)]
+fn check_memory(
+    shape: &Shape,
+    levels: Option<u8>,
+    token: Token,
+    e: &Placed,
+    first: &mut Option<TextFault>,
+) -> Option<u8>
+    ensures width { result ≡ seen_width shape.now (memory token (placed e.now)) }
+    ensures faults { first.new ≡ first_in first.old (faults shape.now levels (memory token (placed e.now))) }
+{
+    note_deep(first, levels, token);
+    let address = check(shape, below(levels), e, first);
+    note_broken(first, is_other(shape.address, address), token);
+    Some(shape.word)
+}
+
+/// The width of the parts of a join together, where 33 stands for all that pass 32 bits. Keeps the first of their
+/// faults.
 #[cycle(faults)]
 fn check_parts(
     shape: &Shape,

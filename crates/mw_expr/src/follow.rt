@@ -24,10 +24,10 @@ pub(crate) struct Meaning<'a> {
     pub has_memory: bool,
 }
 
-fn awaiting(awaits: Awaits, open: Open) -> Option<State>
-    ensures { option_map known result ≡ Some (record { awaits = awaited awaits; open_now = opened «open» }) }
+fn awaiting(awaits: Awaits, pending: Open) -> Option<State>
+    ensures { option_map known result ≡ Some (record { awaits = awaited awaits; open_now = opened pending }) }
 {
-    Some(State { awaits, open })
+    Some(State { awaits, pending })
 }
 
 /// The sign between two operands that this is.
@@ -140,8 +140,11 @@ fn begins(
 fn colon_ends(alloc: Global, ended: Reduced) -> Result<Option<State>, NoMemory>
     ensures { IfOk result (λ next. option_map known next ≡ colon_ends (placed ended.tree) (opened ended.below)) }
 {
-    let Reduced { tree, below: open } = ended;
-    match open {
+    let Reduced {
+        tree,
+        below: pending,
+    } = ended;
+    match pending {
         Open::Choose(token, condition, below) => {
             let first = Box::new(alloc, tree)?;
             Ok(awaiting(Awaits::Operand, Open::Else(token, condition, first, below)))
@@ -154,8 +157,11 @@ fn colon_ends(alloc: Global, ended: Reduced) -> Result<Option<State>, NoMemory>
 fn parenthesis_ends(alloc: Global, ended: Reduced) -> Result<Option<State>, NoMemory>
     ensures { IfOk result (λ next. option_map known next ≡ parenthesis_ends (placed ended.tree) (opened ended.below)) }
 {
-    let Reduced { tree, below: open } = ended;
-    match open {
+    let Reduced {
+        tree,
+        below: pending,
+    } = ended;
+    match pending {
         Open::Group(token, below) => {
             let group = Placed::Group(token, Box::new(alloc, tree)?);
             Ok(awaiting(Awaits::Sign(group), Box::into_inner(below)))
@@ -168,8 +174,11 @@ fn parenthesis_ends(alloc: Global, ended: Reduced) -> Result<Option<State>, NoMe
 fn bracket_ends(alloc: Global, ended: Reduced) -> Result<Option<State>, NoMemory>
     ensures { IfOk result (λ next. option_map known next ≡ bracket_ends (placed ended.tree) (opened ended.below)) }
 {
-    let Reduced { tree, below: open } = ended;
-    match open {
+    let Reduced {
+        tree,
+        below: pending,
+    } = ended;
+    match pending {
         Open::Memory(token, below) => {
             let memory = Placed::Memory(token, Box::new(alloc, tree)?);
             Ok(awaiting(Awaits::Sign(memory), Box::into_inner(below)))
@@ -182,8 +191,11 @@ fn bracket_ends(alloc: Global, ended: Reduced) -> Result<Option<State>, NoMemory
 fn comma_ends(ended: Reduced) -> Result<Option<State>, NoMemory>
     ensures { IfOk result (λ next. option_map known next ≡ comma_ends (placed ended.tree) (opened ended.below)) }
 {
-    let Reduced { tree, below: open } = ended;
-    match open {
+    let Reduced {
+        tree,
+        below: pending,
+    } = ended;
+    match pending {
         Open::Join(token, mut parts, below) => {
             parts.push(tree)?;
             Ok(awaiting(Awaits::Operand, Open::Join(token, parts, below)))
@@ -199,8 +211,11 @@ fn comma_ends(ended: Reduced) -> Result<Option<State>, NoMemory>
 fn brace_ends(ended: Reduced) -> Result<Option<State>, NoMemory>
     ensures { IfOk result (λ next. option_map known next ≡ brace_ends (placed ended.tree) (opened ended.below)) }
 {
-    let Reduced { tree, below: open } = ended;
-    match open {
+    let Reduced {
+        tree,
+        below: pending,
+    } = ended;
+    match pending {
         Open::Join(token, mut parts, below) => {
             if parts.is_empty() {
                 return Ok(None);
@@ -240,7 +255,8 @@ fn choice_follows(
     token: Token,
     condition: Reduced,
 ) -> Result<Option<State>, NoMemory>
-    ensures { IfOk result (λ next. option_map known next ≡ choice_follows token (record { tree = placed condition.tree; below = opened condition.below })) }
+    ensures { IfOk result (λ next. option_map known next
+        ≡ choice_follows token (record { tree = placed condition.tree; below = opened condition.below })) }
 {
     let tree = Box::new(alloc, condition.tree)?;
     let below = Box::new(alloc, condition.below)?;
@@ -297,16 +313,17 @@ fn member_follows(
     owner: Token,
     token: Token,
     symbol: Symbol,
-    open: Open,
+    pending: Open,
 ) -> Result<Option<State>, NoMemory>
-    ensures { IfOk result (λ next. option_map known next ≡ follows (meaning_seen meaning.entry) token symbol (awaited (Awaits.Member owner)) (opened «open»)) }
+    ensures { IfOk result (λ next. option_map known next
+        ≡ follows (meaning_seen meaning.entry) token symbol (awaited (Awaits.Member owner)) (opened pending)) }
 {
     match symbol {
         Symbol::Name => {
             let owner_name = spelled(meaning.text, owner);
             let name = spelled(meaning.text, token);
             let number = number_of_dotted(alloc, meaning.names, owner_name, name)?;
-            Ok(awaiting(Awaits::Sign(Placed::Element(owner, number)), open))
+            Ok(awaiting(Awaits::Sign(Placed::Element(owner, number)), pending))
         }
         _ => Ok(None),
     }
@@ -321,15 +338,16 @@ fn part_follows(
     from: Token,
     tree: Placed,
     most: u128,
-    open: Open,
+    pending: Open,
 ) -> Result<Option<State>, NoMemory>
-    ensures { IfOk result (λ next. option_map known next ≡ follows (meaning_seen meaning.entry) token symbol (awaited (Awaits.Colon from tree most)) (opened «open»)) }
+    ensures { IfOk result (λ next. option_map known next
+        ≡ follows (meaning_seen meaning.entry) token symbol (awaited (Awaits.Colon from tree most)) (opened pending)) }
 {
     if symbol.is_sign(Sign::Colon) {
-        Ok(awaiting(Awaits::Low(from, tree, most), open))
+        Ok(awaiting(Awaits::Low(from, tree, most), pending))
     } else if symbol.is_sign(Sign::CloseBracket) {
         let part = Placed::Part(from, most, most, Box::new(alloc, tree)?);
-        Ok(awaiting(Awaits::Sign(part), open))
+        Ok(awaiting(Awaits::Sign(part), pending))
     } else {
         Ok(None)
     }
@@ -343,61 +361,62 @@ pub(crate) fn follows(
     symbol: Symbol,
     state: State,
 ) -> Result<Option<State>, NoMemory>
-    ensures { IfOk result (λ next. option_map known next ≡ follows (meaning_seen meaning.entry) token symbol (awaited state.awaits) (opened state.open)) }
+    ensures { IfOk result (λ next. option_map known next
+        ≡ follows (meaning_seen meaning.entry) token symbol (awaited state.awaits) (opened state.pending)) }
 {
-    let State { awaits, open } = state;
+    let State { awaits, pending } = state;
     match awaits {
-        Awaits::Operand => begins(alloc, meaning, token, symbol, open),
+        Awaits::Operand => begins(alloc, meaning, token, symbol, pending),
         Awaits::Dot(owner) => {
             let awaits = Awaits::Member(owner);
-            Ok(this_follows(Sign::Dot, symbol, State { awaits, open }))
+            Ok(this_follows(Sign::Dot, symbol, State { awaits, pending }))
         }
-        Awaits::Member(owner) => member_follows(alloc, meaning, owner, token, symbol, open),
+        Awaits::Member(owner) => member_follows(alloc, meaning, owner, token, symbol, pending),
         Awaits::Bracket(word) => {
-            let open = Open::Memory(word, Box::new(alloc, open)?);
+            let pending = Open::Memory(word, Box::new(alloc, pending)?);
             let awaits = Awaits::Operand;
-            Ok(this_follows(Sign::OpenBracket, symbol, State { awaits, open }))
+            Ok(this_follows(Sign::OpenBracket, symbol, State { awaits, pending }))
         }
         Awaits::Parenthesis(word) => {
-            let open = Open::Widen(word, Box::new(alloc, open)?);
+            let pending = Open::Widen(word, Box::new(alloc, pending)?);
             let awaits = Awaits::Operand;
-            Ok(this_follows(Sign::OpenParenthesis, symbol, State { awaits, open }))
+            Ok(this_follows(Sign::OpenParenthesis, symbol, State { awaits, pending }))
         }
         Awaits::Hash(number) => {
             let awaits = Awaits::Width(number, token);
-            Ok(this_follows(Sign::Hash, symbol, State { awaits, open }))
+            Ok(this_follows(Sign::Hash, symbol, State { awaits, pending }))
         }
         Awaits::Width(number, hash) => match number_in(symbol) {
-            Some(bits) => Ok(awaiting(Awaits::Sign(Placed::Con(number, hash, bits)), open)),
+            Some(bits) => Ok(awaiting(Awaits::Sign(Placed::Con(number, hash, bits)), pending)),
             None => Ok(None),
         },
         Awaits::High(from, tree) => match number_in(symbol) {
-            Some(most) => Ok(awaiting(Awaits::Colon(from, tree, most), open)),
+            Some(most) => Ok(awaiting(Awaits::Colon(from, tree, most), pending)),
             None => Ok(None),
         },
         Awaits::Colon(from, tree, most) => part_follows(
-            alloc, meaning, token, symbol, from, tree, most, open,
+            alloc, meaning, token, symbol, from, tree, most, pending,
         ),
         Awaits::Low(from, tree, most) => match number_in(symbol) {
-            Some(least) => Ok(awaiting(Awaits::Close(from, tree, most, least), open)),
+            Some(least) => Ok(awaiting(Awaits::Close(from, tree, most, least), pending)),
             None => Ok(None),
         },
         Awaits::Close(from, tree, most, least) => {
             let part = Placed::Part(from, most, least, Box::new(alloc, tree)?);
             let awaits = Awaits::Sign(part);
-            Ok(this_follows(Sign::CloseBracket, symbol, State { awaits, open }))
+            Ok(this_follows(Sign::CloseBracket, symbol, State { awaits, pending }))
         }
         Awaits::NewWidth(word, tree) => match number_in(symbol) {
-            Some(bits) => Ok(awaiting(Awaits::WidenEnd(word, tree, bits), open)),
+            Some(bits) => Ok(awaiting(Awaits::WidenEnd(word, tree, bits), pending)),
             None => Ok(None),
         },
         Awaits::WidenEnd(word, tree, bits) => {
             let widened = Placed::Widen(word, bits, Box::new(alloc, tree)?);
             let awaits = Awaits::Sign(widened);
-            Ok(this_follows(Sign::CloseParenthesis, symbol, State { awaits, open }))
+            Ok(this_follows(Sign::CloseParenthesis, symbol, State { awaits, pending }))
         }
         Awaits::Sign(tree) => match symbol {
-            Symbol::Sign(sign) => sign_follows(alloc, sign, token, tree, open),
+            Symbol::Sign(sign) => sign_follows(alloc, sign, token, tree, pending),
             _ => Ok(None),
         },
     }
@@ -416,11 +435,11 @@ fn whole(ended: Reduced) -> Option<Placed>
 
 /// The tree of an expression that ends here, if one can.
 pub(crate) fn ended(alloc: Global, state: State) -> Result<Option<Placed>, NoMemory>
-    ensures { IfOk result (λ tree. option_map placed tree ≡ ended (awaited state.awaits) (opened state.open)) }
+    ensures { IfOk result (λ tree. option_map placed tree ≡ ended (awaited state.awaits) (opened state.pending)) }
 {
-    let State { awaits, open } = state;
+    let State { awaits, pending } = state;
     match awaits {
-        Awaits::Sign(tree) => Ok(whole(reduce(alloc, 0, open, tree)?)),
+        Awaits::Sign(tree) => Ok(whole(reduce(alloc, 0, pending, tree)?)),
         _ => Ok(None),
     }
 }

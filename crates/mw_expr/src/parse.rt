@@ -21,7 +21,8 @@ fn next(
     token: Token,
 ) -> Result<State, Refusal>
     ensures goes { IfOk result (λ next. (rest : List Token) →
-        tree_from (meaning_seen meaning.entry) cursor.now (known next) rest ≡ tree_from (meaning_seen meaning.entry) cursor.now (known state) (token ∷ rest)) }
+        tree_from (meaning_seen meaning.entry) cursor.now (known next) rest
+        ≡ tree_from (meaning_seen meaning.entry) cursor.now (known state) (token ∷ rest)) }
     ensures refused { IfErr result (λ refusal. (rest : List Token) →
         Fails refusal (tree_from (meaning_seen meaning.entry) cursor.now (known state) (token ∷ rest))) }
 {
@@ -38,7 +39,7 @@ pub(crate) fn tree_of(alloc: Global, meaning: Meaning, cursor: &Cursor) -> Resul
 {
     let mut state = State {
         awaits: Awaits::Operand,
-        open: Open::Nothing,
+        pending: Open::Nothing,
     };
     let tokens = cursor.tokens();
     for token in tokens {

@@ -89,5 +89,5 @@ pub(crate) struct State {
     /// What the next token can be.
     pub awaits: Awaits,
     /// What is open.
-    pub open: Open,
+    pub pending: Open,
 }

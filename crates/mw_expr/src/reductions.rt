@@ -1,5 +1,6 @@
 // Operations that end.
-ghost use Rattle.std.specs.Prelude.{◌≡◌, IfOk};
+ghost use Rattle.std.specs.Prelude.{◌≡◌, ◌<◌, true, false, IfOk};
+ghost use Rattle.mw_expr.specs.declared.placed.Open.{size-Open};
 ghost use Rattle.mw_expr.specs.Placed.{placed, opened, complement, pair, choice};
 ghost use Rattle.mw_expr.specs.Grammar.{strength, reduced};
 
@@ -62,8 +63,75 @@ fn choice(
     Ok(Placed::Choose(token, condition, a, Box::new(alloc, b)?))
 }
 
-/// The operation that an operand ends, as far as those that are open bind at least this strongly; a choice binds with strength 0.
+/// What an operand is after one step: an operation that it ended, or itself.
+#[derive(Drop)]
+struct Step {
+    /// The operand, and what is open before it.
+    operand: Reduced,
+    /// Whether nothing is left that it ends.
+    is_last: bool,
+}
+
+fn further(tree: Placed, below: Box<Open>) -> Step
+    ensures operand { result.operand ≡ record { tree = tree; below = below.value } }
+    ensures last { result.is_last ≡ false }
+{
+    let below = Box::into_inner(below);
+    Step {
+        operand: Reduced { tree, below },
+        is_last: false,
+    }
+}
+
+fn last(tree: Placed, below: Open) -> Step
+    ensures operand { result.operand ≡ record { tree = tree; below = below } }
+    ensures last { result.is_last ≡ true }
+{
+    Step {
+        operand: Reduced { tree, below },
+        is_last: true,
+    }
+}
+
+/// Ends the innermost operation that is open, if it binds at least this strongly; a choice binds with strength 0.
 #[tactic(auto, unfolding(crate::specs::Grammar::reduced))]
+fn end_one(alloc: Global, least: u8, operand: Reduced) -> Result<Step, NoMemory>
+    ensures same { IfOk result (λ step. reduced least (placed step.operand.tree) (opened step.operand.below)
+        ≡ reduced least (placed operand.tree) (opened operand.below)) }
+    ensures last { IfOk result (λ step. step.is_last ≡ true
+        → reduced least (placed step.operand.tree) (opened step.operand.below)
+        ≡ record { tree = placed step.operand.tree; below = opened step.operand.below }) }
+    ensures fewer { IfOk result (λ step. step.is_last ≡ false
+        → size-Open step.operand.below < size-Open operand.below) }
+{
+    let Reduced { tree, below } = operand;
+    match below {
+        Open::Not(token, below) => Ok(further(complement(alloc, token, tree)?, below)),
+        Open::Two(op, token, left, below) => {
+            if least <= op.strength() {
+                Ok(further(pair(alloc, op, token, left, tree)?, below))
+            } else {
+                Ok(last(tree, Open::Two(op, token, left, below)))
+            }
+        }
+        Open::Else(token, condition, first, below) => {
+            if least == 0 {
+                Ok(further(choice(alloc, token, condition, first, tree)?, below))
+            } else {
+                Ok(last(tree, Open::Else(token, condition, first, below)))
+            }
+        }
+        other @ (Open::Nothing
+        | Open::Choose(..)
+        | Open::Group(..)
+        | Open::Join(..)
+        | Open::Widen(..)
+        | Open::Memory(..)) => Ok(last(tree, other)),
+    }
+}
+
+/// The operation that an operand ends, as far as those that are open bind at least this strongly; a choice binds with
+/// strength 0. A line may have thousands of operations open, so they are ended in a loop and not by recursion.
 pub(crate) fn reduce(
     alloc: Global,
     least: u8,
@@ -73,52 +141,15 @@ pub(crate) fn reduce(
     ensures tree { IfOk result (λ r. placed r.tree ≡ (reduced least (placed tree) (opened pending)).tree) }
     ensures below { IfOk result (λ r. opened r.below ≡ (reduced least (placed tree) (opened pending)).below) }
 {
-    match pending {
-        Open::Not(token, below) => {
-            let next = complement(alloc, token, tree)?;
-            reduce(alloc, least, Box::into_inner(below), next)
+    let mut operand = Reduced {
+        tree,
+        below: pending,
+    };
+    loop {
+        let step = end_one(alloc, least, operand)?;
+        if step.is_last {
+            return Ok(step.operand);
         }
-        Open::Two(op, token, left, below) => {
-            if least <= op.strength() {
-                let next = pair(alloc, op, token, left, tree)?;
-                reduce(alloc, least, Box::into_inner(below), next)
-            } else {
-                let below = Open::Two(op, token, left, below);
-                Ok(Reduced { tree, below })
-            }
-        }
-        Open::Else(token, condition, first, below) => {
-            if least == 0 {
-                let next = choice(alloc, token, condition, first, tree)?;
-                reduce(alloc, least, Box::into_inner(below), next)
-            } else {
-                let below = Open::Else(token, condition, first, below);
-                Ok(Reduced { tree, below })
-            }
-        }
-        Open::Nothing => Ok(Reduced {
-            tree,
-            below: Open::Nothing,
-        }),
-        Open::Choose(token, condition, below) => {
-            let below = Open::Choose(token, condition, below);
-            Ok(Reduced { tree, below })
-        }
-        Open::Group(token, below) => {
-            let below = Open::Group(token, below);
-            Ok(Reduced { tree, below })
-        }
-        Open::Join(token, parts, below) => {
-            let below = Open::Join(token, parts, below);
-            Ok(Reduced { tree, below })
-        }
-        Open::Widen(token, below) => {
-            let below = Open::Widen(token, below);
-            Ok(Reduced { tree, below })
-        }
-        Open::Memory(token, below) => {
-            let below = Open::Memory(token, below);
-            Ok(Reduced { tree, below })
-        }
+        operand = step.operand;
     }
 }

@@ -30,7 +30,7 @@ fn is_dotted(names: &[Name]) -> bool
 }
 
 /// What the words of a text mean, over the elements of these names and the memory of a shape.
-fn meaning_of<'a>(text: &'a [u8], names: &'a [Name], shape: &Shape) -> Meaning<'a>
+pub(crate) fn meaning_of<'a>(text: &'a [u8], names: &'a [Name], shape: &Shape) -> Meaning<'a>
     ensures { meaning_seen result ≡ meaning_of text.now names.now shape.now.address }
 {
     Meaning {
@@ -41,16 +41,21 @@ fn meaning_of<'a>(text: &'a [u8], names: &'a [Name], shape: &Shape) -> Meaning<'
     }
 }
 
-/// The expression that the tokens of a line are, over the elements of a shape, which have these names, and its memory. Elements are
+/// The expression that the tokens of a line are, over the elements of a shape, which have these names, and its
+/// memory. Elements are
 /// NAME . NAME where a name has a dot, as all of a relation's do, else NAME. What it gives has a width over the shape.
 ///
-/// There are fewer than 2^32 elements; each of them has 1 to 32 bits, and so has a word of the memory, where there is one.
+/// There are fewer than 2^32 elements; each of them has 1 to 32 bits, and so has a word of the memory, where there is
+/// one.
 ///
 /// # Errors
 ///
-/// The cursor's own cause at the first token that can't follow those before it, or at its end, where the tokens are no expression;
-/// else the first of these by place, at one place the least: 3 at a value that doesn't fit the width after its `#`; 40 at an element
-/// that isn't one of the names; 41 at the sign, `?`, `#`, `[`, `{`, `zext` or `mem` of an operation that breaks the rules of widths;
+/// The cursor's own cause at the first token that can't follow those before it, or at its end, where the tokens are
+/// no expression;
+/// else the first of these by place, at one place the least: 3 at a value that doesn't fit the width after its `#`;
+/// 40 at an element
+/// that isn't one of the names; 41 at the sign, `?`, `#`, `[`, `{`, `zext` or `mem` of an operation that breaks the
+/// rules of widths;
 /// 42 at the first token at level 65. Want of memory.
 #[tactic(auto, unfolding(crate::specs::Text::expr_of))]
 pub fn parse_expr(

@@ -153,9 +153,11 @@ fn joined(parts: &[Expr], shape: &Shape, values: &[u32], memory: &[u32]) -> Word
     whole
 }
 
-/// The value of an expression, where the elements have these values and the memory these words. It takes no memory of its own.
+/// The value of an expression, where the elements have these values and the memory these words. It takes no memory of
+/// its own.
 ///
-/// The expression has a width over the shape, each value is a word of its element's width, and where the expression reads the
+/// The expression has a width over the shape, each value is a word of its element's width, and where the expression
+/// reads the
 /// memory there is a word for each address.
 #[tactic(auto, unfolding(crate::specs::Widths::width_of))]
 pub fn value(expr: &Expr, shape: &Shape, values: &[u32], memory: &[u32]) -> u32

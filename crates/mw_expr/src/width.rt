@@ -60,8 +60,10 @@ pub(crate) fn part_width(whole: u8, high: u8, low: u8) -> Option<u8>
     }
 }
 
-/// The width of an expression over a shape, 1 to 32 bits, where it keeps all the rules of widths, however deep it is; None where the
-/// widths of operands break their rule, a join has fewer than two parts, a constant doesn't fit its width, a width isn't 1 to 32 bits,
+/// The width of an expression over a shape, 1 to 32 bits, where it keeps all the rules of widths, however deep it is;
+/// None where the
+/// widths of operands break their rule, a join has fewer than two parts, a constant doesn't fit its width, a width
+/// isn't 1 to 32 bits,
 /// or an element isn't one of the shape.
 #[cycle(widths)]
 pub fn width_by_rules(expr: &Expr, shape: &Shape) -> Option<u8>
@@ -148,7 +150,8 @@ fn are_known(parts: &[Expr], shape: &Shape) -> bool
     true
 }
 
-/// Whether an expression is at most so many levels deep: an element or a constant is one, an operation one more than its deepest part.
+/// Whether an expression is at most so many levels deep: an element or a constant is one, an operation one more than
+/// its deepest part.
 #[cycle(depths)]
 pub fn is_within_depth(expr: &Expr, levels: u8) -> bool
     ensures { result ≡ nat_le (depth (view expr.now)) levels }
@@ -189,8 +192,10 @@ fn are_within_depth(parts: &[Expr], levels: u8) -> bool
 ///
 /// # Errors
 ///
-/// The least of the causes that hold: 40 where an element isn't one of the shape; 41 where the widths of operands break their
-/// rule, a join has fewer than two parts, a constant doesn't fit its width, or a width isn't 1 to 32; 42 where the expression is
+/// The least of the causes that hold: 40 where an element isn't one of the shape; 41 where the widths of operands
+/// break their
+/// rule, a join has fewer than two parts, a constant doesn't fit its width, or a width isn't 1 to 32; 42 where the
+/// expression is
 /// more than 64 deep.
 #[tactic(auto, unfolding(crate::specs::Widths::width_of))]
 pub fn width_of(expr: &Expr, shape: &Shape) -> Result<u8, Cause>

@@ -1,6 +1,7 @@
 -- What an accepted machine has.
 use Rattle.std.proofs.Common.{◌≡◌, ℕ, zero, suc, ◌-◌, ◌<◌, ◌≤◌, List, [], ◌∷◌, length, Bool, true, false, refl, arith}
 use Rattle.std.specs.Prelude.{Option, Some, None, Ok, Err, not, ◌&&◌, ◌||◌, nat_le, ◌==◌, if◌then◌else◌, slice_index}
+use Rattle.std.proofs.Math.Nat.{max-le}
 use Rattle.std.specs.List.{list_all}
 use Rattle.std.proofs.lemmas.Bool.{and_parts}
 use Rattle.std.proofs.lemmas.Bool.Decides.{nat_tests}
@@ -13,12 +14,13 @@ use Rattle.mw_macro.specs.declared.counts.Counted.TheVariants.{Statements, Event
 use Rattle.mw_macro.specs.declared.rules.Fault.TheVariants.{NoElement, OtherWidth, TooNested}
 use Rattle.mw_macro.specs.Counts.{count, total}
 use Rattle.mw_macro.specs.Machine.{Description}
-use Rattle.mw_macro.specs.Right.{IsBetween, is_asked, is_right, are_right, AcceptedAreRight}
+use Rattle.mw_macro.specs.Right.{IsBetween, is_asked, is_right, are_right, nesting, nesting_in, AcceptedAreRight}
 use Rattle.mw_macro.specs.Rules.{is_within, is_within_limits, are_free, are_ranges, is_width, is_fault, has_fault, have_fault, is_free_of, refusal_of}
 use Rattle.mw_macro.specs.Statements.{Act, assign, write, put, take_in, choose, Acts, nothing, next}
 
 -- a rule before others, where none is broken
-kept : (k : Bool) (cause : Cause) (rest : Option Cause) → (if k then rest else Some cause) ≡ None → (k ≡ true) × (rest ≡ None)
+kept : (k : Bool) (cause : Cause) (rest : Option Cause) → (if k then rest else Some cause) ≡ None
+    → (k ≡ true) × (rest ≡ None)
 kept true cause rest none = (refl, none)
 kept false cause rest none = cc
 
@@ -73,7 +75,8 @@ all_between low high [] i all inside = absurd (omega arith)
 all_between low high (w ∷ rest) zero all inside =
     between low w high (and_parts (is_within low w high) (list_all (λ w. is_within low w high) rest) all).0
 all_between low high (w ∷ rest) (suc i) all inside =
-    all_between low high rest i (and_parts (is_within low w high) (list_all (λ w. is_within low w high) rest) all).1 (omega arith)
+    all_between low high rest i (and_parts (is_within low w high) (list_all
+    (λ w. is_within low w high) rest) all).1 (omega arith)
 
 -- ---- statements without faults are right
 
@@ -93,12 +96,14 @@ known_right true deep (Some w) asked known wide shallow = shallow_right (nat_le 
 known_right true deep None asked known wide shallow = cc
 known_right false deep w asked known wide shallow = cc
 
-expr_right : (s : Shape) (asked : ℕ) (e : Tree) → is_fault NoElement s asked e ≡ false → is_fault OtherWidth s asked e ≡ false
+expr_right : (s : Shape) (asked : ℕ) (e : Tree) → is_fault NoElement s asked e ≡ false
+    → is_fault OtherWidth s asked e ≡ false
     → is_fault TooNested s asked e ≡ false → is_asked asked (width_of s e) ≡ true
 unfolding width_of
-expr_right s asked e known wide shallow = known_right (is_known (length s.widths) e) (depth e) (width s e) asked known wide shallow
+expr_right s asked e known wide shallow = known_right (is_known (length s.widths) e) (depth e)
+    (width s e) asked known wide shallow
 
-both : (a b : Bool) → a ≡ true → b ≡ true → (a && b) ≡ true
+pub both : (a b : Bool) → a ≡ true → b ≡ true → (a && b) ≡ true
 both true b first second = second
 both false b first second = cc
 
@@ -113,7 +118,8 @@ mutual
       let known = neither _ _ known in
       let wide = neither _ _ wide in
       let shallow = neither _ _ shallow in
-      both _ _ (expr_right s s.address address known.0 wide.0 shallow.0) (expr_right s s.word e known.1 wide.1 shallow.1)
+      both _ _ (expr_right s s.address address known.0 wide.0 shallow.0)
+      (expr_right s s.word e known.1 wide.1 shallow.1)
   act_right s levels (put e) known wide shallow = expr_right s s.word e known wide shallow
   act_right s levels (take_in target) known wide shallow = both _ _ (holds _ (neither _ _ known).0) (holds _ wide)
   act_right s levels (choose condition first second) known wide shallow =
@@ -136,6 +142,25 @@ mutual
       let wide = neither _ _ wide in
       let shallow = neither _ _ shallow in
       both _ _ (act_right s levels act known.0 wide.0 shallow.0) (acts_right s levels rest known.1 wide.1 shallow.1)
+
+-- ---- so few `if`s stand in one another
+
+mutual
+  act_nested : (s : Shape) (levels : ℕ) (act : Act) → has_fault TooNested s levels act ≡ false → nesting act ≤ levels
+  act_nested s levels (choose condition first second) shallow =
+      let nested = neither _ _ shallow in
+      let lists = neither _ _ (neither (is_fault TooNested s 1 condition) _ nested.1).1 in
+      let some : 1 ≤ levels = le_from 1 levels (holds _ nested.0) in
+      let few = max-le (acts_nested s (levels - 1) first lists.0) (acts_nested s (levels - 1) second lists.1) in
+      omega (arith, few, some)
+  act_nested s levels other shallow = omega arith
+
+  acts_nested : (s : Shape) (levels : ℕ) (all : Acts) → have_fault TooNested s levels all ≡ false
+      → nesting_in all ≤ levels
+  acts_nested s levels nothing shallow = omega arith
+  acts_nested s levels (next act rest) shallow =
+      let both = neither _ _ shallow in
+      max-le (act_nested s levels act both.0) (acts_nested s levels rest both.1)
 
 -- ---- a statement makes at most one event of its own
 
@@ -174,6 +199,7 @@ accepted_right m none =
       address = between 1 m.shape.address 16 addresses.1;
       word = between 4 m.shape.word 32 ranges.1;
       right = acts_right m.shape 64 m.acts h.known h.wide h.shallow;
+      nested = acts_nested m.shape 64 m.acts h.shallow;
     }
 
 -- an accepted machine has as few events as statements

@@ -1,3 +1,4 @@
 pub mod Accepted
+pub mod RightAccepted
 pub mod Steps
 pub mod Words

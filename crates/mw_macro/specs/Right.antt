@@ -1,5 +1,5 @@
 -- What the statements of an accepted machine have.
-use Rattle.std.specs.Prelude.{◌≡◌, ℕ, ◌+◌, ◌-◌, ◌<◌, ◌≤◌, length, Bool, true, false, ◌&&◌, nat_lt, ◌==◌, None, Result, Ok, Err, slice_index}
+use Rattle.std.specs.Prelude.{◌≡◌, ℕ, ◌+◌, ◌-◌, ◌<◌, ◌≤◌, max, length, Bool, true, false, ◌&&◌, nat_lt, ◌==◌, None, Result, Ok, Err, slice_index}
 use Rattle.mw_base.specs.declared.cause.Cause.{Cause}
 use Rattle.mw_expr.specs.declared.shape.Shape.{Shape}
 use Rattle.mw_expr.specs.Widths.{width_of}
@@ -28,12 +28,23 @@ abbrev mutual
   are_right s nothing = true
   are_right s (next act rest) = is_right s act && are_right s rest
 
+abbrev mutual
+  -- how many `if`s stand in one another in an act, itself with them
+  pub nesting : Act → ℕ
+  nesting (choose condition first second) = max (nesting_in first) (nesting_in second) + 1
+  nesting act = 0
+
+  -- how many stand in one another in some acts
+  pub nesting_in : Acts → ℕ
+  nesting_in nothing = 0
+  nesting_in (next act rest) = max (nesting act) (nesting_in rest)
+
 -- a number lies between two others
 abbrev pub IsBetween : (low n high : ℕ) → Type 0
 IsBetween low n high = (low ≤ n) × (n ≤ high)
 
 -- what an accepted machine has: counts within their limits, names that are free and short, widths in their ranges, and statements that
--- are right
+-- are right, with at most 64 `if`s in one another
 pub record IsRight (m : Description) : Type 0 where
   pub registers : m.registers ≤ 128
   pub temporaries : length m.names - m.registers ≤ 128
@@ -45,10 +56,15 @@ pub record IsRight (m : Description) : Type 0 where
   pub address : IsBetween 1 m.shape.address 16
   pub word : IsBetween 4 m.shape.word 32
   pub right : are_right m.shape m.acts ≡ true
+  pub nested : nesting_in m.acts ≤ 64
 
 -- where a machine is accepted, its statements are right
 abbrev pub AcceptedAreRight : Type 0
 AcceptedAreRight = (m : Description) → refusal_of m ≡ None → IsRight m
+
+-- where a machine's statements are right, it is accepted
+abbrev pub RightAreAccepted : Type 0
+RightAreAccepted = (m : Description) → IsRight m → refusal_of m ≡ None
 
 -- what each machine that the code keeps is: formed as it has to be, accepted, and so right
 pub record IsMachine (m : Description) : Type 0 where

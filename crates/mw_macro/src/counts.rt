@@ -9,7 +9,7 @@ use mw_expr::Expr;
 
 /// What is counted.
 #[derive(Clone, Copy)]
-pub(crate) enum Counted {
+pub enum Counted {
     /// Statements, those in the lists of an `if` with them.
     Statements,
     /// Memory reads.

@@ -1,11 +1,13 @@
 // Laws of described machines and their steps.
 ghost use Rattle.mw_macro.specs.Laws.{EventsAreFew, StepsTakeFromFirst, TakenAreEvents};
-ghost use Rattle.mw_macro.specs.Right.{AcceptedAreRight};
+ghost use Rattle.mw_macro.specs.Right.{AcceptedAreRight, RightAreAccepted};
 
-/// The law of accepted machines: their elements, statements and memory reads are few, their names free and short, their widths in range,
-/// each target is a register or a temporary, and each expression has the width that its place asks for.
+/// The law of accepted machines: they are those whose elements, statements and memory reads are few, whose names are free and
+/// short, whose widths are in range, where each target is a register or a temporary and each expression has the width that
+/// its place asks for, and where at most 64 `if`s stand in one another.
 pub fn accepted_are_right()
-    ensures { AcceptedAreRight }
+    ensures right { AcceptedAreRight }
+    ensures accepted { RightAreAccepted }
 {}
 
 /// The law of events: a step has no more events than its machine has `put` and `take` statements.

@@ -1,5 +1,5 @@
 // The rules of described machines.
-ghost use Rattle.std.specs.Prelude.{◌≡◌, ℕ, ◌≤◌, ◌<◌, ◌||◌, ◌-◌, List, Option, None, Some, not, length, bytes_eq, slice_index};
+ghost use Rattle.std.specs.Prelude.{◌≡◌, ℕ, ◌≤◌, ◌<◌, ◌||◌, ◌-◌, nat_le, List, Option, None, Some, not, length, bytes_eq, slice_index};
 ghost use Rattle.std.specs.List.{list_all, list_any};
 ghost use Rattle.mw_expr.specs.Tree.{view};
 ghost use Rattle.mw_macro.specs.Machine.{described};
@@ -25,13 +25,20 @@ const MOST_LEVELS: u8 = 64;
 
 /// What may be wrong with statements, each with a cause of its own. More than one may hold of a machine, so each is asked apart.
 #[derive(Clone, Copy)]
-pub(crate) enum Fault {
+pub enum Fault {
     /// An expression names an element that there isn't, or a target is neither a register nor a temporary.
     NoElement,
     /// An expression breaks a rule of widths, or a width isn't the one that its place asks for.
     OtherWidth,
     /// An expression is too deep, or too many `if`s stand in one another.
     TooNested,
+}
+
+/// Whether there are no more of these than a machine may have registers or temporaries.
+fn are_few(elements: usize) -> bool
+    ensures { result ≡ nat_le elements 128 }
+{
+    elements <= MOST_REGISTERS
 }
 
 /// Whether a machine keeps the limits of its counts.
@@ -41,8 +48,8 @@ fn is_within_limits(names: &[Name], registers: u32, shape: &Shape, statements: &
     ensures { result ≡ is_within_limits (described names.now registers shape.now (acts statements.now)) }
 {
     let registers = registers as usize;
-    registers <= MOST_REGISTERS
-        && names.len() - registers <= MOST_REGISTERS
+    are_few(registers)
+        && are_few(names.len() - registers)
         && left_after(Counted::Statements, statements, MOST_STATEMENTS + 1) != 0
         && left_after(Counted::Reads, statements, MOST_READS + 1) != 0
 }
@@ -50,8 +57,8 @@ fn is_within_limits(names: &[Name], registers: u32, shape: &Shape, statements: &
 /// The names that aren't free for elements.
 const RESERVED: [&[u8]; 3] = [b"mem", b"zext", b"request"];
 
-/// Whether a name isn't free for an element.
-fn is_reserved(name: &[u8]) -> bool
+/// Whether a name isn't free for an element: `mem`, `zext` and `request` aren't.
+pub fn is_reserved(name: &[u8]) -> bool
     ensures { result ≡ is_reserved name.now }
 {
     is_one_of(&RESERVED, name)

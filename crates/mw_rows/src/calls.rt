@@ -1,6 +1,7 @@
 // Calls that no command shows yet.
 mod cycles;
 mod expressions;
+mod machines;
 mod numbers;
 mod parts;
 mod runs;
@@ -28,6 +29,7 @@ pub fn made(alloc: Global, words: &[String], files: &[File]) -> Result<Vec<u8>, 
     match name.as_str() {
         "tokens" => tokens::read(alloc, contents(files, "text")?),
         "expression" => expressions::read(alloc, given, contents(files, "text")?),
+        "machine" => machines::read(alloc, contents(files, "text")?),
         "number" => numbers::read(alloc, given),
         "alu" => parts::alu_table(alloc, given),
         "slice" => parts::slice_table(alloc, given),

@@ -9,5 +9,6 @@ invariant-build_all-loop-part l =
     let rest = drop l.part-index l.parts in
     record {
       small : are_small (parts_of (map placed rest)) ≡ true;
-      told : trees_of (map view l.made.items ++ map (λ part. plain (placed part)) rest) ≡ plain_parts (parts_of (map placed l.parts));
+      told : trees_of (map view l.made.items ++ map (λ part. plain (placed part)) rest) ≡ plain_parts
+          (parts_of (map placed l.parts));
     }

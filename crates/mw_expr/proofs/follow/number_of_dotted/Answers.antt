@@ -7,5 +7,6 @@ returns c =
     let owner = c.args.owner.now in
     let name = c.args.name.now in
     let front = c.in_ok-push.ensures.items ∙ ap (λ bytes. bytes ++ 46 ∷ []) c.in_ok-whole.ensures.items in
-    let items = c.in_ok-extend_from_slice.ensures.items ∙ ap (λ bytes. bytes ++ name) front ∙ append_assoc owner (46 ∷ []) name in
+    let items = c.in_ok-extend_from_slice.ensures.items ∙ ap (λ bytes. bytes ++ name) front
+    ∙ append_assoc owner (46 ∷ []) name in
     c.number_of.ensures ∙ ap (λ bytes. number_of c.args.names.now bytes) (c.as_slice.ensures.value ∙ items)

@@ -6,5 +6,6 @@ use Rattle.mw_expr.proofs.parse.tree_of.Given as goal
 
 abbrev pub invariant-loop-token : goal.invariant-loop-token
 invariant-loop-token l = record {
-  told : tree_from (meaning_seen l.meaning) l.cursor (known l.state) (drop l.token-index l.tokens) ≡ tree_of (meaning_seen l.meaning) l.cursor;
+  told : tree_from (meaning_seen l.meaning) l.cursor (known l.state) (drop l.token-index l.tokens) ≡ tree_of
+      (meaning_seen l.meaning) l.cursor;
 }

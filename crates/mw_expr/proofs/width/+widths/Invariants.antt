@@ -6,6 +6,7 @@ use Rattle.mw_expr.proofs.width.+widths.Given as goal
 abbrev pub invariant-joined_width-loop-part : goal.invariant-joined_width-loop-part
 invariant-joined_width-loop-part l = record {
   small : l.whole ≤ 32;
-  told : join_width (count (trees_of (map view l.parts))) (added (Some l.whole) (total_width l.shape (trees_of (map view (drop l.part-index l.parts)))))
+  told : join_width (count (trees_of (map view l.parts)))
+      (added (Some l.whole) (total_width l.shape (trees_of (map view (drop l.part-index l.parts)))))
       ≡ join_width (count (trees_of (map view l.parts))) (total_width l.shape (trees_of (map view l.parts)));
 }

@@ -1,0 +1,11 @@
+pub mod Accepted
+pub mod Closed
+pub mod DeclaredLines
+pub mod Expressions
+pub mod KnownLines
+pub mod Names
+pub mod Opens
+pub mod SaidLines
+pub mod Shapes
+pub mod Spelled
+pub mod StatedLines

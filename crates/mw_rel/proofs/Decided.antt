@@ -1,0 +1,135 @@
+-- Free values and the memory decide the value of each element.
+use Rattle.std.proofs.Common.{◌≡◌, ℕ, ◌+◌, ◌-◌, List, [], ◌∷◌, Bool, true, false, not, ◌||◌, ◌==◌, refl, sym, ap, ap₂, ◌∙◌, subst}
+use Rattle.std.specs.Prelude.{All, if◌then◌else◌, slice_index, unwrap_or}
+use Rattle.std.specs.List.{list_all, list_any}
+use Rattle.std.proofs.lemmas.Bool.{and_parts, eqb-true, eq-eqb}
+use Rattle.std.proofs.lemmas.List.Elements.{All-nil, All-cons, All-head, All-tail}
+use Rattle.mw_base.specs.Words as words
+use Rattle.mw_expr.specs.declared.shape.Shape.{Shape}
+use Rattle.mw_expr.specs.Tree.{Tree, element, constant, complement, pair, choice, part, join, widened, memory, Trees, none, more}
+use Rattle.mw_expr.specs.Values.{pair_value, bits, value, joined}
+use Rattle.mw_expr.specs.Widths.{total_width}
+use Rattle.mw_rel.specs.Free.{numbered, is_free, AreFreelyAlike, FreeValuesDecide}
+use Rattle.mw_rel.specs.InRelation.{Pair, InRelation, Holds, values_of, right_value}
+use Rattle.mw_rel.specs.Job.{Job, IsJob}
+use Rattle.mw_rel.specs.Lines.{Line, stands_in, stands_in_one}
+use Rattle.mw_rel.specs.Relation.{Boundary}
+use Rattle.mw_rel.specs.Rules.{reads_no_left}
+use Rattle.mw_rel.proofs.Relations.{solved_at}
+
+-- ---- a value reads the elements of its tree alone
+
+either_first : (a b : Bool) → a ≡ true → (a || b) ≡ true
+either_first true b is = refl
+either_first false b is = absurd cc
+
+either_second : (a b : Bool) → b ≡ true → (a || b) ≡ true
+either_second true b is = refl
+either_second false b is = is
+
+chosen_same : (test other : ℕ) (a b c d : ℕ) → test ≡ other → a ≡ c → b ≡ d
+    → (if test == 1 then a else b) ≡ (if other == 1 then c else d)
+chosen_same test other a b c d same one two = rw (same, one, two) refl
+
+mutual
+  same_value : (s : Shape) (xs ys image : List ℕ) (tree : Tree)
+      → ((e : ℕ) → stands_in e tree ≡ true → slice_index xs e ≡ slice_index ys e)
+      → value s xs image tree ≡ value s ys image tree
+  same_value s xs ys image (element n) same = same n (eq-eqb n n refl)
+  same_value s xs ys image (constant number w) same = refl
+  same_value s xs ys image (complement e) same = ap (words.complement (bits s e)) (same_value s xs ys image e same)
+  same_value s xs ys image (pair sign a b) same =
+      ap₂ (pair_value sign (bits s a))
+      (same_value s xs ys image a (λ e here. same e (either_first _ _ here)))
+      (same_value s xs ys image b (λ e here. same e (either_second _ _ here)))
+  same_value s xs ys image (choice c a b) same =
+      chosen_same _ _ _ _ _ _
+      (same_value s xs ys image c (λ e here. same e (either_first _ _ here)))
+      (same_value s xs ys image a (λ e here. same e (either_second _ _ (either_first _ _ here))))
+      (same_value s xs ys image b (λ e here. same e (either_second _ _ (either_second _ _ here))))
+  same_value s xs ys image (part e high low) same = ap (words.part low (high - low + 1))
+      (same_value s xs ys image e same)
+  same_value s xs ys image (join parts) same = same_joined s xs ys image parts same
+  same_value s xs ys image (widened e w) same = same_value s xs ys image e same
+  same_value s xs ys image (memory address) same = ap (slice_index image) (same_value s xs ys image address same)
+
+  same_joined : (s : Shape) (xs ys image : List ℕ) (parts : Trees)
+      → ((e : ℕ) → stands_in_one e parts ≡ true → slice_index xs e ≡ slice_index ys e)
+      → joined s xs image parts ≡ joined s ys image parts
+  same_joined s xs ys image none same = refl
+  same_joined s xs ys image (more tree rest) same =
+      ap₂ (words.join (unwrap_or (total_width s rest) 0))
+      (same_value s xs ys image tree (λ e here. same e (either_first _ _ here)))
+      (same_joined s xs ys image rest (λ e here. same e (either_second _ _ here)))
+
+-- ---- right sides read free elements alone
+
+-- an element that stands on the right of a line is on no left side
+free_on : (other : Line) (rest : List Line) (line : Line) (e : ℕ) (test : Bool) → (other.left == e) ≡ test
+    → not (stands_in other.left line.right) ≡ true → stands_in e line.right ≡ true
+    → list_any (λ l. l.left == e) rest ≡ false
+    → list_any (λ l. l.left == e) (other ∷ rest) ≡ false
+free_on other rest line e true is apart stands behind =
+    let same : other.left ≡ e = eqb-true other.left e is in
+    let here : stands_in other.left line.right ≡ true = subst (λ k. stands_in k line.right ≡ true) (sym same) stands in
+    absurd cc
+free_on other rest line e false is apart stands behind = rw is behind
+
+no_left : (lines : List Line) (line : Line) (e : ℕ) → reads_no_left lines line ≡ true → stands_in e line.right ≡ true
+    → list_any (λ l. l.left == e) lines ≡ false
+no_left [] line e free stands = refl
+no_left (other ∷ rest) line e free stands =
+    let parts = and_parts _ _ free in
+    free_on other rest line e (other.left == e) refl parts.0 stands (no_left rest line e parts.1 stands)
+
+-- so both pairs have one value of each right side
+same_right : (job : Job) (boundary : Boundary) (p q : Pair) (line : Line) → AreFreelyAlike job boundary p q
+    → reads_no_left boundary.lines line ≡ true → right_value job p line ≡ right_value job q line
+same_right job boundary p q line alike free =
+    let xs = values_of job.board p in
+    let ys = values_of job.board q in
+    same_value job.relation.shape xs ys p.machine.memory line.right
+    (λ e stands. alike.values e (ap not (no_left boundary.lines line e free stands)))
+    ∙ ap (λ image. value job.relation.shape ys image line.right) alike.memory
+
+-- ---- each element
+
+left_at : (job : Job) (boundary : Boundary) (p q : Pair) (line : Line) (rest : List Line) (e : ℕ) (test : Bool)
+    → (line.left == e) ≡ test
+    → slice_index (values_of job.board p) line.left ≡ slice_index (values_of job.board q) line.left
+    → (test || list_any (λ l. l.left == e) rest) ≡ true
+    → (list_any (λ l. l.left == e) rest ≡ true
+    → slice_index (values_of job.board p) e ≡ slice_index (values_of job.board q) e)
+    → slice_index (values_of job.board p) e ≡ slice_index (values_of job.board q) e
+left_at job boundary p q line rest e true is same there later =
+    subst (λ k. slice_index (values_of job.board p) k ≡ slice_index (values_of job.board q) k)
+    (eqb-true line.left e is) same
+left_at job boundary p q line rest e false is same there later = later there
+
+-- the element of a line
+left_same : (job : Job) (boundary : Boundary) (p q : Pair) (lines : List Line) (e : ℕ) → AreFreelyAlike job boundary p q
+    → list_all (reads_no_left boundary.lines) lines ≡ true → All (Holds job p) lines → All (Holds job q) lines
+    → list_any (λ l. l.left == e) lines ≡ true
+    → slice_index (values_of job.board p) e ≡ slice_index (values_of job.board q) e
+left_same job boundary p q [] e alike free one other there = absurd cc
+left_same job boundary p q (line ∷ rest) e alike free one other there =
+    let parts = and_parts _ _ free in
+    left_at job boundary p q line rest e (line.left == e) refl
+    (All-head (Holds job p) line rest one ∙ same_right job boundary p q line alike parts.0
+    ∙ sym (All-head (Holds job q) line rest other))
+    there
+    (left_same job boundary p q rest e alike parts.1 (All-tail (Holds job p) line rest one)
+    (All-tail (Holds job q) line rest other))
+
+by_freedom : (job : Job) (boundary : Boundary) (p q : Pair) (e : ℕ) (left : Bool)
+    → list_any (λ l. l.left == e) boundary.lines ≡ left
+    → AreFreelyAlike job boundary p q → list_all (reads_no_left boundary.lines) boundary.lines ≡ true
+    → All (Holds job p) boundary.lines → All (Holds job q) boundary.lines
+    → slice_index (values_of job.board p) e ≡ slice_index (values_of job.board q) e
+by_freedom job boundary p q e true is alike free one other = left_same job boundary p q boundary.lines e alike free one other is
+by_freedom job boundary p q e false is alike free one other = alike.values e (ap not is)
+
+pub free_values_decide : FreeValuesDecide
+free_values_decide job n p q is below one other alike e =
+    by_freedom job (numbered job n) p q e (list_any (λ l. l.left == e) (numbered job n).lines) refl alike
+    (solved_at job n is below).free one.lines other.lines

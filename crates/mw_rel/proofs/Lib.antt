@@ -1,0 +1,15 @@
+pub mod Boundaries
+pub mod Cycles
+pub mod Decided
+pub mod Elements
+pub mod Law
+pub mod Pairs
+pub mod Relations
+pub mod Runs
+pub mod Same
+pub mod Seen
+pub mod Shown
+pub mod Steps
+pub mod Sums
+pub mod Unlike
+pub mod Values

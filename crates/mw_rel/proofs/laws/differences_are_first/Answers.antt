@@ -1,0 +1,5 @@
+use Rattle.mw_rel.proofs.Shown.{differences_are_first}
+use Rattle.mw_rel.proofs.laws.differences_are_first.Goals as goal
+
+pub returns : goal.returns
+returns c = differences_are_first

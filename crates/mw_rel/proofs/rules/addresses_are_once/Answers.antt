@@ -1,0 +1,7 @@
+use Rattle.std.proofs.Common.{ap, ◌∙◌}
+use Rattle.mw_rel.specs.Rules.{are_once}
+use Rattle.mw_rel.proofs.Seen.{addresses_seen}
+use Rattle.mw_rel.proofs.rules.addresses_are_once.Goals as goal
+
+pub returns : goal.returns
+returns c = c.are_once.ensures ∙ ap are_once (addresses_seen c.args.boundaries.now)

@@ -1,0 +1,7 @@
+use Rattle.std.proofs.Common.{◌≡◌, map, drop}
+use Rattle.mw_rel.specs.Rules.{are_once}
+use Rattle.mw_rel.proofs.rules.are_once.Given as goal
+
+abbrev pub invariant-loop-i : goal.invariant-loop-i
+invariant-loop-i g l = are_once (map g.T.Numbered.number_of (drop l.i l.items)) ≡ are_once
+    (map g.T.Numbered.number_of l.items)

@@ -1,0 +1,14 @@
+pub mod Certified
+pub mod DescribedRun
+pub mod Differs
+pub mod Free
+pub mod InRelation
+pub mod Job
+pub mod Laws
+pub mod Lines
+pub mod Relation
+pub mod Rules
+pub mod Seen
+pub mod Shown
+pub mod Start
+pub mod Views

@@ -1,0 +1,22 @@
+-- Starts of a job.
+use Rattle.std.specs.Prelude.{◌≡◌, ℕ, List, map, Some, slice_get}
+use Rattle.mw_cycle.specs.Environment.{Environment, IsEnvironment}
+use Rattle.mw_rel.specs.Relation.{Boundary}
+use Rattle.mw_rel.specs.InRelation.{Pair, InRelation}
+use Rattle.mw_rel.specs.Job.{Job}
+
+-- the control addresses of a job's boundaries
+abbrev pub addresses_of : Job → List ℕ
+addresses_of job = map (λ boundary. boundary.address) job.relation.boundaries
+
+-- a boundary, a pair of states and an environment
+pub record Start : Type 0 where
+  pub boundary : Boundary
+  pub pair : Pair
+  pub env : Environment
+
+-- a boundary of the job, a pair in relation there, and an environment of the board
+pub record IsStart (job : Job) (start : Start) : Type 0 where
+  pub boundary : (n : ℕ) × (slice_get job.relation.boundaries n ≡ Some start.boundary)
+  pub related : InRelation job start.boundary start.pair
+  pub env : IsEnvironment job.board start.env

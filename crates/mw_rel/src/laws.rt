@@ -1,0 +1,43 @@
+// Laws of starts and of what is certified.
+ghost use Rattle.mw_rel.specs.Free.{FreeValuesDecide};
+ghost use Rattle.mw_rel.specs.Rules.{AcceptedAreSolved};
+ghost use Rattle.mw_rel.specs.Shown.{DifferencesAreFirst};
+ghost use Rattle.mw_rel.specs.Laws.{SameShowsNothing, CertifiedWhereNoneDiffers, BoundariesComeInTime};
+
+/// The law of relations: in an accepted relation each right side is as wide as its left element, no element is left
+/// of two lines of a boundary or stands on a right side there, and each bound is 1 to 500.
+pub fn accepted_are_solved()
+    ensures { AcceptedAreSolved }
+{}
+
+/// The law of free elements: two pairs in relation at a boundary that have the same values of its free elements and the
+/// same memory have the same value of each element.
+pub fn free_values_decide()
+    ensures { FreeValuesDecide }
+{}
+
+/// The law of starts: a start shows no difference exactly where its segment keeps its bound, the pair reached, which
+/// is the board there and the machine after one step, is in relation at the boundary reached, and both have the same
+/// events.
+pub fn same_shows_nothing()
+    ensures { SameShowsNothing }
+{}
+
+/// The law of differences: what a start shows is the first of the five. It is late where its segment doesn't keep its
+/// bound; else the events are unlike at the number shown and alike before it; or they are equal and the stack pointer
+/// isn't the number of the boundary reached; or that is equal too, and the line of the element shown is the first
+/// that doesn't hold; or all lines hold, and the address shown is the least with two contents.
+pub fn differences_are_first()
+    ensures { DifferencesAreFirst }
+{}
+
+/// The law of certification: a job is certified exactly where none of its starts differs.
+pub fn certified_where_none_differs()
+    ensures { CertifiedWhereNoneDiffers }
+{}
+
+/// The law of times: where no start differs, each boundary of each start's run comes, within the sum of the bounds of
+/// the boundaries met before it.
+pub fn boundaries_come_in_time()
+    ensures { BoundariesComeInTime }
+{}

@@ -1,0 +1,24 @@
+//! Relations between a board and a described machine, the starts that they give, and what it is that a job is certified.
+#![tactic(auto)]
+
+mod boundary;
+mod difference;
+mod free_elements;
+mod job;
+mod laws;
+mod line;
+mod pair;
+mod relation;
+mod rules;
+
+pub use boundary::Boundary;
+pub use difference::Difference;
+pub use free_elements::free;
+pub use job::{Job, shape_of};
+pub use laws::{
+    accepted_are_solved, boundaries_come_in_time, certified_where_none_differs,
+    differences_are_first, free_values_decide, same_shows_nothing,
+};
+pub use line::Line;
+pub use pair::{Pair, holds};
+pub use relation::Relation;

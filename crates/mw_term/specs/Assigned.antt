@@ -1,0 +1,16 @@
+-- Assignments, which give numbers to words.
+use Rattle.std.specs.Prelude.{ℕ, unwrap_or}
+use Rattle.std.specs.Ordering.{nat_cmp}
+use Rattle.std.specs.FinMap as map
+
+-- some words with the number of each
+abbrev pub Numbers : Type 0
+Numbers = map.FinMap nat_cmp ℕ
+
+-- an assignment gives each word a number
+abbrev pub Given : Type 0
+Given = ℕ → ℕ
+
+-- the assignment of some numbers: a word that isn't there has 0
+unfoldable pub given_by : Numbers → Given
+given_by numbers word = unwrap_or (map.get numbers word) 0

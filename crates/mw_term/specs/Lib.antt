@@ -1,0 +1,7 @@
+pub mod Assigned
+pub mod Cofactors
+pub mod Functions
+pub mod Laws
+pub mod Rows
+pub mod Table
+pub mod Values

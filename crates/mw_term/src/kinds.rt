@@ -1,0 +1,31 @@
+// The kinds of the bits that a run decides, and of the variable words that it makes.
+
+/// What a decided bit of a run says.
+#[derive(Clone, Copy, Debug, PartialEq, Eq)]
+pub enum DecidedKind {
+    /// Whether the test of a cycle passes.
+    Pass,
+    /// Whether the sequencer's counter is 0 in a cycle.
+    CounterZero,
+    /// A bit, from 11 to 0, of the address of a cycle's successor.
+    Next(u8),
+    /// Whether the condition of an `if` of a described step holds.
+    Branch,
+}
+
+/// What a variable word of a run stands for.
+#[derive(Clone, Copy, Debug, PartialEq, Eq)]
+pub enum WordKind {
+    /// A free element of the board or of the described machine, by its number.
+    Element(u32),
+    /// The interrupt line in the cycle of this number.
+    Line(u32),
+    /// The noise word of the cycle of this number.
+    Noise(u32),
+    /// What the memory has at the address of the base read of this number.
+    Base(u32),
+    /// The input of this number.
+    Input(u32),
+    /// The address at which two memories are compared.
+    Probe,
+}
