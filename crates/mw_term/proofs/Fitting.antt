@@ -8,7 +8,7 @@ use Rattle.mw_base.proofs.Widths.{joined_below}
 use Rattle.mw_term.specs.declared.op.Op.{Op}
 use Rattle.mw_term.specs.declared.op.Op.TheVariants.{Con, Var, Not, And, Or, Xor, Sum, Cout, Ovf, Eq, Lt, Ite, Part, Join, Tab}
 use Rattle.mw_term.specs.Assigned.{Given}
-use Rattle.mw_term.specs.Table.{op_width, IsWidth, ArePair, IsBit, OpFits, IsMap}
+use Rattle.mw_term.specs.Table.{op_width, IsWidth, AreWidths, ArePair, IsBit, OpFits, IsMap}
 use Rattle.mw_term.specs.Values.{op_value, AreWords}
 
 -- ---- more terms behind those there are
@@ -122,7 +122,7 @@ value_more map given ws vs wider further (Tab i) h same = rw (stays vs further i
 -- ---- what an op is over terms
 
 -- an op has 1 to 32 bits
-pub width_range : (map ws : List ℕ) (op : Op) → ((i : ℕ) → i < length ws → IsWidth (slice_index ws i))
+pub width_range : (map ws : List ℕ) (op : Op) → AreWidths ws
     → OpFits map ws op
     → IsWidth (op_width ws op)
 unfolding op_width

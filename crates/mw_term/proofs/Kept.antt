@@ -6,7 +6,7 @@ use Rattle.std.proofs.Math.Seq.{take-append_seam}
 use Rattle.std.proofs.lemmas.Option.{slice_get_read, same_Some}
 use Rattle.mw_term.specs.declared.op.Op.{Op}
 use Rattle.mw_term.specs.Assigned.{Given}
-use Rattle.mw_term.specs.Table.{table_of, op_width, widths_after, widths_of, term_width, width_over, IsWidth, OpFits, Fits, IsTable, IsKept}
+use Rattle.mw_term.specs.Table.{table_of, op_width, widths_after, widths_of, term_width, width_over, IsWidth, AreWidths, OpFits, Fits, IsTable, IsKept}
 use Rattle.mw_term.specs.Values.{op_value, values_after, values_of, term_value, AreWords, IsTermOf, Keeps}
 use Rattle.mw_term.proofs.Fitting.{stays}
 use Rattle.mw_term.proofs.Tables.{widths_append, widths_begin, values_append, values_begin, widths_count, widths_push, values_push, values_count, words_before, words_of, widths_range}
@@ -32,11 +32,8 @@ kept_range ops widths map term w kept inside read =
     let range : IsWidth (term_width (table_of ops map) term) = widths_range (table_of ops map) kept.table term there in
     rw is range
 
-pub kept_ranges : (ops : List Op) (widths map : List ℕ) → IsKept ops widths map → (i : ℕ) → i < length widths
-    → IsWidth (slice_index widths i)
-kept_ranges ops widths map kept i inside =
-    let there : i < length (widths_of ops) = rw kept.widths at inside in
-    rw kept.widths (widths_range (table_of ops map) kept.table i there)
+pub kept_ranges : (ops : List Op) (widths map : List ℕ) → IsKept ops widths map → AreWidths widths
+kept_ranges ops widths map kept = rw kept.widths (widths_range (table_of ops map) kept.table)
 
 -- the widths of the terms before a place
 pub widths_take : (ops : List Op) (n : ℕ) → n ≤ length ops → take n (widths_of ops) ≡ widths_of (take n ops)

@@ -13,9 +13,9 @@ use Rattle.mw_base.proofs.Carries.{carry_at-zero, carry_at-suc, low-suc, num_bel
 use Rattle.mw_term.specs.declared.op.Op.{Op}
 use Rattle.mw_term.specs.declared.op.Op.TheVariants.{Con, Var, Not, And, Or, Xor, Sum, Cout, Ovf, Eq, Lt, Ite, Part, Join, Tab}
 use Rattle.mw_term.specs.Assigned.{Given}
-use Rattle.mw_term.specs.Functions.{Function, never, made}
+use Rattle.mw_term.specs.Functions.{Function, never, Triple, made}
 use Rattle.mw_term.specs.Laws.{RowsMakeValues}
-use Rattle.mw_term.specs.Rows.{bit, next_carry, carry_into, equal_before, less_before, xor_row, carry_row, index_row, row, last_made, bit_made}
+use Rattle.mw_term.specs.Rows.{bit, next_carry, carry_into, equal_before, less_before, xor_row, carry_row, index_row, operations, row_bits, row, last_made, fourth_made, bit_made}
 use Rattle.mw_term.specs.Table.{Table, op_width, widths_of, width_over, IsBit, Fits, IsTable}
 use Rattle.mw_term.specs.Values.{op_value, values_of, term_value, value_over, AreWords}
 use Rattle.mw_term.proofs.Tables.{words_of}
@@ -184,25 +184,38 @@ module _ (t : Table) (table : IsTable t) (given : Given) where
   flag : (c : ℕ) → IsBit ws c → slice_index vs c < 2
   flag c is = let below = words.words c is.0 in rw is.1 at below
 
+  -- an op's row at one of its bits has its operations there
+  row_is : (op : Op) (j : ℕ) → j < row_bits t op → operations t op j ≡ row t op j
+  row_is op j inside =
+      ap (λ (b : Bool). if b then operations t op j else []) (sym (lt-ltb j (row_bits t op) inside))
+
+  last_is : (op : Op) (j : ℕ) → j < row_bits t op → last_made (operations t op j) given ≡ last_made (row t op j) given
+  last_is op j inside = ap (λ (row : List Triple). last_made row given) (row_is op j inside)
+
   pub each : (op : Op) → Fits t op → (j : ℕ) → j < width_over t op
       → bit_of (value_over t given op) j ≡ bit_made t op j given
-  unfolding op_value op_width row bit_made
+  unfolding op_value op_width operations row_bits bit_made
   each (Con number w) fits j below = refl
   each (Var word w) fits j below = bit_of-low (given word) w j below
   each (Not a) fits j below =
       bit_of-complement (slice_index ws a) (slice_index vs a) j below (words.words a fits) ∙ not_if (bit t a j given)
+      ∙ last_is (Not a) j below
   each (And a b) fits j below = bit_of-and (slice_index vs a) (slice_index vs b) j
       ∙ and_if (bit t a j given) (bit t b j given)
+      ∙ last_is (And a b) j below
   each (Or a b) fits j below = bit_of-or (slice_index vs a) (slice_index vs b) j
       ∙ or_if (bit t a j given) (bit t b j given)
+      ∙ last_is (Or a b) j below
   each (Xor a b) fits j below = bit_of-xor (slice_index vs a) (slice_index vs b) j
       ∙ differ_if (bit t a j given) (bit t b j given)
+      ∙ last_is (Xor a b) j below
   each (Sum a b c) fits j below =
       let carry = flag c fits.1 in
       bit_of-low (slice_index vs a + slice_index vs b + slice_index vs c) (slice_index ws a) j below
       ∙ sum_made (slice_index vs a) (slice_index vs b) (slice_index vs c) j
       (carry_into (bit t a) (bit t b) (bit t c 0) j given) carry
       (carry_is t given a b c j (one_bit (slice_index vs c) carry))
+      ∙ ap (λ (row : List Triple). fourth_made row given) (row_is (Sum a b c) j below)
   each (Cout a b c) fits j below =
       let wide = words.range a fits.0.0 in
       let top : suc (slice_index ws a - 1) ≡ slice_index ws a = omega (arith, wide) in
@@ -211,6 +224,7 @@ module _ (t : Table) (table : IsTable t) (given : Given) where
       only_bit (carry_at (slice_index vs a) (slice_index vs b) into (slice_index ws a)) j below
       ∙ ap (carry_at (slice_index vs a) (slice_index vs b) into) (sym top)
       ∙ sym (carry_is t given a b c (suc (slice_index ws a - 1)) first)
+      ∙ last_is (Cout a b c) (slice_index ws a - 1) (omega (arith, wide))
   each (Ovf a b c) fits j below =
       let w = slice_index ws a in
       let wide = words.range a fits.0.0 in
@@ -226,6 +240,7 @@ module _ (t : Table) (table : IsTable t) (given : Given) where
       ∙ differ_if (into given) (out given)
       ∙ ap (λ (x : Bool). last_made
       (carry_row (bit t a (w - 1)) (bit t b (w - 1)) into ++ (if x then xor_row into out else [])) given) (sym at_top)
+      ∙ last_is (Ovf a b c) (w - 1) (omega (arith, wide))
   each (Eq a b) fits j below =
       let wide = words.range a fits.0 in
       let top : suc (slice_index ws a - 1) ≡ slice_index ws a = omega (arith, wide) in
@@ -236,6 +251,7 @@ module _ (t : Table) (table : IsTable t) (given : Given) where
       ∙ ap₂ (λ (r s : ℕ). r == s) (sym first) (sym second)
       ∙ ap (λ (k : ℕ). slice_index vs a % 2 ^ k == slice_index vs b % 2 ^ k) (sym top)
       ∙ sym (equal_is t given a b (suc (slice_index ws a - 1)))
+      ∙ last_is (Eq a b) (slice_index ws a - 1) (omega (arith, wide))
   each (Lt a b) fits j below =
       let wide = words.range a fits.0 in
       let top : suc (slice_index ws a - 1) ≡ slice_index ws a = omega (arith, wide) in
@@ -246,17 +262,19 @@ module _ (t : Table) (table : IsTable t) (given : Given) where
       ∙ ap₂ (λ (r s : ℕ). nat_lt r s) (sym first) (sym second)
       ∙ ap (λ (k : ℕ). nat_lt (slice_index vs a % 2 ^ k) (slice_index vs b % 2 ^ k)) (sym top)
       ∙ sym (less_is t given a b (suc (slice_index ws a - 1)))
+      ∙ last_is (Lt a b) (slice_index ws a - 1) (omega (arith, wide))
   each (Ite c a b) fits j below =
       chosen_bit (slice_index vs c == 1) (slice_index vs a) (slice_index vs b) j
       ∙ ap (λ (x : Bool). if x then bit_of (slice_index vs a) j else bit_of (slice_index vs b) j)
       (sym (one_bit (slice_index vs c) (flag c fits.0)))
+      ∙ last_is (Ite c a b) j below
   each (Part a low w) fits j below =
       bit_of-low (slice_index vs a / 2 ^ low) w j below ∙ ap (λ (n : ℕ). n % 2 == 1) (shr-shr (slice_index vs a) low j)
   each (Join high low) fits j below =
       let w = slice_index ws low in
       joined_bit (slice_index vs high) (slice_index vs low) w j (words.words low fits.1)
       ∙ sym (function_if (nat_lt j w) (bit t low j) (bit t high (j - w)) given)
-  each (Tab i) fits j below =
+  each (Tab i) fits j inside_entry =
       let v = slice_index vs i in
       let n : ℕ = slice_index ws i - 1 in
       let wide = words.range i fits.0 in
@@ -273,6 +291,7 @@ module _ (t : Table) (table : IsTable t) (given : Given) where
       ∙ index_made (bit t i) given v (λ k. refl) n 0 entries many
       ∙ ap (at given entries) place
       ∙ ap (λ (f : Function). f given) (get_or-map entry_bit t.map v 0 never inside))
+      ∙ last_is (Tab i) j inside_entry
 
 pub rows_make_values : RowsMakeValues
 rows_make_values t op table fits given j below = each t table given op fits j below

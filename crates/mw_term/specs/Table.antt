@@ -56,6 +56,10 @@ width_over t op = op_width (widths_of t.ops) op
 abbrev pub IsWidth : ℕ → Type 0
 IsWidth w = (1 ≤ w) × (w ≤ 32)
 
+-- each of these is a width
+abbrev pub AreWidths : List ℕ → Type 0
+AreWidths widths = (i : ℕ) → i < length widths → IsWidth (slice_index widths i)
+
 -- two terms of the same width
 abbrev pub ArePair : (widths : List ℕ) → (a b : ℕ) → Type 0
 ArePair widths a b = (a < length widths) × (b < length widths) × (slice_index widths a ≡ slice_index widths b)

@@ -1,7 +1,7 @@
 // What an op makes of the terms before it.
 ghost use Rattle.std.specs.Prelude.{◌≡◌, ℕ, ◌<◌, ◌^◌, ◌↔◌, IsTrue, length, slice_index};
 ghost use Rattle.mw_term.specs.Assigned.{given_by};
-ghost use Rattle.mw_term.specs.Table.{op_width, ArePair, IsBit, OpFits, IsWidth};
+ghost use Rattle.mw_term.specs.Table.{op_width, ArePair, AreWidths, IsBit, OpFits, IsWidth};
 ghost use Rattle.mw_term.specs.Values.{op_value, AreWords};
 
 use crate::assignment::Assignment;
@@ -73,7 +73,7 @@ impl Earlier<'_> {
     }
 
     fn is_index(&self, term: Term) -> bool
-        requires { (i : ℕ) → i < length self.now.widths.now → IsWidth (slice_index self.now.widths.now i) }
+        requires { AreWidths self.now.widths.now }
         ensures { IsTrue result ↔ OpFits self.now.map.now self.now.widths.now (Op.Tab term) }
     {
         self.is_term(term) && self.map.len() as u64 == 1 << self.width_of(term)
@@ -81,7 +81,7 @@ impl Earlier<'_> {
 
     /// Whether an op fits.
     pub(crate) fn fits(&self, op: Op) -> bool
-        requires { (i : ℕ) → i < length self.now.widths.now → IsWidth (slice_index self.now.widths.now i) }
+        requires { AreWidths self.now.widths.now }
         ensures { IsTrue result ↔ OpFits self.now.map.now self.now.widths.now op }
     {
         match op {
@@ -105,7 +105,7 @@ impl Earlier<'_> {
     #[tactic(auto, unfolding(crate::specs::Table::op_width))]
     pub(crate) fn width(&self, op: Op) -> u8
         requires fits { OpFits self.now.map.now self.now.widths.now op }
-        requires range { (i : ℕ) → i < length self.now.widths.now → IsWidth (slice_index self.now.widths.now i) }
+        requires range { AreWidths self.now.widths.now }
         ensures exact { result ≡ op_width self.now.widths.now op }
     {
         match op {

@@ -1,10 +1,20 @@
 // Laws of terms, of the term table, and of joint cofactors.
-ghost use Rattle.mw_term.specs.Laws.{FixedAreBefore, RowsMakeValues, TermsHaveOps, VariableHasOne};
+ghost use Rattle.mw_term.specs.Laws.{CountsAreApart, FixedAreBefore, LaterHasTwo, OpsAreWords, RowsMakeValues, TerminalCasesHaveNone, TermsHaveOps, TermsHaveWidths, VariableHasOne};
 
 /// The law of terms: each term of a table has the width and, under every assignment, the value of its op, and no more
 /// bits.
 pub fn terms_have_ops()
     ensures { TermsHaveOps }
+{}
+
+/// The law of words: an op that fits a table has 1 to 32 bits, and its value has no more under any assignment.
+pub fn ops_are_words()
+    ensures { OpsAreWords }
+{}
+
+/// The law of widths: there are as many widths as ops.
+pub fn terms_have_widths()
+    ensures { TermsHaveWidths }
 {}
 
 /// The law of the term table: for every op that fits a table, the operations of its rows make the bits of its value.
@@ -21,4 +31,21 @@ pub fn fixed_are_before()
 /// joint cofactor.
 pub fn variable_has_one()
     ensures { VariableHasOne }
+{}
+
+/// The law of counts: no triple has both at most so many joint cofactors and more.
+pub fn counts_are_apart()
+    ensures { CountsAreApart }
+{}
+
+/// The law of terminal cases: where the first function is the same under every assignment, or the second agrees with
+/// the third, there is no joint cofactor.
+pub fn terminal_cases_have_none()
+    ensures { TerminalCasesHaveNone }
+{}
+
+/// The law of two variables: a choice by the later one, with the earlier one and never as its branches in either order,
+/// has two joint cofactors.
+pub fn later_has_two()
+    ensures { LaterHasTwo }
 {}
