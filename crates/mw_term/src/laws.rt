@@ -1,4 +1,5 @@
 // Laws of terms, of the term table, and of joint cofactors.
+ghost use Rattle.mw_term.specs.Examples.{RowsAsWritten};
 ghost use Rattle.mw_term.specs.Laws.{CountsAreApart, FixedAreBefore, LaterHasTwo, OpsAreWords, RowsMakeValues, TerminalCasesHaveNone, TermsHaveOps, TermsHaveWidths, VariableHasOne};
 
 /// The law of terms: each term of a table has the width and, under every assignment, the value of its op, and no more
@@ -20,6 +21,11 @@ pub fn terms_have_widths()
 /// The law of the term table: for every op that fits a table, the operations of its rows make the bits of its value.
 pub fn rows_make_values()
     ensures { RowsMakeValues }
+{}
+
+/// The law of the small table: the rows of its ops are these, written out by hand.
+pub fn rows_as_written()
+    ensures { RowsAsWritten }
 {}
 
 /// The law of fixed variables: those before a place have the fixed values, and the others their own.
