@@ -9,7 +9,7 @@ use Rattle.mw_term.specs.Assigned.{Given}
 use Rattle.mw_term.specs.Table.{table_of, op_width, widths_after, widths_of, term_width, width_over, IsWidth, AreWidths, OpFits, Fits, IsTable, IsKept}
 use Rattle.mw_term.specs.Values.{op_value, values_after, values_of, term_value, AreWords, IsTermOf, Keeps}
 use Rattle.mw_term.proofs.Fitting.{stays}
-use Rattle.mw_term.proofs.Tables.{widths_append, widths_begin, values_append, values_begin, widths_count, widths_push, values_push, values_count, words_before, words_of, widths_range}
+use Rattle.mw_term.proofs.Tables.{widths_append, widths_begin, values_append, values_begin, widths_count, widths_push, values_push, values_count, words_before, words_of, widths_range, terms_have_ops}
 
 -- there is a width for each term
 pub kept_inside : (ops : List Op) (widths map : List ℕ) (term : ℕ) → IsKept ops widths map → term < length ops
@@ -52,6 +52,12 @@ pub kept_fits : (ops : List Op) (widths map : List ℕ) (place : ℕ) (op : Op) 
 kept_fits ops widths map place op kept inside read =
     let fits = kept.table.fit place op (slice_get_read ops (length ops) place op refl inside read) in
     rw (kept.widths, widths_take ops place (omega arith)) fits
+
+-- and the terms that there are
+pub kept_op : (ops : List Op) (widths map : List ℕ) (term : ℕ) (op : Op) → IsKept ops widths map → term < length ops
+    → op ≡ get_or ops term op → Fits (table_of ops map) op
+kept_op ops widths map term op kept inside read =
+    (terms_have_ops (table_of ops map) term op kept.table (slice_get_read ops (length ops) term op refl inside read)).fits
 
 -- and these have words
 pub kept_words : (ops : List Op) (widths map values : List ℕ) (given : Given) (place : ℕ) → IsKept ops widths map

@@ -1,12 +1,12 @@
 -- Laws of terms, of the rows of the term table, and of joint cofactors.
-use Rattle.std.specs.Prelude.{◌≡◌, ℕ, ◌<◌, ◌^◌, List, length, take, Some, slice_get, Bool, true, if◌then◌else◌}
+use Rattle.std.specs.Prelude.{◌≡◌, ℕ, ◌<◌, ◌≤◌, ◌^◌, ◌⊎◌, [], List, length, take, Some, slice_get, Bool, true, if◌then◌else◌}
 use Rattle.mw_base.specs.Words.{bit_of}
 use Rattle.mw_term.specs.declared.op.Op.{Op}
 use Rattle.mw_term.specs.Assigned.{Given}
 use Rattle.mw_term.specs.Cofactors.{Variable, value_of, is_before, with_fixed, Agree, HasAtMostCofactors, HasMoreCofactors}
 use Rattle.mw_term.specs.Functions.{Function, never, always, Triple, ite}
 use Rattle.mw_term.specs.Rows.{bit_made}
-use Rattle.mw_term.specs.Table.{Table, IsTable, OpFits, Fits, IsWidth, widths_of, term_width, width_over}
+use Rattle.mw_term.specs.Table.{Table, IsMap, IsTable, OpFits, Fits, IsWidth, widths_of, term_width, width_over}
 use Rattle.mw_term.specs.Values.{IsTermOf, term_value, value_over}
 
 -- what a term with an op has in a table: the op fits the terms before it and all terms; the term has the op's width,
@@ -34,6 +34,10 @@ OpsAreWords = (t : Table) (op : Op) → IsTable t → Fits t op → IsWord t op
 -- as many terms as ops have a width
 abbrev pub TermsHaveWidths : Type 0
 TermsHaveWidths = (ops : List Op) → length (widths_of ops) ≡ length ops
+
+-- a map has no entry, or 2 to 256
+abbrev pub MapsAreShort : Type 0
+MapsAreShort = (map : List ℕ) → IsMap map → (map ≡ []) ⊎ ((2 ≤ length map) × (length map ≤ 256))
 
 -- the bits of an op are these functions
 abbrev pub BitsAre : Table → Op → (ℕ → Function) → Type 0

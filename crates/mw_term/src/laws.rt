@@ -1,6 +1,6 @@
 // Laws of terms, of the term table, and of joint cofactors.
 ghost use Rattle.mw_term.specs.Examples.{RowsAsWritten};
-ghost use Rattle.mw_term.specs.Laws.{CountsAreApart, FixedAreBefore, LaterHasTwo, OpsAreWords, RowsMakeValues, TerminalCasesHaveNone, TermsHaveOps, TermsHaveWidths, VariableHasOne};
+ghost use Rattle.mw_term.specs.Laws.{CountsAreApart, FixedAreBefore, LaterHasTwo, MapsAreShort, OpsAreWords, RowsMakeValues, TerminalCasesHaveNone, TermsHaveOps, TermsHaveWidths, VariableHasOne};
 
 /// The law of terms: each term of a table has the width and, under every assignment, the value of its op, and no more
 /// bits.
@@ -16,6 +16,11 @@ pub fn ops_are_words()
 /// The law of widths: there are as many widths as ops.
 pub fn terms_have_widths()
     ensures { TermsHaveWidths }
+{}
+
+/// The law of maps: a map of a table has no entry, or 2 to 256.
+pub fn maps_are_short()
+    ensures { MapsAreShort }
 {}
 
 /// The law of the term table: for every op that fits a table, the operations of its rows make the bits of its value.
