@@ -1,13 +1,15 @@
 -- The joint cofactors of terminal cases, of one variable, and of two.
-use Rattle.std.proofs.Common.{◌≡◌, ◌⊎◌, inl, inr, ℕ, zero, suc, ◌+◌, ◌*◌, ◌/◌, ◌%◌, ◌^◌, ◌<◌, ◌≤◌, List, [], ◌∷◌, length, refl, ap, arith, sym, ◌∙◌}
-use Rattle.std.specs.Prelude.{Bool, true, false, ◌&&◌, ◌||◌, ◌==◌, nat_lt, if◌then◌else◌}
+use Rattle.std.proofs.Common.{◌≡◌, ◌⊎◌, inl, inr, ℕ, zero, suc, ◌+◌, ◌*◌, ◌/◌, ◌%◌, ◌^◌, [], ◌∷◌, refl, ap, arith}
+use Rattle.std.proofs.Common.{sym, ◌∙◌}
+use Rattle.std.specs.Prelude.{Bool, true, false, ◌==◌, if◌then◌else◌}
 use Rattle.std.proofs.lemmas.Bool.{le-ltb}
 use Rattle.std.proofs.lemmas.Bool.Decides.{nat_tests}
 use Rattle.std.proofs.lemmas.Nat.Bits.{bit_at-zero, bit_at-pow_same}
 use Rattle.std.specs.List.{All, AllPairs}
 use Rattle.mw_base.specs.Words.{bit_of}
 use Rattle.mw_term.specs.Assigned.{Given}
-use Rattle.mw_term.specs.Cofactors.{Variable, variable, value_of, is_before, bits_before, with_fixed, left_of, Agree, AreSame, IsCounted, IsCofactor, AreCofactors, HasAtMostCofactors, HasMoreCofactors}
+use Rattle.mw_term.specs.Cofactors.{Variable, variable, value_of, is_before, bits_before, with_fixed, left_of, Agree}
+use Rattle.mw_term.specs.Cofactors.{AreSame, IsCounted, IsCofactor, HasAtMostCofactors}
 use Rattle.mw_term.specs.Functions.{Function, never, always, Triple, ite}
 use Rattle.mw_term.specs.Laws.{choice_by, CountsAreApart, TerminalCasesHaveNone, VariableHasOne, HasTwo, LaterHasTwo}
 use Rattle.mw_term.proofs.Fixed.{fixed_are_before}
@@ -50,8 +52,8 @@ left_whole v fixed = record {
 }
 
 -- what is left where the variable is fixed is closed, and else it is the whole
-left_by : (v place : Variable) (fixed : Given) (u : Triple) → AreSame u (left_of (choice_by v) place fixed) → IsCounted u
-    → (b : Bool) → is_before v place ≡ b → AreSame u (choice_by v)
+left_by : (v place : Variable) (fixed : Given) (u : Triple) → AreSame u (left_of (choice_by v) place fixed)
+    → IsCounted u → (b : Bool) → is_before v place ≡ b → AreSame u (choice_by v)
 left_by v place fixed u left counted true before =
     absurd (counted.choice (value_of v fixed) (λ given. left.f given ∙ fixed_are_before place v fixed given
     ∙ ap (λ b. if b then value_of v fixed else value_of v given) before))
@@ -137,6 +139,9 @@ choice_left : (s : Bool) (f g : Function) (place : Variable) (fixed : Given)
     (choice s (λ given. f (with_fixed place fixed given)) (λ given. g (with_fixed place fixed given)))
 choice_left true f g place fixed = record { f = λ given. refl; g = λ given. refl; h = λ given. refl }
 choice_left false f g place fixed = record { f = λ given. refl; g = λ given. refl; h = λ given. refl }
+
+itself_same : (t : Triple) → AreSame t t
+itself_same t = record { f = λ given. refl; g = λ given. refl; h = λ given. refl }
 
 then_same : (t u w : Triple) → AreSame t u → AreSame u w → AreSame t w
 then_same t u w first second = record {
@@ -267,10 +272,10 @@ part_is s x y before =
     record {
       place = y;
       fixed = fixed;
-      left = both_same (part s y) (left_of (whole s x y) y fixed) (part s y) (choice_same s _ _ _ _ (λ given. refl) (λ given. refl))
+      left = both_same (part s y) (left_of (whole s x y) y fixed) (part s y) (itself_same (part s y))
           (then_same (left_of (whole s x y) y fixed) _ (part s y)
           (left_at s x y y fixed (left_of (whole s x y) y fixed)
-          (record { f = λ given. refl; g = λ given. refl; h = λ given. refl }) true false before (before_itself y))
+          (itself_same (left_of (whole s x y) y fixed)) true false before (before_itself y))
           (choice_same s _ _ _ _ (λ given. refl) (λ given. holds)));
       counted = choice_counts s (value_of y) always (varies y) apart;
     }

@@ -3,7 +3,6 @@ use Rattle.std.proofs.Common.{refl}
 use Rattle.mw_term.specs.Examples.{FirstRows, SumRows, RowsEnd, RowsAsWritten}
 use Rattle.mw_term.specs.Rows.{operations, row_bits}
 use Rattle.mw_term.specs.Table.{op_width}
-use Rattle.mw_term.specs.Values.{op_value}
 
 first_rows : FirstRows
 unfolding operations row_bits op_width

@@ -1,5 +1,6 @@
 -- An op that fits some terms: what it is over these, and over more of them.
-use Rattle.std.proofs.Common.{◌≡◌, ℕ, ◌+◌, ◌<◌, ◌^◌, List, ◌++◌, length, slice_index, refl, ap₂, arith, sym, ◌∙◌, length-append}
+use Rattle.std.proofs.Common.{◌≡◌, ℕ, ◌+◌, ◌<◌, ◌^◌, List, ◌++◌, length, slice_index, refl, ap₂, arith, sym, ◌∙◌}
+use Rattle.std.proofs.Common.{length-append}
 use Rattle.std.specs.Prelude.{Bool, true, false, ◌-◌, ◌%◌, ◌==◌, nat_lt, bit_and, bit_or, bit_xor, if◌then◌else◌}
 use Rattle.mw_base.specs.Carries.{carry_at}
 use Rattle.mw_base.specs.Words.{num, differ}
@@ -8,7 +9,8 @@ use Rattle.std.proofs.lemmas.Nat.{pow_pos, mod_below, or_lt, xor_lt, and_le_l}
 use Rattle.mw_base.proofs.Carries.{num_small}
 use Rattle.mw_base.proofs.Widths.{joined_below}
 use Rattle.mw_term.specs.declared.op.Op.{Op}
-use Rattle.mw_term.specs.declared.op.Op.TheVariants.{Con, Var, Not, And, Or, Xor, Sum, Cout, Ovf, Eq, Lt, Ite, Part, Join, Tab}
+use Rattle.mw_term.specs.declared.op.Op.TheVariants.{Con, Var, Not, And, Or, Xor, Sum, Cout, Ovf, Eq, Lt, Ite, Part}
+use Rattle.mw_term.specs.declared.op.Op.TheVariants.{Join, Tab}
 use Rattle.mw_term.specs.Assigned.{Given}
 use Rattle.mw_term.specs.Table.{op_width, IsWidth, AreWidths, ArePair, IsBit, OpFits, IsMap}
 use Rattle.mw_term.specs.Values.{op_value, AreWords}
@@ -103,7 +105,8 @@ value_more map given ws vs wider further (Sum a b c) h same =
 value_more map given ws vs wider further (Cout a b c) h same =
     sum_stays ws vs wider further a b c h same (λ w r s k. num (carry_at r s (k == 1) w))
 value_more map given ws vs wider further (Ovf a b c) h same =
-    sum_stays ws vs wider further a b c h same (λ w r s k. num (differ (carry_at r s (k == 1) (w - 1)) (carry_at r s (k == 1) w)))
+    sum_stays ws vs wider further a b c h same
+    (λ w r s k. num (differ (carry_at r s (k == 1) (w - 1)) (carry_at r s (k == 1) w)))
 value_more map given ws vs wider further (Eq a b) h same = pair_stays ws vs further a b h same (λ r s. num (r == s))
 value_more map given ws vs wider further (Lt a b) h same = pair_stays ws vs further a b h same (λ r s. num (nat_lt r s))
 value_more map given ws vs wider further (Ite c a b) h same =

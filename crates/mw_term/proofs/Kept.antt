@@ -1,15 +1,19 @@
 -- What the code keeps of a table: the ops, and beside them their widths.
-use Rattle.std.proofs.Common.{◌≡◌, ◌⊎◌, inl, inr, ℕ, zero, suc, length-append, ◌+◌, ◌<◌, ◌≤◌, ◌^◌, List, [], ◌∷◌, ◌++◌, Some, length, take, drop, slice_index, get_or, refl, ap, arith, sym, ◌∙◌}
+use Rattle.std.proofs.Common.{◌≡◌, ◌⊎◌, inl, inr, ℕ, zero, suc, length-append, ◌+◌, ◌<◌, ◌≤◌, ◌^◌, List, [], ◌∷◌}
+use Rattle.std.proofs.Common.{◌++◌, Some, length, take, drop, slice_index, get_or, refl, ap, arith, sym, ◌∙◌}
 use Rattle.std.specs.Prelude.{slice_get}
-use Rattle.std.proofs.lemmas.List.{take-append-drop, take_more, take_all, length-take-le, get_or_read, take-append-le, get_or_push}
+use Rattle.std.proofs.lemmas.List.{take-append-drop, take_more, take_all, length-take-le, get_or_read, take-append-le}
+use Rattle.std.proofs.lemmas.List.{get_or_push}
 use Rattle.std.proofs.Math.Seq.{take-append_seam}
 use Rattle.std.proofs.lemmas.Option.{slice_get_read, same_Some}
 use Rattle.mw_term.specs.declared.op.Op.{Op}
 use Rattle.mw_term.specs.Assigned.{Given}
-use Rattle.mw_term.specs.Table.{table_of, op_width, widths_after, widths_of, term_width, width_over, IsWidth, AreWidths, OpFits, Fits, IsTable, IsKept}
+use Rattle.mw_term.specs.Table.{table_of, op_width, widths_after, widths_of, term_width, width_over, IsWidth}
+use Rattle.mw_term.specs.Table.{AreWidths, OpFits, Fits, IsTable, IsKept}
 use Rattle.mw_term.specs.Values.{op_value, values_after, values_of, term_value, AreWords, IsTermOf, Keeps}
 use Rattle.mw_term.proofs.Fitting.{stays}
-use Rattle.mw_term.proofs.Tables.{widths_append, widths_begin, values_append, values_begin, widths_count, widths_push, values_push, values_count, words_before, words_of, widths_range, terms_have_ops}
+use Rattle.mw_term.proofs.Tables.{widths_append, widths_begin, values_append, values_begin, widths_count, widths_push}
+use Rattle.mw_term.proofs.Tables.{values_push, values_count, words_before, words_of, widths_range, terms_have_ops}
 
 -- there is a width for each term
 pub kept_inside : (ops : List Op) (widths map : List ℕ) (term : ℕ) → IsKept ops widths map → term < length ops
@@ -57,7 +61,8 @@ kept_fits ops widths map place op kept inside read =
 pub kept_op : (ops : List Op) (widths map : List ℕ) (term : ℕ) (op : Op) → IsKept ops widths map → term < length ops
     → op ≡ get_or ops term op → Fits (table_of ops map) op
 kept_op ops widths map term op kept inside read =
-    (terms_have_ops (table_of ops map) term op kept.table (slice_get_read ops (length ops) term op refl inside read)).fits
+    let here : slice_get ops term ≡ Some op = slice_get_read ops (length ops) term op refl inside read in
+    (terms_have_ops (table_of ops map) term op kept.table here).fits
 
 -- and these have words
 pub kept_words : (ops : List Op) (widths map values : List ℕ) (given : Given) (place : ℕ) → IsKept ops widths map

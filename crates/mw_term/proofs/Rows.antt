@@ -1,5 +1,6 @@
 -- The operations of a row make the bits of an op's value.
-use Rattle.std.proofs.Common.{◌≡◌, ℕ, zero, suc, ◌+◌, ◌-◌, ◌*◌, ◌/◌, ◌%◌, ◌^◌, ◌<◌, List, [], ◌++◌, length, map, slice_index, refl, ap, ap₂, arith, sym, ◌∙◌, mod-eq_of_lt, inl, inr}
+use Rattle.std.proofs.Common.{◌≡◌, ℕ, zero, suc, ◌+◌, ◌-◌, ◌*◌, ◌/◌, ◌%◌, ◌^◌, ◌<◌, List, [], ◌++◌, length, map}
+use Rattle.std.proofs.Common.{slice_index, refl, ap, ap₂, arith, sym, ◌∙◌, mod-eq_of_lt, inl, inr}
 use Rattle.std.specs.Prelude.{Bool, true, false, not, ◌&&◌, ◌||◌, ◌==◌, nat_lt, if◌then◌else◌}
 use Rattle.std.proofs.lemmas.Bool.{lt-ltb, le-ltb, cases_lt}
 use Rattle.std.proofs.lemmas.Bool.Decides.{nat_tests}
@@ -11,11 +12,13 @@ use Rattle.mw_base.specs.Words.{bit_of, num, differ}
 use Rattle.mw_base.proofs.Bits.{bit_of-low, bit_of-and, bit_of-or, bit_of-xor, bit_of-complement}
 use Rattle.mw_base.proofs.Carries.{carry_at-zero, carry_at-suc, low-suc, num_below, sum_bit}
 use Rattle.mw_term.specs.declared.op.Op.{Op}
-use Rattle.mw_term.specs.declared.op.Op.TheVariants.{Con, Var, Not, And, Or, Xor, Sum, Cout, Ovf, Eq, Lt, Ite, Part, Join, Tab}
+use Rattle.mw_term.specs.declared.op.Op.TheVariants.{Con, Var, Not, And, Or, Xor, Sum, Cout, Ovf, Eq, Lt, Ite, Part}
+use Rattle.mw_term.specs.declared.op.Op.TheVariants.{Join, Tab}
 use Rattle.mw_term.specs.Assigned.{Given}
 use Rattle.mw_term.specs.Functions.{Function, never, Triple, made}
 use Rattle.mw_term.specs.Laws.{RowsMakeValues}
-use Rattle.mw_term.specs.Rows.{bit, next_carry, carry_into, equal_before, less_before, xor_row, carry_row, index_row, operations, row_bits, row, last_made, fourth_made, bit_made}
+use Rattle.mw_term.specs.Rows.{bit, next_carry, carry_into, equal_before, less_before, xor_row, carry_row, index_row}
+use Rattle.mw_term.specs.Rows.{operations, row_bits, row, last_made, fourth_made, bit_made}
 use Rattle.mw_term.specs.Table.{Table, op_width, widths_of, width_over, ArePair, IsBit, Fits, IsTable}
 use Rattle.mw_term.specs.Values.{op_value, values_of, term_value, value_over, AreWords}
 use Rattle.mw_term.proofs.Tables.{words_of}

@@ -1,5 +1,7 @@
 -- The terms of a table, one after another.
-use Rattle.std.proofs.Common.{◌≡◌, inl, inr, ℕ, zero, suc, ◌+◌, ◌<◌, ◌≤◌, ◌^◌, List, [], ◌∷◌, ◌++◌, Some, length, take, drop, slice_index, get_or, refl, ap, arith, sym, ◌∙◌, subst, length-append, append_assoc, append-nil}
+use Rattle.std.proofs.Common.{◌≡◌, inl, inr, ℕ, zero, suc, ◌+◌, ◌<◌, ◌≤◌, ◌^◌, List, [], ◌∷◌, ◌++◌, Some, length}
+use Rattle.std.proofs.Common.{take, drop, slice_index, get_or, refl, ap, arith, sym, ◌∙◌, subst, length-append}
+use Rattle.std.proofs.Common.{append_assoc, append-nil}
 use Rattle.std.specs.Prelude.{slice_get}
 use Rattle.std.proofs.lemmas.List.{take_more, take-append-drop, drop_more, take_all, length-take-le, get_or_at}
 use Rattle.std.proofs.lemmas.Option.{slice_get-get_or, slice_get_within, get_or_from_slice_get}
@@ -8,7 +10,8 @@ use Rattle.mw_term.specs.declared.op.Op.{Op}
 use Rattle.mw_term.specs.declared.op.Op.TheVariants.{Con}
 use Rattle.mw_term.specs.Assigned.{Given}
 use Rattle.mw_term.specs.Laws.{TermsHaveOps, OpsAreWords, MapsAreShort}
-use Rattle.mw_term.specs.Table.{Table, op_width, widths_after, widths_of, width_over, IsWidth, AreWidths, OpFits, Fits, IsTable}
+use Rattle.mw_term.specs.Table.{Table, op_width, widths_after, widths_of, width_over, IsWidth, AreWidths, OpFits}
+use Rattle.mw_term.specs.Table.{Fits, IsTable}
 use Rattle.mw_term.specs.Values.{op_value, values_after, values_of, value_over, AreWords}
 use Rattle.mw_term.proofs.Fitting.{fits_more, width_more, value_more, width_range, value_below}
 

@@ -1,8 +1,7 @@
 -- The rows of a small table, written out.
-use Rattle.std.specs.Prelude.{◌≡◌, ℕ, List, [], ◌∷◌}
-use Rattle.mw_term.specs.declared.op.Op.{Op}
+use Rattle.std.specs.Prelude.{◌≡◌, ℕ, [], ◌∷◌}
 use Rattle.mw_term.specs.declared.op.Op.TheVariants.{Var, Not, And, Or, Xor, Sum, Cout, Ovf, Eq, Lt, Ite, Tab}
-use Rattle.mw_term.specs.Functions.{Function, never, always, Triple, ite, made}
+use Rattle.mw_term.specs.Functions.{Function, never, always, ite, made}
 use Rattle.mw_term.specs.Rows.{bit, row}
 use Rattle.mw_term.specs.Table.{Table, table_of}
 

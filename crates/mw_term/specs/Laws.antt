@@ -1,9 +1,11 @@
 -- Laws of terms, of the rows of the term table, and of joint cofactors.
-use Rattle.std.specs.Prelude.{◌≡◌, ℕ, ◌<◌, ◌≤◌, ◌^◌, ◌⊎◌, [], List, length, take, Some, slice_get, Bool, true, if◌then◌else◌}
+use Rattle.std.specs.Prelude.{◌≡◌, ℕ, ◌<◌, ◌≤◌, ◌^◌, ◌⊎◌, [], List, length, take, Some, slice_get, Bool, true}
+use Rattle.std.specs.Prelude.{if◌then◌else◌}
 use Rattle.mw_base.specs.Words.{bit_of}
 use Rattle.mw_term.specs.declared.op.Op.{Op}
 use Rattle.mw_term.specs.Assigned.{Given}
-use Rattle.mw_term.specs.Cofactors.{Variable, value_of, is_before, with_fixed, Agree, HasAtMostCofactors, HasMoreCofactors}
+use Rattle.mw_term.specs.Cofactors.{Variable, value_of, is_before, with_fixed, Agree, HasAtMostCofactors}
+use Rattle.mw_term.specs.Cofactors.{HasMoreCofactors}
 use Rattle.mw_term.specs.Functions.{Function, never, always, Triple, ite}
 use Rattle.mw_term.specs.Rows.{bit_made}
 use Rattle.mw_term.specs.Table.{Table, IsMap, IsTable, OpFits, Fits, IsWidth, widths_of, term_width, width_over}

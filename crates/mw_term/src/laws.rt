@@ -1,6 +1,8 @@
 // Laws of terms, of the term table, and of joint cofactors.
 ghost use Rattle.mw_term.specs.Examples.{RowsAsWritten};
-ghost use Rattle.mw_term.specs.Laws.{CountsAreApart, FixedAreBefore, LaterHasTwo, MapsAreShort, OpsAreWords, RowsMakeValues, TerminalCasesHaveNone, TermsHaveOps, TermsHaveWidths, VariableHasOne};
+ghost use Rattle.mw_term.specs.Laws.{CountsAreApart, FixedAreBefore, LaterHasTwo, MapsAreShort, OpsAreWords};
+ghost use Rattle.mw_term.specs.Laws.{RowsMakeValues, TerminalCasesHaveNone, TermsHaveOps, TermsHaveWidths};
+ghost use Rattle.mw_term.specs.Laws.{VariableHasOne};
 
 /// The law of terms: each term of a table has the width and, under every assignment, the value of its op, and no more
 /// bits.

@@ -1,7 +1,8 @@
 // The table of terms.
 ghost use Rattle.std.specs.Prelude.{◌≡◌, ℕ, ◌<◌, ◌^◌, ◌↔◌, [], length, slice_get, IsTrue, IfOk, OnOk, OnErr};
 ghost use Rattle.mw_term.specs.Assigned.{given_by};
-ghost use Rattle.mw_term.specs.Table.{table_of, term_width, widths_of, width_over, AreWidths, Extends, Fits, IsMap, IsTable, IsWidth};
+ghost use Rattle.mw_term.specs.Table.{table_of, term_width, widths_of, width_over, AreWidths, Extends, Fits, IsMap};
+ghost use Rattle.mw_term.specs.Table.{IsTable, IsWidth};
 ghost use Rattle.mw_term.specs.Values.{term_value, IsTermOf, Keeps};
 
 use crate::assignment::Assignment;
