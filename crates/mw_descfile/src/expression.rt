@@ -71,8 +71,7 @@ fn read_after(mems: &[Token], left: usize) -> Option<Token>
 }
 
 /// An expression that may have so many memory reads, where the first fault of its own is known: that fault, or 14 at
-/// the read after
-/// those, whichever stands first.
+/// the read after those, whichever stands first.
 #[tactic(auto, unfolding(crate::specs::Expressions::whole_of))]
 pub(crate) fn whole_of(
     alloc: Global,

@@ -120,12 +120,9 @@ fn finished(known: Known, fault: TextFault) -> Result<Machine, Refusal>
 /// # Errors
 ///
 /// The first fault of the text: causes 1 to 4 of its bytes; then, line by line, cause 60 of the line and, by place,
-/// 14 and 31 and 33 of
-/// an element's name, 33 of a width, 14 of a statement or a memory read too many, 40 of a target, 41 of a width that
-/// isn't the one
-/// asked for, 42 of an `if` in 64 others, and 3, 40, 41 and 42 of expressions; then 60 at the text's end where
-/// something is missing.
-/// Want of memory.
+/// 14 and 31 and 33 of an element's name, 33 of a width, 14 of a statement or a memory read too many, 40 of a target,
+/// 41 of a width that isn't the one asked for, 42 of an `if` in 64 others, and 3, 40, 41 and 42 of expressions; then
+/// 60 at the text's end where something is missing. Want of memory.
 #[tactic(auto, unfolding(crate::specs::Machine::machine_of))]
 pub fn read_machine(alloc: Global, text: &[u8]) -> Result<Machine, Refusal>
     requires { length text.now < 2 ^ 32 }

@@ -1,21 +1,26 @@
--- Free values and the memory decide the value of each element.
-use Rattle.std.proofs.Common.{◌≡◌, ℕ, ◌+◌, ◌-◌, List, [], ◌∷◌, Bool, true, false, not, ◌||◌, ◌==◌, refl, sym, ap, ap₂, ◌∙◌, subst}
+-- Free values and the memory decide a pair in relation.
+use Rattle.std.proofs.Common.{◌≡◌, ℕ, ◌<◌, ◌+◌, length, ◌-◌, List, [], ◌∷◌, Bool, true, false, not, ◌||◌, ◌==◌, refl, sym, ap, ap₂, ◌∙◌, subst}
 use Rattle.std.specs.Prelude.{All, if◌then◌else◌, slice_index, unwrap_or}
 use Rattle.std.specs.List.{list_all, list_any}
 use Rattle.std.proofs.lemmas.Bool.{and_parts, eqb-true, eq-eqb}
-use Rattle.std.proofs.lemmas.List.Elements.{All-nil, All-cons, All-head, All-tail}
+use Rattle.std.proofs.lemmas.List.Elements.{All-head, All-tail}
+use Rattle.std.proofs.lemmas.Grind.{same_number_lists}
 use Rattle.mw_base.specs.Words as words
+use Rattle.mw_board.specs.Elements.{element_count}
 use Rattle.mw_expr.specs.declared.shape.Shape.{Shape}
 use Rattle.mw_expr.specs.Tree.{Tree, element, constant, complement, pair, choice, part, join, widened, memory, Trees, none, more}
 use Rattle.mw_expr.specs.Values.{pair_value, bits, value, joined}
 use Rattle.mw_expr.specs.Widths.{total_width}
-use Rattle.mw_rel.specs.Free.{numbered, is_free, AreFreelyAlike, FreeValuesDecide}
-use Rattle.mw_rel.specs.InRelation.{Pair, InRelation, Holds, values_of, right_value}
+use Rattle.mw_macro.specs.DescribedStep.{kept}
+use Rattle.mw_rel.specs.Free.{numbered, AreFreelyAlike, PairsAreOne}
+use Rattle.mw_rel.specs.InRelation.{Pair, InRelation, Holds, pair_of, values_of, right_value}
 use Rattle.mw_rel.specs.Job.{Job, IsJob}
 use Rattle.mw_rel.specs.Lines.{Line, stands_in, stands_in_one}
 use Rattle.mw_rel.specs.Relation.{Boundary}
 use Rattle.mw_rel.specs.Rules.{reads_no_left}
+use Rattle.mw_rel.proofs.Elements.{board_value, register_value}
 use Rattle.mw_rel.proofs.Relations.{solved_at}
+use Rattle.mw_rel.proofs.States.{same_state}
 
 -- ---- a value reads the elements of its tree alone
 
@@ -129,7 +134,25 @@ by_freedom : (job : Job) (boundary : Boundary) (p q : Pair) (e : ℕ) (left : Bo
 by_freedom job boundary p q e true is alike free one other = left_same job boundary p q boundary.lines e alike free one other is
 by_freedom job boundary p q e false is alike free one other = alike.values e (ap not is)
 
-pub free_values_decide : FreeValuesDecide
-free_values_decide job n p q is below one other alike e =
+one_value : (job : Job) (n : ℕ) (p q : Pair) → IsJob job → n < length job.relation.boundaries
+    → InRelation job (numbered job n) p → InRelation job (numbered job n) q → AreFreelyAlike job (numbered job n) p q
+    → (e : ℕ) → slice_index (values_of job.board p) e ≡ slice_index (values_of job.board q) e
+one_value job n p q is below one other alike e =
     by_freedom job (numbered job n) p q e (list_any (λ l. l.left == e) (numbered job n).lines) refl alike
     (solved_at job n is below).free one.lines other.lines
+
+-- ---- both states
+
+pub pairs_are_one : PairsAreOne
+pairs_are_one job n p q is below one other alike =
+    let each = one_value job n p q is below one other alike in
+    let board : p.board ≡ q.board =
+    same_state job.board p.board q.board one.board_fits other.board_fits (one.at ∙ sym other.at) (one.sp ∙ sym other.sp)
+    (one.memory ∙ alike.memory ∙ sym other.memory)
+    (λ e inside. sym (board_value job.board p.board p.machine.registers e inside) ∙ each e
+    ∙ board_value job.board q.board q.machine.registers e inside) in
+    let registers : p.machine.registers ≡ q.machine.registers =
+    same_number_lists p.machine.registers q.machine.registers (one.machine_fits.count ∙ sym other.machine_fits.count)
+    (λ e inside. sym (register_value job.board p.board p.machine.registers e) ∙ each (element_count job.board + e)
+    ∙ register_value job.board q.board q.machine.registers e) in
+    ap₂ pair_of board (ap₂ (λ rs ws. kept rs ws) registers alike.memory)

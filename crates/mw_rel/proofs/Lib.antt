@@ -9,6 +9,7 @@ pub mod Runs
 pub mod Same
 pub mod Seen
 pub mod Shown
+pub mod States
 pub mod Steps
 pub mod Sums
 pub mod Unlike

@@ -1,5 +1,5 @@
 -- The boundaries of a job by number, and the elements that are free at one.
-use Rattle.std.specs.Prelude.{◌≡◌, ℕ, ◌<◌, List, [], length, Bool, true, not, ◌==◌, slice_index, slice_index_or}
+use Rattle.std.specs.Prelude.{◌≡◌, ℕ, ◌<◌, [], length, Bool, true, not, ◌==◌, slice_index, slice_index_or}
 use Rattle.std.specs.List.{list_any}
 use Rattle.mw_rel.specs.InRelation.{Pair, InRelation, values_of}
 use Rattle.mw_rel.specs.Job.{Job, IsJob}
@@ -23,8 +23,8 @@ pub record AreFreelyAlike (job : Job) (boundary : Boundary) (p q : Pair) : Type 
       → slice_index (values_of job.board p) e ≡ slice_index (values_of job.board q) e
   pub memory : p.machine.memory ≡ q.machine.memory
 
--- Of two pairs in relation at a boundary that are freely alike, each element has one value.
-abbrev pub FreeValuesDecide : Type 0
-FreeValuesDecide = (job : Job) (n : ℕ) (p q : Pair) → IsJob job → n < length job.relation.boundaries
+-- Two pairs in relation at a boundary that are freely alike are one.
+abbrev pub PairsAreOne : Type 0
+PairsAreOne = (job : Job) (n : ℕ) (p q : Pair) → IsJob job → n < length job.relation.boundaries
     → InRelation job (numbered job n) p → InRelation job (numbered job n) q → AreFreelyAlike job (numbered job n) p q
-    → (e : ℕ) → slice_index (values_of job.board p) e ≡ slice_index (values_of job.board q) e
+    → p ≡ q

@@ -1,5 +1,5 @@
 // Laws of starts and of what is certified.
-ghost use Rattle.mw_rel.specs.Free.{FreeValuesDecide};
+ghost use Rattle.mw_rel.specs.Free.{PairsAreOne};
 ghost use Rattle.mw_rel.specs.Rules.{AcceptedAreSolved};
 ghost use Rattle.mw_rel.specs.Shown.{DifferencesAreFirst};
 ghost use Rattle.mw_rel.specs.Laws.{SameShowsNothing, CertifiedWhereNoneDiffers, BoundariesComeInTime};
@@ -10,10 +10,10 @@ pub fn accepted_are_solved()
     ensures { AcceptedAreSolved }
 {}
 
-/// The law of free elements: two pairs in relation at a boundary that have the same values of its free elements and the
-/// same memory have the same value of each element.
-pub fn free_values_decide()
-    ensures { FreeValuesDecide }
+/// The law of pairs: two pairs in relation at a boundary that have the same values of its free elements and the same
+/// memory are one.
+pub fn pairs_are_one()
+    ensures { PairsAreOne }
 {}
 
 /// The law of starts: a start shows no difference exactly where its segment keeps its bound, the pair reached, which

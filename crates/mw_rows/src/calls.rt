@@ -4,6 +4,7 @@ mod expressions;
 mod machines;
 mod numbers;
 mod parts;
+mod runs;
 mod texts;
 mod tokens;
 mod trees;
@@ -34,6 +35,8 @@ pub fn made(alloc: Global, words: &[String], files: &[File]) -> Result<Vec<u8>, 
         "slice" => parts::slice_table(alloc, given),
         "step" => parts::stepped(alloc, given),
         "cycle" => cycles::run(alloc, given, files),
+        "run" => runs::cycles(alloc, given, files),
+        "until" => runs::until(alloc, given, files),
         _ => Err(wrong("no such call")),
     }
 }
