@@ -23,7 +23,19 @@ sum_rows = record { sum_row = refl; carry_row = refl; overflow_row = refl; top_r
 
 rows_end : RowsEnd
 unfolding operations row_bits op_width
-rows_end = record { sum_end = refl; less_end = refl; choice_end = refl; entry_end = refl }
+rows_end = record {
+  not_end = refl;
+  and_end = refl;
+  or_end = refl;
+  xor_end = refl;
+  sum_end = refl;
+  carry_end = refl;
+  overflow_end = refl;
+  equal_end = refl;
+  less_end = refl;
+  choice_end = refl;
+  entry_end = refl;
+}
 
 pub rows_as_written : RowsAsWritten
 rows_as_written = record { first = first_rows; sums = sum_rows; ends = rows_end }

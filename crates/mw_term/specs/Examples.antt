@@ -69,7 +69,14 @@ pub record SumRows : Type 0 where
 
 -- past the top bit of its operands, or of an entry, a row has no operation
 pub record RowsEnd : Type 0 where
+  pub not_end : row small (Not 0) 2 ≡ []
+  pub and_end : row small (And 0 1) 2 ≡ []
+  pub or_end : row small (Or 0 1) 2 ≡ []
+  pub xor_end : row small (Xor 0 1) 2 ≡ []
   pub sum_end : row small (Sum 0 1 2) 2 ≡ []
+  pub carry_end : row small (Cout 0 1 2) 2 ≡ []
+  pub overflow_end : row small (Ovf 0 1 2) 2 ≡ []
+  pub equal_end : row small (Eq 0 1) 2 ≡ []
   pub less_end : row small (Lt 0 1) 2 ≡ []
   pub choice_end : row small (Ite 2 0 1) 2 ≡ []
   pub entry_end : row small (Tab 0) 12 ≡ []
