@@ -14,7 +14,7 @@ use Rattle.mw_rel.specs.DescribedRun.{IsDescribedRun, before_steps, with_step}
 use Rattle.mw_rel.specs.Differs.{first_step}
 use Rattle.mw_rel.specs.InRelation.{InRelation, pair_of}
 use Rattle.mw_rel.specs.Job.{Job, IsJob}
-use Rattle.mw_rel.specs.Laws.{IsSame, NoneDiffers, CertifiedWhereNoneDiffers}
+use Rattle.mw_rel.specs.Laws.{IsSame, NoneDiffers, CertifiedWhereNoneDiffers, StartsFollow}
 use Rattle.mw_rel.specs.Start.{Start, IsStart, addresses_of}
 use Rattle.mw_rel.proofs.Boundaries.{boundary_once, first_next, next_on}
 use Rattle.mw_rel.proofs.Relations.{there_is, is_there}
@@ -178,3 +178,24 @@ certified_where_none_differs job is = (
       (same_where_kept job start is begins (certified start begins 1))),
   kept_each job is,
 )
+
+-- ---- the start of the next segment
+
+one_some : {A : Type 0} (a b : A) → Some a ≡ Some b → a ≡ b
+one_some a b same = cc
+
+pub starts_follow : StartsFollow
+starts_follow job start run reached is begins none ends there =
+    let same = same_where_none job start is begins none in
+    let step = first_step job start in
+    let runs : same.run ≡ run = one_some same.run run (sym same.segment ∙ ends) in
+    let found : boundary_at job run.state.at ≡ Some same.reached =
+    subst (λ (r : BoardRun). boundary_at job r.state.at ≡ Some same.reached) runs same.there in
+    let boundaries : same.reached ≡ reached = one_some same.reached reached (sym found ∙ there) in
+    let related : InRelation job same.reached (pair_of run.state step.state) =
+    subst (λ (r : BoardRun). InRelation job same.reached (pair_of r.state step.state)) runs same.related in
+    record {
+      boundary = is_there job run.state.at reached there;
+      related = subst (λ (b : Boundary). InRelation job b (pair_of run.state step.state)) boundaries related;
+      env = rest_is_environment job.board start.env run.clock begins.env;
+    }

@@ -3,7 +3,7 @@ use Rattle.std.specs.Prelude.{◌≡◌, ◌↔◌, ℕ, ◌+◌, ◌≤◌, Som
 use Rattle.mw_cycle.specs.Run.{BoardRun}
 use Rattle.mw_rel.specs.Relation.{Boundary}
 use Rattle.mw_rel.specs.Certified.{Certified, IsBoundaryOf, at_cycle, boundary_at}
-use Rattle.mw_rel.specs.Differs.{difference_of, segment_of, first_step}
+use Rattle.mw_rel.specs.Differs.{difference_of, segment_of, first_step, start_after}
 use Rattle.mw_rel.specs.InRelation.{InRelation, pair_of}
 use Rattle.mw_rel.specs.Job.{Job, IsJob}
 use Rattle.mw_rel.specs.Start.{Start, IsStart}
@@ -26,6 +26,12 @@ NoneDiffers job = (start : Start) → IsStart job start → difference_of job st
 abbrev pub SameShowsNothing : Type 0
 SameShowsNothing = (job : Job) (start : Start) → IsJob job → IsStart job start
     → (difference_of job start ≡ None) ↔ IsSame job start
+
+-- where a start shows no difference, the start of the next segment is one of the job
+abbrev pub StartsFollow : Type 0
+StartsFollow = (job : Job) (start : Start) (run : BoardRun) (reached : Boundary) → IsJob job → IsStart job start
+    → difference_of job start ≡ None → segment_of job start ≡ Some run → boundary_at job run.state.at ≡ Some reached
+    → IsStart job (start_after job start run reached)
 
 -- a job is certified exactly where none of its starts differs
 abbrev pub CertifiedWhereNoneDiffers : Type 0

@@ -1,5 +1,5 @@
 -- The rules of relations.
-use Rattle.std.specs.Prelude.{◌≡◌, ℕ, ◌<◌, ◌≤◌, List, [], All, Ok, ◌∷◌, length, map, Bool, true, not, ◌&&◌, nat_lt, ◌==◌, Option, None, slice_index}
+use Rattle.std.specs.Prelude.{◌≡◌, ◌↔◌, ℕ, ◌<◌, ◌≤◌, List, [], All, Ok, ◌∷◌, length, map, Bool, true, not, ◌&&◌, nat_lt, ◌==◌, Option, None, Some, slice_get, slice_index}
 use Rattle.std.specs.List.{list_all, list_any}
 use Rattle.mw_base.specs.declared.cause.Cause.{Cause}
 use Rattle.mw_base.specs.declared.cause.Cause.TheVariants.{Twice, WidthsDiffer, LeftTwice, LeftUsedOnRight, NoBoundary, BadBound}
@@ -76,6 +76,13 @@ pub record IsSolved (s : Shape) (boundary : Boundary) : Type 0 where
   pub some : 1 ≤ boundary.bound
   pub most : boundary.bound ≤ 500
 
--- the boundaries of an accepted relation are solved
+-- what an accepted relation is: there is a boundary, no address is that of two, and each boundary is solved
+pub record IsSolvedRelation (r : Relation) : Type 0 where
+  pub some : 1 ≤ length r.boundaries
+  pub addresses : (i j : ℕ) (a b : Boundary) → slice_get r.boundaries i ≡ Some a → slice_get r.boundaries j ≡ Some b
+      → a.address ≡ b.address → i ≡ j
+  pub each : All (IsSolved r.shape) r.boundaries
+
+-- a relation is accepted exactly where it is solved
 abbrev pub AcceptedAreSolved : Type 0
-AcceptedAreSolved = (r : Relation) → IsRelation r → All (IsSolved r.shape) r.boundaries
+AcceptedAreSolved = (r : Relation) → IsFormed r → (refusal_of r ≡ None) ↔ IsSolvedRelation r

@@ -2,10 +2,11 @@
 ghost use Rattle.mw_rel.specs.Free.{PairsAreOne};
 ghost use Rattle.mw_rel.specs.Rules.{AcceptedAreSolved};
 ghost use Rattle.mw_rel.specs.Shown.{DifferencesAreFirst};
-ghost use Rattle.mw_rel.specs.Laws.{SameShowsNothing, CertifiedWhereNoneDiffers, BoundariesComeInTime};
+ghost use Rattle.mw_rel.specs.Laws.{SameShowsNothing, StartsFollow, CertifiedWhereNoneDiffers, BoundariesComeInTime};
 
-/// The law of relations: in an accepted relation each right side is as wide as its left element, no element is left
-/// of two lines of a boundary or stands on a right side there, and each bound is 1 to 500.
+/// The law of relations: a relation is accepted exactly where it has a boundary, no two boundaries have one address,
+/// each right side is as wide as its left element, no element is left of two lines of a boundary, none that is left of
+/// one stands on a right side there, and each bound is 1 to 500.
 pub fn accepted_are_solved()
     ensures { AcceptedAreSolved }
 {}
@@ -29,6 +30,12 @@ pub fn same_shows_nothing()
 /// that doesn't hold; or all lines hold, and the address shown is the least with two contents.
 pub fn differences_are_first()
     ensures { DifferencesAreFirst }
+{}
+
+/// The law of the next segment: where a start shows no difference, the boundary reached, both states there and what is
+/// left of the environment are again a start of the job.
+pub fn starts_follow()
+    ensures { StartsFollow }
 {}
 
 /// The law of certification: a job is certified exactly where none of its starts differs.
