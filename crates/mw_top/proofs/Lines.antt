@@ -10,7 +10,8 @@ pub lines_more : {A : Type 0} (lines : A → List ℕ) (items : List A) (item : 
     → before ≡ front ++ flat_map lines items → after ≡ before ++ lines item
     → after ≡ front ++ flat_map lines (items ++ item ∷ [])
 lines_more lines items item front before after was is =
-    let one = flat_map-append lines items (item ∷ []) ∙ ap (λ (text : List ℕ). flat_map lines items ++ text) (append-nil (lines item)) in
+    let one = flat_map-append lines items (item ∷ [])
+    ∙ ap (λ (text : List ℕ). flat_map lines items ++ text) (append-nil (lines item)) in
     is ∙ ap (λ (text : List ℕ). text ++ lines item) was ∙ append_assoc front (flat_map lines items) (lines item)
     ∙ ap (λ (text : List ℕ). front ++ text) (sym one)
 

@@ -27,7 +27,8 @@ word_line address word = if word == 0 then [] else line (codes "mem " ++ hex add
 
 -- the lines of the memory, in rising order of addresses
 abbrev pub memory_lines : List ℕ → List ℕ
-memory_lines words = flat_map (λ address. word_line address (slice_index words address)) (range_with_len 0 (length words))
+memory_lines words =
+    flat_map (λ address. word_line address (slice_index words address)) (range_with_len 0 (length words))
 
 -- the control address, the elements, the stack pointer, and the memory
 unfoldable pub state_text : BoardParts → BoardState → List ℕ

@@ -85,8 +85,9 @@ fn append_memory(alloc: Global, report: &mut Vec<u8>, words: &[u32]) -> Result<(
     Ok(())
 }
 
-/// Appends the lines of an environment from which a run goes on in this state: the control address, the elements that aren't 0 by number,
-/// the stack pointer where it isn't 0, and the words of the memory that aren't 0 in rising order of addresses.
+/// Appends the lines of an environment from which a run goes on in this state: the control address, the elements that
+/// aren't 0 by number, the stack pointer where it isn't 0, and the words of the memory that aren't 0 in rising order of
+/// addresses. The state fits the board.
 #[tactic(auto, unfolding(crate::specs::StateText::state_text))]
 pub(crate) fn append_state(
     alloc: Global,

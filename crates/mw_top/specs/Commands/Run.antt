@@ -11,7 +11,8 @@ use Rattle.mw_top.specs.declared.status.Status.{Status}
 use Rattle.mw_top.specs.declared.status.Status.TheVariants.{Done}
 use Rattle.mw_top.specs.RunText.{ran_by}
 
--- the board of the first file, what the second is assembled to for it, and the text of the run from the start that the third gives
+-- the board of the first file, what the second is assembled to for it, and the text of the run from the start that the
+-- third gives
 unfoldable pub run_plan : Plan Fault Work
 run_plan = do
   board ← next_by Board board_of

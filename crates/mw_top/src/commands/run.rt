@@ -41,7 +41,8 @@ fn run(
     requires fits { Fits board.now state.old }
     requires env_in { IsEnvironment board.now env.now }
     ensures state { OnOk result (state.new ≡ (run_of board.now store.now.words env.now state.old 1000).state) }
-    ensures events { IfOk result (λ events. events.items ≡ (run_of board.now store.now.words env.now state.old 1000).events) }
+    ensures events { IfOk result (λ events.
+        events.items ≡ (run_of board.now store.now.words env.now state.old 1000).events) }
     ensures fits { OnOk result (Fits board.now state.new) }
 {
     let start = Clock { cycle: 0, taken: 0 };
@@ -109,8 +110,8 @@ fn ran_by(
     Ok(Items::from_vec(text))
 }
 
-/// Reads the board, assembles the microprogram for it, reads the environment, and runs. The run is made where its start is read: there it
-/// is known to fit the board.
+/// Reads the board, assembles the microprogram for it, reads the environment, and runs. The run is made where its start
+/// is read: there it is known to fit the board.
 #[tactic(auto, unfolding(crate::specs::Commands::Run::run_plan))]
 pub(super) fn read<S: Shelf>(
     alloc: Global,

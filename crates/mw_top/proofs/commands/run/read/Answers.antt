@@ -31,7 +31,8 @@ unfolding run_plan
 returns-in_err-board-clause-ends g c =
     let error = err_from_is_err_and c.from_residual.result c.from_residual.ensures.1 in
     let first = shelf_shown g.S.Shelf c.args.shelf.now in
-    stops after_board run_plan first (shelf_shown g.S.Shelf c.next.new.shelf) _ _ c.from_residual.result (rw (sym error.2) error.1)
+    stops after_board run_plan first (shelf_shown g.S.Shelf c.next.new.shelf) _ _ c.from_residual.result
+    (rw (sym error.2) error.1)
     (c.in_err-board.ensures.follows Board board_of (λ fault seen is. is)
     (λ bytes result is. search rules) run_plan after_board first (at_first first)
     (all_left run_plan first c.args.files.now c.requires.none_read))
