@@ -4,6 +4,7 @@ mod expressions;
 mod machines;
 mod numbers;
 mod parts;
+mod relations;
 mod runs;
 mod texts;
 mod tokens;
@@ -30,6 +31,7 @@ pub fn made(alloc: Global, words: &[String], files: &[File]) -> Result<Vec<u8>, 
         "tokens" => tokens::read(alloc, contents(files, "text")?),
         "expression" => expressions::read(alloc, given, contents(files, "text")?),
         "machine" => machines::read(alloc, contents(files, "text")?),
+        "relation" => relations::read(alloc, files),
         "number" => numbers::read(alloc, given),
         "alu" => parts::alu_table(alloc, given),
         "slice" => parts::slice_table(alloc, given),

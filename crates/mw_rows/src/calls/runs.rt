@@ -22,12 +22,13 @@ const MOST_CYCLES: u64 = 100_000;
 
 /// A board and its microprogram.
 #[derive(Drop)]
-struct Machine {
-    board: Board,
-    made: Assembled,
+pub(super) struct Machine {
+    pub board: Board,
+    pub made: Assembled,
 }
 
-fn machine_of(alloc: Global, files: &[File]) -> Result<Machine, Fault> {
+/// The board of the file `b` with the microprogram of the file `m`.
+pub(super) fn machine_of(alloc: Global, files: &[File]) -> Result<Machine, Fault> {
     let Ok(board) = read_board(alloc, contents(files, "b")?) else {
         return Err(wrong("the board is refused"));
     };
