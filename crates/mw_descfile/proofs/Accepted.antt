@@ -49,7 +49,7 @@ no_fault true is = absurd cc
 no_fault false is = refl
 
 -- a rule that is kept, before others that are
-rule_kept : (k : Bool) (cause : Cause) (rest : Option Cause) → k ≡ true → rest ≡ None
+pub rule_kept : (k : Bool) (cause : Cause) (rest : Option Cause) → k ≡ true → rest ≡ None
     → (if k then rest else Some cause) ≡ None
 rule_kept true cause rest is none = none
 rule_kept false cause rest is none = absurd cc

@@ -17,11 +17,11 @@ use Rattle.mw_expr.specs.Faults.{faults, first_fault, is_other, seen_width}
 use Rattle.mw_expr.specs.Grammar.{Meaning, tree_of}
 use Rattle.mw_expr.specs.Mems.{mems, mems_in}
 use Rattle.mw_expr.specs.Placed.{Placed, named, constant, complement, pair, choice, part, join, widened, memory, group, Parts, none, more}
-use Rattle.mw_expr.specs.Plain.{plain, plain_parts}
+use Rattle.mw_expr.specs.Plain.{plain, plain_parts, is_small}
 use Rattle.mw_expr.specs.Text.{IsShape}
 use Rattle.mw_expr.specs.Tree.{Tree}
 use Rattle.mw_expr.specs.Widths.{width, is_known, depth}
-use Rattle.mw_expr.proofs.Small.{nil_front, nil_back}
+use Rattle.mw_expr.proofs.Small.{nil_front, nil_back, small_whole}
 use Rattle.mw_expr.proofs.Wide.{HasSeenWidth, seen_whole}
 use Rattle.mw_macro.specs.declared.rules.Fault.{Fault}
 use Rattle.mw_macro.specs.declared.rules.Fault.TheVariants.{NoElement, OtherWidth, TooNested}
@@ -144,6 +144,15 @@ whole_has s left tree whole shape read is =
       sym (ap (λ (w : Whole). w.tree) made.1),
       subst (λ (w : Whole). reads w.tree + w.left ≡ left) made.1 sum,
     )
+
+-- an expression without a fault has numbers that fit
+pub whole_small : (s : Shape) (left : ℕ) (tree : Placed) (whole : Whole) → IsShape s
+    → whole_of s left tree ≡ Ok whole → is_small tree ≡ true
+unfolding whole_of
+whole_small s left tree whole shape is =
+    let made = unless_ok (first_of_whole s left tree)
+    (record { tree = plain tree; left = left - length (mems tree) }) whole is in
+    small_whole s tree shape (own_none s left tree (sym made.0))
 
 -- one with a width has none of the faults
 pub no_fault : (s : Shape) (tree : Placed) (width : ℕ) (h : HasSeenWidth s tree) → not (h.w == width) ≡ false

@@ -1,11 +1,16 @@
 pub mod Accepted
+pub mod Blocks
 pub mod Closed
 pub mod DeclaredLines
 pub mod Expressions
 pub mod KnownLines
 pub mod Names
 pub mod Opens
+pub mod Pushed
+pub mod RelationLines
+pub mod Scopes
 pub mod SaidLines
 pub mod Shapes
 pub mod Spelled
 pub mod StatedLines
+pub mod Standing

@@ -87,8 +87,7 @@ abbrev pub with_element : List ℕ → ℕ → Elements → Elements
 with_element name width all = record { names = all.names ++ name ∷ []; widths = all.widths ++ width ∷ [] }
 
 -- what is declared by some lines: the widths of the memory's addresses and words, the registers and the temporaries,
--- and what names
--- stand for
+-- and what names stand for
 pub record Declared : Type 0 where
   pub names : List ℕ → Option Meant
   pub address : ℕ
@@ -114,8 +113,7 @@ abbrev pub few : Elements → Token → Result (Unit {0}) TextFault
 few all name = if nat_lt (length all.names) 128 then Ok tt else Err (fault_on name TooMany)
 
 -- the width of an element that can be declared beside these: there are few, the name is new and short and not
--- reserved, and the
--- width is 1 to 32
+-- reserved, and the width is 1 to 32
 unfoldable pub new_width : List ℕ → (List ℕ → Option Meant) → Elements → Token → Numeral → Result ℕ TextFault
 new_width text names all name width = do
   room ← few all name

@@ -1,4 +1,4 @@
--- A small machine, on which the definitions compute.
+-- A small machine, and one that is refused, on which the definitions compute.
 use Rattle.std.specs.Prelude.{ℕ, List, [], ◌∷◌, ◌++◌, codes}
 use Rattle.mw_expr.specs.declared.expr.Pair2.TheVariants.{Add}
 use Rattle.mw_expr.specs.Tree as trees
@@ -14,7 +14,16 @@ small_text =
     ++ codes "step" ++ 10 ∷ []
     ++ codes "X := X + Y" ++ 10 ∷ []
 
--- what it is
+-- the same machine, but its one statement adds a constant of another width
+abbrev pub uneven_text : List ℕ
+uneven_text =
+    codes "memory 4 4" ++ 10 ∷ []
+    ++ codes "register X 4" ++ 10 ∷ []
+    ++ codes "register Y 4" ++ 10 ∷ []
+    ++ codes "step" ++ 10 ∷ []
+    ++ codes "X := X + 1#5" ++ 10 ∷ []
+
+-- what the first of them is
 abbrev pub small_machine : Description
 small_machine = record {
   names = codes "X" ∷ codes "Y" ∷ [];

@@ -1,8 +1,13 @@
+pub mod Boundaries
 pub mod Declarations
 pub mod Examples
 pub mod Expressions
 pub mod Kept
+pub mod KeptRelation
 pub mod Machine
+pub mod Relation
+pub mod RelationLines
+pub mod RelationViews
 pub mod Statements
 pub mod Stating
 pub mod Views

@@ -22,8 +22,7 @@ use Rattle.mw_descfile.specs.Expressions.{Whole, asked, whole_of, asked_whole}
 use Rattle.mw_descfile.specs.Statements.{Said, to_assign, to_write, to_put, to_take, to_choose, to_turn, to_end, said_of}
 
 -- what the statements are over: what names stand for as targets, how many registers there are, how many registers and
--- temporaries
--- together, and the elements of expressions, of which the last is the request
+-- temporaries together, and the elements of expressions, of which the last is the request
 pub record Over : Type 0 where
   pub names : List ℕ → Option Element
   pub registers : ℕ
@@ -31,16 +30,14 @@ pub record Over : Type 0 where
   pub scope : Scope
 
 -- an `if` whose `end` hasn't come: its condition, the statements before it in the list in which it stands, and its
--- first list where its
--- `else` has come
+-- first list where its `else` has come
 pub record OpenIf : Type 0 where
   pub condition : Tree
   pub before : List Act
   pub first : Option (List Act)
 
 -- what is known after some lines of statements: what they are over, how many statements and how many memory reads are
--- left, the
--- statements so far of the list that is open, and the open `if`s, the innermost first
+-- left, the statements so far of the list that is open, and the open `if`s, the innermost first
 pub record Stated : Type 0 where
   pub over : Over
   pub statements_left : ℕ

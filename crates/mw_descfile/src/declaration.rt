@@ -34,7 +34,7 @@ pub(crate) enum Declaration {
 
 /// The first token, which has to be this word.
 #[tactic(auto, unfolding(crate::specs::Declarations::word_first))]
-fn word_first(word: &[u8], line: &Cursor) -> Result<Token, TextFault>
+pub(crate) fn word_first(word: &[u8], line: &Cursor) -> Result<Token, TextFault>
     ensures { result ≡ word_first word.now line.now }
 {
     let token = line.name(0)?;

@@ -41,7 +41,7 @@ pub(crate) struct Declared<'a> {
 }
 
 /// A number in a range: cause 33.
-fn ranged(low: u8, high: u8, number: Numeral) -> Result<u8, TextFault>
+pub(crate) fn ranged(low: u8, high: u8, number: Numeral) -> Result<u8, TextFault>
     ensures exact { result ≡ ranged low high number }
 {
     if u128::from(low) <= number.value && number.value <= u128::from(high) {

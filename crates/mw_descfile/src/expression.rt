@@ -1,11 +1,11 @@
 // Expressions on the lines of descriptions.
-ghost use Rattle.std.specs.Prelude.{◌≡◌, None, Some, slice_get};
+ghost use Rattle.std.specs.Prelude.{◌≡◌, None, Some, slice_get, slice_index};
 ghost use Rattle.mw_base.specs.FirstFaults.{first_in};
 ghost use Rattle.mw_base.specs.Reading.{Gives};
 ghost use Rattle.mw_expr.specs.Faults.{faults, is_other};
 ghost use Rattle.mw_expr.specs.Text.{IsShape};
 ghost use Rattle.mw_expr.specs.Written.{written};
-ghost use Rattle.mw_descfile.specs.Expressions.{written_of, asked, surplus, whole_of};
+ghost use Rattle.mw_descfile.specs.Expressions.{written_of, asked, asked_whole, surplus, whole_of};
 ghost use Rattle.mw_descfile.specs.Views.{whole_seen};
 
 use crate::scope::Scope;
@@ -28,6 +28,38 @@ impl Scope {
         ensures { Gives written result (written_of self.now cursor.now) }
     {
         Written::read(alloc, cursor, self.names.as_slice(), &self.shape)
+    }
+
+    /// The width of an element; 0 where there is none.
+    pub(crate) fn width_of(&self, element: usize) -> u8
+        ensures { result ≡ slice_index self.now.shape.widths element }
+    {
+        self.shape
+            .widths
+            .as_slice()
+            .get(element)
+            .copied()
+            .unwrap_or(0)
+    }
+
+    /// An expression of this width that may have so many memory reads: cause 41 at the token, then its own causes,
+    /// and 14, by place.
+    #[tactic(auto, unfolding(crate::specs::Expressions::asked_whole))]
+    pub(crate) fn whole_of(
+        &self,
+        alloc: Global,
+        left: usize,
+        width: u8,
+        token: Token,
+        tree: &Written,
+    ) -> Result<Whole, Refusal>
+        requires proper { IsShape self.now.shape }
+        ensures { Gives whole_seen result (asked_whole self.now.shape left width token (written tree.now)) }
+    {
+        let mut first = None;
+        let seen = tree.check(&self.shape, &mut first);
+        check_asked(width, token, seen).map_err(Refused::At)?;
+        whole_of(alloc, &self.shape, left, tree, first)
     }
 }
 
@@ -71,8 +103,7 @@ fn read_after(mems: &[Token], left: usize) -> Option<Token>
 }
 
 /// An expression that may have so many memory reads, where the first fault of its own is known: that fault, or 14 at
-/// the read after
-/// those, whichever stands first.
+/// the read after those, whichever stands first.
 #[tactic(auto, unfolding(crate::specs::Expressions::whole_of))]
 pub(crate) fn whole_of(
     alloc: Global,

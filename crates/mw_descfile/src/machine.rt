@@ -119,13 +119,22 @@ fn finished(known: Known, fault: TextFault) -> Result<Machine, Refusal>
 ///
 /// # Errors
 ///
-/// The first fault of the text: causes 1 to 4 of its bytes; then, line by line, cause 60 of the line and, by place,
-/// 14 and 31 and 33 of
-/// an element's name, 33 of a width, 14 of a statement or a memory read too many, 40 of a target, 41 of a width that
-/// isn't the one
-/// asked for, 42 of an `if` in 64 others, and 3, 40, 41 and 42 of expressions; then 60 at the text's end where
-/// something is missing.
-/// Want of memory.
+/// The first fault of the text. Causes 1 to 4 of its bytes come first, by position, each at the byte, the number or
+/// column 4,097. Then come the lines, one after another; of a line cause 60 comes first, at the first token that can't
+/// follow those before it, or at the line's end. Then come its other causes, by place, at one place the least:
+///
+/// - 14 at the name of the 129th register or temporary, at the first token of the statement after 4,096, and at the
+///   `mem` of the read after 256;
+/// - 31 at a name that is declared a second time or reserved;
+/// - 33 at a declared name over 64 bytes, and at a number out of its range: address 1 to 16, word 4 to 32, width 1 to
+///   32;
+/// - 40 at a target that isn't declared, and at an unknown name in an expression;
+/// - 41 at `mem` for the address of a write, at the `:=` for an assigned or written value, at `put`, `take` or `if` for
+///   theirs, and in an expression at the operator;
+/// - 42 at an `if` in 64 others, and at the first token of an expression at level 65;
+/// - 3 at a value that doesn't fit the width after its `#`.
+///
+/// Last comes cause 60 just past the text's last line, where `step` or an `end` is missing. Want of memory.
 #[tactic(auto, unfolding(crate::specs::Machine::machine_of))]
 pub fn read_machine(alloc: Global, text: &[u8]) -> Result<Machine, Refusal>
     requires { length text.now < 2 ^ 32 }

@@ -1,12 +1,11 @@
 // What the statements of a machine say, line by line.
-ghost use Rattle.std.specs.Prelude.{◌≡◌, ◌≤◌, List, OnOk, IfOk, length, map, option_map, slice_index};
+ghost use Rattle.std.specs.Prelude.{◌≡◌, ◌≤◌, List, OnOk, IfOk, length, map, option_map};
 ghost use Rattle.mw_base.specs.Named.{names_seen};
 ghost use Rattle.mw_base.specs.Reading.{Gives};
 ghost use Rattle.mw_expr.specs.Tree.{view};
 ghost use Rattle.mw_expr.specs.Text.{IsShape};
 ghost use Rattle.mw_expr.specs.Written.{written};
 ghost use Rattle.mw_macro.specs.Statements.{act_of};
-ghost use Rattle.mw_descfile.specs.Expressions.{asked_whole};
 ghost use Rattle.mw_descfile.specs.Kept.{IsDeclared, IsStated};
 ghost use Rattle.mw_descfile.specs.Machine.{description, machine_unless};
 ghost use Rattle.mw_macro.specs.Described.{description_of};
@@ -92,38 +91,6 @@ impl<'a> Over<'a> {
         ensures { result.now ≡ self.now.scope.shape }
     {
         &self.scope.shape
-    }
-
-    /// The width of an element; 0 where there is none.
-    fn width_of(&self, element: u32) -> u8
-        ensures { result ≡ slice_index self.now.scope.shape.widths element }
-    {
-        self.shape()
-            .widths
-            .as_slice()
-            .get(element as usize)
-            .copied()
-            .unwrap_or(0)
-    }
-
-    /// An expression of this width that may have so many memory reads: cause 41 at the token, then its own causes,
-    /// and 14, by place.
-    #[tactic(auto, unfolding(crate::specs::Expressions::asked_whole))]
-    fn whole_of(
-        &self,
-        alloc: Global,
-        left: usize,
-        width: u8,
-        token: Token,
-        tree: &Written,
-    ) -> Result<Whole, Refusal>
-        requires proper { IsShape self.now.scope.shape }
-        ensures { Gives whole_seen result (asked_whole self.now.scope.shape left width token (written tree.now)) }
-    {
-        let mut first = None;
-        let seen = tree.check(self.shape(), &mut first);
-        check_asked(width, token, seen).map_err(Refused::At)?;
-        whole_of(alloc, self.shape(), left, tree, first)
     }
 }
 
@@ -239,9 +206,10 @@ impl<'a> Stated<'a> {
     {
         self.check_room(name).map_err(Refused::At)?;
         let target = self.over.target_of(text, name).map_err(Refused::At)?;
-        let width = self.over.width_of(target);
+        let width = self.over.scope.width_of(target as usize);
         let whole = self
             .over
+            .scope
             .whole_of(alloc, self.reads_left, width, sign, value)?;
         self.push(
             Statement::Assign {
@@ -268,13 +236,16 @@ impl<'a> Stated<'a> {
             (with_write word (written address.now) sign (written value.now) (stated_seen self.old)) }
     {
         self.check_room(word).map_err(Refused::At)?;
-        let shape = self.over.shape();
+        let address_width = self.over.shape().address;
+        let word_width = self.over.shape().word;
         let place = self
             .over
-            .whole_of(alloc, self.reads_left, shape.address, word, address)?;
+            .scope
+            .whole_of(alloc, self.reads_left, address_width, word, address)?;
         let whole = self
             .over
-            .whole_of(alloc, place.left, shape.word, sign, value)?;
+            .scope
+            .whole_of(alloc, place.left, word_width, sign, value)?;
         self.push(
             Statement::Write {
                 address: place.expr,
@@ -296,6 +267,7 @@ impl<'a> Stated<'a> {
         let width = self.over.shape().word;
         let whole = self
             .over
+            .scope
             .whole_of(alloc, self.reads_left, width, word, value)?;
         self.push(Statement::Put(whole.expr), whole.left)?;
         Ok(())
@@ -309,7 +281,9 @@ impl<'a> Stated<'a> {
         self.check_room(word).map_err(Refused::At)?;
         let target = self.over.target_of(text, name).map_err(Refused::At)?;
         let width = self.over.shape().word;
-        check_asked(self.over.width_of(target), word, Some(width)).map_err(Refused::At)?;
+        check_asked(self.over.scope.width_of(target as usize), word, Some(width)).map_err(
+            Refused::At,
+        )?;
         self.push(Statement::Take(target), self.reads_left)?;
         Ok(())
     }

@@ -4,6 +4,8 @@ mod expressions;
 mod machines;
 mod numbers;
 mod parts;
+mod relations;
+mod runs;
 mod texts;
 mod tokens;
 mod trees;
@@ -29,11 +31,14 @@ pub fn made(alloc: Global, words: &[String], files: &[File]) -> Result<Vec<u8>, 
         "tokens" => tokens::read(alloc, contents(files, "text")?),
         "expression" => expressions::read(alloc, given, contents(files, "text")?),
         "machine" => machines::read(alloc, contents(files, "text")?),
+        "relation" => relations::read(alloc, files),
         "number" => numbers::read(alloc, given),
         "alu" => parts::alu_table(alloc, given),
         "slice" => parts::slice_table(alloc, given),
         "step" => parts::stepped(alloc, given),
         "cycle" => cycles::run(alloc, given, files),
+        "run" => runs::cycles(alloc, given, files),
+        "until" => runs::until(alloc, given, files),
         _ => Err(wrong("no such call")),
     }
 }

@@ -1,5 +1,5 @@
 -- What an environment may set, and what is made of it.
-use Rattle.std.proofs.Common.{◌≡◌, ◌≢◌, ℕ, zero, suc, ◌+◌, ◌-◌, ◌^◌, ◌<◌, ◌≤◌, Bool, true, false, cond, ◌==◌, List, [], ◌∷◌, ◌++◌, length, map, get_or, take, slice_get, slice_index, ◌⊎◌, inl, inr, Option, Some, None, IfSome, option_map, lit<, lit≤, refl, sym, ap, ◌∙◌, subst, arith, add-one}
+use Rattle.std.proofs.Common.{◌≡◌, ◌≢◌, ℕ, zero, suc, ◌+◌, ◌^◌, ◌<◌, ◌≤◌, Bool, true, false, cond, ◌==◌, List, [], ◌∷◌, ◌++◌, length, map, get_or, take, slice_get, slice_index, inl, inr, Option, Some, None, IfSome, option_map, lit<, lit≤, refl, sym, ap, ◌∙◌, subst, arith}
 use Rattle.std.specs.List.{All}
 use Rattle.std.specs.Option.{option_to_list}
 use Rattle.std.proofs.Math.Pow.{pow_mono}
@@ -39,7 +39,8 @@ one_width a b width first second = cc
 
 pub width_few : (board : BoardParts) (n w : ℕ) → IsBoard board → element_width board n ≡ Some w → w ≤ 32
 width_few board n w is width = elim (cases_lt n (element_count board)) [
-  | inl there ↦ subst (λ v. v ≤ 32) (one_width _ w (element_width board n) (width_is board n there) width) (bits_few board (element_of board n) is)
+  | inl there ↦ subst (λ v. v ≤ 32) (one_width _ w (element_width board n) (width_is board n there) width)
+      (bits_few board (element_of board n) is)
   | inr past ↦ absurd (let none = no_width board n past in cc)
 ]
 
@@ -49,7 +50,8 @@ take-nil zero = refl
 take-nil (suc n) = refl
 
 -- the elements up to one more
-taken_more : {A B : Type 0} (f : A → B) (xs : List A) (n : ℕ) → map f (take n xs) ++ map f (option_to_list (slice_get xs n)) ≡ map f (take (n + 1) xs)
+taken_more : {A B : Type 0} (f : A → B) (xs : List A) (n : ℕ)
+    → map f (take n xs) ++ map f (option_to_list (slice_get xs n)) ≡ map f (take (n + 1) xs)
 taken_more f [] zero = refl
 taken_more f [] (suc n) = rw (take-nil (suc n + 1)) refl
 taken_more f (x ∷ xs) zero = refl
@@ -57,20 +59,25 @@ taken_more f (x ∷ xs) (suc n) =
     let e : suc n + 1 ≡ suc (n + 1) = omega arith in
     rw e (ap (λ rest. f x ∷ rest) (taken_more f xs n))
 
-pub settables_more : (board : BoardParts) (n : ℕ) (old new : List Settable) → old ≡ map settable (take n (elements_of board))
-    → new ≡ old ++ map settable (option_to_list (slice_get (elements_of board) n)) → new ≡ map settable (take (n + 1) (elements_of board))
+pub settables_more : (board : BoardParts) (n : ℕ) (old new : List Settable)
+    → old ≡ map settable (take n (elements_of board))
+    → new ≡ old ++ map settable (option_to_list (slice_get (elements_of board) n)) → new
+    ≡ map settable (take (n + 1) (elements_of board))
 settables_more board n old new was more = more ∙ rw was (taken_more settable (elements_of board) n)
 
-pub settables_all : (board : BoardParts) (n : ℕ) (old new : List Settable) → old ≡ map settable (take n (elements_of board)) → element_count board ≤ n
+pub settables_all : (board : BoardParts) (n : ℕ) (old new : List Settable)
+    → old ≡ map settable (take n (elements_of board)) → element_count board ≤ n
     → new ≡ old ++ (stack_pointer ∷ []) → new ≡ settables_of board
 settables_all board n old new was past more = more ∙ rw (was, take_all n (elements_of board) past) refl
 
 -- what is so of each element of a board, by number, is so of what lines may set
-all_by_number : (P : Element → Type 0) (xs : List Element) → ((n : ℕ) → IfSome (slice_get xs n) P) → All (λ (element : Element). P element) xs
+all_by_number : (P : Element → Type 0) (xs : List Element) → ((n : ℕ) → IfSome (slice_get xs n) P)
+    → All (λ (element : Element). P element) xs
 all_by_number P [] each = All-nil P
 all_by_number P (x ∷ xs) each = All-cons P x xs (each zero) (all_by_number P xs (λ n. each (suc n)))
 
-some_width : (n : ℕ) (found : Option Element) → ((w : ℕ) → option_map (λ (element : Element). element.width) found ≡ Some w → w ≤ 32)
+some_width : (n : ℕ) (found : Option Element)
+    → ((w : ℕ) → option_map (λ (element : Element). element.width) found ≡ Some w → w ≤ 32)
     → IfSome found (λ element. element.width ≤ 32)
 some_width n (Some element) few = few element.width refl
 some_width n None few = tt
@@ -81,27 +88,33 @@ settables_bounded board is =
     let few = all_by_number (λ (element : Element). element.width ≤ 32) (elements_of board)
     (λ n. some_width n (slice_get (elements_of board) n) (λ w width. width_few board n w is width)) in
     All-push fits (map settable (elements_of board)) stack_pointer
-    (All-map fits settable (elements_of board) (λ n d within. (pow_pos (get_or (elements_of board) n d).width, pow_mono (few n d within)))) (lit< tt, lit≤ tt)
+    (All-map fits settable (elements_of board) (λ n d within.
+    (pow_pos (get_or (elements_of board) n d).width, pow_mono (few n d within)))) (lit< tt, lit≤ tt)
 
 -- the bound of an element, and of the stack pointer
-bound_is : (xs : List Element) (rest : List Settable) (n v : ℕ) → n < length xs → v < bound_of (slice_get (map settable xs ++ rest) n)
+bound_is : (xs : List Element) (rest : List Settable) (n v : ℕ) → n < length xs
+    → v < bound_of (slice_get (map settable xs ++ rest) n)
     → IfSome (option_map (λ (element : Element). element.width) (slice_get xs n)) (λ w. v < 2 ^ w)
 bound_is [] rest n v within small = absurd (omega arith)
 bound_is (x ∷ xs) rest zero v within small = small
 bound_is (x ∷ xs) rest (suc n) v within small = bound_is xs rest n v (omega arith) small
 
-pub value_in : (board : BoardParts) (n v : ℕ) → n < element_count board → v < bound_of (slice_get (settables_of board) n) → IsValueOf board n v
+pub value_in : (board : BoardParts) (n v : ℕ) → n < element_count board
+    → v < bound_of (slice_get (settables_of board) n) → IsValueOf board n v
 value_in board n v within small = bound_is (elements_of board) (stack_pointer ∷ []) n v within small
 
-pointer_bound : (xs : List Element) (v : ℕ) → v < bound_of (slice_get (map settable xs ++ (stack_pointer ∷ [])) (length xs)) → v < 6
+pointer_bound : (xs : List Element) (v : ℕ)
+    → v < bound_of (slice_get (map settable xs ++ (stack_pointer ∷ [])) (length xs)) → v < 6
 pointer_bound [] v small = small
 pointer_bound (x ∷ xs) v small = pointer_bound xs v small
 
-pub pointer_in : (board : BoardParts) (v : ℕ) → v < bound_of (slice_get (settables_of board) (element_count board)) → v < 6
+pub pointer_in : (board : BoardParts) (v : ℕ) → v < bound_of (slice_get (settables_of board) (element_count board))
+    → v < 6
 pointer_in board v small = pointer_bound (elements_of board) v small
 
 pub settable_count : (board : BoardParts) → length (settables_of board) ≡ element_count board + 1
-settable_count board = length-append (map settable (elements_of board)) (stack_pointer ∷ []) ∙ ap (λ n. n + 1) (length-map (elements_of board) settable)
+settable_count board = length-append (map settable (elements_of board)) (stack_pointer ∷ [])
+    ∙ ap (λ n. n + 1) (length-map (elements_of board) settable)
 
 -- ---- lists without the zeros at their end
 
@@ -121,7 +134,8 @@ cond_below bound x true some here n = some
 cond_below bound x false some here zero = here
 cond_below bound x false some here (suc n) = some
 
-before_below : (bound x : ℕ) (rest : List ℕ) → 0 < bound → x < bound → ((n : ℕ) → slice_index rest n < bound) → (n : ℕ) → slice_index (before_trimmed x rest) n < bound
+before_below : (bound x : ℕ) (rest : List ℕ) → 0 < bound → x < bound → ((n : ℕ) → slice_index rest n < bound)
+    → (n : ℕ) → slice_index (before_trimmed x rest) n < bound
 before_below bound x [] some here each n = cond_below bound x (x == 0) some here n
 before_below bound x (y ∷ rest) some here each zero = here
 before_below bound x (y ∷ rest) some here each (suc n) = each n
@@ -140,11 +154,21 @@ unfolding trimmed
 front_is [] kept is = take-nil kept
 front_is (x ∷ xs) zero is =
     let none : x ≡ 0 = is.rest 0 (omega arith) (omega arith) in
-    let later = front_is xs zero (record { within = omega arith; last = λ k e. absurd cc; rest = λ i after within. is.rest (suc i) (omega arith) (omega arith) }) in
+    let later = front_is xs zero (record {
+      within = omega arith;
+      last = λ k e. absurd cc;
+      rest = λ i after within.
+          is.rest (suc i) (omega arith) (omega arith);
+    }) in
     rw (sym later, none) refl
 front_is (x ∷ xs) (suc k) is =
     let fewer : k ≤ length xs = omega (arith, is.within) in
-    let later = front_is xs k (record { within = fewer; last = λ j e. is.last (suc j) (ap suc e); rest = λ i after within. is.rest (suc i) (omega arith) (omega arith) }) in
+    let later = front_is xs k (record {
+      within = fewer;
+      last = λ j e. is.last (suc j) (ap suc e);
+      rest = λ i after
+          within. is.rest (suc i) (omega arith) (omega arith);
+    }) in
     rw (sym later) (sym (put_before x k xs fewer (λ e. is.last 0 (ap suc e))))
 
 -- one number more: the front goes on to it where it isn't 0, and is the same where it is
@@ -155,7 +179,8 @@ front_grows xs kept n some is = record {
   rest = λ i after within. absurd (omega arith);
 }
 
-stays_at : (xs : List ℕ) (kept n i : ℕ) → slice_index xs n ≡ 0 → IsFront xs kept n → kept ≤ i → i < n + 1 → slice_index xs i ≡ 0
+stays_at : (xs : List ℕ) (kept n i : ℕ) → slice_index xs n ≡ 0 → IsFront xs kept n → kept ≤ i → i < n + 1
+    → slice_index xs i ≡ 0
 stays_at xs kept n i none is after within = elim (cases_lt i n) [
   | inl before ↦ is.rest i after before
   | inr here ↦ let same : i ≡ n = omega arith in rw same none
@@ -169,11 +194,14 @@ front_stays xs kept n none is = record {
 }
 
 -- the front of the whole list
-pub front_to : (xs : List ℕ) (kept n : ℕ) → n ≤ length xs → length xs ≤ n → IsFront xs kept n → IsFront xs kept (length xs)
+pub front_to : (xs : List ℕ) (kept n : ℕ) → n ≤ length xs → length xs ≤ n → IsFront xs kept n
+    → IsFront xs kept (length xs)
 front_to xs kept n most least is = let all : n ≡ length xs = omega arith in subst (λ m. IsFront xs kept m) all is
 
 -- the numbers of a front are the list's
-pub trimmed_below : (bound : ℕ) (xs : List ℕ) → 0 < bound → ((n : ℕ) → slice_index xs n < bound) → (n : ℕ) → slice_index (trimmed xs) n < bound
+pub trimmed_below : (bound : ℕ) (xs : List ℕ) → 0 < bound → ((n : ℕ) → slice_index xs n < bound) → (n : ℕ)
+    → slice_index (trimmed xs) n < bound
 unfolding trimmed
 trimmed_below bound [] some each n = some
-trimmed_below bound (x ∷ xs) some each n = before_below bound x (trimmed xs) some (each 0) (trimmed_below bound xs some (λ k. each (suc k))) n
+trimmed_below bound (x ∷ xs) some each n = before_below bound x (trimmed xs) some (each 0)
+    (trimmed_below bound xs some (λ k. each (suc k))) n

@@ -1,5 +1,6 @@
--- What the lines of an environment, a start or a counter give: values of elements, words of the memory, and the lists of an environment.
-use Rattle.std.specs.Prelude.{◌≡◌, ℕ, ◌+◌, ◌<◌, ◌^◌, ◌≤◌, List, [], ◌∷◌, ◌++◌, codes, length, map, replicate, slice_index, slice_index_or, slice_set, slice_get, All, Bool, true, false, ◌&&◌, if◌then◌else◌, nat_lt, ◌==◌, ok_or, Option, Some, None, Result, Ok, Err}
+-- What the lines of an environment, a start or a counter give: values of elements, words of the memory, and the lists
+-- of an environment.
+use Rattle.std.specs.Prelude.{◌≡◌, ℕ, ◌+◌, ◌<◌, ◌^◌, ◌≤◌, List, [], ◌∷◌, ◌++◌, codes, length, replicate, slice_index, slice_index_or, slice_set, slice_get, All, Bool, true, false, ◌&&◌, if◌then◌else◌, nat_lt, ◌==◌, ok_or, Option, Some, None, Result, Ok, Err}
 use Rattle.std.specs.List.{position}
 use Rattle.std.specs.Str.{bytes_eq}
 use Rattle.mw_board.specs.declared.parts.BoardParts.{BoardParts}
@@ -30,10 +31,11 @@ owner_text Machine = codes "m"
 
 -- the number of the element OWNER.NAME among those that lines may name
 abbrev pub number_named : List Settable → List ℕ → List ℕ → Option ℕ
-number_named elements owner name = position (λ element. bytes_eq owner (owner_text element.owner) && bytes_eq name element.name) elements
+number_named elements owner name = position (λ element. bytes_eq owner (owner_text element.owner) && bytes_eq name
+    element.name) elements
 
--- What is given so far: the value of each element by number, and whether a line set it; each word of the memory, and whether a line gave
--- it; the input words, the interrupt bits and the noise words.
+-- What is given so far: the value of each element by number, and whether a line set it; each word of the memory, and
+-- whether a line gave it; the input words, the interrupt bits and the noise words.
 pub record Given : Type 0 where
   pub values : List ℕ
   pub set : List Bool
@@ -57,7 +59,8 @@ nothing_given elements words = record {
 
 -- a value below a bound
 abbrev pub value_below : ℕ → Numeral → Result ℕ TextFault
-value_below bound numeral = if nat_lt numeral.value bound then Ok numeral.value else Err (fault_on numeral.token ValueTooWide)
+value_below bound numeral = if nat_lt numeral.value bound then Ok numeral.value else Err
+    (fault_on numeral.token ValueTooWide)
 
 -- whether the element with a number is free to be set
 abbrev pub is_free : Option Settable → Bool
@@ -81,16 +84,21 @@ with_value elements place number numeral given =
 -- set ELEMENT VALUE
 unfoldable pub with_set : List Settable → List ℕ → Dotted → Numeral → Given → Result Given TextFault
 with_set elements text element numeral given = do
-  number ← ok_or (number_named elements (spelled text element.owner) (spelled text element.name)) (fault_on element.owner UnknownElement)
+  number ← ok_or (number_named elements (spelled text element.owner) (spelled text element.name))
+      (fault_on element.owner UnknownElement)
   with_value elements element.owner number numeral given
 
--- a word of the memory, of so many bits, at an address that stands at this place: one of the memory's, which no line gave before
+-- a word of the memory, of so many bits, at an address that stands at this place: one of the memory's, which no line
+-- gave before
 unfoldable pub with_word : ℕ → Token → ℕ → Numeral → Given → Result Given TextFault
 with_word width place address numeral given =
     if nat_lt address (length given.memory) then (
     if slice_index_or given.written address false then Err (fault_on place Twice)
     else (value_below (2 ^ width) numeral >>= λ word.
-    Ok (record given { memory = slice_set given.memory address word; written = slice_set given.written address true })))
+    Ok (record given {
+      memory = slice_set given.memory address word;
+      written = slice_set given.written address true;
+    })))
     else Err (fault_on place ValueTooWide)
 
 -- what is given so far, and the address of the next word of a line
@@ -147,7 +155,8 @@ abbrev pub with_statement : List Settable → ℕ → List ℕ → Given → Sta
 with_statement elements width text given statements.Blank = Ok given
 with_statement elements width text given (statements.Set element value) = with_set elements text element value given
 with_statement elements width text given (statements.Memory address values) = with_words width address values given
-with_statement elements width text given (statements.Series series values) = steps (with_entry width series) given values
+with_statement elements width text given (statements.Series series values) = steps (with_entry width series) given
+    values
 
 -- what is given after a line
 unfoldable pub with_line : List Settable → ℕ → List ℕ → Given → Line → Result Given TextFault
@@ -157,7 +166,8 @@ with_line elements width text given line = do
 
 -- what lines give of a board, or their first fault
 abbrev pub given_by : BoardParts → List Settable → List ℕ → List Line → Result Given TextFault
-given_by board elements text lines = steps (with_line elements board.width text) (nothing_given (length elements) (2 ^ board.address)) lines
+given_by board elements text lines = steps (with_line elements board.width text)
+    (nothing_given (length elements) (2 ^ board.address)) lines
 
 -- an item before those that are left without the zeros at their end
 abbrev pub before_trimmed : ℕ → List ℕ → List ℕ

@@ -1,5 +1,5 @@
 -- A run that a call has made longer: what it leaves is what it was given, and then a run from there.
-use Rattle.std.specs.Prelude.{◌≡◌, ℕ, List, Option, Some, None, option_map}
+use Rattle.std.specs.Prelude.{ℕ, List, Option, option_map}
 use Rattle.mw_base.specs.declared.event.Event.{Event}
 use Rattle.mw_board.specs.declared.parts.BoardParts.{BoardParts}
 use Rattle.mw_cycle.specs.declared.environment.Clock.{Clock}

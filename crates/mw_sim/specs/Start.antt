@@ -1,5 +1,5 @@
 -- The start of a run that an environment file gives.
-use Rattle.std.specs.Prelude.{ℕ, zero, suc, ◌+◌, ◌^◌, List, [], ◌∷◌, ◌++◌, codes, length, drop, map, slice_index, true, if◌then◌else◌, ◌==◌, find, option_map, Option, Result, Ok, Err}
+use Rattle.std.specs.Prelude.{ℕ, zero, suc, ◌^◌, List, [], ◌∷◌, ◌++◌, codes, length, drop, map, slice_index, true, if◌then◌else◌, ◌==◌, find, option_map, Option, Result, Ok, Err}
 use Rattle.std.specs.List.{prefix_len}
 use Rattle.std.specs.Str.{bytes_eq}
 use Rattle.mw_base.specs.declared.cause.Cause.TheVariants.{BadSyntax}
@@ -41,7 +41,8 @@ settables_of board = map settable (elements_of board) ++ (stack_pointer ∷ [])
 
 -- the address of the label with a name
 abbrev pub label_named : List Label → List ℕ → Option ℕ
-label_named labels name = option_map (λ (label : Label). label.address) (find (λ (label : Label). bytes_eq name label.name) labels)
+label_named labels name = option_map (λ (label : Label). label.address)
+    (find (λ (label : Label). bytes_eq name label.name) labels)
 
 -- the first token, which has to be this word
 unfoldable pub first_word : List ℕ → Cursor → Result Token TextFault
@@ -78,7 +79,8 @@ with_pointer sp s = record s { seq = record s.seq { sp = sp } }
 unfoldable pub state_with : BoardParts → ℕ → Given → BoardState
 state_with board address given =
     with_pointer (slice_index given.values (element_count board))
-    (with_values board given.values (record (cleared board) { at = address; memory = given.memory }) (element_count board))
+    (with_values board given.values (record (cleared board) { at = address; memory = given.memory })
+    (element_count board))
 
 -- the environment that is given, without the zeros at its lists' ends
 unfoldable pub environment_with : Given → Environment

@@ -132,7 +132,8 @@ fn bound_of(elements: &[Settable], number: usize) -> u64
 impl Given {
     /// Nothing yet.
     fn nothing(alloc: Global, board: &Board, elements: &[Settable]) -> Result<Given, NoMemory>
-        ensures { IfOk result (λ given. given_seen given ≡ nothing_given (length elements.now) (2 ^ board.now.address)) }
+        ensures { IfOk result (λ given. given_seen given
+            ≡ nothing_given (length elements.now) (2 ^ board.now.address)) }
     {
         let words = 1 << board.parts().address;
         let elements = elements.len();
@@ -147,7 +148,8 @@ impl Given {
         })
     }
 
-    /// The element with this number, whose name stands at this place, has a value: cause 31 or 56 at the name, 33 at the value.
+    /// The element with this number, whose name stands at this place, has a value: cause 31 or 56 at the name, 33 at
+    /// the value.
     #[tactic(auto, unfolding(crate::specs::Given::with_value))]
     fn set_value(
         &mut self,
@@ -159,7 +161,8 @@ impl Given {
         requires bounded { AreBounded elements.now }
         requires values { HasValues elements.now (given_seen self.old) }
         requires there { number < length elements.now }
-        ensures { Gives (λ done. given_seen self.new) result (with_value elements.now place number value (given_seen self.old)) }
+        ensures { Gives (λ done. given_seen self.new) result
+            (with_value elements.now place number value (given_seen self.old)) }
     {
         if !is_free(elements, number) {
             return Err(Refused::At(fault_on(place, Cause::NotFree)));
@@ -184,7 +187,8 @@ impl Given {
     ) -> Result<(), Refusal>
         requires bounded { AreBounded elements.now }
         requires values { HasValues elements.now (given_seen self.old) }
-        ensures { Gives (λ done. given_seen self.new) result (with_set elements.now text.now element value (given_seen self.old)) }
+        ensures { Gives (λ done. given_seen self.new) result
+            (with_set elements.now text.now element value (given_seen self.old)) }
     {
         let Dotted { owner, name } = element;
         match number_named(elements, spelled(text, owner), spelled(text, name)) {
@@ -203,7 +207,8 @@ impl Given {
         word: Numeral,
     ) -> Result<(), Refusal>
         requires image { HasImage board.now (given_seen self.old) }
-        ensures gives { Gives (λ done. given_seen self.new) result (with_word board.now.width place address word (given_seen self.old)) }
+        ensures gives { Gives (λ done. given_seen self.new) result
+            (with_word board.now.width place address word (given_seen self.old)) }
         ensures low { OnOk result (address < 65536) }
     {
         if address >= self.memory.len() as u128 {
@@ -229,7 +234,8 @@ impl Given {
     ) -> Result<(), Refusal>
         requires image { HasImage board.now (given_seen self.old) }
         requires low { address ≤ 65536 }
-        ensures { Gives (λ done. given_seen self.new) result (with_more_words board.now.width address words.now (given_seen self.old)) }
+        ensures { Gives (λ done. given_seen self.new) result
+            (with_more_words board.now.width address words.now (given_seen self.old)) }
     {
         let mut next = address;
         for word in words {
@@ -248,7 +254,8 @@ impl Given {
         words: &[Numeral],
     ) -> Result<(), Refusal>
         requires image { HasImage board.now (given_seen self.old) }
-        ensures { Gives (λ done. given_seen self.new) result (with_words board.now.width address words.now (given_seen self.old)) }
+        ensures { Gives (λ done. given_seen self.new) result
+            (with_words board.now.width address words.now (given_seen self.old)) }
     {
         match words {
             [] => Ok(()),
@@ -285,7 +292,8 @@ impl Given {
     /// An entry of a list: cause 14 or 33 at it.
     #[tactic(auto, unfolding(crate::specs::Given::with_entry))]
     fn add_entry(&mut self, board: &Board, series: Series, entry: Numeral) -> Result<(), Refusal>
-        ensures { Gives (λ done. given_seen self.new) result (with_entry board.now.width series (given_seen self.old) entry) }
+        ensures { Gives (λ done. given_seen self.new) result
+            (with_entry board.now.width series (given_seen self.old) entry) }
     {
         if self.series_length(series) >= MOST_ENTRIES {
             return Err(Refused::At(fault_on(entry.token, Cause::TooMany)));
@@ -303,7 +311,8 @@ impl Given {
         series: Series,
         entries: &[Numeral],
     ) -> Result<(), Refusal>
-        ensures { Gives (λ done. given_seen self.new) result (steps (with_entry board.now.width series) (given_seen self.old) entries.now) }
+        ensures { Gives (λ done. given_seen self.new) result
+            (steps (with_entry board.now.width series) (given_seen self.old) entries.now) }
     {
         for entry in entries {
             self.add_entry(board, series, *entry)?;
@@ -321,7 +330,8 @@ impl Given {
     ) -> Result<(), Refusal>
         requires bounded { AreBounded elements.now }
         requires given { IsGiven board.now elements.now (given_seen self.old) }
-        ensures { Gives (λ done. given_seen self.new) result (with_statement elements.now board.now.width text.now (given_seen self.old) statement) }
+        ensures { Gives (λ done. given_seen self.new) result
+            (with_statement elements.now board.now.width text.now (given_seen self.old) statement) }
     {
         match statement {
             Statement::Blank => Ok(()),
@@ -345,20 +355,21 @@ impl Given {
     ) -> Result<(), Refusal>
         requires bounded { AreBounded elements.now }
         requires given { IsGiven board.now elements.now (given_seen self.old) }
-        ensures { Gives (λ done. given_seen self.new) result (with_line elements.now board.now.width text.now (given_seen self.old) line.now) }
+        ensures { Gives (λ done. given_seen self.new) result
+            (with_line elements.now board.now.width text.now (given_seen self.old) line.now) }
     {
         let statement = statement_of(alloc, &Cursor::new(text, line, Cause::BadSyntax))?;
         self.add_statement(board, elements, text, statement)
     }
 }
 
-/// What lines of a text give of a board, behind the head of an environment, a start or a counter: the values of these elements, the
-/// memory, and the lists of an environment. What isn't given is 0.
+/// What lines of a text give of a board, behind the head of an environment, a start or a counter: the values of these
+/// elements, the memory, and the lists of an environment. What isn't given is 0.
 ///
 /// # Errors
 ///
-/// The first fault of the lines, line by line: cause 60 of the line; then, by place, 40, 56 and 31 of an element and 33 of its value; 31
-/// and 33 of a memory word; 14 and 33 of a list's entry. Want of memory.
+/// The first fault of the lines, line by line: cause 60 of the line; then, by place, 40, 56 and 31 of an element and
+/// 33 of its value; 31 and 33 of a memory word; 14 and 33 of a list's entry. Want of memory.
 pub fn given_by(
     alloc: Global,
     board: &Board,

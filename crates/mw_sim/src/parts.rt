@@ -7,7 +7,8 @@ use mw_base::Width;
 use mw_cycle::Datapath;
 use mw_slice::{sliced, sliced_shift};
 
-/// The slices of the word, four bits each, joined by lookahead. They answer and write what [`mw_cycle::Whole`] does, and take longer.
+/// The slices of the word, four bits each, joined by lookahead. They answer and write what [`mw_cycle::Whole`] does,
+/// and take longer.
 #[derive(Clone, Copy, Debug, PartialEq, Eq)]
 pub struct Parts;
 

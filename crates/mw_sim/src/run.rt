@@ -68,11 +68,11 @@ fn stands_at(state: &State, addresses: &[u16]) -> bool
     addresses.contains(&state.at)
 }
 
-/// Runs a board for `count` cycles from the state and the clock that are given, appends its events, and answers its clock after them.
-/// It takes no memory.
+/// Runs a board for `count` cycles from the state and the clock that are given, appends its events, and answers its
+/// clock after them. It takes no memory.
 ///
-/// The state fits the board, the environment is one of the board, there is spare room for `count` events, and the clock stays within
-/// 64 bits.
+/// The state fits the board, the environment is one of the board, there is spare room for `count` events, and the
+/// clock stays within 64 bits.
 pub fn run_cycles<A: Datapath>(
     part: &A,
     board: &Board,
@@ -99,15 +99,17 @@ pub fn run_cycles<A: Datapath>(
     reached
 }
 
-/// Runs a board from the state and the clock that are given to the next cycle start at one of these control addresses: for one cycle at
-/// least, and for `limit` cycles at most. It appends the events of these cycles, and answers the clock after them. It takes no memory.
+/// Runs a board from the state and the clock that are given to the next cycle start at one of these control
+/// addresses: for one cycle at least, and for `limit` cycles at most. It appends the events of these cycles, and
+/// answers the clock after them. It takes no memory.
 ///
-/// The state fits the board, the environment is one of the board, there is spare room for `limit` events, and the clock stays within
-/// 64 bits. There may be no addresses.
+/// The state fits the board, the environment is one of the board, there is spare room for `limit` events, and the
+/// clock stays within 64 bits. There may be no addresses.
 ///
 /// # Errors
 ///
-/// Exactly where `limit` cycles passed without one of the addresses. The state, the events and the clock are those after them.
+/// Exactly where `limit` cycles passed without one of the addresses. The state, the events and the clock are those
+/// after them.
 pub fn run_to_boundary<A: Datapath>(
     part: &A,
     board: &Board,
@@ -124,10 +126,12 @@ pub fn run_to_boundary<A: Datapath>(
     requires cycle { clock.cycle + limit < 2 ^ 64 }
     requires taken { clock.taken + limit < 2 ^ 64 }
     requires room { vec_len events.old + limit ≤ vec_capacity events.old }
-    ensures reached { IfOk result (λ end. segment_after board.now store.now.words env.now (run_at state.old events.old.items clock) boundaries.now limit
+    ensures reached { IfOk result (λ end. segment_after board.now store.now.words env.now
+        (run_at state.old events.old.items clock) boundaries.now limit
         ≡ Some (run_at state.new events.new.items end)) }
     ensures named { IfOk result (λ end. is_named boundaries.now state.new.at ≡ true) }
-    ensures late { IfErr result (λ late. segment_after board.now store.now.words env.now (run_at state.old events.old.items clock) boundaries.now limit ≡ None) }
+    ensures late { IfErr result (λ late. segment_after board.now store.now.words env.now
+        (run_at state.old events.old.items clock) boundaries.now limit ≡ None) }
     ensures passed { IfErr result (λ late. run_at state.new events.new.items late.clock
         ≡ cycles_after board.now store.now.words env.now (run_at state.old events.old.items clock) limit) }
     ensures fits { Fits board.now state.new }

@@ -47,7 +47,8 @@ fn push_element(
     board: &Board,
     number: usize,
 ) -> Result<(), NoMemory>
-    ensures { OnOk result (elements.new.items ≡ elements.old.items ++ map settable (option_to_list (slice_get (elements_of board.now) number))) }
+    ensures { OnOk result (elements.new.items
+        ≡ elements.old.items ++ map settable (option_to_list (slice_get (elements_of board.now) number))) }
 {
     // A call for the proof: its clause `valid` says that no element of a board has over 32 bits.
     let _ = board.parts();
@@ -291,9 +292,9 @@ fn start_in(
 ///
 /// # Errors
 ///
-/// The first fault of the text: causes 1 to 4 of its bytes; then cause 60, 30 or 33 of its first line that isn't blank, `at PLACE`; then,
-/// line by line, cause 60 of the line and, by place, 40 and 31 of an element and 33 of its value, 31 and 33 of a memory word, 14 and 33 of a
-/// list's entry. Want of memory.
+/// The first fault of the text: causes 1 to 4 of its bytes; then cause 60, 30 or 33 of its first line that isn't
+/// blank, `at PLACE`; then, line by line, cause 60 of the line and, by place, 40 and 31 of an element and 33 of its
+/// value, 31 and 33 of a memory word, 14 and 33 of a list's entry. Want of memory.
 #[tactic(auto, unfolding(crate::specs::Start::start_of))]
 pub fn read_start(
     alloc: Global,

@@ -4,7 +4,8 @@ use Rattle.std.specs.BTreeMap.{is_at}
 use Rattle.std.specs.Cmp.{nat_cmp_total, eq_by_cmp_equiv}
 use Rattle.std.specs.Map.{lookup}
 use Rattle.std.specs.Ordering.{nat_cmp, eq_by_cmp}
-use Rattle.std.specs.FinMap.{get, insert, find, from_entries, get-from_entries, get-insert, same_map, nat_cmp-IsAntisymmetric}
+use Rattle.std.specs.FinMap.{get, insert, find, from_entries, get-from_entries, get-insert, same_map}
+use Rattle.std.specs.FinMap.{nat_cmp-IsAntisymmetric}
 
 found : (word : ℕ) (entries : List (ℕ × ℕ)) → lookup (is_at (nat_cmp word)) entries ≡ find nat_cmp word entries
 found word [] = refl

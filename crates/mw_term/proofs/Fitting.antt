@@ -1,14 +1,18 @@
 -- An op that fits some terms: what it is over these, and over more of them.
-use Rattle.std.proofs.Common.{◌≡◌, ℕ, ◌+◌, ◌<◌, ◌^◌, List, ◌++◌, length, slice_index, refl, ap₂, arith, sym, ◌∙◌, length-append}
-use Rattle.std.specs.Prelude.{Bool, true, false, ◌==◌, if◌then◌else◌}
+use Rattle.std.proofs.Common.{◌≡◌, ℕ, ◌+◌, ◌<◌, ◌^◌, List, ◌++◌, length, slice_index, refl, ap₂, arith, sym, ◌∙◌}
+use Rattle.std.proofs.Common.{length-append}
+use Rattle.std.specs.Prelude.{Bool, true, false, ◌-◌, ◌%◌, ◌==◌, nat_lt, bit_and, bit_or, bit_xor, if◌then◌else◌}
+use Rattle.mw_base.specs.Carries.{carry_at}
+use Rattle.mw_base.specs.Words.{num, differ}
 use Rattle.std.proofs.lemmas.List.{get_or_append_left}
 use Rattle.std.proofs.lemmas.Nat.{pow_pos, mod_below, or_lt, xor_lt, and_le_l}
 use Rattle.mw_base.proofs.Carries.{num_small}
 use Rattle.mw_base.proofs.Widths.{joined_below}
 use Rattle.mw_term.specs.declared.op.Op.{Op}
-use Rattle.mw_term.specs.declared.op.Op.TheVariants.{Con, Var, Not, And, Or, Xor, Sum, Cout, Ovf, Eq, Lt, Ite, Part, Join, Tab}
+use Rattle.mw_term.specs.declared.op.Op.TheVariants.{Con, Var, Not, And, Or, Xor, Sum, Cout, Ovf, Eq, Lt, Ite, Part}
+use Rattle.mw_term.specs.declared.op.Op.TheVariants.{Join, Tab}
 use Rattle.mw_term.specs.Assigned.{Given}
-use Rattle.mw_term.specs.Table.{op_width, IsWidth, ArePair, IsBit, OpFits, IsMap}
+use Rattle.mw_term.specs.Table.{op_width, IsWidth, AreWidths, ArePair, IsBit, OpFits, IsMap}
 use Rattle.mw_term.specs.Values.{op_value, AreWords}
 
 -- ---- more terms behind those there are
@@ -64,6 +68,26 @@ width_more map ws more (Part a low w) h = refl
 width_more map ws more (Join high low) h = ap₂ (λ (m n : ℕ). m + n) (stays ws more high h.0) (stays ws more low h.1)
 width_more map ws more (Tab i) h = refl
 
+-- what is made of two terms' values stays
+pair_stays : (ws vs further : List ℕ) (a b : ℕ) → ArePair ws a b → length vs ≡ length ws → (made : ℕ → ℕ → ℕ)
+    → made (slice_index (vs ++ further) a) (slice_index (vs ++ further) b) ≡ made (slice_index vs a) (slice_index vs b)
+pair_stays ws vs further a b h same made =
+    ap₂ made (stays vs further a (omega (arith, same, h.0))) (stays vs further b (omega (arith, same, h.1)))
+
+-- and so does what is made of the width and the values of a sum
+sum_stays : (ws vs wider further : List ℕ) (a b c : ℕ) → ArePair ws a b × IsBit ws c → length vs ≡ length ws
+    → (made : (w r s k : ℕ) → ℕ)
+    → made (slice_index (ws ++ wider) a) (slice_index (vs ++ further) a) (slice_index (vs ++ further) b)
+    (slice_index (vs ++ further) c)
+    ≡ made (slice_index ws a) (slice_index vs a) (slice_index vs b) (slice_index vs c)
+sum_stays ws vs wider further a b c h same made =
+    rw (
+      stays ws wider a h.0.0,
+      stays vs further a (omega (arith, same, h.0.0)),
+      stays vs further b (omega (arith, same, h.0.1)),
+      stays vs further c (omega (arith, same, h.1.0)),
+    ) refl
+
 -- and its value
 pub value_more : (map : List ℕ) (given : Given) (ws vs wider further : List ℕ) (op : Op) → OpFits map ws op
     → length vs ≡ length ws
@@ -73,37 +97,18 @@ value_more map given ws vs wider further (Con number w) h same = refl
 value_more map given ws vs wider further (Var word w) h same = refl
 value_more map given ws vs wider further (Not a) h same =
     rw (stays ws wider a h, stays vs further a (omega (arith, same))) refl
-value_more map given ws vs wider further (And a b) h same =
-    rw (stays vs further a (omega (arith, same, h.0)), stays vs further b (omega (arith, same, h.1))) refl
-value_more map given ws vs wider further (Or a b) h same =
-    rw (stays vs further a (omega (arith, same, h.0)), stays vs further b (omega (arith, same, h.1))) refl
-value_more map given ws vs wider further (Xor a b) h same =
-    rw (stays vs further a (omega (arith, same, h.0)), stays vs further b (omega (arith, same, h.1))) refl
+value_more map given ws vs wider further (And a b) h same = pair_stays ws vs further a b h same bit_and
+value_more map given ws vs wider further (Or a b) h same = pair_stays ws vs further a b h same bit_or
+value_more map given ws vs wider further (Xor a b) h same = pair_stays ws vs further a b h same bit_xor
 value_more map given ws vs wider further (Sum a b c) h same =
-    rw (
-      stays ws wider a h.0.0,
-      stays vs further a (omega (arith, same, h.0.0)),
-      stays vs further b (omega (arith, same, h.0.1)),
-      stays vs further c (omega (arith, same, h.1.0)),
-    ) refl
+    sum_stays ws vs wider further a b c h same (λ w r s k. (r + s + k) % 2 ^ w)
 value_more map given ws vs wider further (Cout a b c) h same =
-    rw (
-      stays ws wider a h.0.0,
-      stays vs further a (omega (arith, same, h.0.0)),
-      stays vs further b (omega (arith, same, h.0.1)),
-      stays vs further c (omega (arith, same, h.1.0)),
-    ) refl
+    sum_stays ws vs wider further a b c h same (λ w r s k. num (carry_at r s (k == 1) w))
 value_more map given ws vs wider further (Ovf a b c) h same =
-    rw (
-      stays ws wider a h.0.0,
-      stays vs further a (omega (arith, same, h.0.0)),
-      stays vs further b (omega (arith, same, h.0.1)),
-      stays vs further c (omega (arith, same, h.1.0)),
-    ) refl
-value_more map given ws vs wider further (Eq a b) h same =
-    rw (stays vs further a (omega (arith, same, h.0)), stays vs further b (omega (arith, same, h.1))) refl
-value_more map given ws vs wider further (Lt a b) h same =
-    rw (stays vs further a (omega (arith, same, h.0)), stays vs further b (omega (arith, same, h.1))) refl
+    sum_stays ws vs wider further a b c h same
+    (λ w r s k. num (differ (carry_at r s (k == 1) (w - 1)) (carry_at r s (k == 1) w)))
+value_more map given ws vs wider further (Eq a b) h same = pair_stays ws vs further a b h same (λ r s. num (r == s))
+value_more map given ws vs wider further (Lt a b) h same = pair_stays ws vs further a b h same (λ r s. num (nat_lt r s))
 value_more map given ws vs wider further (Ite c a b) h same =
     rw (
       stays vs further c (omega (arith, same, h.0.0)),
@@ -122,7 +127,7 @@ value_more map given ws vs wider further (Tab i) h same = rw (stays vs further i
 -- ---- what an op is over terms
 
 -- an op has 1 to 32 bits
-pub width_range : (map ws : List ℕ) (op : Op) → ((i : ℕ) → i < length ws → IsWidth (slice_index ws i))
+pub width_range : (map ws : List ℕ) (op : Op) → AreWidths ws
     → OpFits map ws op
     → IsWidth (op_width ws op)
 unfolding op_width

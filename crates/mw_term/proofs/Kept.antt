@@ -1,15 +1,19 @@
 -- What the code keeps of a table: the ops, and beside them their widths.
-use Rattle.std.proofs.Common.{◌≡◌, ◌⊎◌, inl, inr, ℕ, zero, suc, length-append, ◌+◌, ◌<◌, ◌≤◌, ◌^◌, List, [], ◌∷◌, ◌++◌, Some, length, take, drop, slice_index, get_or, refl, ap, arith, sym, ◌∙◌}
+use Rattle.std.proofs.Common.{◌≡◌, ◌⊎◌, inl, inr, ℕ, zero, suc, length-append, ◌+◌, ◌<◌, ◌≤◌, ◌^◌, List, [], ◌∷◌}
+use Rattle.std.proofs.Common.{◌++◌, Some, length, take, drop, slice_index, get_or, refl, ap, arith, sym, ◌∙◌}
 use Rattle.std.specs.Prelude.{slice_get}
-use Rattle.std.proofs.lemmas.List.{take-append-drop, take_more, take_all, length-take-le, get_or_read, take-append-le, get_or_push}
+use Rattle.std.proofs.lemmas.List.{take-append-drop, take_more, take_all, length-take-le, get_or_read, take-append-le}
+use Rattle.std.proofs.lemmas.List.{get_or_push}
 use Rattle.std.proofs.Math.Seq.{take-append_seam}
 use Rattle.std.proofs.lemmas.Option.{slice_get_read, same_Some}
 use Rattle.mw_term.specs.declared.op.Op.{Op}
 use Rattle.mw_term.specs.Assigned.{Given}
-use Rattle.mw_term.specs.Table.{table_of, op_width, widths_after, widths_of, term_width, width_over, IsWidth, OpFits, Fits, IsTable, IsKept}
+use Rattle.mw_term.specs.Table.{table_of, op_width, widths_after, widths_of, term_width, width_over, IsWidth}
+use Rattle.mw_term.specs.Table.{AreWidths, OpFits, Fits, IsTable, IsKept}
 use Rattle.mw_term.specs.Values.{op_value, values_after, values_of, term_value, AreWords, IsTermOf, Keeps}
 use Rattle.mw_term.proofs.Fitting.{stays}
-use Rattle.mw_term.proofs.Tables.{widths_append, widths_begin, values_append, values_begin, widths_count, widths_push, values_push, values_count, words_before, words_of, widths_range}
+use Rattle.mw_term.proofs.Tables.{widths_append, widths_begin, values_append, values_begin, widths_count, widths_push}
+use Rattle.mw_term.proofs.Tables.{values_push, values_count, words_before, words_of, widths_range, terms_have_ops}
 
 -- there is a width for each term
 pub kept_inside : (ops : List Op) (widths map : List ℕ) (term : ℕ) → IsKept ops widths map → term < length ops
@@ -32,11 +36,8 @@ kept_range ops widths map term w kept inside read =
     let range : IsWidth (term_width (table_of ops map) term) = widths_range (table_of ops map) kept.table term there in
     rw is range
 
-pub kept_ranges : (ops : List Op) (widths map : List ℕ) → IsKept ops widths map → (i : ℕ) → i < length widths
-    → IsWidth (slice_index widths i)
-kept_ranges ops widths map kept i inside =
-    let there : i < length (widths_of ops) = rw kept.widths at inside in
-    rw kept.widths (widths_range (table_of ops map) kept.table i there)
+pub kept_ranges : (ops : List Op) (widths map : List ℕ) → IsKept ops widths map → AreWidths widths
+kept_ranges ops widths map kept = rw kept.widths (widths_range (table_of ops map) kept.table)
 
 -- the widths of the terms before a place
 pub widths_take : (ops : List Op) (n : ℕ) → n ≤ length ops → take n (widths_of ops) ≡ widths_of (take n ops)
@@ -55,6 +56,13 @@ pub kept_fits : (ops : List Op) (widths map : List ℕ) (place : ℕ) (op : Op) 
 kept_fits ops widths map place op kept inside read =
     let fits = kept.table.fit place op (slice_get_read ops (length ops) place op refl inside read) in
     rw (kept.widths, widths_take ops place (omega arith)) fits
+
+-- and the terms that there are
+pub kept_op : (ops : List Op) (widths map : List ℕ) (term : ℕ) (op : Op) → IsKept ops widths map → term < length ops
+    → op ≡ get_or ops term op → Fits (table_of ops map) op
+kept_op ops widths map term op kept inside read =
+    let here : slice_get ops term ≡ Some op = slice_get_read ops (length ops) term op refl inside read in
+    (terms_have_ops (table_of ops map) term op kept.table here).fits
 
 -- and these have words
 pub kept_words : (ops : List Op) (widths map values : List ℕ) (given : Given) (place : ℕ) → IsKept ops widths map

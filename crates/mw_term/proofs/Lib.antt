@@ -1,5 +1,6 @@
 pub mod Assigned
 pub mod Cofactors
+pub mod Examples
 pub mod Fitting
 pub mod Fixed
 pub mod Indexes

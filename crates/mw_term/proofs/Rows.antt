@@ -1,5 +1,6 @@
 -- The operations of a row make the bits of an op's value.
-use Rattle.std.proofs.Common.{◌≡◌, ℕ, zero, suc, ◌+◌, ◌-◌, ◌*◌, ◌/◌, ◌%◌, ◌^◌, ◌<◌, List, [], ◌++◌, length, map, slice_index, refl, ap, ap₂, arith, sym, ◌∙◌, mod-eq_of_lt, inl, inr}
+use Rattle.std.proofs.Common.{◌≡◌, ℕ, zero, suc, ◌+◌, ◌-◌, ◌*◌, ◌/◌, ◌%◌, ◌^◌, ◌<◌, List, [], ◌++◌, length, map}
+use Rattle.std.proofs.Common.{slice_index, refl, ap, ap₂, arith, sym, ◌∙◌, mod-eq_of_lt, inl, inr}
 use Rattle.std.specs.Prelude.{Bool, true, false, not, ◌&&◌, ◌||◌, ◌==◌, nat_lt, if◌then◌else◌}
 use Rattle.std.proofs.lemmas.Bool.{lt-ltb, le-ltb, cases_lt}
 use Rattle.std.proofs.lemmas.Bool.Decides.{nat_tests}
@@ -11,17 +12,31 @@ use Rattle.mw_base.specs.Words.{bit_of, num, differ}
 use Rattle.mw_base.proofs.Bits.{bit_of-low, bit_of-and, bit_of-or, bit_of-xor, bit_of-complement}
 use Rattle.mw_base.proofs.Carries.{carry_at-zero, carry_at-suc, low-suc, num_below, sum_bit}
 use Rattle.mw_term.specs.declared.op.Op.{Op}
-use Rattle.mw_term.specs.declared.op.Op.TheVariants.{Con, Var, Not, And, Or, Xor, Sum, Cout, Ovf, Eq, Lt, Ite, Part, Join, Tab}
+use Rattle.mw_term.specs.declared.op.Op.TheVariants.{Con, Var, Not, And, Or, Xor, Sum, Cout, Ovf, Eq, Lt, Ite, Part}
+use Rattle.mw_term.specs.declared.op.Op.TheVariants.{Join, Tab}
 use Rattle.mw_term.specs.Assigned.{Given}
-use Rattle.mw_term.specs.Functions.{Function, never, made}
+use Rattle.mw_term.specs.Functions.{Function, never, Triple, made}
 use Rattle.mw_term.specs.Laws.{RowsMakeValues}
-use Rattle.mw_term.specs.Rows.{bit, next_carry, carry_into, equal_before, less_before, xor_row, carry_row, index_row, row, last_made, bit_made}
-use Rattle.mw_term.specs.Table.{Table, op_width, widths_of, width_over, IsBit, Fits, IsTable}
+use Rattle.mw_term.specs.Rows.{bit, next_carry, carry_into, equal_before, less_before, xor_row, carry_row, index_row}
+use Rattle.mw_term.specs.Rows.{operations, row_bits, row, last_made, fourth_made, bit_made}
+use Rattle.mw_term.specs.Table.{Table, op_width, widths_of, width_over, ArePair, IsBit, Fits, IsTable}
 use Rattle.mw_term.specs.Values.{op_value, values_of, term_value, value_over, AreWords}
 use Rattle.mw_term.proofs.Tables.{words_of}
 use Rattle.mw_term.proofs.Indexes.{at, index_made}
 
 -- ---- operations on two and three bits
+
+-- how the rows say that two bits differ, by choices alone
+abbrev apart : (x y : Bool) → Bool
+apart x y = if x then (if y then false else true) else y
+
+-- whether words with these top bits are the same, where those below are by e
+abbrev equal_step : (x y e : Bool) → Bool
+equal_step x y e = if (if x then y else (if y then false else true)) then e else false
+
+-- and whether the first is less, where the one below is by l
+abbrev less_step : (x y l : Bool) → Bool
+less_step x y l = if apart x y then y else l
 
 not_if : (b : Bool) → not b ≡ (if b then false else true)
 not_if true = refl
@@ -35,13 +50,13 @@ or_if : (a b : Bool) → (a || b) ≡ (if a then true else b)
 or_if true b = refl
 or_if false b = refl
 
-differ_if : (a b : Bool) → differ a b ≡ (if a then (if b then false else true) else b)
+differ_if : (a b : Bool) → differ a b ≡ apart a b
 differ_if true true = refl
 differ_if true false = refl
 differ_if false b = refl
 
 carry_if : (a b k : Bool)
-    → (a && b || (a || b) && k) ≡ (if (if a then (if b then false else true) else b) then k else a)
+    → (a && b || (a || b) && k) ≡ (if apart a b then k else a)
 carry_if true true true = refl
 carry_if true true false = refl
 carry_if true false true = refl
@@ -53,7 +68,7 @@ carry_if false false false = refl
 
 -- numbers of one bit more are the same where that bit is and the others are
 equal_if : (m r s : ℕ) (x y : Bool) → r < m → s < m
-    → (num x * m + r == num y * m + s) ≡ (if (if x then y else (if y then false else true)) then r == s else false)
+    → (num x * m + r == num y * m + s) ≡ equal_step x y (r == s)
 equal_if m r s true true p q = grind (arith, nat_tests)
 equal_if m r s true false p q = grind (arith, nat_tests)
 equal_if m r s false true p q = grind (arith, nat_tests)
@@ -62,7 +77,7 @@ equal_if m r s false false p q = grind (arith, nat_tests)
 -- and one is less where it lacks that bit, or where that bit is the same and the others are less
 less_if : (m r s : ℕ) (x y : Bool) → r < m → s < m
     → nat_lt (num x * m + r) (num y * m + s)
-    ≡ (if (if x then (if y then false else true) else y) then y else nat_lt r s)
+    ≡ less_step x y (nat_lt r s)
 less_if m r s true true p q = grind (arith, nat_tests)
 less_if m r s true false p q = grind (arith, nat_tests)
 less_if m r s false true p q = grind (arith, nat_tests)
@@ -99,56 +114,50 @@ module _ (t : Table) (given : Given) (a b : ℕ) where
   carry_is c (suc j) first =
       let one : j + 1 ≡ suc j = omega arith in
       let into : Bool = term_value t given c == 1 in
-      ap (λ (k : Bool). if (if bit_of va j then (if bit_of vb j then false else true) else bit_of vb j) then k else
-      bit_of va j)
-      (carry_is c j first)
+      ap (λ (k : Bool). if apart (bit_of va j) (bit_of vb j) then k else bit_of va j) (carry_is c j first)
       ∙ sym (carry_if (bit_of va j) (bit_of vb j) (carry_at va vb into j))
       ∙ sym (carry_at-suc va vb into j)
       ∙ ap (carry_at va vb into) one
 
-  equal_is : (j : ℕ) → equal_before (bit t a) (bit t b) j given ≡ (va % 2 ^ j == vb % 2 ^ j)
-  equal_is zero =
-      let first : va % 1 ≡ 0 = omega arith in
-      let second : vb % 1 ≡ 0 = omega arith in
-      rw (first, second) refl
-  equal_is (suc j) =
+  -- what goes along with a comparison of the low bits, by one step a bit
+  compared : (compare : ℕ → ℕ → Bool) (step : Bool → Bool → Bool → Bool) (before : ℕ → Function)
+      → before 0 given ≡ compare 0 0
+      → ((j : ℕ) → before (suc j) given ≡ step (bit_of va j) (bit_of vb j) (before j given))
+      → ((m r s : ℕ) (x y : Bool) → r < m → s < m
+      → compare (num x * m + r) (num y * m + s) ≡ step x y (compare r s))
+      → (j : ℕ) → before j given ≡ compare (va % 2 ^ j) (vb % 2 ^ j)
+  compared compare step before first next is zero =
+      let low_a : va % 1 ≡ 0 = omega arith in
+      let low_b : vb % 1 ≡ 0 = omega arith in
+      rw (low_a, low_b) first
+  compared compare step before first next is (suc j) =
       let one : suc j ≡ j + 1 = omega arith in
       let under = pow_pos j in
-      ap (λ (e : Bool). if (if bit_of va j then bit_of vb j else (if bit_of vb j then false else true)) then e else
-      false) (equal_is j)
-      ∙ sym (equal_if (2 ^ j) (va % 2 ^ j) (vb % 2 ^ j) (bit_of va j) (bit_of vb j) (mod_below va (2 ^ j) under)
+      next j
+      ∙ ap (step (bit_of va j) (bit_of vb j)) (compared compare step before first next is j)
+      ∙ sym (is (2 ^ j) (va % 2 ^ j) (vb % 2 ^ j) (bit_of va j) (bit_of vb j) (mod_below va (2 ^ j) under)
       (mod_below vb (2 ^ j) under))
-      ∙ ap₂ (λ (r s : ℕ). r == s) (sym (low-suc va j)) (sym (low-suc vb j))
-      ∙ ap (λ (k : ℕ). va % 2 ^ k == vb % 2 ^ k) (sym one)
+      ∙ ap₂ compare (sym (low-suc va j)) (sym (low-suc vb j))
+      ∙ ap (λ (k : ℕ). compare (va % 2 ^ k) (vb % 2 ^ k)) (sym one)
+
+  equal_is : (j : ℕ) → equal_before (bit t a) (bit t b) j given ≡ (va % 2 ^ j == vb % 2 ^ j)
+  equal_is = compared (λ r s. r == s) equal_step (equal_before (bit t a) (bit t b)) refl (λ j. refl) equal_if
 
   less_is : (j : ℕ) → less_before (bit t a) (bit t b) j given ≡ nat_lt (va % 2 ^ j) (vb % 2 ^ j)
-  less_is zero =
-      let first : va % 1 ≡ 0 = omega arith in
-      let second : vb % 1 ≡ 0 = omega arith in
-      rw (first, second) refl
-  less_is (suc j) =
-      let one : suc j ≡ j + 1 = omega arith in
-      let under = pow_pos j in
-      ap (λ (l : Bool). if (if bit_of va j then (if bit_of vb j then false else true) else bit_of vb j) then bit_of vb
-      j else l) (less_is j)
-      ∙ sym (less_if (2 ^ j) (va % 2 ^ j) (vb % 2 ^ j) (bit_of va j) (bit_of vb j) (mod_below va (2 ^ j) under)
-      (mod_below vb (2 ^ j) under))
-      ∙ ap₂ (λ (r s : ℕ). nat_lt r s) (sym (low-suc va j)) (sym (low-suc vb j))
-      ∙ ap (λ (k : ℕ). nat_lt (va % 2 ^ k) (vb % 2 ^ k)) (sym one)
+  less_is = compared (λ r s. nat_lt r s) less_step (less_before (bit t a) (bit t b)) refl (λ j. refl) less_if
 
 -- ---- each op
 
 -- a bit of a sum, from those of the words and the carry into it
 sum_made : (r s c j : ℕ) (k : Bool) → c < 2 → k ≡ carry_at r s (c == 1) j
     → bit_of (r + s + c) j
-    ≡ (if (if bit_of r j then (if bit_of s j then false else true) else bit_of s j) then
-    (if k then false else true) else k)
+    ≡ apart (apart (bit_of r j) (bit_of s j)) k
 sum_made r s c j k below into =
     ap (λ (n : ℕ). bit_of (r + s + n) j) (sym (num_below c below))
     ∙ sum_bit r s (c == 1) j
     ∙ ap (differ (differ (bit_of r j) (bit_of s j))) (sym into)
     ∙ differ_if (differ (bit_of r j) (bit_of s j)) k
-    ∙ ap (λ (x : Bool). if x then (if k then false else true) else k) (differ_if (bit_of r j) (bit_of s j))
+    ∙ ap (λ (x : Bool). apart x k) (differ_if (bit_of r j) (bit_of s j))
 
 -- the only bit of a word of one bit
 only_bit : (b : Bool) (j : ℕ) → j < 1 → bit_of (num b) j ≡ b
@@ -184,25 +193,56 @@ module _ (t : Table) (table : IsTable t) (given : Given) where
   flag : (c : ℕ) → IsBit ws c → slice_index vs c < 2
   flag c is = let below = words.words c is.0 in rw is.1 at below
 
+  -- an op's row at one of its bits has its operations there
+  row_is : (op : Op) (j : ℕ) → j < row_bits t op → operations t op j ≡ row t op j
+  row_is op j inside =
+      ap (λ (b : Bool). if b then operations t op j else []) (sym (lt-ltb j (row_bits t op) inside))
+
+  last_is : (op : Op) (j : ℕ) → j < row_bits t op → last_made (operations t op j) given ≡ last_made (row t op j) given
+  last_is op j inside = ap (λ (row : List Triple). last_made row given) (row_is op j inside)
+
+  -- the top bit of a term
+  top_below : (a : ℕ) → a < length ws → slice_index ws a - 1 < slice_index ws a
+  top_below a there = let wide = words.range a there in omega (arith, wide)
+
+  -- what goes along with a comparison of the low bits compares the words at their top bit
+  at_top : (compare : ℕ → ℕ → Bool) (before : ℕ → Function) (a b : ℕ) → ArePair ws a b
+      → ((j : ℕ) → before j given ≡ compare (slice_index vs a % 2 ^ j) (slice_index vs b % 2 ^ j))
+      → compare (slice_index vs a) (slice_index vs b) ≡ before (suc (slice_index ws a - 1)) given
+  at_top compare before a b pair along =
+      let wide = words.range a pair.0 in
+      let top : suc (slice_index ws a - 1) ≡ slice_index ws a = omega (arith, wide) in
+      let first : slice_index vs a % 2 ^ slice_index ws a ≡ slice_index vs a = mod-eq_of_lt (words.words a pair.0) in
+      let second : slice_index vs b % 2 ^ slice_index ws a ≡ slice_index vs b =
+      mod-eq_of_lt (rw pair.2 (words.words b pair.1)) in
+      ap₂ compare (sym first) (sym second)
+      ∙ ap (λ (k : ℕ). compare (slice_index vs a % 2 ^ k) (slice_index vs b % 2 ^ k)) (sym top)
+      ∙ sym (along (suc (slice_index ws a - 1)))
+
   pub each : (op : Op) → Fits t op → (j : ℕ) → j < width_over t op
       → bit_of (value_over t given op) j ≡ bit_made t op j given
-  unfolding op_value op_width row bit_made
+  unfolding op_value op_width operations row_bits bit_made
   each (Con number w) fits j below = refl
   each (Var word w) fits j below = bit_of-low (given word) w j below
   each (Not a) fits j below =
       bit_of-complement (slice_index ws a) (slice_index vs a) j below (words.words a fits) ∙ not_if (bit t a j given)
+      ∙ last_is (Not a) j below
   each (And a b) fits j below = bit_of-and (slice_index vs a) (slice_index vs b) j
       ∙ and_if (bit t a j given) (bit t b j given)
+      ∙ last_is (And a b) j below
   each (Or a b) fits j below = bit_of-or (slice_index vs a) (slice_index vs b) j
       ∙ or_if (bit t a j given) (bit t b j given)
+      ∙ last_is (Or a b) j below
   each (Xor a b) fits j below = bit_of-xor (slice_index vs a) (slice_index vs b) j
       ∙ differ_if (bit t a j given) (bit t b j given)
+      ∙ last_is (Xor a b) j below
   each (Sum a b c) fits j below =
       let carry = flag c fits.1 in
       bit_of-low (slice_index vs a + slice_index vs b + slice_index vs c) (slice_index ws a) j below
       ∙ sum_made (slice_index vs a) (slice_index vs b) (slice_index vs c) j
       (carry_into (bit t a) (bit t b) (bit t c 0) j given) carry
       (carry_is t given a b c j (one_bit (slice_index vs c) carry))
+      ∙ ap (λ (row : List Triple). fourth_made row given) (row_is (Sum a b c) j below)
   each (Cout a b c) fits j below =
       let wide = words.range a fits.0.0 in
       let top : suc (slice_index ws a - 1) ≡ slice_index ws a = omega (arith, wide) in
@@ -211,6 +251,7 @@ module _ (t : Table) (table : IsTable t) (given : Given) where
       only_bit (carry_at (slice_index vs a) (slice_index vs b) into (slice_index ws a)) j below
       ∙ ap (carry_at (slice_index vs a) (slice_index vs b) into) (sym top)
       ∙ sym (carry_is t given a b c (suc (slice_index ws a - 1)) first)
+      ∙ last_is (Cout a b c) (slice_index ws a - 1) (top_below a fits.0.0)
   each (Ovf a b c) fits j below =
       let w = slice_index ws a in
       let wide = words.range a fits.0.0 in
@@ -226,37 +267,27 @@ module _ (t : Table) (table : IsTable t) (given : Given) where
       ∙ differ_if (into given) (out given)
       ∙ ap (λ (x : Bool). last_made
       (carry_row (bit t a (w - 1)) (bit t b (w - 1)) into ++ (if x then xor_row into out else [])) given) (sym at_top)
+      ∙ last_is (Ovf a b c) (w - 1) (top_below a fits.0.0)
   each (Eq a b) fits j below =
-      let wide = words.range a fits.0 in
-      let top : suc (slice_index ws a - 1) ≡ slice_index ws a = omega (arith, wide) in
-      let first : slice_index vs a % 2 ^ slice_index ws a ≡ slice_index vs a = mod-eq_of_lt (words.words a fits.0) in
-      let second : slice_index vs b % 2 ^ slice_index ws a ≡ slice_index vs b =
-      mod-eq_of_lt (rw fits.2 (words.words b fits.1)) in
       only_bit (slice_index vs a == slice_index vs b) j below
-      ∙ ap₂ (λ (r s : ℕ). r == s) (sym first) (sym second)
-      ∙ ap (λ (k : ℕ). slice_index vs a % 2 ^ k == slice_index vs b % 2 ^ k) (sym top)
-      ∙ sym (equal_is t given a b (suc (slice_index ws a - 1)))
+      ∙ at_top (λ r s. r == s) (equal_before (bit t a) (bit t b)) a b fits (equal_is t given a b)
+      ∙ last_is (Eq a b) (slice_index ws a - 1) (top_below a fits.0)
   each (Lt a b) fits j below =
-      let wide = words.range a fits.0 in
-      let top : suc (slice_index ws a - 1) ≡ slice_index ws a = omega (arith, wide) in
-      let first : slice_index vs a % 2 ^ slice_index ws a ≡ slice_index vs a = mod-eq_of_lt (words.words a fits.0) in
-      let second : slice_index vs b % 2 ^ slice_index ws a ≡ slice_index vs b =
-      mod-eq_of_lt (rw fits.2 (words.words b fits.1)) in
       only_bit (nat_lt (slice_index vs a) (slice_index vs b)) j below
-      ∙ ap₂ (λ (r s : ℕ). nat_lt r s) (sym first) (sym second)
-      ∙ ap (λ (k : ℕ). nat_lt (slice_index vs a % 2 ^ k) (slice_index vs b % 2 ^ k)) (sym top)
-      ∙ sym (less_is t given a b (suc (slice_index ws a - 1)))
+      ∙ at_top (λ r s. nat_lt r s) (less_before (bit t a) (bit t b)) a b fits (less_is t given a b)
+      ∙ last_is (Lt a b) (slice_index ws a - 1) (top_below a fits.0)
   each (Ite c a b) fits j below =
       chosen_bit (slice_index vs c == 1) (slice_index vs a) (slice_index vs b) j
       ∙ ap (λ (x : Bool). if x then bit_of (slice_index vs a) j else bit_of (slice_index vs b) j)
       (sym (one_bit (slice_index vs c) (flag c fits.0)))
+      ∙ last_is (Ite c a b) j below
   each (Part a low w) fits j below =
       bit_of-low (slice_index vs a / 2 ^ low) w j below ∙ ap (λ (n : ℕ). n % 2 == 1) (shr-shr (slice_index vs a) low j)
   each (Join high low) fits j below =
       let w = slice_index ws low in
       joined_bit (slice_index vs high) (slice_index vs low) w j (words.words low fits.1)
       ∙ sym (function_if (nat_lt j w) (bit t low j) (bit t high (j - w)) given)
-  each (Tab i) fits j below =
+  each (Tab i) fits j inside_entry =
       let v = slice_index vs i in
       let n : ℕ = slice_index ws i - 1 in
       let wide = words.range i fits.0 in
@@ -273,6 +304,7 @@ module _ (t : Table) (table : IsTable t) (given : Given) where
       ∙ index_made (bit t i) given v (λ k. refl) n 0 entries many
       ∙ ap (at given entries) place
       ∙ ap (λ (f : Function). f given) (get_or-map entry_bit t.map v 0 never inside))
+      ∙ last_is (Tab i) j inside_entry
 
 pub rows_make_values : RowsMakeValues
 rows_make_values t op table fits given j below = each t table given op fits j below

@@ -1,13 +1,17 @@
 -- The terms of a table, one after another.
-use Rattle.std.proofs.Common.{◌≡◌, ℕ, zero, suc, ◌+◌, ◌<◌, ◌≤◌, ◌^◌, List, [], ◌∷◌, ◌++◌, Some, length, take, drop, slice_index, get_or, refl, ap, arith, sym, ◌∙◌, subst, length-append, append_assoc, append-nil}
+use Rattle.std.proofs.Common.{◌≡◌, inl, inr, ℕ, zero, suc, ◌+◌, ◌<◌, ◌≤◌, ◌^◌, List, [], ◌∷◌, ◌++◌, Some, length}
+use Rattle.std.proofs.Common.{take, drop, slice_index, get_or, refl, ap, arith, sym, ◌∙◌, subst, length-append}
+use Rattle.std.proofs.Common.{append_assoc, append-nil}
 use Rattle.std.specs.Prelude.{slice_get}
 use Rattle.std.proofs.lemmas.List.{take_more, take-append-drop, drop_more, take_all, length-take-le, get_or_at}
 use Rattle.std.proofs.lemmas.Option.{slice_get-get_or, slice_get_within, get_or_from_slice_get}
+use Rattle.std.proofs.Math.Pow.{pow_mono}
 use Rattle.mw_term.specs.declared.op.Op.{Op}
 use Rattle.mw_term.specs.declared.op.Op.TheVariants.{Con}
 use Rattle.mw_term.specs.Assigned.{Given}
-use Rattle.mw_term.specs.Laws.{TermsHaveOps}
-use Rattle.mw_term.specs.Table.{Table, op_width, widths_after, widths_of, width_over, IsWidth, OpFits, Fits, IsTable}
+use Rattle.mw_term.specs.Laws.{TermsHaveOps, OpsAreWords, MapsAreShort}
+use Rattle.mw_term.specs.Table.{Table, op_width, widths_after, widths_of, width_over, IsWidth, AreWidths, OpFits}
+use Rattle.mw_term.specs.Table.{Fits, IsTable}
 use Rattle.mw_term.specs.Values.{op_value, values_after, values_of, value_over, AreWords}
 use Rattle.mw_term.proofs.Fitting.{fits_more, width_more, value_more, width_range, value_below}
 
@@ -133,8 +137,7 @@ words_of t given table =
     subst (λ ops. AreWords (widths_of ops) (values_of t.map given ops)) whole
     (words_before t given table (length t.ops) (omega arith))
 
-pub widths_range : (t : Table) → IsTable t → (i : ℕ) → i < length (widths_of t.ops)
-    → IsWidth (slice_index (widths_of t.ops) i)
+pub widths_range : (t : Table) → IsTable t → AreWidths (widths_of t.ops)
 widths_range t table = (words_of t (λ word. 0) table).range
 
 -- ---- one term of a table
@@ -208,6 +211,7 @@ terms_have_ops t term op table is =
     let words = words_of t none table in
     let term_there : term < length (widths_of t.ops) = omega (arith, inside, widths_count t.ops) in
     record {
+      before = fits;
       fits = (all none).0;
       is = record {
         there = inside;
@@ -224,3 +228,18 @@ terms_have_ops t term op table is =
       width = words.range term term_there;
       below = λ given. (words_of t given table).words term term_there;
     }
+
+pub ops_are_words : OpsAreWords
+ops_are_words t op table fits =
+    let words = λ (given : Given). words_of t given table in
+    record {
+      width = width_range t.map (widths_of t.ops) op (widths_range t table) fits;
+      below = λ given. value_below t.map given (widths_of t.ops) (values_of t.map given t.ops) op table.map
+          (words given) fits;
+    }
+
+pub maps_are_short : MapsAreShort
+maps_are_short map is = elim is.size [
+  | inl none ↦ inl none
+  | inr some ↦ inr (omega (arith, some.3, pow_mono some.1), omega (arith, some.3, pow_mono some.2))
+]

@@ -1,13 +1,13 @@
--- Assignments, which give numbers to words.
+-- Assignments, which give values to words; a word is known by its number.
 use Rattle.std.specs.Prelude.{ℕ, unwrap_or}
 use Rattle.std.specs.Ordering.{nat_cmp}
 use Rattle.std.specs.FinMap as map
 
--- some words with the number of each
+-- some words with the value of each
 abbrev pub Numbers : Type 0
 Numbers = map.FinMap nat_cmp ℕ
 
--- an assignment gives each word a number
+-- an assignment gives each word a value
 abbrev pub Given : Type 0
 Given = ℕ → ℕ
 

@@ -1,6 +1,6 @@
--- Joint cofactors of three Boolean functions, counted in functions (R. E. Bryant, Graph-Based Algorithms for Boolean
--- Function Manipulation).
-use Rattle.std.specs.Prelude.{◌≡◌, ℕ, ◌+◌, ◌/◌, ◌%◌, ◌^◌, ◌<◌, ◌≤◌, List, length, Bool, ◌&&◌, ◌||◌, ◌==◌, nat_lt, if◌then◌else◌}
+-- Joint cofactors of three Boolean functions (Bryant), counted as functions.
+use Rattle.std.specs.Prelude.{◌≡◌, ℕ, ◌+◌, ◌/◌, ◌%◌, ◌^◌, ◌<◌, ◌≤◌, List, length, Bool, ◌&&◌, ◌||◌, ◌==◌, nat_lt}
+use Rattle.std.specs.Prelude.{if◌then◌else◌}
 use Rattle.std.specs.List.{All, AllPairs}
 use Rattle.mw_base.specs.Words.{bit_of, join}
 use Rattle.mw_term.specs.Assigned.{Given}
@@ -49,9 +49,9 @@ pub record AreSame (t u : Triple) : Type 0 where
   pub g : Agree t.g u.g
   pub h : Agree t.h u.h
 
--- something is left to choose: what to choose by is not the same under every assignment, and what to choose from
--- differs
-pub record IsOpen (t : Triple) : Type 0 where
+-- a triple counts where it is no terminal case: what to choose by is not the same under every assignment, and what to
+-- choose from differs
+pub record IsCounted (t : Triple) : Type 0 where
   pub choice : (b : Bool) → ¬ Agree t.f (λ given. b)
   pub branches : ¬ Agree t.g t.h
 
@@ -61,7 +61,7 @@ pub record IsCofactor (t u : Triple) : Type 0 where
   pub place : Variable
   pub fixed : Given
   pub left : AreSame u (left_of t place fixed)
-  pub counted : IsOpen u
+  pub counted : IsCounted u
 
 -- some joint cofactors of a triple, no two of them one
 pub record AreCofactors (t : Triple) (us : List Triple) : Type 0 where
@@ -69,9 +69,9 @@ pub record AreCofactors (t : Triple) (us : List Triple) : Type 0 where
   pub different : AllPairs (λ u v. ¬ AreSame u v) us
 
 -- a triple has at most so many joint cofactors
-abbrev pub HasAtMost : Triple → ℕ → Type 0
-HasAtMost t n = (us : List Triple) → AreCofactors t us → length us ≤ n
+abbrev pub HasAtMostCofactors : Triple → ℕ → Type 0
+HasAtMostCofactors t n = (us : List Triple) → AreCofactors t us → length us ≤ n
 
--- a triple has more than so many
-abbrev pub HasMore : Triple → ℕ → Type 0
-HasMore t n = (us : List Triple) × (n < length us) × AreCofactors t us
+-- a triple has more than so many joint cofactors
+abbrev pub HasMoreCofactors : Triple → ℕ → Type 0
+HasMoreCofactors t n = (us : List Triple) × (n < length us) × AreCofactors t us

@@ -1,5 +1,6 @@
 pub mod Assigned
 pub mod Cofactors
+pub mod Examples
 pub mod Functions
 pub mod Laws
 pub mod Rows

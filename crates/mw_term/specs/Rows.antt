@@ -2,7 +2,8 @@
 use Rattle.std.specs.Prelude.{ℕ, zero, suc, ◌+◌, ◌-◌, List, [], ◌∷◌, ◌++◌, map, ◌==◌, nat_lt, if◌then◌else◌}
 use Rattle.mw_base.specs.Words.{bit_of}
 use Rattle.mw_term.specs.declared.op.Op.{Op}
-use Rattle.mw_term.specs.declared.op.Op.TheVariants.{Con, Var, Not, And, Or, Xor, Sum, Cout, Ovf, Eq, Lt, Ite, Part, Join, Tab}
+use Rattle.mw_term.specs.declared.op.Op.TheVariants.{Con, Var, Not, And, Or, Xor, Sum, Cout, Ovf, Eq, Lt, Ite, Part}
+use Rattle.mw_term.specs.declared.op.Op.TheVariants.{Join, Tab}
 use Rattle.mw_term.specs.Functions.{Function, never, always, Triple, ite, made}
 use Rattle.mw_term.specs.Table.{Table, term_width}
 use Rattle.mw_term.specs.Values.{term_value}
@@ -13,15 +14,15 @@ bit t term j = λ given. bit_of (term_value t given term) j
 
 -- ---- single operations
 
--- n: where a bit is 0
+-- where a bit is 0
 abbrev pub inverse : Function → Triple
 inverse b = ite b never always
 
--- x: where two bits differ
+-- where two bits differ
 abbrev pub difference : (a b : Function) → Triple
 difference a b = ite a (made (inverse b)) b
 
--- x: where two bits are the same
+-- where two bits are the same
 abbrev pub sameness : (a b : Function) → Triple
 sameness a b = ite a b (made (inverse b))
 
@@ -40,17 +41,17 @@ next_less a b l = ite (made (difference a b)) b l
 
 -- ---- what a bit takes from those before it
 
--- k: the carry into bit j of two words and a carry in
+-- the carry into bit j of two words and a carry in
 abbrev pub carry_into : (a b : ℕ → Function) → (c : Function) → (j : ℕ) → Function
 carry_into a b c zero = c
 carry_into a b c (suc j) = made (next_carry (a j) (b j) (carry_into a b c j))
 
--- e: whether two words are the same before bit j
+-- whether two words are the same before bit j
 abbrev pub equal_before : (a b : ℕ → Function) → (j : ℕ) → Function
 equal_before a b zero = always
 equal_before a b (suc j) = made (next_equal (a j) (b j) (equal_before a b j))
 
--- l: whether one word is less than another before bit j
+-- whether one word is less than another before bit j
 abbrev pub less_before : (a b : ℕ → Function) → (j : ℕ) → Function
 less_before a b zero = never
 less_before a b (suc j) = made (next_less (a j) (b j) (less_before a b j))
@@ -82,30 +83,30 @@ index_row index t zero entries = []
 index_row index t (suc bits) entries =
     choices (index t) entries ++ index_row index (t + 1) bits (map made (choices (index t) entries))
 
--- the operations of an op at bit j of its operands, over the terms of a table
-unfoldable pub row : Table → Op → (j : ℕ) → List Triple
-row t (Con number w) j = []
-row t (Var word w) j = []
-row t (Not a) j = inverse (bit t a j) ∷ []
-row t (And a b) j = ite (bit t a j) (bit t b j) never ∷ []
-row t (Or a b) j = ite (bit t a j) always (bit t b j) ∷ []
-row t (Xor a b) j = xor_row (bit t a j) (bit t b j)
-row t (Sum a b c) j = sum_row (bit t a j) (bit t b j) (carry_into (bit t a) (bit t b) (bit t c 0) j)
-row t (Cout a b c) j = carry_row (bit t a j) (bit t b j) (carry_into (bit t a) (bit t b) (bit t c 0) j)
-row t (Ovf a b c) j =
+-- the operations of an op over the terms of a table, at bit j of its operands, or of the map's entries
+unfoldable pub operations : Table → Op → (j : ℕ) → List Triple
+operations t (Con number w) j = []
+operations t (Var word w) j = []
+operations t (Not a) j = inverse (bit t a j) ∷ []
+operations t (And a b) j = ite (bit t a j) (bit t b j) never ∷ []
+operations t (Or a b) j = ite (bit t a j) always (bit t b j) ∷ []
+operations t (Xor a b) j = xor_row (bit t a j) (bit t b j)
+operations t (Sum a b c) j = sum_row (bit t a j) (bit t b j) (carry_into (bit t a) (bit t b) (bit t c 0) j)
+operations t (Cout a b c) j = carry_row (bit t a j) (bit t b j) (carry_into (bit t a) (bit t b) (bit t c 0) j)
+operations t (Ovf a b c) j =
     let into = carry_into (bit t a) (bit t b) (bit t c 0) j in
     carry_row (bit t a j) (bit t b j) into
     ++ (if j + 1 == term_width t a then xor_row into (made (next_carry (bit t a j) (bit t b j) into)) else [])
-row t (Eq a b) j =
+operations t (Eq a b) j =
     let before = equal_before (bit t a) (bit t b) j in
     inverse (bit t b j) ∷ sameness (bit t a j) (bit t b j) ∷ next_equal (bit t a j) (bit t b j) before ∷ []
-row t (Lt a b) j =
+operations t (Lt a b) j =
     let before = less_before (bit t a) (bit t b) j in
     inverse (bit t b j) ∷ difference (bit t a j) (bit t b j) ∷ next_less (bit t a j) (bit t b j) before ∷ []
-row t (Ite c a b) j = ite (bit t c 0) (bit t a j) (bit t b j) ∷ []
-row t (Part a low w) j = []
-row t (Join high low) j = []
-row t (Tab i) j = index_row (bit t i) 0 (term_width t i) (map (λ entry. λ given. bit_of entry j) t.map)
+operations t (Ite c a b) j = ite (bit t c 0) (bit t a j) (bit t b j) ∷ []
+operations t (Part a low w) j = []
+operations t (Join high low) j = []
+operations t (Tab i) j = index_row (bit t i) 0 (term_width t i) (map (λ entry. λ given. bit_of entry j) t.map)
 
 -- at how many bits an op has operations: those of its operands, and of an entry of the map
 unfoldable pub row_bits : Table → Op → ℕ
@@ -122,15 +123,19 @@ row_bits t (Ite c a b) = term_width t a
 row_bits t (Tab i) = 12
 row_bits t op = 0
 
+-- the row of an op and a bit: its operations at that bit, and none past its last one
+abbrev pub row : Table → Op → (j : ℕ) → List Triple
+row t op j = if nat_lt j (row_bits t op) then operations t op j else []
+
 -- ---- what they make
 
--- what the last of some operations makes
+-- what the last of some operations makes: never where there is none
 abbrev pub last_made : List Triple → Function
 last_made [] = never
 last_made (only ∷ []) = made only
 last_made (first ∷ next ∷ rest) = last_made (next ∷ rest)
 
--- what the fourth of some operations makes
+-- what the fourth of some operations makes: never where there are fewer
 abbrev pub fourth_made : List Triple → Function
 fourth_made (first ∷ second ∷ third ∷ fourth ∷ rest) = made fourth
 fourth_made row = never

@@ -1,7 +1,9 @@
 -- The table of terms: their ops, their widths, and which op fits.
-use Rattle.std.specs.Prelude.{◌≡◌, ℕ, ◌+◌, ◌<◌, ◌≤◌, ◌^◌, ◌⊎◌, List, [], ◌∷◌, ◌++◌, length, take, slice_index, slice_get, Some}
+use Rattle.std.specs.Prelude.{◌≡◌, ℕ, ◌+◌, ◌<◌, ◌≤◌, ◌^◌, ◌⊎◌, List, [], ◌∷◌, ◌++◌, length, take, slice_index}
+use Rattle.std.specs.Prelude.{slice_get, Some}
 use Rattle.mw_term.specs.declared.op.Op.{Op}
-use Rattle.mw_term.specs.declared.op.Op.TheVariants.{Con, Var, Not, And, Or, Xor, Sum, Cout, Ovf, Eq, Lt, Ite, Part, Join, Tab}
+use Rattle.mw_term.specs.declared.op.Op.TheVariants.{Con, Var, Not, And, Or, Xor, Sum, Cout, Ovf, Eq, Lt, Ite, Part}
+use Rattle.mw_term.specs.declared.op.Op.TheVariants.{Join, Tab}
 
 -- The ops of the terms, in the order in which they were made, and the map of the board. A term is a place in the list
 -- of ops, and the operands of an op are terms before its own.
@@ -55,6 +57,10 @@ width_over t op = op_width (widths_of t.ops) op
 -- a width is 1 to 32 bits
 abbrev pub IsWidth : ℕ → Type 0
 IsWidth w = (1 ≤ w) × (w ≤ 32)
+
+-- each of these is a width
+abbrev pub AreWidths : List ℕ → Type 0
+AreWidths widths = (i : ℕ) → i < length widths → IsWidth (slice_index widths i)
 
 -- two terms of the same width
 abbrev pub ArePair : (widths : List ℕ) → (a b : ℕ) → Type 0

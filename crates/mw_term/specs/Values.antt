@@ -1,11 +1,13 @@
 -- The value of a term under an assignment.
-use Rattle.std.specs.Prelude.{◌≡◌, ℕ, ◌+◌, ◌-◌, ◌%◌, ◌^◌, ◌<◌, List, [], ◌∷◌, ◌++◌, length, slice_index, ◌==◌, nat_lt, if◌then◌else◌, bit_and, bit_or, bit_xor}
+use Rattle.std.specs.Prelude.{◌≡◌, ℕ, ◌+◌, ◌-◌, ◌%◌, ◌^◌, ◌<◌, List, [], ◌∷◌, ◌++◌, length, slice_index, ◌==◌, nat_lt}
+use Rattle.std.specs.Prelude.{if◌then◌else◌, bit_and, bit_or, bit_xor}
 use Rattle.mw_base.specs.Carries.{carry_at}
 use Rattle.mw_base.specs.Words as words
 use Rattle.mw_term.specs.declared.op.Op.{Op}
-use Rattle.mw_term.specs.declared.op.Op.TheVariants.{Con, Var, Not, And, Or, Xor, Sum, Cout, Ovf, Eq, Lt, Ite, Part, Join, Tab}
+use Rattle.mw_term.specs.declared.op.Op.TheVariants.{Con, Var, Not, And, Or, Xor, Sum, Cout, Ovf, Eq, Lt, Ite, Part}
+use Rattle.mw_term.specs.declared.op.Op.TheVariants.{Join, Tab}
 use Rattle.mw_term.specs.Assigned.{Given}
-use Rattle.mw_term.specs.Table.{Table, IsWidth, op_width, widths_of, term_width, width_over}
+use Rattle.mw_term.specs.Table.{Table, AreWidths, op_width, widths_of, term_width, width_over}
 
 -- What an op stands for, over terms of these widths and values: a constant is its number, and a variable that of its
 -- word, cut to its width. Sums are modulo 2 ^ width; `Cout` is the carry out of the top bit, and `Ovf` is 1 where the
@@ -55,7 +57,7 @@ value_over t given op = op_value t.map given (widths_of t.ops) (values_of t.map 
 
 -- terms with their widths, each 1 to 32 bits, and with values, each a word of its width
 pub record AreWords (widths values : List ℕ) : Type 0 where
-  pub range : (i : ℕ) → i < length widths → IsWidth (slice_index widths i)
+  pub range : AreWidths widths
   pub count : length values ≡ length widths
   pub words : (i : ℕ) → i < length widths → slice_index values i < 2 ^ slice_index widths i
 

@@ -8,7 +8,7 @@ use std::alloc::Global;
 use std::collections::BTreeMap;
 use std::marker::Model;
 
-/// Which number each word has, seen as a finite map. A word that isn't there has 0.
+/// Which value each word has, seen as a finite map from the words' numbers. A word that isn't there has 0.
 #[derive(Drop)]
 pub struct Assignment {
     numbers: BTreeMap<u64, u32>,
@@ -27,7 +27,7 @@ impl Model for Assignment {
 }
 
 impl Assignment {
-    /// No word.
+    /// The assignment without words: each has 0.
     pub fn new(alloc: Global) -> Assignment
         ensures { result ≡ map.empty }
     {
@@ -49,7 +49,7 @@ impl Assignment {
         Ok(())
     }
 
-    /// The number of a word, 0 where it isn't there.
+    /// The value of a word, 0 where it isn't there.
     #[tactic(auto, unfolding(crate::specs::Assigned::given_by))]
     pub fn number(&self, word: u64) -> u32
         ensures { result ≡ given_by self.now word }

@@ -1,7 +1,8 @@
 // What an op makes of the terms before it.
 ghost use Rattle.std.specs.Prelude.{◌≡◌, ℕ, ◌<◌, ◌^◌, ◌↔◌, IsTrue, length, slice_index};
+ghost use Rattle.mw_base.specs.Words.{num};
 ghost use Rattle.mw_term.specs.Assigned.{given_by};
-ghost use Rattle.mw_term.specs.Table.{op_width, ArePair, IsBit, OpFits, IsWidth};
+ghost use Rattle.mw_term.specs.Table.{op_width, ArePair, AreWidths, IsBit, OpFits, IsWidth};
 ghost use Rattle.mw_term.specs.Values.{op_value, AreWords};
 
 use crate::assignment::Assignment;
@@ -73,7 +74,7 @@ impl Earlier<'_> {
     }
 
     fn is_index(&self, term: Term) -> bool
-        requires { (i : ℕ) → i < length self.now.widths.now → IsWidth (slice_index self.now.widths.now i) }
+        requires { AreWidths self.now.widths.now }
         ensures { IsTrue result ↔ OpFits self.now.map.now self.now.widths.now (Op.Tab term) }
     {
         self.is_term(term) && self.map.len() as u64 == 1 << self.width_of(term)
@@ -81,7 +82,7 @@ impl Earlier<'_> {
 
     /// Whether an op fits.
     pub(crate) fn fits(&self, op: Op) -> bool
-        requires { (i : ℕ) → i < length self.now.widths.now → IsWidth (slice_index self.now.widths.now i) }
+        requires { AreWidths self.now.widths.now }
         ensures { IsTrue result ↔ OpFits self.now.map.now self.now.widths.now op }
     {
         match op {
@@ -105,7 +106,7 @@ impl Earlier<'_> {
     #[tactic(auto, unfolding(crate::specs::Table::op_width))]
     pub(crate) fn width(&self, op: Op) -> u8
         requires fits { OpFits self.now.map.now self.now.widths.now op }
-        requires range { (i : ℕ) → i < length self.now.widths.now → IsWidth (slice_index self.now.widths.now i) }
+        requires range { AreWidths self.now.widths.now }
         ensures exact { result ≡ op_width self.now.widths.now op }
     {
         match op {
@@ -132,13 +133,6 @@ pub(crate) struct Valued<'a> {
 }
 
 impl Valued<'_> {
-    fn width_of(&self, term: Term) -> u8
-        requires { term < length self.now.earlier.widths.now }
-        ensures { result ≡ slice_index self.now.earlier.widths.now term }
-    {
-        self.earlier.width_of(term)
-    }
-
     fn value_of(&self, term: Term) -> u32
         requires { term < length self.now.values.now }
         ensures { result ≡ slice_index self.now.values.now term }
@@ -146,55 +140,92 @@ impl Valued<'_> {
         self.values[term.position()]
     }
 
+    #[tactic(auto, unfolding(crate::specs::Values::op_value))]
+    fn sum(&self, a: Term, b: Term, c: Term) -> u32
+        requires fits { OpFits self.now.earlier.map.now self.now.earlier.widths.now (Op.Sum a b c) }
+        requires words { AreWords self.now.earlier.widths.now self.now.values.now }
+        ensures { result ≡ op_value self.now.earlier.map.now (given_by self.now.given.now)
+            self.now.earlier.widths.now self.now.values.now (Op.Sum a b c) }
+    {
+        let width = self.earlier.width_of(a);
+        sum(self.value_of(a), self.value_of(b), self.value_of(c), width)
+    }
+
+    #[tactic(auto, unfolding(crate::specs::Values::op_value))]
+    fn carry_out(&self, a: Term, b: Term, c: Term) -> bool
+        requires fits { OpFits self.now.earlier.map.now self.now.earlier.widths.now (Op.Cout a b c) }
+        requires words { AreWords self.now.earlier.widths.now self.now.values.now }
+        ensures { num result ≡ op_value self.now.earlier.map.now (given_by self.now.given.now)
+            self.now.earlier.widths.now self.now.values.now (Op.Cout a b c) }
+    {
+        let width = self.earlier.width_of(a);
+        carry_into(self.value_of(a), self.value_of(b), self.value_of(c), width)
+    }
+
+    #[tactic(auto, unfolding(crate::specs::Values::op_value))]
+    fn overflow(&self, a: Term, b: Term, c: Term) -> bool
+        requires fits { OpFits self.now.earlier.map.now self.now.earlier.widths.now (Op.Ovf a b c) }
+        requires words { AreWords self.now.earlier.widths.now self.now.values.now }
+        ensures { num result ≡ op_value self.now.earlier.map.now (given_by self.now.given.now)
+            self.now.earlier.widths.now self.now.values.now (Op.Ovf a b c) }
+    {
+        let width = self.earlier.width_of(a);
+        overflows(self.value_of(a), self.value_of(b), self.value_of(c), width)
+    }
+
+    #[tactic(auto, unfolding(crate::specs::Values::op_value))]
+    fn choice(&self, c: Term, a: Term, b: Term) -> u32
+        requires fits { OpFits self.now.earlier.map.now self.now.earlier.widths.now (Op.Ite c a b) }
+        requires words { AreWords self.now.earlier.widths.now self.now.values.now }
+        ensures { result ≡ op_value self.now.earlier.map.now (given_by self.now.given.now)
+            self.now.earlier.widths.now self.now.values.now (Op.Ite c a b) }
+    {
+        if self.value_of(c) == 1 {
+            self.value_of(a)
+        } else {
+            self.value_of(b)
+        }
+    }
+
+    #[tactic(auto, unfolding(crate::specs::Values::op_value))]
+    fn joined(&self, high: Term, low: Term) -> u32
+        requires fits { OpFits self.now.earlier.map.now self.now.earlier.widths.now (Op.Join high low) }
+        requires words { AreWords self.now.earlier.widths.now self.now.values.now }
+        ensures { result ≡ op_value self.now.earlier.map.now (given_by self.now.given.now)
+            self.now.earlier.widths.now self.now.values.now (Op.Join high low) }
+    {
+        let (high_width, low_width) = (self.earlier.width_of(high), self.earlier.width_of(low));
+        join(
+            self.value_of(high),
+            high_width,
+            self.value_of(low),
+            low_width,
+        )
+    }
+
     /// What an op stands for.
     #[tactic(auto, unfolding(crate::specs::Values::op_value))]
     pub(crate) fn value(&self, op: Op) -> u32
         requires fits { OpFits self.now.earlier.map.now self.now.earlier.widths.now op }
         requires words { AreWords self.now.earlier.widths.now self.now.values.now }
-        ensures { result ≡ op_value self.now.earlier.map.now (given_by self.now.given.now) self.now.earlier.widths.now
-            self.now.values.now op }
+        ensures { result ≡ op_value self.now.earlier.map.now (given_by self.now.given.now)
+            self.now.earlier.widths.now self.now.values.now op }
     {
         match op {
             Op::Con(number, _) => number,
             Op::Var(word, width) => cut(self.given.number(word), width),
-            Op::Not(a) => complement(self.value_of(a), self.width_of(a)),
+            Op::Not(a) => complement(self.value_of(a), self.earlier.width_of(a)),
             Op::And(a, b) => self.value_of(a) & self.value_of(b),
             Op::Or(a, b) => self.value_of(a) | self.value_of(b),
             Op::Xor(a, b) => self.value_of(a) ^ self.value_of(b),
-            Op::Sum(a, b, c) => sum(
-                self.value_of(a),
-                self.value_of(b),
-                self.value_of(c),
-                self.width_of(a),
-            ),
-            Op::Cout(a, b, c) => u32::from(carry_into(
-                self.width_of(a),
-                self.value_of(a),
-                self.value_of(b),
-                self.value_of(c),
-            )),
-            Op::Ovf(a, b, c) => u32::from(overflows(
-                self.width_of(a),
-                self.value_of(a),
-                self.value_of(b),
-                self.value_of(c),
-            )),
+            Op::Sum(a, b, c) => self.sum(a, b, c),
+            Op::Cout(a, b, c) => u32::from(self.carry_out(a, b, c)),
+            Op::Ovf(a, b, c) => u32::from(self.overflow(a, b, c)),
             Op::Eq(a, b) => u32::from(self.value_of(a) == self.value_of(b)),
             Op::Lt(a, b) => u32::from(self.value_of(a) < self.value_of(b)),
-            Op::Ite(c, a, b) => {
-                if self.value_of(c) == 1 {
-                    self.value_of(a)
-                } else {
-                    self.value_of(b)
-                }
-            }
+            Op::Ite(c, a, b) => self.choice(c, a, b),
             Op::Part(a, low, width) => cut(self.value_of(a) >> low, width),
-            Op::Join(high, low) => join(
-                self.value_of(high),
-                self.width_of(high),
-                self.value_of(low),
-                self.width_of(low),
-            ),
+            Op::Join(high, low) => self.joined(high, low),
             Op::Tab(i) => u32::from(self.earlier.map[self.value_of(i) as usize]),
         }
     }

@@ -36,14 +36,14 @@ impl Term {
     }
 }
 
-/// What a term is made of. Operands are terms of the same table.
+/// What a term is made of. Operands are earlier terms of the same table, whose bits are numbered from 0, the lowest.
 #[derive(Clone, Copy, Debug, PartialEq, Eq)]
 pub enum Op {
-    /// A number, and its width of 1 to 32 bits.
+    /// A number, and its width of 1 to 32 bits: the number is below 2 to the width.
     Con(u32, u8),
-    /// A word by its number, and its width of 1 to 32 bits.
+    /// A word by its number, and its width of 1 to 32 bits: the word's value modulo 2 to the width.
     Var(u64, u8),
-    /// The complement of a term.
+    /// The complement of a term: each of its bits turned over.
     Not(Term),
     /// The bits that both of two terms of one width have.
     And(Term, Term),
@@ -53,20 +53,22 @@ pub enum Op {
     Xor(Term, Term),
     /// The sum of two terms of one width and a carry in of one bit, modulo 2 to that width.
     Sum(Term, Term, Term),
-    /// The carry out of the top bit of such a sum.
+    /// The carry out of the top bit of such a sum, of one bit.
     Cout(Term, Term, Term),
-    /// Whether the carry into the top bit of such a sum differs from the carry out of it.
+    /// 1 where the carry into the top bit of such a sum differs from the carry out of it, and else 0; of one bit.
     Ovf(Term, Term, Term),
-    /// Whether two terms of one width are equal.
+    /// 1 where two terms of one width are equal, and else 0; of one bit.
     Eq(Term, Term),
-    /// Whether the first of two terms of one width is less than the second, as numbers.
+    /// 1 where the first of two terms of one width is less than the second, as numbers without sign, and else 0; of one
+    /// bit.
     Lt(Term, Term),
     /// By a term of one bit, the first of two terms of one width where it is 1, and else the second.
     Ite(Term, Term, Term),
-    /// Of a term the bits from one on, so many.
+    /// Of a term the bits from the one of the second argument on, as many as the third says, 1 to 32, all within it.
     Part(Term, u8, u8),
-    /// A high term above a low one, together of at most 32 bits.
+    /// The first term above the second, together of at most 32 bits.
     Join(Term, Term),
-    /// The entry of the board's map at an index, which has 12 bits.
+    /// The entry of the board's map, of 12 bits, at an index. The map has an entry for each value of the index, so it
+    /// isn't empty and the index has 1 to 8 bits.
     Tab(Term),
 }

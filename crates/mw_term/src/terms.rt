@@ -1,7 +1,8 @@
 // The table of terms.
 ghost use Rattle.std.specs.Prelude.{◌≡◌, ℕ, ◌<◌, ◌^◌, ◌↔◌, [], length, slice_get, IsTrue, IfOk, OnOk, OnErr};
 ghost use Rattle.mw_term.specs.Assigned.{given_by};
-ghost use Rattle.mw_term.specs.Table.{table_of, term_width, width_over, Fits, IsMap, IsTable, IsWidth, Extends};
+ghost use Rattle.mw_term.specs.Table.{table_of, term_width, widths_of, width_over, AreWidths, Extends, Fits, IsMap};
+ghost use Rattle.mw_term.specs.Table.{IsTable, IsWidth};
 ghost use Rattle.mw_term.specs.Values.{term_value, IsTermOf, Keeps};
 
 use crate::assignment::Assignment;
@@ -48,17 +49,25 @@ impl Terms {
         })
     }
 
+    /// All terms, as those before the next one.
+    fn earlier(&self) -> Earlier<'_>
+        ensures map { result.map.now ≡ self.now.map }
+        ensures widths { result.widths.now ≡ widths_of self.now.ops }
+        ensures range { AreWidths (widths_of self.now.ops) }
+    {
+        Earlier {
+            map: &self.map,
+            widths: &self.widths,
+        }
+    }
+
     /// Whether an op fits the table: its operands are terms of it, as wide as the op asks for, it has 1 to 32 bits, a
     /// constant is no wider than that, a part lies within its operand, and an index has a value for each entry of the
     /// map and no more.
     pub fn fits(&self, op: &Op) -> bool
         ensures { IsTrue result ↔ Fits self.now op.now }
     {
-        let earlier = Earlier {
-            map: &self.map,
-            widths: &self.widths,
-        };
-        earlier.fits(*op)
+        self.earlier().fits(*op)
     }
 
     /// How many bits an op has over the terms of the table.
@@ -66,11 +75,7 @@ impl Terms {
         requires { Fits self.now op.now }
         ensures { result ≡ width_over self.now op.now }
     {
-        let earlier = Earlier {
-            map: &self.map,
-            widths: &self.widths,
-        };
-        earlier.width(*op)
+        self.earlier().width(*op)
     }
 
     /// A term with an op's width and, under every assignment, its value. Earlier terms keep their ops. The op fits
@@ -101,16 +106,17 @@ impl Terms {
         }
     }
 
-    /// The op of a term.
+    /// The op of a term, which is one of this table.
     pub fn op(&self, term: Term) -> Op
         requires { term < length self.now.ops }
         ensures exact { slice_get self.now.ops term ≡ Some result }
+        ensures fits { Fits self.now result }
         ensures table { IsTable self.now }
     {
         self.ops[term.position()]
     }
 
-    /// How many bits a term has, from 1 to 32.
+    /// How many bits a term has, from 1 to 32. It is one of this table.
     pub fn width(&self, term: Term) -> u8
         requires { term < length self.now.ops }
         ensures exact { result ≡ term_width self.now term }
@@ -121,12 +127,13 @@ impl Terms {
 
     /// The map that the table was made with.
     pub fn map(&self) -> &[u16]
-        ensures { result.now ≡ self.now.map }
+        ensures exact { result.now ≡ self.now.map }
+        ensures table { IsTable self.now }
     {
         &self.map
     }
 
-    /// The value of a term under an assignment.
+    /// The value of a term under an assignment, which has no more bits than the term. The term is one of this table.
     ///
     /// # Errors
     ///

@@ -1,14 +1,15 @@
 // Each op, at values worked by hand, and the rows of the term table on small tables.
-ghost use Rattle.std.specs.Prelude.{◌≡◌, ℕ, [], ◌∷◌, true, false, length};
+ghost use Rattle.std.specs.Prelude.{◌≡◌, ℕ, [], ◌∷◌, true, false};
 ghost use Rattle.mw_term.specs.declared.op.Op.TheVariants.{Con, Var, Not, Sum, Ovf, Lt, Eq, Join, Part, Tab};
 ghost use Rattle.mw_term.specs.Cofactors.{variable, is_before, with_fixed};
-ghost use Rattle.mw_term.specs.Rows.{bit_made, row};
+ghost use Rattle.mw_term.specs.Rows.{bit_made};
 ghost use Rattle.mw_term.specs.Table.{table_of, width_over};
 ghost use Rattle.mw_term.specs.Values.{value_over};
 
 use crate::{
-    Assignment, DecidedKind, Op, Term, Terms, WordKind, fixed_are_before, rows_make_values,
-    terms_have_ops, variable_has_one,
+    Assignment, DecidedKind, Op, Term, Terms, WordKind, counts_are_apart, fixed_are_before,
+    later_has_two, maps_are_short, ops_are_words, rows_as_written, rows_make_values,
+    terminal_cases_have_none, terms_have_ops, terms_have_widths, variable_has_one,
 };
 use mw_base::NoMemory;
 use std::alloc::Global;
@@ -225,9 +226,16 @@ fn ops_that_do_not_fit(rt: HostRuntime) -> Result<(), Fail> {
 #[test]
 fn kinds_and_laws(rt: HostRuntime) -> Result<(), Fail> {
     terms_have_ops();
+    terms_have_widths();
+    ops_are_words();
+    maps_are_short();
+    rows_as_written();
     rows_make_values();
     fixed_are_before();
+    counts_are_apart();
+    terminal_cases_have_none();
     variable_has_one();
+    later_has_two();
     small_sum();
     small_order();
     assert!(rt; DecidedKind::Next(11) != DecidedKind::Next(10));
@@ -242,7 +250,6 @@ fn small_sum()
     ensures low { bit_made (table_of (Con 3 2 ∷ Con 1 2 ∷ Con 1 1 ∷ []) []) (Sum 0 1 2) 0 (λ word. 0) ≡ true }
     ensures high { bit_made (table_of (Con 3 2 ∷ Con 1 2 ∷ Con 1 1 ∷ []) []) (Sum 0 1 2) 1 (λ word. 0) ≡ false }
     ensures overflow { bit_made (table_of (Con 3 2 ∷ Con 1 2 ∷ Con 1 1 ∷ []) []) (Ovf 0 1 2) 0 (λ word. 0) ≡ false }
-    ensures operations { length (row (table_of (Con 3 2 ∷ Con 1 2 ∷ Con 1 1 ∷ []) []) (Sum 0 1 2) 1) ≡ 5 }
 {}
 
 /// Variables are ordered by bit first, and fixing those before bit 1 of word 0 leaves the bits from 1 on as they are.

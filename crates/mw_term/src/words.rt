@@ -29,7 +29,7 @@ pub(crate) fn sum(a: u32, b: u32, carry: u32, width: u8) -> u32
 }
 
 /// The carry into a bit, at most 32, of the sum of two words and a carry in.
-pub(crate) fn carry_into(bit: u8, a: u32, b: u32, carry: u32) -> bool
+pub(crate) fn carry_into(a: u32, b: u32, carry: u32, bit: u8) -> bool
     requires most { bit ≤ 32 }
     requires carry { carry < 2 }
     ensures { result ≡ carry_at a b (carry == 1) bit }
@@ -39,13 +39,13 @@ pub(crate) fn carry_into(bit: u8, a: u32, b: u32, carry: u32) -> bool
 }
 
 /// Whether the carry into the top bit of such a sum differs from the carry out of it.
-pub(crate) fn overflows(width: u8, a: u32, b: u32, carry: u32) -> bool
+pub(crate) fn overflows(a: u32, b: u32, carry: u32, width: u8) -> bool
     requires least { 1 ≤ width }
     requires most { width ≤ 32 }
     requires carry { carry < 2 }
     ensures { result ≡ words.differ (carry_at a b (carry == 1) (width - 1)) (carry_at a b (carry == 1) width) }
 {
-    carry_into(width - 1, a, b, carry) != carry_into(width, a, b, carry)
+    carry_into(a, b, carry, width - 1) != carry_into(a, b, carry, width)
 }
 
 /// A word above another, both together of at most 32 bits.

@@ -1,4 +1,5 @@
 pub mod Bundles
 pub mod Ends
+pub mod Lines
 pub mod Reports
 pub mod Unlike

@@ -3,7 +3,7 @@ use Rattle.std.proofs.Common.{◌≡◌, ℕ, List, true, Option, Some, None, re
 use Rattle.mw_plan.specs.Files.{FilesRead, IsLeft}
 use Rattle.mw_plan.specs.Plan.{done}
 use Rattle.mw_top.specs.declared.commands.Work.{Work}
-use Rattle.mw_top.specs.declared.commands.Work.TheVariants.{Comparison, Assembly}
+use Rattle.mw_top.specs.declared.commands.Work.TheVariants.{Comparison, Assembly, Ran}
 use Rattle.mw_top.specs.declared.difference.Difference.{Difference}
 use Rattle.mw_top.specs.declared.status.Status.{Status}
 use Rattle.mw_top.specs.declared.status.Status.TheVariants.{Done, Differs, Unknown, Usage, Refused, ReadFault, WriteFault, NoMemory}
@@ -26,6 +26,7 @@ answer_is_worked : (work : Work) (status : Status) (report : List ℕ) → IsAns
 answer_is_worked (Comparison bundle) status report answer =
     rw answer.status_is (compared_is_worked (difference_of (job_of bundle) answer.start))
 answer_is_worked (Assembly board assembled) status report answer = rw answer.status_is refl
+answer_is_worked (Ran text) status report answer = rw answer.status_is refl
 
 -- the report of work that was done
 worked_is_report : (call : Call) (status : Status) (report : List ℕ) → is_worked status ≡ true

@@ -1,5 +1,5 @@
 -- Where two lists are unlike.
-use Rattle.std.proofs.Common.{◌≡◌, ℕ, ◌+◌, ◌<◌, ◌≤◌, List, [], ◌∷◌, length, drop, get_or, drop-cons, Bool, true, false, Some, refl, ap, ap₂, sym, ◌∙◌, add-one, arith, min, inl, inr, length-drop, ◌≢◌}
+use Rattle.std.proofs.Common.{◌≡◌, ℕ, ◌+◌, ◌<◌, ◌≤◌, List, [], ◌∷◌, length, drop, get_or, Bool, true, false, Some, refl, arith, min, inl, inr, length-drop, ◌≢◌}
 use Rattle.std.proofs.lemmas.Bool.{cases_lt}
 use Rattle.std.proofs.lemmas.List.{drop_all}
 use Rattle.mw_base.proofs.Lists.{next}

@@ -1,4 +1,5 @@
 -- The commands: what each makes of its files, and what is answered then.
 pub mod Asm
 pub mod Compare
+pub mod Run
 pub mod Table

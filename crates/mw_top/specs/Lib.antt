@@ -7,4 +7,6 @@ pub mod Machine
 pub mod Relation
 pub mod Report
 pub mod Request
+pub mod RunText
+pub mod StateText
 pub mod Status

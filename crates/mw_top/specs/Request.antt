@@ -4,7 +4,7 @@ use Rattle.std.specs.List.{list_all}
 use Rattle.std.specs.Str.{bytes_eq}
 use Rattle.mw_plan.specs.Files.{FilesRead}
 use Rattle.mw_top.specs.declared.request.Command.{Command}
-use Rattle.mw_top.specs.declared.request.Command.TheVariants.{Asm, Compare}
+use Rattle.mw_top.specs.declared.request.Command.TheVariants.{Asm, Compare, Run}
 use Rattle.mw_top.specs.declared.request.Request.{Request}
 
 -- a command and the names of its files, in the order of the words
@@ -29,10 +29,11 @@ pub record Row : Type 0 where
 abbrev pub row_of : Command → Row
 row_of Compare = record { word = codes "compare"; files = 1 }
 row_of Asm = record { word = codes "asm"; files = 2 }
+row_of Run = record { word = codes "run"; files = 3 }
 
 -- the commands
 abbrev pub commands : List Command
-commands = Compare ∷ Asm ∷ []
+commands = Compare ∷ Asm ∷ Run ∷ []
 
 -- the command of a word
 abbrev pub command_of : List ℕ → Option Command

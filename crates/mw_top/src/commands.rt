@@ -7,13 +7,14 @@ ghost use Rattle.mw_top.specs.Request.{row_of};
 
 mod asm;
 mod compare;
+mod run;
 
 use crate::bundle::Bundle;
 use crate::fault::Fault;
 use crate::outcome::Outcome;
 use crate::request::Command;
 use mw_asm::Assembled;
-use mw_base::NoMemory;
+use mw_base::{Items, NoMemory};
 use mw_board::Board;
 use mw_outside::Shelf;
 use mw_plan::{Files, Stop};
@@ -26,6 +27,8 @@ pub(crate) enum Work {
     Comparison(Bundle),
     /// A board, and what a microprogram is assembled to for it.
     Assembly(Board, Assembled),
+    /// The text of a run.
+    Ran(Items<u8>),
 }
 
 /// Reads the files of a command, and makes of them what its plan says.
@@ -44,15 +47,17 @@ pub(crate) fn read_files<S: Shelf>(
     match command {
         Command::Compare => compare::read(alloc, shelf, files),
         Command::Asm => asm::read(alloc, shelf, files),
+        Command::Run => run::read(alloc, shelf, files),
     }
 }
 
 /// Answers with what a command made of its files.
-pub(crate) fn answer_with(alloc: Global, work: &Work) -> Result<Outcome, NoMemory>
-    ensures { IfOk result (λ outcome. IsAnswer work.now outcome.status outcome.report.items) }
+pub(crate) fn answer_with(alloc: Global, work: Work) -> Result<Outcome, NoMemory>
+    ensures { IfOk result (λ outcome. IsAnswer work outcome.status outcome.report.items) }
 {
     match work {
-        Work::Comparison(bundle) => compare::report(alloc, bundle),
-        Work::Assembly(board, assembled) => asm::report(alloc, board, assembled),
+        Work::Comparison(bundle) => compare::report(alloc, &bundle),
+        Work::Assembly(board, assembled) => asm::report(alloc, &board, &assembled),
+        Work::Ran(text) => Ok(run::report(text)),
     }
 }

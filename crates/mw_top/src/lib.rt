@@ -8,6 +8,7 @@ mod fault;
 mod outcome;
 mod report;
 mod request;
+mod state_text;
 mod status;
 mod top_call;
 

@@ -2,6 +2,7 @@
 ghost use Rattle.std.specs.Prelude.{◌≡◌, ◌++◌, OnOk};
 ghost use Rattle.mw_top.specs.Report.{line, usage_line, fault_line, cause_text, place_text, reader_text, fault_text, refusal_line};
 ghost use Rattle.mw_top.specs.Report.{element_text, difference_text};
+ghost use Rattle.mw_base.specs.Numbers.{hex};
 
 use crate::difference::Difference;
 use crate::fault::Fault;
@@ -20,6 +21,20 @@ pub(crate) fn append_line(report: &mut Vec<u8>, text: &[u8]) -> Result<(), NoMem
     report.extend_from_slice(text)?;
     report.push(b'\n')?;
     Ok(())
+}
+
+/// Appends a line that ends with a number in hexadecimal digits.
+pub(crate) fn append_hex_line(
+    alloc: Global,
+    report: &mut Vec<u8>,
+    front: &[u8],
+    number: u32,
+) -> Result<(), NoMemory>
+    ensures { OnOk result (report.new.items ≡ report.old.items ++ line (front.now ++ hex number)) }
+{
+    report.extend_from_slice(front)?;
+    append_hex(alloc, report, u128::from(number))?;
+    append_line(report, b"")
 }
 
 /// Appends the answer to faulty words.

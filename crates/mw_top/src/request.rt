@@ -10,6 +10,8 @@ pub enum Command {
     Compare,
     /// Assembles a microprogram: a board file, and the microprogram for its board.
     Asm,
+    /// Runs a board: a board file, a microprogram for its board, and an environment.
+    Run,
 }
 
 /// A command and the words that name its files.
@@ -32,7 +34,7 @@ struct Row {
 
 impl Command {
     /// The commands.
-    const ALL: [Command; 2] = [Command::Compare, Command::Asm];
+    const ALL: [Command; 3] = [Command::Compare, Command::Asm, Command::Run];
 
     /// The row of the command.
     fn row(self) -> Row
@@ -47,6 +49,10 @@ impl Command {
             Command::Asm => Row {
                 word: "asm",
                 files: 2,
+            },
+            Command::Run => Row {
+                word: "run",
+                files: 3,
             },
         }
     }

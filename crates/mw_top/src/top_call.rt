@@ -30,7 +30,7 @@ fn answer<S: Shelf>(
 {
     let mut files = Files::new(alloc, request.files);
     match read_files(alloc, request.command, shelf, &mut files) {
-        Ok(work) => answer_with(alloc, &work),
+        Ok(work) => answer_with(alloc, work),
         Err(Stop::ReadFault) => read_fault_outcome(alloc, files.next_name()),
         Err(Stop::Refused(fault)) => refusal_outcome(alloc, files.next_name(), &fault),
         Err(Stop::NoMemory) => Err(NoMemory),

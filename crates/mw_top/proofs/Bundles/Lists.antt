@@ -1,11 +1,11 @@
 -- Lists of values, read one after the other.
-use Rattle.std.proofs.Common.{◌≡◌, true, false, ◌&&◌, nat_le, ◌≢◌, ℕ, suc, ◌+◌, ◌<◌, ◌≤◌, List, [], ◌∷◌, ◌++◌, length, get_or, drop, append_assoc, Result, Ok, Err, refl, sym, ap, ◌∙◌, arith, add-one, drop-cons}
+use Rattle.std.proofs.Common.{◌≡◌, true, false, ◌&&◌, nat_le, ◌≢◌, ℕ, suc, ◌+◌, ◌<◌, ◌≤◌, List, [], ◌∷◌, ◌++◌, length, get_or, drop, Result, Ok, Err, refl, sym, ap, ◌∙◌, arith}
 use Rattle.std.proofs.lemmas.List.{append-nil, drop_all}
 use Rattle.mw_base.specs.declared.cause.Cause.{Cause}
 use Rattle.mw_base.specs.declared.cause.Cause.TheVariants.{NotBundle}
 use Rattle.mw_base.specs.declared.refusal.Refused.{Refused}
 use Rattle.mw_base.specs.declared.refusal.Refused.TheVariants.{At, NoMemory}
-use Rattle.mw_base.specs.Reading.{◌>>=◌, with_front, Fails}
+use Rattle.mw_base.specs.Reading.{with_front, Fails}
 use Rattle.mw_base.proofs.Lists.{next, regroup}
 use Rattle.mw_top.specs.Bundle.Reading.{present, each_of, count_of, list_of}
 use Rattle.mw_top.specs.Bundle.Form.{assignment_from, link_from}

@@ -2,20 +2,23 @@
 use Rattle.std.specs.Prelude.{ℕ, List}
 use Rattle.mw_plan.specs.Plan.{Plan}
 use Rattle.mw_top.specs.declared.commands.Work.{Work}
-use Rattle.mw_top.specs.declared.commands.Work.TheVariants.{Comparison, Assembly}
+use Rattle.mw_top.specs.declared.commands.Work.TheVariants.{Comparison, Assembly, Ran}
 use Rattle.mw_top.specs.declared.fault.Fault.{Fault}
 use Rattle.mw_top.specs.declared.request.Command.{Command}
-use Rattle.mw_top.specs.declared.request.Command.TheVariants.{Compare, Asm}
+use Rattle.mw_top.specs.declared.request.Command.TheVariants.{Compare, Asm, Run}
 use Rattle.mw_top.specs.declared.status.Status.{Status}
 use Rattle.mw_top.specs.Commands.Asm.{asm_plan, IsListing}
 use Rattle.mw_top.specs.Commands.Compare.{compare_plan, IsComparison}
+use Rattle.mw_top.specs.Commands.Run.{run_plan, IsRun}
 
 -- what a command makes of its files
 abbrev pub plan_of : Command → Plan Fault Work
 plan_of Compare = compare_plan
 plan_of Asm = asm_plan
+plan_of Run = run_plan
 
 -- the status and the report that are answered with what was made of the files
 abbrev pub IsAnswer : Work → Status → List ℕ → Type 0
 IsAnswer (Comparison bundle) status report = IsComparison bundle status report
 IsAnswer (Assembly board assembled) status report = IsListing board assembled status report
+IsAnswer (Ran text) status report = IsRun text status report

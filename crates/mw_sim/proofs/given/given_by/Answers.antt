@@ -16,13 +16,19 @@ pub returns-in_err-add_line-clause-gives : goal.returns-in_err-add_line-clause-g
 returns-in_err-add_line-clause-gives c =
     let p = err_from_is_err_and c.from_residual-in_err-add_line.result c.from_residual-in_err-add_line.ensures.1 in
     rw (p.1, p.2)
-    (refused _ (given_seen c.loop-line.given) c.in_err-add_line.field-0.0 c.args.lines.now c.loop-line.line-index c.line-item.result _ (next _ _ _ c.loop-line-test.true c.line-item.is) c.in_err-add_line.ensures c.loop-line.invariant.so_far)
+    (refused _ (given_seen c.loop-line.given) c.in_err-add_line.field-0.0 c.args.lines.now c.loop-line.line-index
+    c.line-item.result _ (next _ _ _ c.loop-line-test.true c.line-item.is) c.in_err-add_line.ensures
+    c.loop-line.invariant.so_far)
 
 pub loop-line-preserved : goal.loop-line-preserved
 loop-line-preserved c = record {
-  so_far = goes_on _ (given_seen c.loop-line.given) (given_seen c.add_line.new.self) c.args.lines.now c.loop-line.line-index c.line-item.result _ (next _ _ _ c.loop-line-test.true c.line-item.is) c.in_ok-add_line.ensures c.loop-line.invariant.so_far;
-  valid = line_keeps c.args.board.now c.args.elements.now c.args.text.now (given_seen c.loop-line.given) (given_seen c.add_line.new.self) _ c.in_ok-add_line.ensures c.loop-line.invariant.valid;
+  so_far = goes_on _ (given_seen c.loop-line.given) (given_seen c.add_line.new.self) c.args.lines.now
+      c.loop-line.line-index c.line-item.result _ (next _ _ _ c.loop-line-test.true c.line-item.is)
+      c.in_ok-add_line.ensures c.loop-line.invariant.so_far;
+  valid = line_keeps c.args.board.now c.args.elements.now c.args.text.now (given_seen c.loop-line.given)
+      (given_seen c.add_line.new.self) _ c.in_ok-add_line.ensures c.loop-line.invariant.valid;
 }
 
 pub returns-clause-gives : goal.returns-clause-gives
-returns-clause-gives c = done _ (given_seen c.loop-line.given) c.args.lines.now c.loop-line.line-index _ c.loop-line-test.false c.loop-line.invariant.so_far
+returns-clause-gives c = done _ (given_seen c.loop-line.given) c.args.lines.now c.loop-line.line-index _
+    c.loop-line-test.false c.loop-line.invariant.so_far

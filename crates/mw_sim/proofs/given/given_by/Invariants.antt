@@ -6,6 +6,7 @@ use Rattle.mw_sim.proofs.given.given_by.Given as goal
 
 abbrev pub invariant-loop-line : goal.invariant-loop-line
 invariant-loop-line l = record {
-  so_far : steps (with_line l.elements l.board.width l.text) (given_seen l.given) (drop l.line-index l.lines) ≡ given_by l.board l.elements l.text l.lines;
+  so_far : steps (with_line l.elements l.board.width l.text) (given_seen l.given) (drop l.line-index l.lines)
+      ≡ given_by l.board l.elements l.text l.lines;
   valid : IsGiven l.board l.elements (given_seen l.given);
 }

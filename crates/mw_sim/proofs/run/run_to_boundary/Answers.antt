@@ -21,12 +21,14 @@ cycles-init g c =
 
 pub returns-then-stands_at-clause-reached : goal.returns-then-stands_at-clause-reached
 returns-then-stands_at-clause-reached g c =
-    ended _ _ _ _ _ _ _ _ _ c.cycles.invariant.left c.cycles-test.true c.cycles.invariant.so_far c.advance-reached.ensures.exact (sym c.stands_at.ensures ∙ c.if-stands_at.true)
+    ended _ _ _ _ _ _ _ _ _ c.cycles.invariant.left c.cycles-test.true c.cycles.invariant.so_far
+    c.advance-reached.ensures.exact (sym c.stands_at.ensures ∙ c.if-stands_at.true)
 
 pub cycles-preserved : goal.cycles-preserved
 cycles-preserved g c = record {
   so_far = one_more _ _ _ _ _ _ _ c.cycles.invariant.so_far c.advance-reached.ensures.exact;
-  left = goes_on _ _ _ _ _ _ _ _ _ c.cycles.invariant.left c.cycles-test.true c.cycles.invariant.so_far c.advance-reached.ensures.exact (sym c.stands_at.ensures ∙ c.if-stands_at.false);
+  left = goes_on _ _ _ _ _ _ _ _ _ c.cycles.invariant.left c.cycles-test.true c.cycles.invariant.so_far
+      c.advance-reached.ensures.exact (sym c.stands_at.ensures ∙ c.if-stands_at.false);
   fits = c.advance-reached.ensures.fits;
   cycle = omega (arith, c.advance-reached.ensures.cycle, c.cycles.invariant.cycle);
   taken = omega (arith, c.advance-reached.ensures.taken, c.cycles.invariant.taken);
@@ -35,4 +37,6 @@ cycles-preserved g c = record {
 }
 
 pub returns-clause-late : goal.returns-clause-late
-returns-clause-late g c = is_late c.args.board.now c.args.store.now.words c.args.env.now (run_at c.args.state.now c.args.events.now.items c.args.clock) c.args.boundaries.now c.args.limit _ c.cycles.invariant.left c.cycles-test.false
+returns-clause-late g c = is_late c.args.board.now c.args.store.now.words c.args.env.now
+    (run_at c.args.state.now c.args.events.now.items c.args.clock) c.args.boundaries.now c.args.limit _
+    c.cycles.invariant.left c.cycles-test.false

@@ -13,6 +13,9 @@ returns-clause-valid c =
     let noise = rw c.deref-2.ensures.value at c.without_zeros-2.ensures in
     let inputs = rw c.deref-3.ensures.value at c.without_zeros-3.ensures in
     record {
-      noise = rw (c.in_ok-noise.ensures, noise) (trimmed_below (2 ^ 14) c.args.given.now.noise.items (lit< tt) c.requires.noise);
-      inputs = rw (c.in_ok-inputs.ensures.items, inputs) (trimmed_below (2 ^ c.args.board.now.width) c.args.given.now.inputs.items (pow_pos c.args.board.now.width) c.requires.inputs);
+      noise = rw (c.in_ok-noise.ensures, noise) (trimmed_below (2 ^ 14) c.args.given.now.noise.items (lit< tt)
+          c.requires.noise);
+      inputs = rw (c.in_ok-inputs.ensures.items, inputs)
+          (trimmed_below (2 ^ c.args.board.now.width) c.args.given.now.inputs.items (pow_pos c.args.board.now.width)
+          c.requires.inputs);
     }

@@ -1,4 +1,4 @@
-use Rattle.std.proofs.Common.{◌≡◌, add-one, refl}
+use Rattle.std.proofs.Common.{add-one, refl}
 use Rattle.mw_sim.specs.Start.{with_values}
 use Rattle.mw_sim.proofs.start.set_elements.Goals as goal
 

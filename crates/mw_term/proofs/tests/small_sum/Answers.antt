@@ -1,5 +1,5 @@
 use Rattle.std.proofs.Common.{refl}
-use Rattle.mw_term.specs.Rows.{row, bit_made}
+use Rattle.mw_term.specs.Rows.{operations, row_bits, bit_made}
 use Rattle.mw_term.specs.Table.{op_width}
 use Rattle.mw_term.specs.Values.{op_value}
 use Rattle.mw_term.proofs.tests.small_sum.Goals as goal
@@ -13,17 +13,13 @@ unfolding op_width
 returns-clause-width c = refl
 
 pub returns-clause-low : goal.returns-clause-low
-unfolding op_value op_width row bit_made
+unfolding op_value op_width operations row_bits bit_made
 returns-clause-low c = refl
 
 pub returns-clause-high : goal.returns-clause-high
-unfolding op_value op_width row bit_made
+unfolding op_value op_width operations row_bits bit_made
 returns-clause-high c = refl
 
 pub returns-clause-overflow : goal.returns-clause-overflow
-unfolding op_value op_width row bit_made
+unfolding op_value op_width operations row_bits bit_made
 returns-clause-overflow c = refl
-
-pub returns-clause-operations : goal.returns-clause-operations
-unfolding op_value op_width row
-returns-clause-operations c = refl

@@ -1,0 +1,38 @@
+-- How clauses see what the code keeps of a relation's text.
+use Rattle.std.specs.Prelude.{List, map, option_map}
+use Rattle.mw_expr.specs.Written.{written}
+use Rattle.mw_rel.specs.Seen.{line_of, boundaries_of}
+use Rattle.mw_descfile.specs.declared.block as blocks
+use Rattle.mw_descfile.specs.declared.relation as relations
+use Rattle.mw_descfile.specs.declared.relation_line.Told.{Told as KeptTold}
+use Rattle.mw_descfile.specs.declared.relation_line.Told.TheVariants as kept
+use Rattle.mw_descfile.specs.Boundaries.{Given, Block}
+use Rattle.mw_descfile.specs.Relation.{Known}
+use Rattle.mw_descfile.specs.RelationLines.{Told, to_point, to_equate, to_close}
+
+-- what a line of a boundary says
+abbrev pub told_seen : KeptTold → Told
+told_seen (kept.Point word value) = to_point word value
+told_seen (kept.Equate element sign value uses) = to_equate element sign (written value) uses.items
+told_seen (kept.Close word) = to_close word
+
+-- a line as it was given
+abbrev pub given_seen : blocks.Given.Given → Given
+given_seen g = record { line = line_of g.line; name = g.name; uses = g.uses.items }
+
+-- a boundary that is open
+abbrev pub block_seen : blocks.Block.Block → Block
+block_seen b = record {
+  address = b.address;
+  bound = b.bound;
+  sp = b.sp;
+  reads_left = b.reads_left;
+  lines = map given_seen b.lines.items;
+}
+
+-- what is known after some lines
+abbrev pub known_seen : relations.Known.Known → Known
+known_seen known = record {
+  boundaries = boundaries_of known.boundaries.items;
+  block = option_map block_seen known.block;
+}

@@ -1,0 +1,8 @@
+use Rattle.mw_top.specs.StateText.{element_line}
+use Rattle.mw_top.proofs.Lines.{numbered_more}
+use Rattle.mw_top.proofs.state_text.append_elements.Goals as goal
+
+pub loop-number-preserved : goal.loop-number-preserved
+loop-number-preserved c =
+    numbered_more (element_line c.args.board.now c.args.state.now) c.loop-number.number _ _ _ c.loop-number.invariant
+    c.in_ok-append_element.ensures
