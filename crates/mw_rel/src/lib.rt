@@ -27,3 +27,6 @@ pub use laws::{
 pub use line::Line;
 pub use pair::{Pair, holds};
 pub use relation::Relation;
+
+#[cfg(test)]
+mod computed_examples;
