@@ -1,6 +1,6 @@
 -- Each choice of free values and a memory gives a pair in relation.
 use Rattle.std.proofs.Common.{◌≡◌, ℕ, zero, suc, ◌+◌, ◌<◌, ◌≤◌, ◌^◌, List, [], ◌∷◌, map, drop, length, Bool, true, false, ◌==◌, refl, sym, ap, ◌∙◌, subst, add-one, inl, inr, arith}
-use Rattle.std.specs.Prelude.{All, slice_index, slice_index_or, if◌then◌else◌}
+use Rattle.std.specs.Prelude.{All, slice_index, if◌then◌else◌}
 use Rattle.std.proofs.lemmas.Bool.{cases_lt, eqb-true}
 use Rattle.std.proofs.lemmas.List.{length-map}
 use Rattle.std.proofs.lemmas.List.Elements.{All-head, All-tail}
@@ -18,17 +18,15 @@ use Rattle.mw_expr.specs.declared.shape.Shape.{Shape}
 use Rattle.mw_expr.specs.Values.{value, AreWords, IsImage}
 use Rattle.mw_expr.proofs.Accepted.{widths_are_by_rule}
 use Rattle.mw_macro.specs.DescribedStep.{kept}
-use Rattle.mw_rel.specs.Begin.{Begin, IsBegin, IsCompleted, EachChoiceGivesAPair}
+use Rattle.mw_rel.specs.Begin.{EachChoiceGivesAPair}
 use Rattle.mw_rel.specs.Completed.{free_value, value_by, standing}
 use Rattle.mw_rel.specs.Free.{is_free, numbered, no_boundary}
 use Rattle.mw_rel.specs.InRelation.{BothFit, pair_of}
-use Rattle.mw_rel.specs.Job.{Job, IsJob}
 use Rattle.mw_rel.specs.Lines.{Line}
-use Rattle.mw_rel.specs.Relation.{Boundary}
-use Rattle.mw_rel.specs.Rules.{IsLineOf, IsSolved}
+use Rattle.mw_rel.specs.Rules.{IsLineOf}
 use Rattle.mw_rel.proofs.Chosen.{free_words, set_values, chosen_values, completed}
 use Rattle.mw_rel.proofs.Completed.{all_hold}
-use Rattle.mw_rel.proofs.Elements.{widths_count, numbers_length, mapped_at}
+use Rattle.mw_rel.proofs.Elements.{numbers_length, mapped_at}
 use Rattle.mw_rel.proofs.Relations.{solved_at}
 use Rattle.mw_rel.proofs.Standing.{word_fits, standing_fits, behind_fits}
 use Rattle.mw_rel.proofs.Values.{value_below}

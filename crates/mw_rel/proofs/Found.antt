@@ -7,13 +7,13 @@ use Rattle.mw_cycle.specs.Run.{BoardRun}
 use Rattle.mw_macro.specs.DescribedStep.{Stepped}
 use Rattle.mw_rel.specs.declared.difference.Difference.{Difference}
 use Rattle.mw_rel.specs.declared.difference.Difference.TheVariants.{Late, Event, StackPointer, Element, Memory}
-use Rattle.mw_rel.specs.Differs.{same_event, unlike_from, first_unlike, difference_at, first_step, shown_at, shown_by, difference_of, Differs}
+use Rattle.mw_rel.specs.Differs.{same_event, unlike_from, first_unlike, difference_at, first_step, shown_at, shown_by, difference_of}
 use Rattle.mw_rel.specs.InRelation.{Pair, pair_of, Holds, line_holds}
 use Rattle.mw_rel.specs.Job.{Job}
 use Rattle.mw_rel.specs.Lines.{Line}
 use Rattle.mw_rel.specs.Relation.{Boundary}
 use Rattle.mw_rel.specs.Shown.{AreUnlikeAt, IsFirstToFail, Ends, IsShownAt, IsShown, DifferencesAreFirst}
-use Rattle.mw_rel.specs.Start.{Start, IsStart}
+use Rattle.mw_rel.specs.Start.{Start}
 use Rattle.mw_rel.proofs.Shown.{is_shown}
 use Rattle.mw_rel.proofs.Unlike.{one_some, never_unlike, event_is, event_itself, number_itself, all_pass}
 

@@ -10,7 +10,7 @@ use Rattle.mw_cycle.specs.Boundary.{numbers}
 use Rattle.mw_expr.specs.declared.expr.Pair2.TheVariants.{Add}
 use Rattle.mw_expr.specs.Tree.{element, constant, pair}
 use Rattle.mw_macro.specs.Machine.{Description}
-use Rattle.mw_macro.specs.Statements.{Act, assign, Acts, acts_of}
+use Rattle.mw_macro.specs.Statements.{Act, assign, acts_of}
 use Rattle.mw_rel.specs.declared.difference.Difference.{Difference}
 use Rattle.mw_rel.specs.Differs.{difference_of}
 use Rattle.mw_rel.specs.Free.{numbered}

@@ -1,4 +1,4 @@
-use Rattle.std.proofs.Common.{length, arith}
+use Rattle.std.proofs.Common.{arith}
 use Rattle.mw_rel.specs.Free.{is_free}
 use Rattle.mw_rel.specs.Seen.{boundary_of}
 use Rattle.mw_rel.proofs.Completed.{before_few}
