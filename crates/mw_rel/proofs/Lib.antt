@@ -1,10 +1,14 @@
 pub mod Boundaries
 pub mod Completed
+pub mod Choice
+pub mod Choices
 pub mod Chosen
 pub mod Cycles
 pub mod Decided
 pub mod Elements
+pub mod Found
 pub mod Law
+pub mod OnLiterals
 pub mod Pairs
 pub mod Relations
 pub mod Runs

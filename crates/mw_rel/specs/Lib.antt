@@ -3,6 +3,7 @@ pub mod Certified
 pub mod Completed
 pub mod DescribedRun
 pub mod Differs
+pub mod Examples
 pub mod Free
 pub mod InRelation
 pub mod Job

@@ -1,6 +1,7 @@
 //! Relations between a board and a described machine, the starts that they give, and what it is that a job is certified.
 #![tactic(auto)]
 
+mod begin;
 mod boundary;
 mod completion;
 mod difference;
@@ -12,15 +13,20 @@ mod pair;
 mod relation;
 mod rules;
 
+pub use begin::Begin;
 pub use boundary::Boundary;
-pub use completion::{Begin, complete};
+pub use completion::complete;
 pub use difference::Difference;
 pub use free_elements::free;
 pub use job::{Job, shape_of};
 pub use laws::{
     accepted_are_solved, boundaries_come_in_time, certified_where_none_differs,
-    differences_are_first, pairs_are_one, same_shows_nothing, starts_follow,
+    differences_are_first, each_choice_gives_a_pair, pairs_are_one, same_shows_nothing,
+    starts_follow,
 };
 pub use line::Line;
 pub use pair::{Pair, holds};
 pub use relation::Relation;
+
+#[cfg(test)]
+mod computed_examples;
