@@ -4,6 +4,7 @@
 mod boundary;
 mod completion;
 mod difference;
+mod failing;
 mod free_elements;
 mod job;
 mod laws;
@@ -15,6 +16,7 @@ mod rules;
 pub use boundary::Boundary;
 pub use completion::{Begin, complete};
 pub use difference::Difference;
+pub use failing::line_difference;
 pub use free_elements::free;
 pub use job::{Job, shape_of};
 pub use laws::{

@@ -10,4 +10,4 @@ mod start;
 pub use given::{Given, Owner, Settable, given_by};
 pub use parts::Parts;
 pub use run::{Late, run_cycles, run_to_boundary};
-pub use start::{Start, read_start};
+pub use start::{Start, environment_with, first_word, from_first, read_start};
