@@ -1,14 +1,14 @@
 // The elements of both sides as a line of a start may set them, and the values of the free ones.
-ghost use Rattle.std.specs.Prelude.{◌≡◌, ◌<◌, ◌≤◌, ◌^◌, IfOk, length, map, slice_index};
+ghost use Rattle.std.specs.Prelude.{◌≡◌, ◌<◌, ◌≤◌, ◌^◌, ◌++◌, ◌∷◌, [], IfOk, OnOk, cond, length, map, slice_index};
 ghost use Rattle.mw_rel.specs.Begin.{free_elements};
-ghost use Rattle.mw_rel.specs.Free.{numbered};
+ghost use Rattle.mw_rel.specs.Free.{is_free, numbered};
 ghost use Rattle.mw_rel.specs.Views.{job_of};
 ghost use Rattle.mw_sim.specs.Given.{AreBounded};
 ghost use Rattle.mw_replay.specs.CounterText.{owner_of, name_of, settable, settables_of};
 
 use mw_base::{Name, NoMemory};
 use mw_rel::{Job, free};
-use mw_sim::{Owner, Settable};
+use mw_sim::{Owner, Settable, two_to};
 use std::alloc::Global;
 
 /// Whose the element with a number is.
@@ -39,23 +39,17 @@ fn name_of(job: &Job, number: usize) -> &[u8]
 }
 
 /// The least number that is no value of the element with a number.
-#[tactic(auto, using(std::proofs::lemmas::Nat::one_shl))]
 fn bound_of(job: &Job, number: usize) -> u64
     requires { number < length (job_of job.now).relation.shape.widths }
     ensures exact { result ≡ 2 ^ slice_index (job_of job.now).relation.shape.widths number }
     ensures some { 0 < result }
     ensures most { result ≤ 2 ^ 32 }
 {
-    1 << job.shape().widths.as_slice()[number]
+    two_to(job.shape().widths.as_slice()[number])
 }
 
 /// The element with a number as a line may set it at a boundary.
-fn settable(
-    alloc: Global,
-    job: &Job,
-    boundary: usize,
-    number: usize,
-) -> Result<Settable, NoMemory>
+fn settable(alloc: Global, job: &Job, boundary: usize, number: usize) -> Result<Settable, NoMemory>
     requires there { boundary < length (job_of job.now).relation.boundaries }
     requires element { number < length (job_of job.now).relation.shape.widths }
     ensures exact { IfOk result (λ element.
@@ -90,6 +84,25 @@ pub(crate) fn settables_of(
     Ok(elements)
 }
 
+/// Appends the value of an element where it is free at a boundary.
+fn push_free(
+    chosen: &mut Vec<u32>,
+    job: &Job,
+    boundary: usize,
+    number: usize,
+    value: u32,
+) -> Result<(), NoMemory>
+    requires there { boundary < length (job_of job.now).relation.boundaries }
+    requires few { number < 2 ^ 32 }
+    ensures { OnOk result (chosen.new.items ≡ chosen.old.items
+        ++ cond (is_free (numbered (job_of job.now) boundary) number) (value ∷ []) []) }
+{
+    if free(job, boundary, number as u32) {
+        chosen.push(value)?;
+    }
+    Ok(())
+}
+
 /// The values of the elements that are free at a boundary, by number, of the values of all.
 pub(crate) fn free_values(
     alloc: Global,
@@ -104,9 +117,7 @@ pub(crate) fn free_values(
 {
     let mut chosen = Vec::new(alloc);
     for number in 0..job.element_count() {
-        if free(job, boundary, number as u32) {
-            chosen.push(values[number])?;
-        }
+        push_free(&mut chosen, job, boundary, number, values[number])?;
     }
     Ok(chosen)
 }

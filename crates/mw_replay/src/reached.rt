@@ -18,7 +18,13 @@ pub(crate) fn number_at(job: &Job, address: u16) -> Option<usize>
     ensures exact { result ≡ number_at (job_of job.now) address }
     ensures there { IfSome result (λ n. n < length (job_of job.now).relation.boundaries) }
 {
-    job.relation.boundaries().iter().position(|boundary| boundary.address == address)
+    let boundaries = job.relation.boundaries();
+    for (n, boundary) in boundaries.iter().enumerate() {
+        if boundary.address == address {
+            return Some(n);
+        }
+    }
+    None
 }
 
 /// Puts the control addresses of the boundaries into a list that has a place for each.
@@ -26,7 +32,8 @@ pub(crate) fn copy_addresses(job: &Job, addresses: &mut [u16])
     requires { length addresses.old ≡ length (job_of job.now).relation.boundaries }
     ensures { addresses.new ≡ addresses_of (job_of job.now) }
 {
-    for (n, boundary) in job.relation.boundaries().iter().enumerate() {
+    let boundaries = job.relation.boundaries();
+    for (n, boundary) in boundaries.iter().enumerate() {
         addresses[n] = boundary.address;
     }
 }

@@ -99,15 +99,7 @@ fn run_segment<A: Datapath>(
     copy_addresses(job, named);
     events.clear();
     match run_to_boundary(
-        part,
-        &job.board,
-        &job.store,
-        state,
-        env,
-        clock,
-        named,
-        limit,
-        events,
+        part, &job.board, &job.store, state, env, clock, named, limit, events,
     ) {
         Ok(end) => Some(end),
         Err(_) => None,

@@ -1,5 +1,5 @@
 // The counter that a START or COUNTER file gives.
-ghost use Rattle.std.specs.Prelude.{◌≡◌, ◌<◌, ◌^◌, IfOk, length};
+ghost use Rattle.std.specs.Prelude.{◌≡◌, ◌<◌, ◌^◌, IfOk, IfErr, Ok, Err, length};
 ghost use Rattle.mw_base.specs.Reading.{Gives};
 ghost use Rattle.mw_rel.specs.Free.{numbered};
 ghost use Rattle.mw_rel.specs.Views.{job_of};
@@ -29,7 +29,8 @@ fn begins_with(word: &[u8], line: &Cursor) -> bool
 
 /// The lines behind a line `no`, where they begin with one: cause 60 where anything else stands on it.
 fn behind_no<'a>(text: &[u8], lines: &'a [Line]) -> Result<&'a [Line], TextFault>
-    ensures { result_map (λ rest. rest.now) result ≡ behind_no text.now lines.now }
+    ensures ok { IfOk result (λ rest. behind_no text.now lines.now ≡ Ok rest.now) }
+    ensures err { IfErr result (λ fault. behind_no text.now lines.now ≡ Err fault) }
 {
     let [head, rest @ ..] = lines else {
         return Ok(lines);
@@ -163,12 +164,5 @@ pub fn read_counter(
     let lines = lines(alloc, text)?;
     let end = text_end(&lines, Cause::BadSyntax);
     let rest = behind_no(text, from_first(&lines)).map_err(Refused::At)?;
-    counter_in(
-        alloc,
-        job,
-        labels,
-        text,
-        end,
-        behind_difference(text, rest),
-    )
+    counter_in(alloc, job, labels, text, end, behind_difference(text, rest))
 }
