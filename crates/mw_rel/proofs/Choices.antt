@@ -135,11 +135,12 @@ each_choice_gives_a_pair job n begin is there begins =
           (is.matched.relation.formed.boundaries n no_boundary there).address
           (is.matched.parts.pointers n no_boundary there) begins.memory;
       machine = behind_fits job values begin.memory is words begins.memory;
-    } in (
+    } in
+    (
       pair_of state machine,
       completed job boundary begin values (pair_of state machine) fit (record { at = refl; sp = refl; memory = refl })
-          (sym (set_values job state values begin.memory is words board.set)) refl
-          (all_hold s places begin.memory values boundary.lines free.count (size ∙ sym free.count) each solved.lines
-          solved.once solved.free)
-          (chosen_values job boundary begin places values size (λ e below. placed e (omega arith)) each begins),
+      (sym (set_values job state values begin.memory is words board.set)) refl
+      (all_hold s places begin.memory values boundary.lines free.count (size ∙ sym free.count) each solved.lines
+      solved.once solved.free)
+      (chosen_values job boundary begin places values size (λ e below. placed e (omega arith)) each begins),
     )
