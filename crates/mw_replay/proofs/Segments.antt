@@ -21,13 +21,14 @@ use Rattle.mw_rel.specs.Free.{numbered}
 use Rattle.mw_rel.specs.InRelation.{Pair, pair_of}
 use Rattle.mw_rel.specs.Job.{Job, IsJob}
 use Rattle.mw_rel.specs.Relation.{Boundary}
-use Rattle.mw_rel.specs.Start.{Start, IsStart}
+use Rattle.mw_rel.specs.Start.{Start, IsStart, addresses_of}
 use Rattle.mw_rel.proofs.Runs.{cycles_are, inputs_are}
 use Rattle.mw_rel.proofs.Same.{segment}
-use Rattle.mw_sim.specs.Run.{run_at}
+use Rattle.mw_sim.specs.Run.{run_at, segment_after}
 use Rattle.mw_replay.specs.CounterText.{number_at}
 use Rattle.mw_replay.specs.Replay.{Follows, IsReplay, Replay, next_start, step_with}
 use Rattle.mw_replay.proofs.Numbers.{boundary_by_number}
+use Rattle.mw_replay.proofs.Steps.{next_is_start}
 
 -- ---- how far a segment comes
 
@@ -98,11 +99,14 @@ pub within : (job : Job) (start : Start) (place : Clock) (s : BoardState) (es : 
 within job start place s es end is =
     let ran = segment job start is.run is.segment in
     let n = ran.cycles in
-    let events : length is.run.events ≤ n = rw ran.is (events_few job.board job.store start.env start.pair.board n) in
+    let events : length is.run.events ≤ n =
+    subst (λ (r : BoardRun). length r.events ≤ n) (sym ran.is)
+    (events_few job.board job.store start.env start.pair.board n) in
     let cycle : is.run.clock.cycle ≡ n =
     ap (λ (r : BoardRun). r.clock.cycle) ran.is ∙ cycles_are job.board job.store start.env start.pair.board n in
     let taken : is.run.clock.taken ≡ inputs_in is.run.events =
-    rw ran.is (inputs_are job.board job.store start.env start.pair.board n) in
+    subst (λ (r : BoardRun). r.clock.taken ≡ inputs_in r.events) (sym ran.is)
+    (inputs_are job.board job.store start.env start.pair.board n) in
     record {
       few = omega (arith, ap (λ (e : List Event). length e) is.events, ran.within);
       cycle = omega (arith, ap (λ (c : Clock). c.cycle) is.clock, ran.within);
@@ -133,13 +137,16 @@ shown_there job start run n segment there =
 
 -- ---- the next start
 
+drop_nothing : {A : Type 0} (n : ℕ) → drop {A = A} n [] ≡ []
+drop_nothing zero = refl
+drop_nothing (suc n) = refl
+
 drop_further : {A : Type 0} (n m : ℕ) (xs : List A) → drop m (drop n xs) ≡ drop (n + m) xs
-drop_further zero m xs = ap (λ k. drop k xs) (let e : m ≡ 0 + m = omega arith in e)
-drop_further (suc n) zero [] = refl
-drop_further (suc n) (suc m) [] = refl
-drop_further (suc n) m (x ∷ xs) =
+drop_further {A} zero m xs = let e : m ≡ 0 + m = omega arith in ap (λ k. drop {A = A} k xs) e
+drop_further {A} (suc n) m [] = drop_nothing m ∙ sym (drop_nothing {A = A} (suc n + m))
+drop_further {A} (suc n) m (x ∷ xs) =
     let e : suc n + m ≡ suc (n + m) = omega arith in
-    drop_further n m xs ∙ sym (ap (λ k. drop k (x ∷ xs)) e)
+    drop_further n m xs ∙ sym (ap (λ k. drop {A = A} k (x ∷ xs)) e)
 
 -- what is left of what is left
 rest_further : (env : Environment) (place by : Clock) → rest_at (rest_at env place) by ≡ rest_at env (further place by)
@@ -148,3 +155,106 @@ rest_further env place by = rw (
   drop_further place.cycle by.cycle env.noise,
   drop_further place.taken by.taken env.inputs,
 ) refl
+
+start_with : Boundary → Pair → Environment → Start
+start_with boundary pair env = record { boundary = boundary; pair = pair; env = env }
+
+one_start : (b : Boundary) (p q : Pair) (env other : Environment) → p ≡ q → env ≡ other
+    → start_with b p env ≡ start_with b q other
+one_start b p q env other pairs environments = rw (pairs, environments) refl
+
+-- ---- a replay
+
+-- the segment of a replay that ends, and one that is late
+pub ended_at : (job : Job) (replay : Replay) (limit : ℕ) (s : BoardState) (es : List Event) (end : Clock)
+    → limit ≡ (numbered job replay.boundary).bound
+    → segment_after job.board job.store replay.env (run_at replay.pair.board [] replay.clock) (addresses_of job) limit
+    ≡ Some (run_at s es end)
+    → Ended job (next_start job replay) replay.clock s es end
+ended_at job replay limit s es end same reached =
+    let at = run_at replay.pair.board [] replay.clock in
+    ended job (next_start job replay) replay.pair.board replay.clock s es end
+    (subst (λ n. segment_after job.board job.store replay.env at (addresses_of job) n ≡ Some (run_at s es end)) same
+    reached)
+
+pub late_at : (job : Job) (replay : Replay) (limit : ℕ) → limit ≡ (numbered job replay.boundary).bound
+    → segment_after job.board job.store replay.env (run_at replay.pair.board [] replay.clock) (addresses_of job) limit
+    ≡ None
+    → difference_of job (next_start job replay) ≡ Some Late
+late_at job replay limit same late =
+    let at = run_at replay.pair.board [] replay.clock in
+    shown_late job (next_start job replay)
+    (late_by at (segment_of job (next_start job replay))
+    (subst (λ n. segment_after job.board job.store replay.env at (addresses_of job) n ≡ None) same late))
+
+-- a segment that ends at no boundary is late too; there is none
+pub nowhere_at : (job : Job) (replay : Replay) (s : BoardState) (es : List Event) (end : Clock)
+    → Ended job (next_start job replay) replay.clock s es end → number_at job s.at ≡ None
+    → difference_of job (next_start job replay) ≡ Some Late
+nowhere_at job replay s es end is nowhere =
+    shown_nowhere job (next_start job replay) is.run is.segment
+    (subst (λ (state : BoardState). number_at job state.at ≡ None) is.state nowhere)
+
+stepped : MachineState → List Event → ℕ → Stepped
+stepped m steps taken = record { state = m; events = steps; taken = taken }
+
+same_difference : (job : Job) (b : Boundary) (s t : BoardState) (es fs : List Event) (m k : MachineState)
+    (steps others : List Event) (clock : Clock) (taken : ℕ) → s ≡ t → es ≡ fs → m ≡ k → steps ≡ others
+    → difference_at job b (run_at s es clock) (stepped m steps taken)
+    ≡ difference_at job b (run_at t fs clock) (stepped k others taken)
+same_difference job b s t es fs m k steps others clock taken one two three four = rw (one, two, three, four) refl
+
+-- what is shown at the boundary reached
+pub shown_after : (job : Job) (start : Start) (place : Clock) (s : BoardState) (es : List Event) (end : Clock)
+    (m : MachineState) (steps : List Event) (n : ℕ) (shown : Option Difference) → Ended job start place s es end
+    → number_at job s.at ≡ Some n → m ≡ (first_step job start).state → steps ≡ (first_step job start).events
+    → ((clock : Clock) (taken : ℕ) → shown ≡ difference_at job (numbered job n) (run_at s es clock)
+    (record { state = m; events = steps; taken = taken }))
+    → shown ≡ difference_of job start
+unfolding stepped
+shown_after job start place s es end m steps n shown is there state events all =
+    let step = first_step job start in
+    all is.run.clock step.taken
+    ∙ same_difference job (numbered job n) s is.run.state es is.run.events m step.state steps step.events is.run.clock
+    step.taken is.state is.events state events
+    ∙ sym (shown_there job start is.run n is.segment
+    (subst (λ (state : BoardState). number_at job state.at ≡ Some n) is.state there))
+
+-- where a replay stands after a segment
+pub follows_after : (job : Job) (replay : Replay) (pair : Pair) (es : List Event) (end : Clock) (n : ℕ)
+    → Ended job (next_start job replay) replay.clock pair.board es end → number_at job pair.board.at ≡ Some n
+    → pair.machine ≡ (first_step job (next_start job replay)).state
+    → Follows job (next_start job replay)
+    (next_start job (record { boundary = n; pair = pair; env = replay.env; clock = end }))
+unfolding start_with
+follows_after job replay pair es end n is there state =
+    let start = next_start job replay in
+    let pairs : pair ≡ pair_of is.run.state (first_step job start).state = ap₂ pair_of is.state state in
+    let environments : rest_at replay.env end ≡ rest_at start.env is.run.clock =
+    ap (rest_at replay.env) is.clock ∙ sym (rest_further replay.env replay.clock is.run.clock) in
+    record {
+      run = is.run;
+      reached = numbered job n;
+      segment = is.segment;
+      there = boundary_by_number job is.run.state.at
+          ∙ ap (option_map (numbered job))
+          (subst (λ (state : BoardState). number_at job state.at ≡ Some n) is.state there);
+      is_next = one_start (numbered job n) pair (pair_of is.run.state (first_step job start).state)
+          (rest_at replay.env end) (rest_at start.env is.run.clock) pairs environments;
+    }
+
+-- it stands at a start of the job
+pub stands_after : (job : Job) (replay : Replay) (pair : Pair) (es : List Event) (end : Clock) (n : ℕ) → IsJob job
+    → IsReplay job replay → difference_of job (next_start job replay) ≡ None
+    → Ended job (next_start job replay) replay.clock pair.board es end → number_at job pair.board.at ≡ Some n
+    → n < length job.relation.boundaries
+    → pair.machine ≡ (first_step job (next_start job replay)).state
+    → IsReplay job (record { boundary = n; pair = pair; env = replay.env; clock = end })
+stands_after job replay pair es end n is stands none ended there below state =
+    let new : Replay = record { boundary = n; pair = pair; env = replay.env; clock = end } in
+    record {
+      there = below;
+      start = next_is_start job (next_start job replay) (next_start job new) is stands.start none
+          (follows_after job replay pair es end n ended there state);
+      env = stands.env;
+    }

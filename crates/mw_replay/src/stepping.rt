@@ -18,8 +18,8 @@ ghost use Rattle.mw_replay.specs.Replay.{IsReplay, Follows, next_start, step_wit
 use crate::counter::Counter;
 use crate::reached::{copy_addresses, difference_at, number_at};
 use mw_base::{Event, NoMemory};
-use mw_cycle::{Clock, Datapath, Env, State};
-use mw_macro::{MacState, step};
+use mw_cycle::{Clock, Datapath, Env};
+use mw_macro::step;
 use mw_rel::{Difference, Job, Pair, complete};
 use mw_sim::run_to_boundary;
 use std::alloc::Global;
@@ -74,33 +74,41 @@ fn run_segment<A: Datapath>(
     part: &A,
     job: &Job,
     limit: u32,
-    state: &mut State,
+    pair: &mut Pair,
     env: &Env,
     clock: Clock,
     events: &mut Vec<Event>,
 ) -> Option<Clock>
-    requires fits { boards.Fits (job_of job.now).board state.old }
+    requires fits { boards.Fits (job_of job.now).board pair.old.board }
     requires env_in { IsEnvironment (job_of job.now).board env.now }
     requires cycle { clock.cycle + limit < 2 ^ 64 }
     requires taken { clock.taken + limit < 2 ^ 64 }
     requires room { limit ≤ vec_capacity events.old }
     ensures reached { IfSome result (λ end. segment_after (job_of job.now).board (job_of job.now).store env.now
-        (run_at state.old [] clock) (addresses_of (job_of job.now)) limit ≡ Some (run_at state.new events.new.items end)) }
+        (run_at pair.old.board [] clock) (addresses_of (job_of job.now)) limit
+        ≡ Some (run_at pair.new.board events.new.items end)) }
     ensures late { result ≡ None → segment_after (job_of job.now).board (job_of job.now).store env.now
-        (run_at state.old [] clock) (addresses_of (job_of job.now)) limit ≡ None }
-    ensures few { IfSome result (λ end. length events.new.items ≤ limit) }
-    ensures cycle { IfSome result (λ end. end.cycle ≤ clock.cycle + limit) }
-    ensures taken { IfSome result (λ end. end.taken ≤ clock.taken + limit) }
-    ensures fits { boards.Fits (job_of job.now).board state.new }
+        (run_at pair.old.board [] clock) (addresses_of (job_of job.now)) limit ≡ None }
+    ensures fits { boards.Fits (job_of job.now).board pair.new.board }
+    ensures machine { pair.new.machine ≡ pair.old.machine }
     ensures capacity { vec_capacity events.old ≤ vec_capacity events.new }
 {
     let mut addresses = [0; MOST_BOUNDARIES];
     let named = &mut addresses[..job.relation.boundaries().len()];
     copy_addresses(job, named);
     events.clear();
-    match run_to_boundary(
-        part, &job.board, &job.store, state, env, clock, named, limit, events,
-    ) {
+    let ended = run_to_boundary(
+        part,
+        &job.board,
+        &job.store,
+        &mut pair.board,
+        env,
+        clock,
+        named,
+        limit,
+        events,
+    );
+    match ended {
         Ok(end) => Some(end),
         Err(_) => None,
     }
@@ -110,20 +118,21 @@ fn run_segment<A: Datapath>(
 /// cycle, and its inputs are those that were not taken yet.
 fn run_step(
     job: &Job,
-    state: &mut MacState,
+    pair: &mut Pair,
     env: &Env,
     clock: Clock,
     temps: &mut Vec<u32>,
     steps: &mut Vec<Event>,
 )
-    requires fits { machines.Fits (job_of job.now).machine state.old }
+    requires fits { machines.Fits (job_of job.now).machine pair.old.machine }
     requires inputs { AreInputs (job_of job.now).machine env.now.inputs }
     requires within { clock.taken + most_events (job_of job.now).machine < 2 ^ 64 }
     requires empty { temps.old.items ≡ [] }
     requires room { 4096 ≤ vec_capacity steps.old }
-    ensures state { state.new ≡ (step_with (job_of job.now) state.old (rest_at env.now clock)).state }
-    ensures events { steps.new.items ≡ (step_with (job_of job.now) state.old (rest_at env.now clock)).events }
-    ensures fits { machines.Fits (job_of job.now).machine state.new }
+    ensures pair { pair.new ≡ pair_of pair.old.board
+        (step_with (job_of job.now) pair.old.machine (rest_at env.now clock)).state }
+    ensures events { steps.new.items ≡ (step_with (job_of job.now) pair.old.machine (rest_at env.now clock)).events }
+    ensures fits { machines.Fits (job_of job.now).machine pair.new.machine }
     ensures capacity { vec_capacity steps.old ≤ vec_capacity steps.new }
     ensures empty { temps.new.items ≡ [] }
 {
@@ -131,7 +140,7 @@ fn run_step(
     steps.clear();
     step(
         &job.machine,
-        state,
+        &mut pair.machine,
         request,
         &env.inputs,
         clock.taken,
@@ -184,10 +193,10 @@ impl Replay {
         ensures taken { self.new.clock.taken ≤ self.old.clock.taken + 500 }
     {
         let at = self.clock;
-        let limit = job.relation.boundaries()[self.boundary].bound;
+        let limit = job.boundary(self.boundary).bound;
         run_step(
             job,
-            &mut self.pair.machine,
+            &mut self.pair,
             &self.env,
             at,
             &mut self.temps,
@@ -197,7 +206,7 @@ impl Replay {
             part,
             job,
             limit,
-            &mut self.pair.board,
+            &mut self.pair,
             &self.env,
             at,
             &mut self.events,
