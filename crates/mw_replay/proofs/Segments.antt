@@ -1,5 +1,5 @@
 -- The segment of a replay: where it ends, and what is compared there.
-use Rattle.std.proofs.Common.{◌≡◌, ℕ, zero, suc, ◌+◌, ◌<◌, ◌≤◌, ◌^◌, List, [], ◌∷◌, ◌++◌, drop, length, Option, Some, None, option_map, false, slice_index, slice_index_or, refl, sym, ap, ap₂, ◌∙◌, subst, rules, arith}
+use Rattle.std.proofs.Common.{◌≡◌, ℕ, zero, suc, ◌+◌, ◌<◌, ◌≤◌, ◌^◌, List, [], ◌∷◌, ◌++◌, drop, length, Option, Some, None, option_map, Bool, false, slice_index, slice_index_or, refl, sym, ap, ap₂, ◌∙◌, subst, rules, arith}
 use Rattle.std.specs.Option.{option_to_list}
 use Rattle.std.proofs.lemmas.List.{length-append}
 use Rattle.mw_base.specs.declared.event.Event.{Event}
@@ -10,7 +10,7 @@ use Rattle.mw_cycle.specs.Cycle.{nets_of}
 use Rattle.mw_cycle.specs.Environment.{Environment, given_at, rest_at}
 use Rattle.mw_cycle.specs.Run.{BoardRun, further, longer_run, run_of, then_run}
 use Rattle.mw_cycle.specs.State.{BoardState}
-use Rattle.mw_macro.specs.DescribedStep.{Stepped}
+use Rattle.mw_macro.specs.DescribedStep.{Stepped, step_of}
 use Rattle.mw_macro.specs.Laws.{inputs_in}
 use Rattle.mw_macro.specs.State.{MachineState}
 use Rattle.mw_rel.specs.declared.difference.Difference.{Difference}
@@ -22,13 +22,25 @@ use Rattle.mw_rel.specs.InRelation.{Pair, pair_of}
 use Rattle.mw_rel.specs.Job.{Job, IsJob}
 use Rattle.mw_rel.specs.Relation.{Boundary}
 use Rattle.mw_rel.specs.Start.{Start, IsStart, addresses_of}
-use Rattle.mw_rel.proofs.Runs.{cycles_are, inputs_are}
+use Rattle.mw_macro.proofs.Steps.{steps_take_from_first}
+use Rattle.mw_rel.proofs.Runs.{cycles_are, inputs_are, line_left}
 use Rattle.mw_rel.proofs.Same.{segment}
 use Rattle.mw_sim.specs.Run.{run_at, segment_after}
 use Rattle.mw_replay.specs.CounterText.{number_at}
 use Rattle.mw_replay.specs.Replay.{Follows, IsReplay, Replay, next_start, step_with}
 use Rattle.mw_replay.proofs.Numbers.{boundary_by_number}
 use Rattle.mw_replay.proofs.Steps.{next_is_start}
+
+-- ---- the described step
+
+-- the step that takes what is left is that over what is left
+pub step_is : (job : Job) (m state : MachineState) (env : Environment) (clock : Clock) (request : Bool)
+    (inputs : List ℕ) → m ≡ state → request ≡ slice_index_or env.line clock.cycle false → inputs ≡ env.inputs
+    → step_of job.machine m request inputs clock.taken ≡ step_with job state (rest_at env clock)
+step_is job m state env clock request inputs one two three =
+    let line = slice_index_or env.line clock.cycle false in
+    rw (one, two, three) (steps_take_from_first job.machine state line env.inputs clock.taken
+    ∙ ap (λ (b : Bool). step_of job.machine state b (drop clock.taken env.inputs) 0) (sym (line_left env clock.cycle)))
 
 -- ---- how far a segment comes
 

@@ -84,21 +84,19 @@ numbers_below from (suc count) bound (suc i) most below =
     numbers_below (from + 1) count bound i (omega arith) (omega arith)
 
 -- so is each of those that pass a test
-mutual
-  chosen_on : (p : ℕ → Bool) (x : ℕ) (xs : List ℕ) (bound : ℕ) (b : Bool)
-      → ((i : ℕ) → i < length (x ∷ xs) → slice_index (x ∷ xs) i < bound)
-      → (i : ℕ) → i < length (cond b (x ∷ filter p xs) (filter p xs))
-      → slice_index (cond b (x ∷ filter p xs) (filter p xs)) i < bound
-  chosen_on p x xs bound true each zero below = each 0 (omega arith)
-  chosen_on p x xs bound true each (suc i) below =
-      chosen_below p xs bound (λ k inside. each (suc k) (omega arith)) i (omega arith)
-  chosen_on p x xs bound false each i below =
-      chosen_below p xs bound (λ k inside. each (suc k) (omega arith)) i below
+chosen_on : (x : ℕ) (xs : List ℕ) (bound : ℕ) (b : Bool) → x < bound
+    → ((i : ℕ) → i < length xs → slice_index xs i < bound) → (i : ℕ) → i < length (cond b (x ∷ xs) xs)
+    → slice_index (cond b (x ∷ xs) xs) i < bound
+chosen_on x xs bound true here rest zero below = here
+chosen_on x xs bound true here rest (suc i) below = rest i (omega arith)
+chosen_on x xs bound false here rest i below = rest i below
 
-  chosen_below : (p : ℕ → Bool) (xs : List ℕ) (bound : ℕ) → ((i : ℕ) → i < length xs → slice_index xs i < bound)
-      → (i : ℕ) → i < length (filter p xs) → slice_index (filter p xs) i < bound
-  chosen_below p [] bound each i below = absurd (omega arith)
-  chosen_below p (x ∷ xs) bound each i below = chosen_on p x xs bound (p x) each i below
+chosen_below : (p : ℕ → Bool) (xs : List ℕ) (bound : ℕ) → ((i : ℕ) → i < length xs → slice_index xs i < bound)
+    → (i : ℕ) → i < length (filter p xs) → slice_index (filter p xs) i < bound
+chosen_below p [] bound each i below = absurd (omega arith)
+chosen_below p (x ∷ xs) bound each i below =
+    chosen_on x (filter p xs) bound (p x) (each 0 (omega arith))
+    (chosen_below p xs bound (λ k inside. each (suc k) (omega arith))) i below
 
 -- one item of what is made of some
 made_at : (f : ℕ → ℕ) (xs : List ℕ) (i : ℕ) → i < length xs → slice_index (map f xs) i ≡ f (slice_index xs i)

@@ -37,7 +37,9 @@ earlier job here next j d begins none follows differs =
 -- what differs after k steps differs k steps later from the first start
 after_steps : (job : Job) (start here : Start) (k j : ℕ) (d : Difference) → IsJob job → IsStart job start
     → IsReached job start k here → DiffersAt job here j d → DiffersAt job start (k + j) d
-after_steps job start here k j d is begins IsReached.begins differs = differs
+after_steps job start here k j d is begins IsReached.begins differs =
+    let none : j ≡ 0 + j = omega arith in
+    subst (λ n. DiffersAt job start n d) none differs
 after_steps job start here k j d is begins (IsReached.goes_on i before next reached none follows) differs =
     let same : i + (j + 1) ≡ i + 1 + j = omega arith in
     let begun = reached_is_start job start before i is begins reached in
@@ -152,7 +154,7 @@ record Behind (job : Job) (here : Start) (k n : ℕ) (d : Difference) : Type 0 w
 
 behind : (job : Job) (start here : Start) (k n : ℕ) (d : Difference) → IsReached job start k here
     → DiffersAt job start n d → Behind job here k n d
-behind job start here k n d IsReached.begins differs = record { step = n; place = refl; differs = differs }
+behind job start here k n d IsReached.begins differs = record { step = n; place = omega arith; differs = differs }
 behind job start here k n d (IsReached.goes_on i before next reached none follows) differs =
     let there = behind job start before i n d reached differs in
     let next_differs = differs_behind job before here there.step d none follows there.differs in

@@ -13,6 +13,7 @@ ghost use Rattle.mw_rel.specs.Start.{addresses_of};
 ghost use Rattle.mw_rel.specs.Views.{job_of};
 ghost use Rattle.mw_sim.specs.Run.{run_at, segment_after};
 ghost use Rattle.mw_replay.specs.Counter.{IsCounter, IsStartOf};
+ghost use Rattle.mw_replay.specs.Views.{replay_of, HasRoom};
 ghost use Rattle.mw_replay.specs.Replay.{IsReplay, Follows, next_start, step_with};
 
 use crate::counter::Counter;
@@ -34,28 +35,41 @@ const MOST_EVENTS: usize = 4096;
 /// The most boundaries of a relation.
 const MOST_BOUNDARIES: usize = 64;
 
+/// Where a replay stands, and the room that its steps need.
+#[derive(Drop)]
+pub(crate) struct Stand {
+    /// The number of the boundary.
+    boundary: usize,
+    /// The pair there.
+    pair: Pair,
+    /// The whole environment.
+    env: Env,
+    /// How far the replay has come in it.
+    clock: Clock,
+    /// The events of the last segment.
+    events: Vec<Event>,
+    /// The events of the last step.
+    steps: Vec<Event>,
+    /// Nothing: a step keeps nothing here.
+    temps: Vec<u32>,
+}
+
 /// A replay: the start of the next segment, and all memory that its steps need. Contracts see where it stands: the
 /// number of the boundary, the pair there, the whole environment, and how far it has come in it.
 #[derive(Drop)]
 pub struct Replay {
-    boundary: usize,
-    pair: Pair,
-    env: Env,
-    clock: Clock,
-    events: Vec<Event>,
-    steps: Vec<Event>,
-    temps: Vec<u32>,
+    stand: Stand,
 }
 
 impl Model for Replay {
-    ghost use Rattle.std.specs.Prelude.{◌≡◌, ◌≤◌, [], vec_capacity};
     ghost use Rattle.mw_replay.specs.Replay.{Replay as ReplayOf};
+    ghost use Rattle.mw_replay.specs.Views.{replay_of, HasRoom};
 
     ghost Value = { ReplayOf };
 
-    ghost view = { λ r. record { boundary = r.boundary; pair = r.pair; env = r.env; clock = r.clock } };
+    ghost view = { λ r. replay_of r.stand };
 
-    ghost invariant = { λ r. (500 ≤ vec_capacity r.events) × (4096 ≤ vec_capacity r.steps) × (r.temps.items ≡ []) };
+    ghost invariant = { λ r. HasRoom r.stand };
 }
 
 /// A copy of an environment.
@@ -149,6 +163,52 @@ fn run_step(
     );
 }
 
+/// One segment of the board from the next start, and one step of the described machine: the first difference.
+fn advance<A: Datapath>(part: &A, job: &Job, stand: &mut Stand) -> Option<Difference>
+    requires room { HasRoom stand.old }
+    requires stands { IsReplay (job_of job.now) (replay_of stand.old) }
+    requires cycles { stand.old.clock.cycle + (numbered (job_of job.now) stand.old.boundary).bound < 2 ^ 64 }
+    requires taken { stand.old.clock.taken + (numbered (job_of job.now) stand.old.boundary).bound < 2 ^ 64 }
+    requires inputs { stand.old.clock.taken + most_events (job_of job.now).machine < 2 ^ 64 }
+    ensures room { HasRoom stand.new }
+    ensures shown { result ≡ difference_of (job_of job.now) (next_start (job_of job.now) (replay_of stand.old)) }
+    ensures follows { result ≡ None → Follows (job_of job.now) (next_start (job_of job.now) (replay_of stand.old))
+        (next_start (job_of job.now) (replay_of stand.new)) }
+    ensures stands { result ≡ None → IsReplay (job_of job.now) (replay_of stand.new) }
+    ensures cycle { stand.new.clock.cycle ≤ stand.old.clock.cycle + 500 }
+    ensures taken { stand.new.clock.taken ≤ stand.old.clock.taken + 500 }
+{
+    // A call for the proof: its clause `valid` says what holds of every job.
+    let _ = job.shape();
+    let at = stand.clock;
+    let limit = job.boundary(stand.boundary).bound;
+    run_step(
+        job,
+        &mut stand.pair,
+        &stand.env,
+        at,
+        &mut stand.temps,
+        &mut stand.steps,
+    );
+    let Some(end) = run_segment(
+        part,
+        job,
+        limit,
+        &mut stand.pair,
+        &stand.env,
+        at,
+        &mut stand.events,
+    ) else {
+        return Some(Difference::Late);
+    };
+    let Some(reached) = number_at(job, stand.pair.board.at) else {
+        return Some(Difference::Late);
+    };
+    stand.boundary = reached;
+    stand.clock = end;
+    difference_at(job, reached, &stand.pair, &stand.events, &stand.steps)
+}
+
 impl Replay {
     /// The replay of the start that a counter gives, before its first step. It takes all memory that its steps need.
     ///
@@ -163,13 +223,15 @@ impl Replay {
     {
         let pair = complete(alloc, job, counter.boundary, &counter.begin)?;
         Ok(Replay {
-            boundary: counter.boundary,
-            pair,
-            env: copy_of(alloc, &counter.begin.env)?,
-            clock: Clock { cycle: 0, taken: 0 },
-            events: Vec::with_capacity(alloc, MOST_CYCLES)?,
-            steps: Vec::with_capacity(alloc, MOST_EVENTS)?,
-            temps: Vec::new(alloc),
+            stand: Stand {
+                boundary: counter.boundary,
+                pair,
+                env: copy_of(alloc, &counter.begin.env)?,
+                clock: Clock { cycle: 0, taken: 0 },
+                events: Vec::with_capacity(alloc, MOST_CYCLES)?,
+                steps: Vec::with_capacity(alloc, MOST_EVENTS)?,
+                temps: Vec::new(alloc),
+            },
         })
     }
 
@@ -192,33 +254,6 @@ impl Replay {
         ensures cycle { self.new.clock.cycle ≤ self.old.clock.cycle + 500 }
         ensures taken { self.new.clock.taken ≤ self.old.clock.taken + 500 }
     {
-        let at = self.clock;
-        let limit = job.boundary(self.boundary).bound;
-        run_step(
-            job,
-            &mut self.pair,
-            &self.env,
-            at,
-            &mut self.temps,
-            &mut self.steps,
-        );
-        let ended = run_segment(
-            part,
-            job,
-            limit,
-            &mut self.pair,
-            &self.env,
-            at,
-            &mut self.events,
-        );
-        let Some(end) = ended else {
-            return Some(Difference::Late);
-        };
-        let Some(reached) = number_at(job, self.pair.board.at) else {
-            return Some(Difference::Late);
-        };
-        self.boundary = reached;
-        self.clock = end;
-        difference_at(job, reached, &self.pair, &self.events, &self.steps)
+        advance(part, job, &mut self.stand)
     }
 }
