@@ -9,6 +9,7 @@ use Rattle.std.proofs.lemmas.Nat.{pow_pos}
 use Rattle.std.proofs.lemmas.Option.{slice_get-map}
 use Rattle.mw_board.specs.Elements.{element_count, element_width}
 use Rattle.mw_cycle.specs.Boundary.{numbers}
+use Rattle.mw_cycle.specs.Environment.{Environment, IsEnvironment}
 use Rattle.mw_expr.specs.Values.{IsImage}
 use Rattle.mw_rel.specs.Begin.{Begin, IsBegin, free_elements}
 use Rattle.mw_rel.specs.Free.{is_free, numbered}
@@ -20,7 +21,8 @@ use Rattle.mw_rel.proofs.Standing.{board_address}
 use Rattle.mw_sim.specs.declared.given.Settable.{Settable}
 use Rattle.mw_sim.specs.Given.{Given, IsGiven, bound_of}
 use Rattle.mw_sim.proofs.Starts.{width_few}
-use Rattle.mw_replay.specs.CounterText.{counter_with, settable, settables_of}
+use Rattle.mw_replay.specs.Counter.{IsCounter}
+use Rattle.mw_replay.specs.CounterText.{settable, settables_of}
 
 -- ---- widths
 
@@ -147,12 +149,24 @@ image_of job memory is size each =
       words = λ a. subst (λ w. slice_index memory a < 2 ^ w) word (each a);
     }
 
--- what is given is what a start is chosen by
-pub is_begin : (job : Job) (n : ℕ) (given : Given) → IsJob job
-    → IsGiven job.board (settables_of job (numbered job n)) given
-    → IsBegin job (numbered job n) (counter_with job n given).begin
-is_begin job n given is in_range = record {
-  count = length-map (free_elements job (numbered job n)) (slice_index given.values);
-  values = begin_values job (numbered job n) given in_range;
-  memory = image_of job given.memory is in_range.image.each in_range.image.fit;
-}
+-- what is given at a boundary is a counter of the job
+pub is_counter : (job : Job) (n : ℕ) (given : Given) (values : List ℕ) (env : Environment) → IsJob job
+    → n < length job.relation.boundaries → IsGiven job.board (settables_of job (numbered job n)) given
+    → values ≡ map (slice_index given.values) (free_elements job (numbered job n)) → IsEnvironment job.board env
+    → IsCounter job (record { boundary = n; begin = record { values = values; memory = given.memory; env = env } })
+is_counter job n given values env is below in_range same outside =
+    let chosen : IsBegin job (numbered job n) (record {
+      values = map (slice_index given.values) (free_elements job (numbered job n));
+      memory = given.memory;
+      env = env;
+    }) = record {
+      count = length-map (free_elements job (numbered job n)) (slice_index given.values);
+      values = begin_values job (numbered job n) given in_range;
+      memory = image_of job given.memory is in_range.image.each in_range.image.fit;
+    } in
+    record {
+      there = below;
+      begin = subst (λ (vs : List ℕ). IsBegin job (numbered job n) (record { values = vs; memory = given.memory; env = env }))
+          (sym same) chosen;
+      env = outside;
+    }

@@ -163,6 +163,13 @@ fn run_step(
     );
 }
 
+/// The control address at which the board of a pair stands.
+fn address_of(pair: &Pair) -> u16
+    ensures { result ≡ pair.now.board.at }
+{
+    pair.board.at
+}
+
 /// One segment of the board from the next start, and one step of the described machine: the first difference.
 fn advance<A: Datapath>(part: &A, job: &Job, stand: &mut Stand) -> Option<Difference>
     requires room { HasRoom stand.old }
@@ -181,27 +188,29 @@ fn advance<A: Datapath>(part: &A, job: &Job, stand: &mut Stand) -> Option<Differ
     // A call for the proof: its clause `valid` says what holds of every job.
     let _ = job.shape();
     let at = stand.clock;
+    let env = &stand.env;
     let limit = job.boundary(stand.boundary).bound;
     run_step(
         job,
         &mut stand.pair,
-        &stand.env,
+        env,
         at,
         &mut stand.temps,
         &mut stand.steps,
     );
-    let Some(end) = run_segment(
+    let ended = run_segment(
         part,
         job,
         limit,
         &mut stand.pair,
-        &stand.env,
+        env,
         at,
         &mut stand.events,
-    ) else {
+    );
+    let Some(end) = ended else {
         return Some(Difference::Late);
     };
-    let Some(reached) = number_at(job, stand.pair.board.at) else {
+    let Some(reached) = number_at(job, address_of(&stand.pair)) else {
         return Some(Difference::Late);
     };
     stand.boundary = reached;
