@@ -117,7 +117,7 @@ impl Job {
     }
 
     /// The boundary of this number, from 0.
-    pub(crate) fn boundary(&self, number: usize) -> &Boundary
+    pub fn boundary(&self, number: usize) -> &Boundary
         requires there { number < length (job_of self.now).relation.boundaries }
         ensures { boundary_of result.now ≡ numbered (job_of self.now) number }
     {

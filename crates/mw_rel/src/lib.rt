@@ -5,6 +5,7 @@ mod begin;
 mod boundary;
 mod completion;
 mod difference;
+mod failing;
 mod free_elements;
 mod job;
 mod laws;
@@ -17,6 +18,7 @@ pub use begin::Begin;
 pub use boundary::Boundary;
 pub use completion::complete;
 pub use difference::Difference;
+pub use failing::line_difference;
 pub use free_elements::free;
 pub use job::{Job, shape_of};
 pub use laws::{
