@@ -1,0 +1,11 @@
+//! Binary decision diagrams, ordered and reduced: equal functions have equal nodes.
+#![tactic(auto)]
+
+mod dd;
+mod hash;
+mod memo;
+mod nodes;
+mod table;
+mod variable;
+
+pub use dd::{Dd, DdFault};
