@@ -5,3 +5,5 @@ pub mod Order
 pub mod Unique
 pub mod Values
 pub mod Made
+pub mod Cofactors
+pub mod Memos

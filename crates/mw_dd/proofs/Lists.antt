@@ -1,5 +1,5 @@
 -- Places of a list that is one longer.
-use Rattle.std.proofs.Common.{◌≡◌, ◌⊎◌, inl, inr, ℕ, zero, suc, List, [], ◌∷◌, ◌++◌, length, refl, ap, ◌+◌, ◌<◌}
+use Rattle.std.proofs.Common.{◌≡◌, ◌⊎◌, inl, inr, ℕ, zero, suc, List, [], ◌∷◌, ◌++◌, length, set, refl, ap, arith, ◌+◌, ◌<◌}
 use Rattle.std.specs.Prelude.{slice_get, Some, None}
 
 -- a place of a longer list is an old one or the last
@@ -21,3 +21,17 @@ get-push_old (z ∷ zs) x (suc k) y e = get-push_old zs x k y e
 pub get-push_new : {A : Type 0} (xs : List A) (x : A) → slice_get (xs ++ x ∷ []) (length xs) ≡ Some x
 get-push_new [] x = refl
 get-push_new (z ∷ zs) x = get-push_new zs x
+
+-- a place that is set, and another one
+pub get-set_same : {A : Type 0} (xs : List A) (k : ℕ) (y : A) → k < length xs → slice_get (set xs k y) k ≡ Some y
+get-set_same [] k y h = absurd (omega (arith, h))
+get-set_same (z ∷ zs) zero y h = refl
+get-set_same (z ∷ zs) (suc k) y h = get-set_same zs k y (omega (arith, h))
+
+pub get-set_other : {A : Type 0} (xs : List A) (k j : ℕ) (y : A) → ¬ (j ≡ k)
+    → slice_get (set xs k y) j ≡ slice_get xs j
+get-set_other [] k j y h = refl
+get-set_other (z ∷ zs) zero zero y h = absurd (h refl)
+get-set_other (z ∷ zs) zero (suc j) y h = refl
+get-set_other (z ∷ zs) (suc k) zero y h = refl
+get-set_other (z ∷ zs) (suc k) (suc j) y h = get-set_other zs k j y (λ e. h (ap suc e))

@@ -3,6 +3,7 @@
 
 mod dd;
 mod hash;
+mod ite;
 mod memo;
 mod nodes;
 mod table;
