@@ -417,3 +417,16 @@ module _ (nodes : List Node) (triples : List Triple) where
       let most = length-le_from_distinct_below all.0 (length triples) (distinct us all.0 all.1 are.different)
           (λ q any. let found = found_at us all.0 q all.1 any in slice_get_within triples q found.1 found.3) in
       omega (arith, most, all.2, few)
+
+most-same : (t u : functions.Triple) (n : ℕ) → AreSame t u → HasAtMostCofactors t n → HasAtMostCofactors u n
+most-same t u n same most us are =
+    most us (record {
+      each = λ i d below. cofactor-same u t _ (same_back t u same) (are.each i d below);
+      different = are.different;
+    })
+
+-- the same of the triple before the table grew
+pub at_most_before : (old new : List Node) (triples : List Triple) (t : Triple) (n : ℕ) → Grows old new → AreDds old t
+    → AreAmong new triples t → length triples ≤ n → HasAtMostCofactors (meaning old t) n
+at_most_before old new triples t n grows there among few =
+    most-same (meaning new t) (meaning old t) n (meaning-grows old new t grows there) (at_most new triples t n among few)

@@ -7,3 +7,4 @@ pub mod Values
 pub mod Made
 pub mod Cofactors
 pub mod Memos
+pub mod Public

@@ -363,3 +363,8 @@ found_done nodes memo place t settled at = elim (settled place t at) [
   | inl done ↦ done
   | inr more ↦ absurd (omega (arith, more))
 ]
+
+pub left_none : (nodes : List Node) (memo : Memo) (whole : Triple) → memo.triples ≡ [] → AreLeft nodes memo whole
+left_none nodes memo whole none i t at =
+    let nothing : slice_get {X = Triple} [] i ≡ Some t = sym (ap (λ (ts : List Triple). slice_get ts i) none) ∙ at in
+    absurd (cc)

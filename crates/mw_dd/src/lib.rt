@@ -2,6 +2,7 @@
 #![tactic(auto)]
 
 mod dd;
+mod diagrams;
 mod hash;
 mod ite;
 mod memo;
@@ -10,3 +11,4 @@ mod table;
 mod variable;
 
 pub use dd::{Dd, DdFault};
+pub use diagrams::Diagrams;
