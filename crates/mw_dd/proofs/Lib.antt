@@ -8,3 +8,4 @@ pub mod Made
 pub mod Cofactors
 pub mod Memos
 pub mod Public
+pub mod Walks

@@ -4,3 +4,4 @@ pub mod Links
 pub mod Memos
 pub mod Nodes
 pub mod Steps
+pub mod Walks

@@ -9,12 +9,14 @@ ghost use Rattle.mw_dd.specs.Nodes.{IsDd, function_of, IsReduced};
 ghost use Rattle.mw_dd.specs.Diagrams.{IsCanonical, Keeps, functions_of, IsFirst};
 
 use crate::dd::{Dd, DdFault};
+use crate::first::first_assignment;
 use crate::ite::choose;
 use crate::memo::Memo;
 use crate::nodes::{Node, Triple, make};
 use crate::table::Table;
 use crate::variable::Variable;
 use mw_base::NoMemory;
+use mw_term::Assignment;
 use std::alloc::Global;
 use std::marker::Model;
 
@@ -123,5 +125,23 @@ impl Diagrams {
     {
         let _nodes = &self.nodes;
         f.position() == 0
+    }
+
+    /// The first assignment under which a function holds, where 0 comes before 1 in the order of variables; none
+    /// where there is no such.
+    ///
+    /// # Errors
+    ///
+    /// Memory ran out.
+    pub fn some_assignment(&self, alloc: Global, f: Dd) -> Result<Option<Assignment>, NoMemory>
+        requires { IsDd self.now f }
+        ensures first { IfOk result (λ o. IfSome o (IsFirst (function_of self.now f))) }
+        ensures none { IfOk result (λ o. (o ≡ None) ↔ Agree (function_of self.now f) never) }
+        ensures canonical { IsCanonical self.now }
+    {
+        if self.is_false(f) {
+            return Ok(None);
+        }
+        Ok(Some(first_assignment(&self.nodes, alloc, f)?))
     }
 }

@@ -3,6 +3,7 @@
 
 mod dd;
 mod diagrams;
+mod first;
 mod hash;
 mod ite;
 mod memo;

@@ -63,7 +63,7 @@ impl Key for Triple {
 }
 
 /// A node that is no constant.
-fn inner(nodes: &Table<Node>, x: Dd) -> Node
+pub(crate) fn inner(nodes: &Table<Node>, x: Dd) -> Node
     requires there { IsDd nodes.now x }
     requires inner { 2 ≤ x }
     ensures { slice_get nodes.now (x - 2) ≡ Some result }
