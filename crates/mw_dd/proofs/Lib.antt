@@ -1,0 +1,11 @@
+pub mod From
+pub mod Links
+pub mod Lists
+pub mod Order
+pub mod Unique
+pub mod Values
+pub mod Made
+pub mod Cofactors
+pub mod Memos
+pub mod Public
+pub mod Walks

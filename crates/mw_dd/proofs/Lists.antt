@@ -1,0 +1,37 @@
+-- Places of a list that is one longer.
+use Rattle.std.proofs.Common.{◌≡◌, ◌⊎◌, inl, inr, ℕ, zero, suc, List, [], ◌∷◌, ◌++◌, length, set, refl, ap, arith, ◌+◌, ◌<◌}
+use Rattle.std.specs.Prelude.{slice_get, Some, None}
+
+-- a place of a longer list is an old one or the last
+pub get-push : {A : Type 0} (xs : List A) (x : A) (k : ℕ) (y : A) → slice_get (xs ++ x ∷ []) k ≡ Some y
+    → (slice_get xs k ≡ Some y) ⊎ ((k ≡ length xs) × (x ≡ y))
+get-push [] x zero y e = inr (refl, cc)
+get-push [] x (suc k) y e = cc
+get-push (z ∷ zs) x zero y e = inl e
+get-push (z ∷ zs) x (suc k) y e = elim (get-push zs x k y e) [ inl h ↦ inl h | inr h ↦ inr (ap suc h.0, h.1) ]
+
+-- an old place stays
+pub get-push_old : {A : Type 0} (xs : List A) (x : A) (k : ℕ) (y : A) → slice_get xs k ≡ Some y
+    → slice_get (xs ++ x ∷ []) k ≡ Some y
+get-push_old [] x k y e = cc
+get-push_old (z ∷ zs) x zero y e = e
+get-push_old (z ∷ zs) x (suc k) y e = get-push_old zs x k y e
+
+-- and the last is the new one
+pub get-push_new : {A : Type 0} (xs : List A) (x : A) → slice_get (xs ++ x ∷ []) (length xs) ≡ Some x
+get-push_new [] x = refl
+get-push_new (z ∷ zs) x = get-push_new zs x
+
+-- a place that is set, and another one
+pub get-set_same : {A : Type 0} (xs : List A) (k : ℕ) (y : A) → k < length xs → slice_get (set xs k y) k ≡ Some y
+get-set_same [] k y h = absurd (omega (arith, h))
+get-set_same (z ∷ zs) zero y h = refl
+get-set_same (z ∷ zs) (suc k) y h = get-set_same zs k y (omega (arith, h))
+
+pub get-set_other : {A : Type 0} (xs : List A) (k j : ℕ) (y : A) → ¬ (j ≡ k)
+    → slice_get (set xs k y) j ≡ slice_get xs j
+get-set_other [] k j y h = refl
+get-set_other (z ∷ zs) zero zero y h = absurd (h refl)
+get-set_other (z ∷ zs) zero (suc j) y h = refl
+get-set_other (z ∷ zs) (suc k) zero y h = refl
+get-set_other (z ∷ zs) (suc k) (suc j) y h = get-set_other zs k j y (λ e. h (ap suc e))

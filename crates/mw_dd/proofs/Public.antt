@@ -1,0 +1,39 @@
+-- What the public calls say, from what the steps leave.
+use Rattle.std.proofs.Common.{◌≡◌, ◌⊎◌, ℕ, ◌+◌, ◌<◌, ◌≤◌, List, [], ◌∷◌, length, arith, refl, ap, ◌∙◌, sym}
+use Rattle.std.specs.Prelude.{Bool, true, false, if◌then◌else◌, slice_get, Some, Result, Ok, Err, OnOk, ◌↔◌, ◌==◌, IsTrue}
+use Rattle.std.proofs.lemmas.Bool.Decides.{nat_tests}
+use Rattle.mw_term.specs.Assigned.{Given}
+use Rattle.mw_term.specs.Cofactors.{Agree}
+use Rattle.mw_term.specs.Functions.{never}
+use Rattle.mw_dd.specs.declared.nodes.Node.{Node}
+use Rattle.mw_dd.specs.Nodes.{value_at, function_of, IsDd, IsReduced}
+use Rattle.mw_dd.specs.Diagrams.{IsCanonical}
+use Rattle.mw_dd.proofs.Values.{value-zero, value-one}
+use Rattle.mw_dd.proofs.Unique.{canonical}
+
+-- two facts of what is Ok
+pub on_ok_both : {T E : Type 0} (r : Result T E) (P Q R : Type 0) → (P → Q → R) → OnOk r P → OnOk r Q → OnOk r R
+on_ok_both (Ok x) P Q R f p q = f p q
+on_ok_both (Err e) P Q R f p q = tt
+
+pub reduced_none : IsReduced []
+reduced_none = record { inner = λ k n at. absurd (cc); once = λ j k n at of. absurd (cc) }
+
+-- a node over the constants is its variable
+pub variable_value : (nodes : List Node) (given : Given) (low high : ℕ) (b : Bool) → low ≡ 0 → high ≡ 1
+    → (if b then value_at given nodes high else value_at given nodes low) ≡ b
+variable_value nodes given low high true zero one = ap (value_at given nodes) one ∙ value-one given nodes
+variable_value nodes given low high false zero one = ap (value_at given nodes) zero ∙ value-zero given nodes
+
+-- a node is the first constant exactly where its function never holds
+pub false_exact : (nodes : List Node) → IsReduced nodes → (x position : ℕ) → IsDd nodes x → position ≡ x
+    → IsTrue (position == 0) ↔ Agree (function_of nodes x) never
+false_exact nodes r x position there same = (
+  (λ zero given.
+      let none : x ≡ 0 = grind (arith, nat_tests) in
+      ap (value_at given nodes) none ∙ value-zero given nodes),
+  (λ agree.
+      let none : x ≡ 0 = canonical nodes r x 0 there (omega arith) (λ given. agree given ∙ sym (value-zero given nodes)) in
+      let at : position ≡ 0 = same ∙ none in
+      grind (arith, nat_tests)),
+)

@@ -1,0 +1,17 @@
+use Rattle.std.proofs.Common.{◌≡◌, ◌∙◌}
+use Rattle.std.proofs.lemmas.Result.{IfOk-weaker}
+use Rattle.mw_term.specs.Cofactors.{variable, value_of}
+use Rattle.mw_dd.proofs.Public.{variable_value}
+use Rattle.mw_dd.proofs.Unique.{canonical}
+use Rattle.mw_dd.proofs.diagrams.Diagrams.variable.Goals as goal
+
+pub returns-clause-exact : goal.returns-clause-exact
+returns-clause-exact c =
+    IfOk-weaker c.make.result _ _
+    (λ x value given. value given
+    ∙ variable_value c.self.inside.nodes given c.at.result c.at-2.result
+    (value_of (variable c.args.bit c.args.word) given) c.at.ensures c.at-2.ensures)
+    c.make.ensures.value
+
+pub returns-clause-canonical : goal.returns-clause-canonical
+returns-clause-canonical c = canonical c.make.new.nodes c.make.ensures.reduced

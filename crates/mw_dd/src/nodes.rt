@@ -1,0 +1,170 @@
+// Nodes, ordered and reduced.
+ghost use Rattle.std.specs.Prelude.{◌≡◌, ◌⊎◌, ◌-◌, ◌<◌, ◌≤◌, ◌↔◌, ℕ, Bool, false, Some, slice_get, IfOk, if◌then◌else◌};
+ghost use Rattle.mw_term.specs.Assigned.{Given};
+ghost use Rattle.mw_term.specs.Cofactors.{value_of, is_before};
+ghost use Rattle.mw_term.specs.Cofactors as cofactors;
+ghost use Rattle.mw_dd.specs.Nodes.{value_at, IsDd, IsFrom, IsReduced, after};
+ghost use Rattle.mw_dd.specs.Steps.{Grows, AreDds, AreFrom, HasVariable, IsTop, size};
+
+use crate::dd::Dd;
+use crate::hash::scatter;
+use crate::table::{Key, Table};
+use crate::variable::Variable;
+use mw_base::NoMemory;
+use std::alloc::Global;
+
+/// A node: the function that is the second branch where its variable is 1, and else the first.
+#[derive(Clone, Copy)]
+pub(crate) struct Node {
+    pub variable: Variable,
+    pub low: Dd,
+    pub high: Dd,
+}
+
+impl Key for Node {
+    ghost use Rattle.mw_dd.specs.Hash.{scattered};
+
+    ghost hash_of = { λ n. scattered n.variable.word n.variable.bit n.low n.high };
+
+    fn hash(&self) -> u32 {
+        let low = u64::from(self.low.position());
+        let high = u64::from(self.high.position());
+        scatter(self.variable.word, u64::from(self.variable.bit), low, high)
+    }
+
+    fn is(&self, other: &Node) -> bool {
+        self.low == other.low && self.high == other.high && self.variable.is(other.variable)
+    }
+}
+
+/// An operation on nodes: what to choose by, what to choose where that holds, and what where it doesn't.
+#[derive(Clone, Copy)]
+pub(crate) struct Triple {
+    pub f: Dd,
+    pub g: Dd,
+    pub h: Dd,
+}
+
+impl Key for Triple {
+    ghost use Rattle.mw_dd.specs.Hash.{scattered};
+
+    ghost hash_of = { λ t. scattered t.f t.g t.h 0 };
+
+    fn hash(&self) -> u32 {
+        let f = u64::from(self.f.position());
+        let g = u64::from(self.g.position());
+        let h = u64::from(self.h.position());
+        scatter(f, g, h, 0)
+    }
+
+    fn is(&self, other: &Triple) -> bool {
+        self.f == other.f && self.g == other.g && self.h == other.h
+    }
+}
+
+/// A node that is no constant.
+pub(crate) fn inner(nodes: &Table<Node>, x: Dd) -> Node
+    requires there { IsDd nodes.now x }
+    requires inner { 2 ≤ x }
+    ensures { slice_get nodes.now (x - 2) ≡ Some result }
+{
+    nodes.get(x.position() - 2)
+}
+
+/// A node where a variable has a value. Its own variable isn't before that one.
+fn half(nodes: &Table<Node>, x: Dd, variable: Variable, side: bool) -> Dd
+    requires reduced { IsReduced nodes.now }
+    requires there { IsDd nodes.now x }
+    requires from { IsFrom nodes.now variable x }
+    ensures there { IsDd nodes.now result }
+    ensures no_later { result ≤ x }
+    ensures earlier { HasVariable nodes.now x variable → result < x }
+    ensures value { (given : Given) → value_of variable given ≡ side → value_at given nodes.now result ≡ value_at given nodes.now x }
+    ensures from { IsFrom nodes.now (after variable) result }
+{
+    if x.position() < 2 {
+        return x;
+    }
+    let node = inner(nodes, x);
+    if !node.variable.is(variable) {
+        return x;
+    }
+    if side { node.high } else { node.low }
+}
+
+/// The earlier of a variable and that of a node.
+fn first(nodes: &Table<Node>, variable: Variable, x: Dd) -> Variable
+    requires { IsDd nodes.now x }
+    ensures own { (result ≡ variable) ⊎ HasVariable nodes.now x result }
+    ensures no_later { is_before variable result ≡ false }
+    ensures from { IsFrom nodes.now result x }
+{
+    if x.position() < 2 {
+        return variable;
+    }
+    let own = inner(nodes, x).variable;
+    if own.is_before(variable) {
+        own
+    } else {
+        variable
+    }
+}
+
+/// The first variable of three nodes, the first of which is no constant.
+pub(crate) fn top(nodes: &Table<Node>, t: Triple) -> Variable
+    requires there { AreDds nodes.now t }
+    requires inner { 2 ≤ t.f }
+    ensures { IsTop nodes.now t result }
+{
+    let variable = inner(nodes, t.f).variable;
+    let variable = first(nodes, variable, t.g);
+    first(nodes, variable, t.h)
+}
+
+/// Three nodes where their first variable has a value.
+pub(crate) fn side(nodes: &Table<Node>, t: Triple, variable: Variable, side: bool) -> Triple
+    requires reduced { IsReduced nodes.now }
+    requires there { AreDds nodes.now t }
+    requires top { IsTop nodes.now t variable }
+    ensures there { AreDds nodes.now result }
+    ensures earlier { size result < size t }
+    ensures f { (given : Given) → value_of variable given ≡ side → value_at given nodes.now result.f ≡ value_at given nodes.now t.f }
+    ensures g { (given : Given) → value_of variable given ≡ side → value_at given nodes.now result.g ≡ value_at given nodes.now t.g }
+    ensures h { (given : Given) → value_of variable given ≡ side → value_at given nodes.now result.h ≡ value_at given nodes.now t.h }
+    ensures from { AreFrom nodes.now (after variable) result }
+{
+    Triple {
+        f: half(nodes, t.f, variable, side),
+        g: half(nodes, t.g, variable, side),
+        h: half(nodes, t.h, variable, side),
+    }
+}
+
+/// The node with these branches, made where it isn't there.
+pub(crate) fn make(
+    nodes: &mut Table<Node>,
+    alloc: Global,
+    node: Node,
+) -> Result<Dd, NoMemory>
+    requires reduced { IsReduced nodes.old }
+    requires bit { node.variable.bit < 32 }
+    requires low { IsDd nodes.old node.low }
+    requires high { IsDd nodes.old node.high }
+    requires low_later { IsFrom nodes.old (after node.variable) node.low }
+    requires high_later { IsFrom nodes.old (after node.variable) node.high }
+    ensures reduced { IsReduced nodes.new }
+    ensures grows { Grows nodes.old nodes.new }
+    ensures there { IfOk result (λ r. IsDd nodes.new r) }
+    ensures value { IfOk result (λ r. (given : Given) → value_at given nodes.new r
+        ≡ (if value_of node.variable given then value_at given nodes.old node.high else value_at given nodes.old node.low)) }
+    ensures from { IfOk result (λ r. IsFrom nodes.new node.variable r) }
+{
+    if node.low == node.high {
+        return Ok(node.low);
+    }
+    if let Some(place) = nodes.find(&node) {
+        return Ok(Dd::at(place + 2));
+    }
+    let place = nodes.add(alloc, node)?;
+    Ok(Dd::at(place + 2))
+}
