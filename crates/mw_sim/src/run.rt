@@ -69,7 +69,7 @@ fn stands_at(state: &State, addresses: &[u16]) -> bool
 }
 
 /// Runs a board for `count` cycles from the state and the clock that are given, appends its events, and answers its
-/// clock after them. It takes no memory.
+/// clock after them. It takes no memory, and the list keeps its room.
 ///
 /// The state fits the board, the environment is one of the board, there is spare room for `count` events, and the
 /// clock stays within 64 bits.
@@ -91,6 +91,7 @@ pub fn run_cycles<A: Datapath>(
     ensures exact { run_at state.new events.new.items result
         ≡ cycles_after board.now store.now.words env.now (run_at state.old events.old.items clock) count }
     ensures fits { Fits board.now state.new }
+    ensures capacity { vec_capacity events.old ≤ vec_capacity events.new }
 {
     let mut reached = clock;
     'cycles: for _ in 0..count {
@@ -101,7 +102,7 @@ pub fn run_cycles<A: Datapath>(
 
 /// Runs a board from the state and the clock that are given to the next cycle start at one of these control
 /// addresses: for one cycle at least, and for `limit` cycles at most. It appends the events of these cycles, and
-/// answers the clock after them. It takes no memory.
+/// answers the clock after them. It takes no memory, and the list keeps its room.
 ///
 /// The state fits the board, the environment is one of the board, there is spare room for `limit` events, and the
 /// clock stays within 64 bits. There may be no addresses.
