@@ -9,9 +9,9 @@ use Rattle.mw_macro.specs.DescribedStep.{Stepped, step_of}
 use Rattle.mw_macro.specs.Laws.{inputs_in}
 use Rattle.mw_macro.proofs.Steps.{steps_take_from_first}
 use Rattle.mw_rel.specs.Relation.{Boundary}
-use Rattle.mw_rel.specs.Certified.{board_run, at_cycle, IsBoundaryOf, boundary_at, IsKept}
+use Rattle.mw_rel.specs.Certified.{Certified, board_run, at_cycle, IsBoundaryOf, boundary_at, IsKept}
 use Rattle.mw_rel.specs.DescribedRun.{IsDescribedRun, before_steps, with_step}
-use Rattle.mw_rel.specs.Differs.{first_step}
+use Rattle.mw_rel.specs.Differs.{first_step, difference_of}
 use Rattle.mw_rel.specs.InRelation.{InRelation, pair_of}
 use Rattle.mw_rel.specs.Job.{Job, IsJob}
 use Rattle.mw_rel.specs.Laws.{IsSame, NoneDiffers, CertifiedWhereNoneDiffers, StartsFollow}
@@ -20,6 +20,7 @@ use Rattle.mw_rel.proofs.Boundaries.{boundary_once, first_next, next_on}
 use Rattle.mw_rel.proofs.Relations.{there_is, is_there}
 use Rattle.mw_rel.proofs.Runs.{cycles_are, inputs_are, steps_take, line_left, one_step}
 use Rattle.mw_rel.proofs.Same.{segment, segment_is, same_where_none, none_where_same}
+use Rattle.mw_rel.proofs.Unlike.{one_some, never_some}
 
 -- ---- from no difference to what is certified, boundary by boundary
 
@@ -138,6 +139,12 @@ kept_next job start k kept same =
           ∙ ap (λ (s : Stepped). s.events) step);
     }
 
+-- where no start differs, none shows a difference
+shows_nothing : (job : Job) → NoneDiffers job → (start : Start) → IsStart job start → difference_of job start ≡ None
+shows_nothing job none start begins =
+    never_some (difference_of job start) (λ difference shows. none start difference
+    (record { begins = begins; shows = shows }))
+
 pub kept_each : (job : Job) → IsJob job → NoneDiffers job → (start : Start) → IsStart job start → (k : ℕ)
     → IsKept job start k
 kept_each job is none start begins zero = kept_first job start is begins
@@ -146,7 +153,7 @@ kept_each job is none start begins (suc k) =
     let there = begins_there job start k kept begins in
     let next = start_at job start k kept in
     subst (IsKept job start) (add-one k)
-    (kept_next job start k kept (same_where_none job next is there (none next there)))
+    (kept_next job start k kept (same_where_none job next is there (shows_nothing job none next there)))
 
 -- ---- and from what is certified back
 
@@ -172,17 +179,17 @@ same_where_kept job start is begins kept =
       events = kept.events ∙ ap (λ (s : Stepped). s.events) step;
     }
 
+no_difference : (job : Job) → IsJob job → Certified job → NoneDiffers job
+no_difference job is certified start difference differs =
+    let shown = differs.shows in
+    let none = none_where_same job start
+    (same_where_kept job start is differs.begins (certified start differs.begins 1)) in
+    cc
+
 pub certified_where_none_differs : CertifiedWhereNoneDiffers
-certified_where_none_differs job is = (
-  (λ certified start begins. none_where_same job start
-      (same_where_kept job start is begins (certified start begins 1))),
-  kept_each job is,
-)
+certified_where_none_differs job is = (no_difference job is, kept_each job is)
 
 -- ---- the start of the next segment
-
-one_some : {A : Type 0} (a b : A) → Some a ≡ Some b → a ≡ b
-one_some a b same = cc
 
 pub starts_follow : StartsFollow
 starts_follow job start run reached is begins none ends there =

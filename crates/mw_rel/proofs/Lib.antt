@@ -1,9 +1,11 @@
 pub mod Boundaries
 pub mod Completed
+pub mod Choices
 pub mod Chosen
 pub mod Cycles
 pub mod Decided
 pub mod Elements
+pub mod Found
 pub mod Law
 pub mod Pairs
 pub mod Relations

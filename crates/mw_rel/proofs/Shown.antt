@@ -13,7 +13,7 @@ use Rattle.mw_rel.specs.InRelation.{Pair, pair_of, Holds, line_holds}
 use Rattle.mw_rel.specs.Job.{Job}
 use Rattle.mw_rel.specs.Lines.{Line}
 use Rattle.mw_rel.specs.Relation.{Boundary}
-use Rattle.mw_rel.specs.Shown.{AreUnlikeAt, IsFirstToFail, Ends, IsShownAt, IsShown, DifferencesAreFirst}
+use Rattle.mw_rel.specs.Shown.{AreUnlikeAt, IsFirstToFail, Ends, IsShownAt, IsShown}
 use Rattle.mw_rel.specs.Start.{Start, addresses_of}
 use Rattle.mw_rel.proofs.Same.{segment}
 use Rattle.mw_rel.proofs.Unlike.{same_lists, event_is, event_itself, number_itself, nothing_made, pointer_is, none_fails}
@@ -226,6 +226,6 @@ by_segment : (job : Job) (start : Start) (d : Difference) (there : Option BoardR
 by_segment job start d None is shown = let late : Late ≡ d = cc in subst (IsShown job start) late is
 by_segment job start d (Some run) is shown = at_boundary job start run d (boundary_at job run.state.at) is refl shown
 
-pub differences_are_first : DifferencesAreFirst
+pub is_shown : (job : Job) (start : Start) (d : Difference) → difference_of job start ≡ Some d → IsShown job start d
 unfolding difference_of
-differences_are_first job start d is = by_segment job start d (segment_of job start) refl is
+is_shown job start d is = by_segment job start d (segment_of job start) refl is

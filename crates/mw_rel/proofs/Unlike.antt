@@ -10,6 +10,15 @@ use Rattle.mw_rel.specs.declared.difference.Difference.{Difference}
 use Rattle.mw_rel.specs.declared.difference.Difference.TheVariants as differences
 use Rattle.mw_rel.specs.Differs.{same_event, unlike_from, first_of}
 
+-- what is there twice is one
+pub one_some : {A : Type 0} (a b : A) → Some a ≡ Some b → a ≡ b
+one_some a b same = cc
+
+-- what can't be there isn't
+pub never_some : {A : Type 0} (there : Option A) → ((a : A) → ¬ (there ≡ Some a)) → there ≡ None
+never_some None never = refl
+never_some (Some a) never = absurd (never a refl)
+
 -- two lists that are unlike nowhere
 alike : {A : Type 0} (test : Bool) (n : ℕ) (x y : A) (xs ys : List A) (rest : Option ℕ) → (test ≡ true → x ≡ y)
     → (rest ≡ None → xs ≡ ys)

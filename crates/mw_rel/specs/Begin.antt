@@ -4,9 +4,9 @@ use Rattle.mw_cycle.specs.Boundary.{numbers}
 use Rattle.mw_cycle.specs.Environment.{Environment}
 use Rattle.mw_expr.specs.Values.{IsImage}
 use Rattle.mw_rel.specs.Relation.{Boundary}
-use Rattle.mw_rel.specs.Free.{is_free}
+use Rattle.mw_rel.specs.Free.{is_free, numbered}
 use Rattle.mw_rel.specs.InRelation.{Pair, InRelation, values_of}
-use Rattle.mw_rel.specs.Job.{Job}
+use Rattle.mw_rel.specs.Job.{Job, IsJob}
 
 -- the free elements, by number
 abbrev pub free_elements : Job → Boundary → List ℕ
@@ -34,3 +34,8 @@ pub record IsCompleted (job : Job) (boundary : Boundary) (begin : Begin) (pair :
   pub related : InRelation job boundary pair
   pub values : free_values job boundary pair ≡ begin.values
   pub memory : pair.machine.memory ≡ begin.memory
+
+-- each choice of free values and a memory gives a pair in relation
+abbrev pub EachChoiceGivesAPair : Type 0
+EachChoiceGivesAPair = (job : Job) (n : ℕ) (begin : Begin) → IsJob job → n < length job.relation.boundaries
+    → IsBegin job (numbered job n) begin → (pair : Pair) × IsCompleted job (numbered job n) begin pair

@@ -1,4 +1,4 @@
--- What a start shows: the first difference between the board's first segment and one described step.
+-- When a start differs: by the first difference between the board's first segment and one described step.
 use Rattle.std.specs.Prelude.{◌≡◌, ℕ, ◌+◌, List, [], ◌∷◌, Bool, false, not, find, if◌then◌else◌, ◌==◌, Option, Some, None, option_map, slice_index_or}
 use Rattle.mw_base.specs.declared.event.Event.{Event}
 use Rattle.mw_base.specs.declared.event.Event.TheVariants.{Out, Taken}
@@ -13,7 +13,7 @@ use Rattle.mw_rel.specs.declared.difference.Difference.TheVariants as difference
 use Rattle.mw_rel.specs.Certified.{boundary_at}
 use Rattle.mw_rel.specs.InRelation.{Pair, pair_of, line_holds}
 use Rattle.mw_rel.specs.Job.{Job}
-use Rattle.mw_rel.specs.Start.{Start, addresses_of}
+use Rattle.mw_rel.specs.Start.{Start, IsStart, addresses_of}
 
 -- the two events are one
 abbrev pub same_event : Event → Event → Bool
@@ -88,6 +88,11 @@ shown_by job start (Some run) = shown_at job start run (boundary_at job run.stat
 unfoldable pub difference_of : Job → Start → Option Difference
 difference_of job start = shown_by job start (segment_of job start)
 
+-- a start of the job differs: it shows this difference
+pub record Differs (job : Job) (start : Start) (difference : Difference) : Type 0 where
+  pub begins : IsStart job start
+  pub shows : difference_of job start ≡ Some difference
+
 -- where the next segment of a run begins: at the boundary reached, with both states there, and what is left of the
 -- environment
 abbrev pub start_after : Job → Start → BoardRun → Boundary → Start
@@ -97,12 +102,11 @@ start_after job start run boundary = record {
   env = rest_at start.env run.clock;
 }
 
--- a start differs at a step, counted from 1, where the steps before show no difference and this one does, from its
--- own boundary
+-- a start of the job differs at a step, counted from 1: the steps before show no difference, and this one, from its
+-- own boundary, differs
 pub data DiffersAt (job : Job) : Start → ℕ → Difference → Type 0 where
-  here : (start : Start) (difference : Difference) → difference_of job start ≡ Some difference
-      → DiffersAt job start 1 difference
+  here : (start : Start) (difference : Difference) → Differs job start difference → DiffersAt job start 1 difference
   later : (start : Start) (run : BoardRun) (boundary : Boundary) (step : ℕ) (difference : Difference)
-      → difference_of job start ≡ None
+      → IsStart job start → difference_of job start ≡ None
       → segment_of job start ≡ Some run → boundary_at job run.state.at ≡ Some boundary
       → DiffersAt job (start_after job start run boundary) step difference → DiffersAt job start (step + 1) difference

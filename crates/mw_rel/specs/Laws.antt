@@ -2,8 +2,9 @@
 use Rattle.std.specs.Prelude.{◌≡◌, ◌↔◌, ℕ, ◌+◌, ◌≤◌, Some, None}
 use Rattle.mw_cycle.specs.Run.{BoardRun}
 use Rattle.mw_rel.specs.Relation.{Boundary}
+use Rattle.mw_rel.specs.declared.difference.Difference.{Difference}
 use Rattle.mw_rel.specs.Certified.{Certified, IsBoundaryOf, at_cycle, boundary_at}
-use Rattle.mw_rel.specs.Differs.{difference_of, segment_of, first_step, start_after}
+use Rattle.mw_rel.specs.Differs.{difference_of, segment_of, first_step, Differs, start_after}
 use Rattle.mw_rel.specs.InRelation.{InRelation, pair_of}
 use Rattle.mw_rel.specs.Job.{Job, IsJob}
 use Rattle.mw_rel.specs.Start.{Start, IsStart}
@@ -20,7 +21,7 @@ pub record IsSame (job : Job) (start : Start) : Type 0 where
 
 -- no start differs
 abbrev pub NoneDiffers : Job → Type 0
-NoneDiffers job = (start : Start) → IsStart job start → difference_of job start ≡ None
+NoneDiffers job = (start : Start) (difference : Difference) → ¬ Differs job start difference
 
 -- a start shows no difference exactly where it is the same on both sides
 abbrev pub SameShowsNothing : Type 0

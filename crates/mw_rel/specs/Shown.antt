@@ -1,15 +1,15 @@
 -- What a difference says, without the order in which it is looked for.
-use Rattle.std.specs.Prelude.{◌≡◌, ◌≢◌, ℕ, ◌<◌, List, All, take, Some, None, slice_get}
+use Rattle.std.specs.Prelude.{◌≡◌, ◌≢◌, ◌↔◌, ℕ, ◌<◌, List, All, take, Some, None, slice_get}
 use Rattle.mw_cycle.specs.Run.{BoardRun}
 use Rattle.mw_rel.specs.declared.difference.Difference.{Difference}
 use Rattle.mw_rel.specs.declared.difference.Difference.TheVariants.{Late, Event, StackPointer, Element, Memory}
 use Rattle.mw_rel.specs.Certified.{boundary_at}
-use Rattle.mw_rel.specs.Differs.{difference_of, first_step, segment_of}
+use Rattle.mw_rel.specs.Differs.{first_step, segment_of, Differs}
 use Rattle.mw_rel.specs.InRelation.{Pair, pair_of, Holds}
 use Rattle.mw_rel.specs.Job.{Job}
 use Rattle.mw_rel.specs.Lines.{Line}
 use Rattle.mw_rel.specs.Relation.{Boundary}
-use Rattle.mw_rel.specs.Start.{Start}
+use Rattle.mw_rel.specs.Start.{Start, IsStart}
 
 -- two lists are alike before a number, and not at it
 pub record AreUnlikeAt {A : Type 0} (xs ys : List A) (n : ℕ) : Type 0 where
@@ -51,7 +51,7 @@ IsShown job start Late = segment_of job start ≡ None
 IsShown job start other = (run : BoardRun) ×
     (reached : Boundary) × Ends job start run reached × IsShownAt job start run reached other
 
--- the difference that a start shows is the first of the five
+-- a start of a job differs by a difference exactly where this is the first of the five
 abbrev pub DifferencesAreFirst : Type 0
-DifferencesAreFirst = (job : Job) (start : Start) (difference : Difference) → difference_of job start ≡ Some difference
-    → IsShown job start difference
+DifferencesAreFirst = (job : Job) (start : Start) (difference : Difference) → IsStart job start
+    → Differs job start difference ↔ IsShown job start difference

@@ -1,4 +1,5 @@
 // Laws of starts and of what is certified.
+ghost use Rattle.mw_rel.specs.Begin.{EachChoiceGivesAPair};
 ghost use Rattle.mw_rel.specs.Free.{PairsAreOne};
 ghost use Rattle.mw_rel.specs.Rules.{AcceptedAreSolved};
 ghost use Rattle.mw_rel.specs.Shown.{DifferencesAreFirst};
@@ -17,6 +18,12 @@ pub fn pairs_are_one()
     ensures { PairsAreOne }
 {}
 
+/// The law of choices: each choice of values for the free elements of a boundary, and of a memory, gives a pair in
+/// relation there that has them.
+pub fn each_choice_gives_a_pair()
+    ensures { EachChoiceGivesAPair }
+{}
+
 /// The law of starts: a start shows no difference exactly where its segment keeps its bound, the pair reached, which
 /// is the board there and the machine after one step, is in relation at the boundary reached, and both have the same
 /// events.
@@ -24,10 +31,11 @@ pub fn same_shows_nothing()
     ensures { SameShowsNothing }
 {}
 
-/// The law of differences: what a start shows is the first of the five. It is late where its segment doesn't keep its
-/// bound; else the events are unlike at the number shown and alike before it; or they are equal and the stack pointer
-/// isn't the number of the boundary reached; or that is equal too, and the line of the element shown is the first
-/// that doesn't hold; or all lines hold, and the address shown is the least with two contents.
+/// The law of differences: a start of a job differs by a difference exactly where this is the first of the five. It is
+/// late where its segment doesn't keep its bound; else the events are unlike at the number shown and alike before it;
+/// or they are equal and the stack pointer isn't the number of the boundary reached; or that is equal too, and the line
+/// of the element shown is the first that doesn't hold; or all lines hold, and the address shown is the least with two
+/// contents.
 pub fn differences_are_first()
     ensures { DifferencesAreFirst }
 {}

@@ -4,6 +4,7 @@
 mod boundary;
 mod completion;
 mod difference;
+mod failing;
 mod free_elements;
 mod job;
 mod laws;
@@ -15,11 +16,13 @@ mod rules;
 pub use boundary::Boundary;
 pub use completion::{Begin, complete};
 pub use difference::Difference;
+pub use failing::line_difference;
 pub use free_elements::free;
 pub use job::{Job, shape_of};
 pub use laws::{
     accepted_are_solved, boundaries_come_in_time, certified_where_none_differs,
-    differences_are_first, pairs_are_one, same_shows_nothing, starts_follow,
+    differences_are_first, each_choice_gives_a_pair, pairs_are_one, same_shows_nothing,
+    starts_follow,
 };
 pub use line::Line;
 pub use pair::{Pair, holds};

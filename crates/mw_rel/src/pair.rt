@@ -56,7 +56,7 @@ pub(crate) fn copy_values(board: &Board, state: &State, registers: &[u32], value
 }
 
 /// Whether a line holds, where the elements have these values.
-fn line_holds(job: &Job, pair: &Pair, line: &Line, values: &[u32]) -> bool
+pub(crate) fn line_holds(job: &Job, pair: &Pair, line: &Line, values: &[u32]) -> bool
     requires line_of { IsLineOf (job_of job.now).relation.shape (line_of line.now) }
     requires fit { BothFit (job_of job.now) pair.now }
     requires exact { values.now ≡ values_of (job_of job.now).board pair.now }

@@ -87,9 +87,9 @@ fn value_below(bound: u64, numeral: Numeral) -> Result<u32, TextFault>
     }
 }
 
-/// 2 to the power of bits.
+/// 2 to the power of bits, which are at most 32.
 #[tactic(auto, using(std::proofs::lemmas::Nat::one_shl))]
-pub(crate) fn two_to(bits: u8) -> u64
+pub fn two_to(bits: u8) -> u64
     requires { bits ≤ 32 }
     ensures { result ≡ 2 ^ bits }
 {

@@ -7,7 +7,7 @@ mod parts;
 mod run;
 mod start;
 
-pub use given::{Given, Owner, Settable, given_by};
+pub use given::{Given, Owner, Settable, given_by, two_to};
 pub use parts::Parts;
 pub use run::{Late, run_cycles, run_to_boundary};
-pub use start::{Start, read_start};
+pub use start::{Start, environment_with, first_word, from_first, read_start};

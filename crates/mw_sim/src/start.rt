@@ -109,9 +109,13 @@ fn address_of(place: Place, text: &[u8], labels: &[Label]) -> Result<u16, TextFa
     }
 }
 
-/// The first token, which has to be this word: cause 60.
+/// The first token of a line, which has to be this word.
+///
+/// # Errors
+///
+/// The cause of the line's grammar: at its first token, or at its end where it has none.
 #[tactic(auto, unfolding(crate::specs::Start::first_word))]
-fn first_word(line: &Cursor, word: &[u8]) -> Result<Token, TextFault>
+pub fn first_word(line: &Cursor, word: &[u8]) -> Result<Token, TextFault>
     ensures { result ≡ first_word word.now line.now }
 {
     let first = line.token(0)?;
@@ -148,9 +152,9 @@ fn blank_lines(lines: &[Line]) -> usize
     lines.iter().take_while(|line| is_blank(*line)).count()
 }
 
-/// The lines from the first on that has tokens.
+/// The lines from the first on that has tokens: those before it are blank, but for comments.
 #[tactic(auto, using(std::proofs::lemmas::List::take_rest))]
-fn from_first(lines: &[Line]) -> &[Line]
+pub fn from_first(lines: &[Line]) -> &[Line]
     ensures { result.now ≡ from_first lines.now }
 {
     &lines[blank_lines(lines)..]
@@ -213,9 +217,13 @@ fn noise_words(alloc: Global, numbers: &[u32]) -> Result<Vec<u16>, NoMemory>
     Ok(words)
 }
 
-/// The environment that is given, without the zeros at its lists' ends.
+/// The environment that is given, without the zeros at its lists' ends. What is given is in range for the board.
+///
+/// # Errors
+///
+/// Memory ran out.
 #[tactic(auto, unfolding(crate::specs::Start::environment_with))]
-fn environment_with(alloc: Global, board: &Board, given: &Given) -> Result<Env, NoMemory>
+pub fn environment_with(alloc: Global, board: &Board, given: &Given) -> Result<Env, NoMemory>
     requires { HasSeries board.now (given_seen given.now) }
     ensures exact { IfOk result (λ env. env ≡ environment_with (given_seen given.now)) }
     ensures valid { IfOk result (λ env. IsEnvironment board.now env) }

@@ -1,4 +1,4 @@
-use Rattle.mw_rel.proofs.Shown.{differences_are_first}
+use Rattle.mw_rel.proofs.Found.{differences_are_first}
 use Rattle.mw_rel.proofs.laws.differences_are_first.Goals as goal
 
 pub returns : goal.returns

@@ -1,0 +1,4 @@
+pub mod Shown
+pub mod Starts
+pub mod Steps
+pub mod Unlike

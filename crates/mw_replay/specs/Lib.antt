@@ -1,0 +1,4 @@
+pub mod Counter
+pub mod CounterText
+pub mod Replay
+pub mod Laws

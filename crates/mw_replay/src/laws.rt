@@ -1,0 +1,24 @@
+// Laws of counters and replays.
+ghost use Rattle.mw_replay.specs.Laws.{StartsAreOne, CountersGiveStarts, StepsDiffer, NoneDiffersBefore};
+
+/// The law of one start: a counter gives one start at most, since its pair is the one in relation with its values and
+/// its memory.
+pub fn starts_are_one()
+    ensures { StartsAreOne }
+{}
+
+/// The law of starts: what a counter gives is a start of the job.
+pub fn counters_give_starts()
+    ensures { CountersGiveStarts }
+{}
+
+/// The law of steps: a start of a job differs at step k + 1 exactly where k steps show no difference, and the start
+/// after them shows this one.
+pub fn steps_differ()
+    ensures { StepsDiffer }
+{}
+
+/// The law of the steps before: where k steps from a start show no difference, it differs at none of them.
+pub fn none_differs_before()
+    ensures { NoneDiffersBefore }
+{}

@@ -1,0 +1,215 @@
+// Replays: segment after segment from a start, each beside one described step.
+ghost use Rattle.std.specs.Prelude.{◌≡◌, ◌+◌, ◌<◌, ◌≤◌, ◌^◌, [], IfOk, IfSome, Some, None, length, slice_index, vec_capacity, vec_len};
+ghost use Rattle.mw_cycle.specs.declared.environment.Clock.{Clock as ClockOf};
+ghost use Rattle.mw_cycle.specs.Environment.{IsEnvironment, at_start, rest_at};
+ghost use Rattle.mw_cycle.specs.State as boards;
+ghost use Rattle.mw_macro.specs.Counts.{most_events};
+ghost use Rattle.mw_macro.specs.DescribedStep.{AreInputs, step_of};
+ghost use Rattle.mw_macro.specs.State as machines;
+ghost use Rattle.mw_rel.specs.Differs.{difference_of, shown_by};
+ghost use Rattle.mw_rel.specs.Free.{numbered};
+ghost use Rattle.mw_rel.specs.InRelation.{pair_of};
+ghost use Rattle.mw_rel.specs.Start.{addresses_of};
+ghost use Rattle.mw_rel.specs.Views.{job_of};
+ghost use Rattle.mw_sim.specs.Run.{run_at, segment_after};
+ghost use Rattle.mw_replay.specs.Counter.{IsCounter, IsStartOf};
+ghost use Rattle.mw_replay.specs.Replay.{IsReplay, Follows, next_start, step_with};
+
+use crate::counter::Counter;
+use crate::reached::{copy_addresses, difference_at, number_at};
+use mw_base::{Event, NoMemory};
+use mw_cycle::{Clock, Datapath, Env, State};
+use mw_macro::{MacState, step};
+use mw_rel::{Difference, Job, Pair, complete};
+use mw_sim::run_to_boundary;
+use std::alloc::Global;
+use std::marker::Model;
+
+/// The most cycles of a segment, each of which has one event at most.
+const MOST_CYCLES: usize = 500;
+
+/// The most events of a described step.
+const MOST_EVENTS: usize = 4096;
+
+/// The most boundaries of a relation.
+const MOST_BOUNDARIES: usize = 64;
+
+/// A replay: the start of the next segment, and all memory that its steps need. Contracts see where it stands: the
+/// number of the boundary, the pair there, the whole environment, and how far it has come in it.
+#[derive(Drop)]
+pub struct Replay {
+    boundary: usize,
+    pair: Pair,
+    env: Env,
+    clock: Clock,
+    events: Vec<Event>,
+    steps: Vec<Event>,
+    temps: Vec<u32>,
+}
+
+impl Model for Replay {
+    ghost use Rattle.std.specs.Prelude.{◌≡◌, ◌≤◌, [], vec_capacity};
+    ghost use Rattle.mw_replay.specs.Replay.{Replay as ReplayOf};
+
+    ghost Value = { ReplayOf };
+
+    ghost view = { λ r. record { boundary = r.boundary; pair = r.pair; env = r.env; clock = r.clock } };
+
+    ghost invariant = { λ r. (500 ≤ vec_capacity r.events) × (4096 ≤ vec_capacity r.steps) × (r.temps.items ≡ []) };
+}
+
+/// A copy of an environment.
+fn copy_of(alloc: Global, env: &Env) -> Result<Env, NoMemory>
+    ensures { IfOk result (λ copy. copy ≡ env.now) }
+{
+    Ok(Env {
+        line: Vec::from_slice(alloc, &env.line)?,
+        noise: Vec::from_slice(alloc, &env.noise)?,
+        inputs: Vec::from_slice(alloc, &env.inputs)?,
+    })
+}
+
+/// Runs the board's next segment, and lists its events alone; None where it is late.
+fn run_segment<A: Datapath>(
+    part: &A,
+    job: &Job,
+    limit: u32,
+    state: &mut State,
+    env: &Env,
+    clock: Clock,
+    events: &mut Vec<Event>,
+) -> Option<Clock>
+    requires fits { boards.Fits (job_of job.now).board state.old }
+    requires env_in { IsEnvironment (job_of job.now).board env.now }
+    requires cycle { clock.cycle + limit < 2 ^ 64 }
+    requires taken { clock.taken + limit < 2 ^ 64 }
+    requires room { limit ≤ vec_capacity events.old }
+    ensures reached { IfSome result (λ end. segment_after (job_of job.now).board (job_of job.now).store env.now
+        (run_at state.old [] clock) (addresses_of (job_of job.now)) limit ≡ Some (run_at state.new events.new.items end)) }
+    ensures late { result ≡ None → segment_after (job_of job.now).board (job_of job.now).store env.now
+        (run_at state.old [] clock) (addresses_of (job_of job.now)) limit ≡ None }
+    ensures few { IfSome result (λ end. length events.new.items ≤ limit) }
+    ensures cycle { IfSome result (λ end. end.cycle ≤ clock.cycle + limit) }
+    ensures taken { IfSome result (λ end. end.taken ≤ clock.taken + limit) }
+    ensures fits { boards.Fits (job_of job.now).board state.new }
+    ensures capacity { vec_capacity events.old ≤ vec_capacity events.new }
+{
+    let mut addresses = [0; MOST_BOUNDARIES];
+    let named = &mut addresses[..job.relation.boundaries().len()];
+    copy_addresses(job, named);
+    events.clear();
+    match run_to_boundary(
+        part, &job.board, &job.store, state, env, clock, named, limit, events,
+    ) {
+        Ok(end) => Some(end),
+        Err(_) => None,
+    }
+}
+
+/// The described step of the next segment, and lists its events alone: its request is the line of the segment's first
+/// cycle, and its inputs are those that were not taken yet.
+fn run_step(
+    job: &Job,
+    state: &mut MacState,
+    env: &Env,
+    clock: Clock,
+    temps: &mut Vec<u32>,
+    steps: &mut Vec<Event>,
+)
+    requires fits { machines.Fits (job_of job.now).machine state.old }
+    requires inputs { AreInputs (job_of job.now).machine env.now.inputs }
+    requires within { clock.taken + most_events (job_of job.now).machine < 2 ^ 64 }
+    requires empty { temps.old.items ≡ [] }
+    requires room { 4096 ≤ vec_capacity steps.old }
+    ensures state { state.new ≡ (step_with (job_of job.now) state.old (rest_at env.now clock)).state }
+    ensures events { steps.new.items ≡ (step_with (job_of job.now) state.old (rest_at env.now clock)).events }
+    ensures fits { machines.Fits (job_of job.now).machine state.new }
+    ensures capacity { vec_capacity steps.old ≤ vec_capacity steps.new }
+    ensures empty { temps.new.items ≡ [] }
+{
+    let request = env.given(clock).line;
+    steps.clear();
+    step(
+        &job.machine,
+        state,
+        request,
+        &env.inputs,
+        clock.taken,
+        temps,
+        steps,
+    );
+}
+
+impl Replay {
+    /// The replay of the start that a counter gives, before its first step. It takes all memory that its steps need.
+    ///
+    /// # Errors
+    ///
+    /// Memory ran out.
+    pub fn start(alloc: Global, job: &Job, counter: &Counter) -> Result<Replay, NoMemory>
+        requires counts { IsCounter (job_of job.now) counter.now }
+        ensures start { IfOk result (λ replay. IsStartOf (job_of job.now) counter.now (next_start (job_of job.now) replay)) }
+        ensures clock { IfOk result (λ replay. replay.clock ≡ at_start) }
+        ensures stands { IfOk result (λ replay. IsReplay (job_of job.now) replay) }
+    {
+        let pair = complete(alloc, job, counter.boundary, &counter.begin)?;
+        Ok(Replay {
+            boundary: counter.boundary,
+            pair,
+            env: copy_of(alloc, &counter.begin.env)?,
+            clock: Clock { cycle: 0, taken: 0 },
+            events: Vec::with_capacity(alloc, MOST_CYCLES)?,
+            steps: Vec::with_capacity(alloc, MOST_EVENTS)?,
+            temps: Vec::new(alloc),
+        })
+    }
+
+    /// One segment of the board from the next start, and one step of the described machine. It answers the first
+    /// difference in this order: late, where the bound's number of cycles passes without a boundary; the first event
+    /// that differs; the stack pointer; the first line that fails at the boundary reached; the least memory address.
+    /// Without a difference the next start is that of the next segment. It takes no memory.
+    ///
+    /// No step before differed; and the clock, and the inputs taken so far with the most that a step takes, stay
+    /// within 64 bits.
+    pub fn step<A: Datapath>(&mut self, part: &A, job: &Job) -> Option<Difference>
+        requires stands { IsReplay (job_of job.now) self.old }
+        requires cycles { self.old.clock.cycle + (numbered (job_of job.now) self.old.boundary).bound < 2 ^ 64 }
+        requires taken { self.old.clock.taken + (numbered (job_of job.now) self.old.boundary).bound < 2 ^ 64 }
+        requires inputs { self.old.clock.taken + most_events (job_of job.now).machine < 2 ^ 64 }
+        ensures shown { result ≡ difference_of (job_of job.now) (next_start (job_of job.now) self.old) }
+        ensures follows { result ≡ None → Follows (job_of job.now) (next_start (job_of job.now) self.old)
+            (next_start (job_of job.now) self.new) }
+        ensures stands { result ≡ None → IsReplay (job_of job.now) self.new }
+        ensures cycle { self.new.clock.cycle ≤ self.old.clock.cycle + 500 }
+        ensures taken { self.new.clock.taken ≤ self.old.clock.taken + 500 }
+    {
+        let at = self.clock;
+        let limit = job.relation.boundaries()[self.boundary].bound;
+        run_step(
+            job,
+            &mut self.pair.machine,
+            &self.env,
+            at,
+            &mut self.temps,
+            &mut self.steps,
+        );
+        let ended = run_segment(
+            part,
+            job,
+            limit,
+            &mut self.pair.board,
+            &self.env,
+            at,
+            &mut self.events,
+        );
+        let Some(end) = ended else {
+            return Some(Difference::Late);
+        };
+        let Some(reached) = number_at(job, self.pair.board.at) else {
+            return Some(Difference::Late);
+        };
+        self.boundary = reached;
+        self.clock = end;
+        difference_at(job, reached, &self.pair, &self.events, &self.steps)
+    }
+}
