@@ -1,6 +1,7 @@
 """The cases of compare_table.py: boards, machines and starts, and the rows that it prints of them."""
 import random
 import re
+from pathlib import Path
 
 from am2910_table import TABLE
 from compare_table import report, status
@@ -313,6 +314,95 @@ def completed_cases(count=48):
                 f"boundary HERE 1\nsp {sp}\nb.upc = 6#12\n{lines}end\n", f"boundary HERE\n{sets}{memory}"])
 
 
+# ---- events, the interrupt line, and the order of differences, on the board of examples/tally
+
+EXAMPLE = Path(__file__).parent.parent / "examples" / "tally"
+TALLY = {file: (EXAMPLE / name).read_text() for file, name in
+         {"b": "board.toml", "m": "micro", "k": "machine", "r": "relation", "s": "start"}.items()}
+TALLY["m"] = TALLY["m"].replace("out=1, cc=1", "out=1")
+TWO_BOUNDARIES = """\
+boundary WAIT 3
+sp 0
+b.upc = 1#12
+b.r0 = m.S
+end
+boundary TAKE 2
+sp 0
+b.upc = 2#12
+b.r0 = ~m.S
+end
+"""
+STILL_STEP = "memory 4 4\nregister S 4\nregister C 1\nstep\n"
+CALLS = {"m": TALLY["m"].replace("out=1, JUMP", "out=1, seq=1")}
+WRONG_SUM = [("S := S + T", "S := S + T + 1#4"), ("put S", "put S + T - T - 1#4")]
+
+
+def told(*changes, **files):
+    """The texts of the example in which some stand in another form."""
+    texts = TALLY | files
+    for file, old, new in changes:
+        assert old in texts[file], (file, old)
+        texts = texts | {file: texts[file].replace(old, new)}
+    return texts
+
+
+def machine_that(*changes):
+    return [("k", old, new) for old, new in changes]
+
+
+MEMORY = machine_that(("if request\n", "mem[9#4] := 3#4\nmem[2#4] := 3#4\nif request\n"))
+EVENTS = [
+    # the line, the inputs and the noise
+    ("the line is high in the first cycle alone", told(("s", "line 1", "line 1 0 0"))),
+    ("the line is high in all cycles", told(("s", "line 1", "line 1 1 1 1"))),
+    ("the line is high in the second cycle alone", told(("s", "line 1", "line 0 1"))),
+    ("the line is low, and c is 1", told(("s", "line 1", "line 0 1 1\nset m.C 1"))),
+    ("the machine looks at no line", told(*machine_that(("if request", "if 1#1")), ("s", "line 1", "line 0 1 1"))),
+    ("the machine asks for a low line", told(*machine_that(("if request", "if ~request")))),
+    ("inputs of two lines, of which the first is taken", told(("s", "inputs 12", "inputs 12\ninputs 5"), *machine_that(("S + T\n", "S + 12#4\n")))),
+    ("inputs of two lines, of which the second isn't taken", told(("s", "inputs 12", "inputs 5\ninputs 12"), *machine_that(("S + T\n", "S + 12#4\n")))),
+    ("no inputs", told(("s", "inputs 12\n", ""))),
+    ("inputs of zeros", told(("s", "inputs 12", "inputs 0 0"))),
+    ("the machine takes what comes next", told(("s", "inputs 12", "inputs 12 3"), *machine_that(("take T\n", "take T\ntake T\n")))),
+    ("the noise of another cycle", told(("s", "line 1", "line 1\nnoise 0x1000 0x1000"), ("m", "out=1,", "out=1, cc=1,"))),
+    ("the noise of two lines", told(("s", "line 1", "line 1\nnoise 0 0\nnoise 0x1000"), ("m", "out=1,", "out=1, cc=1,"))),
+    ("the noise is the other bit", told(("s", "line 1", "line 1\nnoise 0 0 0x2FFF"), ("m", "out=1,", "out=1, cc=1,"))),
+    # events
+    ("a word is taken where it was put out", told(*machine_that(("take T", "put 12#4\nT := 12#4")))),
+    ("a word is put out where it was taken", told(*machine_that(("put S", "take T")), ("s", "inputs 12", "inputs 12 4"))),
+    ("another word is put out", told(*machine_that(("put S", "put T")))),
+    ("nothing is put out", told(*machine_that(("put S\n", "")))),
+    ("a word more is put out", told(*machine_that(("put S", "put S\nput S")))),
+    ("a word is put out where the board has no event", told(*machine_that(("step\n", "step\nput 0#4\n")), ("s", "line 1", "line 0"))),
+    ("the board alone has events", told(k=STILL_STEP)),
+    # which difference is the first
+    ("late before an event", told(("r", "WAIT 3", "WAIT 2"), *machine_that(("put S", "put T")))),
+    ("late, and nothing else", told(("r", "WAIT 3", "WAIT 2"))),
+    ("at the bound", told(("r", "WAIT 3", "WAIT 3"))),
+    ("an event before the stack pointer", told(*machine_that(("put S", "put T")), **CALLS)),
+    ("an event before a line", told(*machine_that(("put S", "put T\nS := ~S")))),
+    ("a line, with the right events", told(*machine_that(*WRONG_SUM))),
+    ("an event before memory", told(*machine_that(("put S", "put T")), *MEMORY)),
+    ("the stack pointer before a line", told(*machine_that(("put S", "put S\nS := ~S")), **CALLS)),
+    ("the stack pointer before memory", told(*MEMORY, **CALLS)),
+    ("the stack pointer of the boundary that was left", told(("r", "sp 0", "sp 1"), **CALLS)),
+    ("a full stack stays full", told(("r", "sp 0", "sp 5"), **CALLS)),
+    ("a line before memory", told(*machine_that(("put S", "put S\nS := ~S")), *MEMORY)),
+    ("the first line by place", told(("r", "b.r0 = m.S\nb.c = m.C", "b.c = m.C\nb.r0 = m.S"), *machine_that(("put S", "put S\nS := ~S\nC := ~C")))),
+    ("the second line by place", told(("r", "b.r0 = m.S\nb.c = m.C", "b.c = m.C\nb.r0 = m.S"), *machine_that(("put S", "put S\nS := ~S")))),
+    ("the least address", told(*MEMORY)),
+    ("an address that takes what it has", told(*MEMORY, ("s", "line 1", "line 1\nmem 2 3 0 0 0 0 0 0 3"))),
+    ("an address that takes what it has, and another", told(*MEMORY, ("s", "line 1", "line 1\nmem 2 3"))),
+    # two boundaries
+    ("to the second boundary", told(r=TWO_BOUNDARIES, k=STILL_STEP + "S := ~S\n")),
+    ("to the second boundary, whose lines are others", told(r=TWO_BOUNDARIES, k=STILL_STEP)),
+    ("to the second boundary, and not to the first again", told(("r", "2#12\n", "3#12\n"), r=TWO_BOUNDARIES, k=STILL_STEP + "S := ~S\n")),
+    ("from the second boundary to the first", told(("s", "WAIT", "TAKE"), r=TWO_BOUNDARIES, k=STILL_STEP.replace("step", "temp T 4\nstep") + "take T\nS := ~S + T\nput S\n")),
+    ("from the second boundary, late", told(("s", "WAIT", "TAKE"), ("r", "TAKE 2", "TAKE 1"), r=TWO_BOUNDARIES, k=STILL_STEP)),
+    ("from the first boundary to itself", told(("s", "line 1", "line 0"), r=TWO_BOUNDARIES, k=STILL_STEP)),
+]
+
+
 # ---- starts, right and wrong
 
 STILL_RELATION = """\
@@ -464,6 +554,13 @@ def comparison_rows():
         yield row_of(name, sets, dict(zip("bmkrs", texts)))
 
 
+def event_rows():
+    sets = sets_of("tally", TALLY)
+    yield from set_lines(sets)
+    for name, texts in EVENTS:
+        yield row_of(name, sets, texts)
+
+
 def start_rows():
     sets = sets_of("still", STILL) | sets_of("small", SMALL)
     yield from set_lines(sets)
@@ -486,6 +583,7 @@ def start_rows():
 FILES_OF_ROWS = {
     "instructions": ("Every instruction of the Am2901 and the Am2910, by `compare`", lambda: case_rows(INSTRUCTIONS)),
     "comparisons": ("Comparisons: bounds, branches, assignments and lines; then starts that are completed, on a board that only jumps", comparison_rows),
+    "events": ("Comparisons of a board with inputs, an output and an interrupt line, and which difference is the first", event_rows),
     "starts": ("Starts, right and wrong", start_rows),
 }
 

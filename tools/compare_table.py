@@ -5,7 +5,7 @@ It states starts, the relation of two states and the comparison anew, from the f
 cycle of a board is that of cycle_table.py, a microprogram is read by microprogram_table.py, a machine and a relation by
 description_table.py and relation_table.py. Board files are taken as right. compare_cases.py has the cases.
 
-    compare_table.py rows NAME               a file of rows: instructions, comparisons, starts
+    compare_table.py rows NAME               a file of rows: instructions, comparisons, events, starts
     compare_table.py check FILE..            the rows of `compare` in these files that report something else
     compare_table.py vectors FILE..          the same of files of JSON, one case a line
     compare_table.py report B M K R S        the report of these files
