@@ -15,9 +15,10 @@ import sys
 import tomllib
 from base64 import b64decode
 
+from am2910_table import DEPTH
 from cycle_table import Board, State, cycle
 from description_table import Machine, lines_of
-from expression_table import valued
+from expression_table import Over, valued
 from microprogram_table import Microprogram, Refused
 from relation_table import Relation, elements
 from rows import read
@@ -25,7 +26,7 @@ from rows import read
 MOST_ENTRIES = 65536
 # The lists of an environment, each with the bound of its values.
 LISTS = {"inputs": None, "line": 2, "noise": 2**14}
-TRIPLE = "stack0 stack1 stack2 stack3 stack4".split()
+STACK = [f"stack{number}" for number in range(DEPTH)]
 
 
 class Start(Machine):
@@ -130,19 +131,19 @@ class Job:
         try:
             return read_it()
         except Refused as refused:
-            raise Refused_file(name, refused) from None
+            raise FileRefused(name, refused) from None
 
     def left(self, address):
         return [name for name, _ in self.blocks[address][3]] if address in self.blocks else []
 
 
-class Refused_file(Exception):
+class FileRefused(Exception):
     """A refusal and the file that is refused."""
 
 
 def over(job, values, memory):
     """What the expressions of a relation see."""
-    sees = Machine.__new__(Machine)
+    sees = Over([])
     sees.elements = {name: (width, values.get(name, 0)) for name, width in job.widths.items()}
     sees.memory, sees.address, sees.word = memory, job.address, job.word
     return sees
@@ -162,7 +163,7 @@ def board_state(job, values, sp, memory):
         return values.get(f"b.{name}", 0)
 
     flips = sum(of(each["name"]) << number for number, each in enumerate(job.board.flips))
-    return State(of("q"), of("mar"), of("ir"), flips, of("upc"), of("count"), sp, [of(name) for name in TRIPLE],
+    return State(of("q"), of("mar"), of("ir"), flips, of("upc"), of("count"), sp, [of(name) for name in STACK],
                  {number: of(f"r{number}") for number in range(16)}, dict(memory))
 
 
@@ -172,7 +173,7 @@ class Described:
     def __init__(self, job, registers, memory, start):
         machine = job.machine
         self.start, self.events, self.taken = start, [], 0
-        self.over = Machine.__new__(Machine)
+        self.over = Over([])
         self.over.elements = {name: (width, registers.get(f"m.{name}", 0)) for name, width in machine.elements["register"]}
         self.over.elements |= {name: (width, 0) for name, width in machine.elements["temp"]}
         self.over.elements["request"] = (1, start.entry("line", 0))
@@ -257,7 +258,7 @@ def report(texts, names="bmkrs"):
         start = Job.attempt("s", lambda: Start(job, texts[4]))
         found = difference(job, start)
         return f"differs step 1\ndifference {found}\n" if found else "same 1\n"
-    except Refused_file as refused:
+    except FileRefused as refused:
         name, place = refused.args
         return f"refused {names['bmkrs'.index(name)]} {place}\n"
 
