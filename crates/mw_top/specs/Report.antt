@@ -8,10 +8,11 @@ use Rattle.mw_base.specs.declared.cause.Cause.TheVariants.{FileTooLong}
 use Rattle.mw_board.specs.Elements.{element_count, element_name}
 use Rattle.mw_plan.specs.declared.fault.FileFault.{FileFault}
 use Rattle.mw_plan.specs.declared.fault.FileFault.TheVariants.{TooLong, At}
-use Rattle.mw_top.specs.declared.fault.Fault.{Fault}
-use Rattle.mw_top.specs.declared.fault.Fault.TheVariants.{Text, Board}
 use Rattle.mw_rel.specs.declared.difference.Difference.{Difference}
 use Rattle.mw_rel.specs.declared.difference.Difference.TheVariants.{Late, Event, StackPointer, Element, Memory}
+use Rattle.mw_rel.specs.Job.{Job}
+use Rattle.mw_top.specs.declared.fault.Fault.{Fault}
+use Rattle.mw_top.specs.declared.fault.Fault.TheVariants.{Text, Board}
 
 -- a line ends with a line feed
 abbrev pub line : List ℕ → List ℕ

@@ -82,7 +82,7 @@ impl Model for Comparison {
 }
 
 /// The machine that a text describes.
-fn described(alloc: Global, text: &[u8]) -> Result<Described, Refusal>
+fn read_described(alloc: Global, text: &[u8]) -> Result<Described, Refusal>
     requires { length text.now < 2 ^ 32 }
     ensures { Gives (λ machine. machine) result (machine_of text.now) }
 {
@@ -91,7 +91,7 @@ fn described(alloc: Global, text: &[u8]) -> Result<Described, Refusal>
 }
 
 /// The relation that a text describes between a board with its microprogram and a machine.
-fn related(
+fn read_related(
     alloc: Global,
     board: &Board,
     made: &Assembled,
@@ -135,8 +135,8 @@ fn read_job<S: Shelf>(
     ensures later { IsLater (shelf_shown S.Shelf shelf.old) (shelf_shown S.Shelf shelf.new) }
 {
     let (board, made) = read_microprogram(alloc, shelf, files)?;
-    let machine = files.next(alloc, shelf, |bytes| described(alloc, bytes))?;
-    let relation = files.next(alloc, shelf, |bytes| related(alloc, &board, &made, &machine, bytes))?;
+    let machine = files.next(alloc, shelf, |bytes| read_described(alloc, bytes))?;
+    let relation = files.next(alloc, shelf, |bytes| read_related(alloc, &board, &made, &machine, bytes))?;
     let Assembled { store, labels, .. } = made;
     Ok((job_with(board, store, machine, relation), labels))
 }
