@@ -2,7 +2,7 @@
 """Prints what an Am2910 answers to each of its instructions, as rows.
 
 The Data Book's table is stated here anew, by mnemonic: for each instruction, where the test fails and where it passes,
-the source of the next address, the move of the stack, and the effect on the counter R. bundle_table.py takes it from here.
+the source of the next address, the move of the stack, and the effect on the counter R. cycle_table.py takes it from here.
 
 PC is 0x200, R is 0 or 7, D is 0x123, an empty stack reads 0xABC, the carry into PC is 1, and of the stack's words
 0x101 to 0x105, from the bottom, none, two or five are on it.

@@ -1,8 +1,8 @@
 #!/usr/bin/env python3
 """Prints rows of cycles of boards: board files, microwords and states, and what one cycle makes of them.
 
-It states a board's cycle anew, from the tables of the parts and the format of board files, as bundle_table.py does a
-bundle; it uses nothing of the crates. cycle_cases.py has the boards and the cases. The boards that are modelled here are
+It states a board's cycle anew, from the tables of the parts and the format of board files; it uses nothing of the
+crates. cycle_cases.py has the boards and the cases. The boards that are modelled here are
 read from the very texts that are printed.
 
     cycle_table.py rows       the rows, for crates/mw_rows/data/cycles
@@ -14,9 +14,24 @@ import tomllib
 from dataclasses import dataclass, field, replace
 
 from am2910_table import DEPTH, TABLE, effect
-from bundle_table import DESTINATIONS, SOURCES
 from cycle_cases import BOARDS, CASES, STARTS
+from microprogram_table import number_of
 from rows import file_lines, row_lines
+
+# R and S.
+SOURCES = ["A Q", "A B", "0 Q", "0 B", "0 A", "D A", "D Q", "D 0"]
+
+# What B takes and what Q takes.
+DESTINATIONS = {
+    "QREG": "- F",
+    "NOP": "- -",
+    "RAMA": "F -",
+    "RAMF": "F -",
+    "RAMQD": "F/2 Q/2",
+    "RAMD": "F/2 -",
+    "RAMQU": "2F 2Q",
+    "RAMU": "2F -",
+}
 
 # The two words that a sum adds, and F of the other functions; `ones` is the word of ones.
 SUMS = {
@@ -44,11 +59,11 @@ class Board:
         file = tomllib.loads(text)
         self.width, self.address, self.microword = file["width"], file["address"], file["microword"]
         self.ones = (1 << self.width) - 1
-        self.fill = int(file["fill"], 0)
+        self.fill = number_of(file["fill"])
         self.vector = file.get("vector", 0)
         self.map = file.get("map", {"low": 0, "bits": 0, "entries": [0]})
-        self.fields = file["fields"]
-        self.control = {"ci": 1} | file["control"]
+        self.fields = file.get("fields", {})
+        self.control = {"ci": 1} | file.get("control", {})
         self.lists = {name: file.get("select", {}).get(name, ["zero"]) for name in LISTS}
         self.flips = file.get("flipflop", [])
 
@@ -176,7 +191,7 @@ def cycle(board, store, at, state, noise, line, offered):
     def bit(entry):
         kind, _, name = entry.partition(":")
         if kind == "ir":
-            return state.ir >> int(name, 0) & 1
+            return state.ir >> number_of(name) & 1
         return state.flips >> board.flip(name) & 1 if kind == "ff" else bits[kind]
 
     # D.
@@ -187,7 +202,7 @@ def cycle(board, store, at, state, noise, line, offered):
     else:
         d = bit(source) if source.startswith("ff:") else values[source]
     if mask:
-        d &= int(mask, 0)
+        d &= number_of(mask)
 
     # F, the flags and Y.
     b_address = point("b_address")

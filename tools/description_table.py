@@ -167,22 +167,22 @@ class Machine:
             value = self.tree(at + 1)
             self.width(address, self.over.address, first)
             self.width(value, self.over.word, sign)
-            return "write", f"mem[{shown(address)}] := {shown(value)}", None
+            return "write", f"mem[{shown(address)}] := {shown(value)}", None, (address, value)
         if word in ("put", "if"):
             tree = self.tree(1)
             self.width(tree, self.over.word if word == "put" else 1, first)
             self.fault(first, 42, word == "if" and len(self.blocks) == 64)
-            return word, f"{word} {shown(tree)}", {"then": [], "else": []}
+            return word, f"{word} {shown(tree)}", {"then": [], "else": []}, (tree,)
         if word == "take":
             name = self.token(1, "name")
             self.ends(2)
             self.fault(first, 41, self.target(name[0], name[2]) not in (None, self.over.word))
-            return word, f"take {name[2]}", None
+            return word, f"take {name[2]}", None, (name[2],)
         name = self.token(0, "name")
         sign = self.sign(1, ":=")
         value = self.tree(2)
         self.width(value, self.target(name[0], name[2]), sign)
-        return "assign", f"{name[2]} := {shown(value)}", None
+        return "assign", f"{name[2]} := {shown(value)}", None, (name[2], value)
 
     # The report.
 
@@ -195,7 +195,7 @@ class Machine:
 
 def shown_steps(steps):
     lines = []
-    for kind, text, lists in steps:
+    for kind, text, lists, _ in steps:
         lines.append(text)
         if kind == "if":
             lines += shown_steps(lists["then"]) + ["else"] + shown_steps(lists["else"]) + ["end"]

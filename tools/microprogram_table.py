@@ -21,6 +21,12 @@ LETTERS = b"abcdefghijklmnopqrstuvwxyzABCDEFGHIJKLMNOPQRSTUVWXYZ_"
 DIGITS = b"0123456789"
 
 
+def number_of(text):
+    """The value of a number's text."""
+    base = BASES.get(text[:2], 10)
+    return int(text if base == 10 else text[2:], base)
+
+
 class Refused(Exception):
     """A cause and its place."""
 
@@ -145,7 +151,7 @@ class Microprogram:
     def __init__(self, board, text):
         self.fields = {name: tuple(place) for name, place in board.get("fields", {}).items()}
         self.microword = board["microword"]
-        self.unset = int(board.get("unset", "0"), 0)
+        self.unset = number_of(board.get("unset", "0"))
         self.equs, self.sets, self.labels, self.words = {}, {}, [], {}
         lines = lines_of(text)
         at = 0

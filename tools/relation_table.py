@@ -101,10 +101,11 @@ FILES = {
 
 
 class Relation(Machine):
-    """The boundaries of a text: each a list of an address, a bound, a stack pointer and lines."""
+    """The boundaries of a text: each a list of an address, a bound, a stack pointer and lines, which are an element and a
+    tree each. What it sees of a board is as in BOARDS."""
 
-    def __init__(self, board, text):
-        board_memory, memory, widths, self.labels = BOARDS[board]
+    def __init__(self, sees, text):
+        board_memory, memory, widths, self.labels = sees
         self.over = Over([f"{name}:{bits}" for name, bits in widths] + ["mem:%d:%d" % memory])
         self.boundaries, self.block = [], None
         lines = lines_of(text)
@@ -169,7 +170,7 @@ class Relation(Machine):
             self.fault(read_at, 14, self.reads > 64)
         uses = [(column, number[0]) for what, column, _, number in parts_of(tree) if what == "element"]
         self.given.append(((self.line.number, owner[0]), name, [((self.line.number, at), use) for at, use in uses]))
-        self.block[3].append(f"{name} = {shown(tree)}")
+        self.block[3].append((name, tree))
 
     def close(self):
         self.ends(1)
@@ -183,7 +184,7 @@ class Relation(Machine):
         self.block = None
 
     def report(self):
-        return "".join(f"boundary {address} {bound}\nsp {sp}\n" + "".join(line + "\n" for line in lines) + "end\n"
+        return "".join(f"boundary {address} {bound}\nsp {sp}\n" + "".join(f"{name} = {shown(tree)}\n" for name, tree in lines) + "end\n"
                        for address, bound, sp, lines in self.boundaries)
 
 
@@ -195,7 +196,7 @@ def parts_of(tree):
 def given(board, text):
     """What the call gives."""
     try:
-        return Relation(board, text).report()
+        return Relation(BOARDS[board], text).report()
     except Refused as refused:
         return f"refused {refused}\n"
 

@@ -1,7 +1,8 @@
 #!/usr/bin/env python3
 """Writes and reads files of rows, as docs/CONTRIBUTING.md has them and the crate mw_rows runs them.
 
-    rows.py cases FILE..    the rows of cases that are JSON, one a line: name, words, files, stdout, status
+    rows.py cases FILE..    the rows of cases that are JSON, one a line: name, words, files, stdout, status. What is a file of
+                            several of them is a set
     rows.py count FILE..    how many rows these files have
 
 Where the stdout of a case is null, its `lines` are what the report begins with.
@@ -9,6 +10,8 @@ Where the stdout of a case is null, its `lines` are what the report begins with.
 import json
 import re
 import sys
+from base64 import b64decode
+from collections import Counter
 
 ESCAPES = {"n": "\n", "t": "\t", "r": "\r", "\\": "\\"}
 # A byte that stands so many times and more is written with a count.
@@ -71,13 +74,32 @@ def row_lines(name, given, end, report):
     return [f"row {name}"] + given + [end] + text_lines(report)
 
 
-def case_lines(case):
+def contents_of(text):
+    return b64decode(text[7:]) if text.startswith("base64:") else text.encode()
+
+
+def case_lines(case, sets):
+    """The row of a case, where some files are sets: names of sets by file and contents."""
     given = [words_line(case["words"])]
-    for name, contents in case["files"].items():
-        given += file_lines(name, contents.encode())
+    for file in case["files"].items():
+        given += [f"with {sets[file]}"] if file in sets else file_lines(file[0], contents_of(file[1]))
     if case["stdout"] is None:
         return row_lines(case["name"], given, f"begins {case['status']}", case["lines"].encode())
     return row_lines(case["name"], given, f"status {case['status']}", case["stdout"].encode())
+
+
+def sets_of(cases):
+    """A name for each file that several cases have."""
+    counts = Counter(file for case in cases for file in case["files"].items())
+    return {file: f"{file[0]} {number}" for number, file in enumerate((file for file, count in counts.items() if count > 1), 1)}
+
+
+def print_cases(cases):
+    sets = sets_of(cases)
+    for (file, text), name in sets.items():
+        print("\n".join([f"set {name}"] + file_lines(file, contents_of(text))) + "\n")
+    for case in cases:
+        print("\n".join(case_lines(case, sets)) + "\n")
 
 
 def added(contents, line):
@@ -133,10 +155,11 @@ def read(path):
 def main():
     match sys.argv[1:]:
         case ["cases", *paths]:
+            cases = []
             for path in paths:
                 with open(path, encoding="utf-8") as lines:
-                    for line in lines:
-                        print("\n".join(case_lines(json.loads(line))) + "\n")
+                    cases += [json.loads(line) for line in lines]
+            print_cases(cases)
         case ["count", *paths]:
             for path in paths:
                 print(f"{path}: {len(read(path))} rows")

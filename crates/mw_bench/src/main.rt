@@ -46,3 +46,10 @@ fn main(rt: HostRuntime) -> ExitCode {
     };
     exit_code(status)
 }
+
+#[cfg(test)]
+mod command_tests;
+#[cfg(test)]
+mod compare_tests;
+#[cfg(test)]
+mod small;

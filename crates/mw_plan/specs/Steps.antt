@@ -1,5 +1,5 @@
 -- What a call that reads the files of a plan gives.
-use Rattle.std.specs.Prelude.{◌≡◌, ℕ, List, Result, Ok, Err}
+use Rattle.std.specs.Prelude.{◌≡◌, ℕ, ◌≤◌, List, length, Result, Ok, Err}
 use Rattle.std.specs.Borrow.{Bor}
 use Rattle.mw_base.specs.declared.refusal.Refused.{Refused}
 use Rattle.mw_base.specs.Reading.{Gives}
@@ -41,6 +41,10 @@ Ends plan first now files result = Follows done plan first now files result
 abbrev pub Reads : {G X : Type 0} → (Bor (List ℕ) → Result X (Refused G) → Type 0) → (List ℕ → Result X G) → Type 0
 Reads {G} {X} returns reader =
     (bytes : Bor (List ℕ)) (result : Result X (Refused G)) → returns bytes result → Gives (λ x. x) result (reader bytes.now)
+
+-- a closure returned this for some bytes, of which a file has at most 1,048,576
+abbrev pub WasReturned : {G X : Type 0} → (Bor (List ℕ) → Result X (Refused G) → Type 0) → X → Type 0
+WasReturned returns x = (bytes : Bor (List ℕ)) × (length bytes.now ≤ 1048576) × returns bytes (Ok x)
 
 -- each fault that is converted is seen as one of this kind
 abbrev pub Converts : {F G : Type 0} → (G → F → Type 0) → (G → F) → Type 0

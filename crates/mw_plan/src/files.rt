@@ -1,9 +1,9 @@
 // The files of a command, one after another.
-ghost use Rattle.std.specs.Prelude.{◌≡◌, ◌+◌, ◌<◌, ◌≤◌, List, ℕ, [], Result, Some, length, map, string_bytes, OnOk, OnErr};
+ghost use Rattle.std.specs.Prelude.{◌≡◌, ◌+◌, ◌<◌, ◌≤◌, List, ℕ, [], Result, Some, length, map, string_bytes, IfOk, OnOk, OnErr};
 ghost use Rattle.std.specs.Borrow.{Bor};
 ghost use Rattle.mw_outside.specs.Views.{ShelfView, IsLater, shelf_shown};
 ghost use Rattle.mw_plan.specs.Files.{IsLeft, next_name};
-ghost use Rattle.mw_plan.specs.Steps.{Follows, Reads, Converts};
+ghost use Rattle.mw_plan.specs.Steps.{Follows, Reads, Converts, WasReturned};
 ghost use Rattle.mw_plan.specs.Plan.{Plan, first_by};
 
 use crate::fault::{FileFault, Stop};
@@ -61,7 +61,8 @@ impl<'a, W, F> Files<'a, W, F> {
     /// - `Refused`: the file is too long, or the reader refuses it;
     /// - `NoMemory`: memory ran out.
     ///
-    /// After each of these all is as before, so the file that stopped the plan still comes next.
+    /// After each of these all is as before, so the file that stopped the plan still comes next. What is answered is
+    /// what the reader returned, so what holds of that holds of it.
     pub fn next<S: Shelf, T: Drop, G: Into<F>, R: Fn(&[u8]) -> Result<T, Refused<G>>>(
         &mut self,
         alloc: Global,
@@ -74,6 +75,7 @@ impl<'a, W, F> Files<'a, W, F> {
             → (plan : Plan F W) (rest : T → Plan F W) (first : ShelfView)
             → IsLater first (shelf_shown S.Shelf shelf.old) → IsLeft plan first self.old (first_by kind reader rest)
             → Follows rest plan first (shelf_shown S.Shelf shelf.new) self.new result }
+        ensures returned { IfOk result (WasReturned (R.post read)) }
         ensures names { self.new.names ≡ self.old.names }
         ensures one_more { OnOk result (length self.new.contents ≡ length self.old.contents + 1) }
         ensures err { OnErr result (self.new ≡ self.old) }

@@ -1,5 +1,3 @@
-pub mod Bundles
 pub mod Ends
 pub mod Lines
 pub mod Reports
-pub mod Unlike

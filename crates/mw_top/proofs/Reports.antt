@@ -2,17 +2,16 @@
 use Rattle.std.proofs.Common.{◌≡◌, ℕ, List, true, Option, Some, None, refl, ap, subst}
 use Rattle.mw_plan.specs.Files.{FilesRead, IsLeft}
 use Rattle.mw_plan.specs.Plan.{done}
+use Rattle.mw_rel.specs.declared.difference.Difference.{Difference}
+use Rattle.mw_rel.specs.Differs.{difference_of}
 use Rattle.mw_top.specs.declared.commands.Work.{Work}
-use Rattle.mw_top.specs.declared.commands.Work.TheVariants.{Comparison, Assembly, Ran}
-use Rattle.mw_top.specs.declared.difference.Difference.{Difference}
+use Rattle.mw_top.specs.declared.commands.Work.TheVariants as works
 use Rattle.mw_top.specs.declared.status.Status.{Status}
 use Rattle.mw_top.specs.declared.status.Status.TheVariants.{Done, Differs, Unknown, Usage, Refused, ReadFault, WriteFault, NoMemory}
 use Rattle.mw_top.specs.Answer.{is_worked, IsWorked, IsReport}
-use Rattle.mw_top.specs.Bundle.Job.{job_of}
 use Rattle.mw_top.specs.Call.{Call}
 use Rattle.mw_top.specs.Commands.Compare.{compare_status}
 use Rattle.mw_top.specs.Commands.Table.{plan_of, IsAnswer}
-use Rattle.mw_top.specs.Differs.{difference_of}
 use Rattle.mw_top.specs.Request.{RequestData, request_of, files_of}
 
 -- ---- what was made is answered by a status of work that was done
@@ -23,10 +22,10 @@ compared_is_worked (Some difference) = refl
 
 answer_is_worked : (work : Work) (status : Status) (report : List ℕ) → IsAnswer work status report
     → is_worked status ≡ true
-answer_is_worked (Comparison bundle) status report answer =
-    rw answer.status_is (compared_is_worked (difference_of (job_of bundle) answer.start))
-answer_is_worked (Assembly board assembled) status report answer = rw answer.status_is refl
-answer_is_worked (Ran text) status report answer = rw answer.status_is refl
+answer_is_worked (works.Comparison comparison) status report answer =
+    rw answer.status_is (compared_is_worked (difference_of comparison.job answer.start))
+answer_is_worked (works.Assembly board assembled) status report answer = rw answer.status_is refl
+answer_is_worked (works.Run prepared) status report answer = rw answer.status_is refl
 
 -- the report of work that was done
 worked_is_report : (call : Call) (status : Status) (report : List ℕ) → is_worked status ≡ true

@@ -1,12 +1,9 @@
 pub mod Answer
-pub mod Bundle
 pub mod Call
 pub mod Commands
-pub mod Differs
-pub mod Machine
-pub mod Relation
 pub mod Report
 pub mod Request
 pub mod RunText
 pub mod StateText
 pub mod Status
+pub mod Work

@@ -1,18 +1,18 @@
 -- The texts of reports.
-use Rattle.std.specs.Prelude.{ℕ, List, [], ◌∷◌, ◌++◌, codes}
+use Rattle.std.specs.Prelude.{ℕ, ◌-◌, List, [], ◌∷◌, ◌++◌, codes, slice_index_or, nat_lt, if◌then◌else◌}
 use Rattle.std.specs.Option.{unwrap_or}
 use Rattle.mw_base.specs.Numbers.{hex, decimal}
 use Rattle.mw_base.specs.Causes.{number_of}
 use Rattle.mw_base.specs.declared.cause.Cause.{Cause}
 use Rattle.mw_base.specs.declared.cause.Cause.TheVariants.{FileTooLong}
-use Rattle.mw_board.specs.declared.parts.BoardParts.{BoardParts}
-use Rattle.mw_board.specs.Elements.{element_name}
+use Rattle.mw_board.specs.Elements.{element_count, element_name}
 use Rattle.mw_plan.specs.declared.fault.FileFault.{FileFault}
 use Rattle.mw_plan.specs.declared.fault.FileFault.TheVariants.{TooLong, At}
+use Rattle.mw_rel.specs.declared.difference.Difference.{Difference}
+use Rattle.mw_rel.specs.declared.difference.Difference.TheVariants.{Late, Event, StackPointer, Element, Memory}
+use Rattle.mw_rel.specs.Job.{Job}
 use Rattle.mw_top.specs.declared.fault.Fault.{Fault}
-use Rattle.mw_top.specs.declared.fault.Fault.TheVariants.{Text, Board, Bundle}
-use Rattle.mw_top.specs.declared.difference.Difference.{Difference}
-use Rattle.mw_top.specs.declared.difference.Difference.TheVariants.{Late, Event, StackPointer, Element, Memory}
+use Rattle.mw_top.specs.declared.fault.Fault.TheVariants.{Text, Board}
 
 -- a line ends with a line feed
 abbrev pub line : List ℕ → List ℕ
@@ -34,12 +34,10 @@ cause_text cause = codes " cause " ++ decimal (number_of cause)
 abbrev pub place_text : ℕ → ℕ → List ℕ
 place_text line column = codes " line " ++ decimal line ++ codes " column " ++ decimal column
 
--- where and why a reader refuses a file: a text at a line and a column, a board file at a key, and a bundle as a whole, at
--- the key -
+-- where and why a reader refuses a file: a text at a line and a column, and a board file at a key
 unfoldable pub reader_text : Fault → List ℕ
 reader_text (Text fault) = place_text fault.line fault.column ++ cause_text fault.cause
 reader_text (Board fault) = codes " key " ++ fault.key ++ cause_text fault.cause
-reader_text (Bundle cause) = codes " key -" ++ cause_text cause
 
 -- where and why a file is refused: one that is too long at line 0 and column 0, whatever its kind
 unfoldable pub fault_text : FileFault Fault → List ℕ
@@ -50,14 +48,16 @@ fault_text (At fault) = reader_text fault
 abbrev pub refusal_line : List ℕ → FileFault Fault → List ℕ
 refusal_line file fault = line (codes "refused " ++ file ++ fault_text fault)
 
--- an element of a board
-abbrev pub element_text : BoardParts → ℕ → List ℕ
-element_text board e = codes "element b." ++ unwrap_or (element_name board e) []
+-- an element of a job: those of the board come first, and behind them the machine's registers
+abbrev pub element_text : Job → ℕ → List ℕ
+element_text job e =
+    if nat_lt e (element_count job.board) then codes "element b." ++ unwrap_or (element_name job.board e) []
+    else codes "element m." ++ slice_index_or job.machine.names (e - element_count job.board) []
 
--- a difference that a board shows
-unfoldable pub difference_text : BoardParts → Difference → List ℕ
-difference_text board Late = codes "late"
-difference_text board (Event n) = codes "event " ++ decimal n
-difference_text board StackPointer = codes "element b.sp"
-difference_text board (Element e) = element_text board e
-difference_text board (Memory a) = codes "memory " ++ hex a
+-- a difference that a start of a job shows
+unfoldable pub difference_text : Job → Difference → List ℕ
+difference_text job Late = codes "late"
+difference_text job (Event n) = codes "event " ++ decimal n
+difference_text job StackPointer = codes "element b.sp"
+difference_text job (Element e) = element_text job e
+difference_text job (Memory a) = codes "memory " ++ hex a

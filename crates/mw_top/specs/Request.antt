@@ -27,7 +27,7 @@ pub record Row : Type 0 where
 
 -- the row of each command
 abbrev pub row_of : Command → Row
-row_of Compare = record { word = codes "compare"; files = 1 }
+row_of Compare = record { word = codes "compare"; files = 5 }
 row_of Asm = record { word = codes "asm"; files = 2 }
 row_of Run = record { word = codes "run"; files = 3 }
 

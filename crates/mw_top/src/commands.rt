@@ -7,28 +7,31 @@ ghost use Rattle.mw_top.specs.Request.{row_of};
 
 mod asm;
 mod compare;
+mod microprogram;
 mod run;
 
-use crate::bundle::Bundle;
 use crate::fault::Fault;
 use crate::outcome::Outcome;
 use crate::request::Command;
 use mw_asm::Assembled;
-use mw_base::{Items, NoMemory};
+use mw_base::NoMemory;
 use mw_board::Board;
 use mw_outside::Shelf;
 use mw_plan::{Files, Stop};
 use std::alloc::Global;
 
+use self::compare::Comparison;
+use self::run::Prepared;
+
 /// What the commands make of their files.
 #[derive(Drop)]
 pub(crate) enum Work {
-    /// A start that is compared.
-    Comparison(Bundle),
+    /// A job, and the start of it that is compared.
+    Comparison(Comparison),
     /// A board, and what a microprogram is assembled to for it.
     Assembly(Board, Assembled),
-    /// The text of a run.
-    Ran(Items<u8>),
+    /// A board with its microprogram, and the start of its run.
+    Run(Prepared),
 }
 
 /// Reads the files of a command, and makes of them what its plan says.
@@ -56,8 +59,8 @@ pub(crate) fn answer_with(alloc: Global, work: Work) -> Result<Outcome, NoMemory
     ensures { IfOk result (λ outcome. IsAnswer work outcome.status outcome.report.items) }
 {
     match work {
-        Work::Comparison(bundle) => compare::report(alloc, &bundle),
+        Work::Comparison(comparison) => compare::report(alloc, &comparison),
         Work::Assembly(board, assembled) => asm::report(alloc, &board, &assembled),
-        Work::Ran(text) => Ok(run::report(text)),
+        Work::Run(prepared) => run::report(alloc, prepared),
     }
 }

@@ -1,5 +1,5 @@
 // Why a reader refuses a file.
-use mw_base::{Cause, TextFault};
+use mw_base::TextFault;
 use mw_boardfile::KeyFault;
 
 /// The first fault that a reader finds in a file.
@@ -9,8 +9,6 @@ pub(crate) enum Fault {
     Text(TextFault),
     /// A board file's, at a key.
     Board(KeyFault),
-    /// A bundle's, which is refused as a whole.
-    Bundle(Cause),
 }
 
 impl From<TextFault> for Fault {
@@ -32,16 +30,5 @@ impl From<KeyFault> for Fault {
 
     fn from(fault: KeyFault) -> Fault {
         Fault::Board(fault)
-    }
-}
-
-impl From<Cause> for Fault {
-    ghost use Rattle.std.specs.Prelude.{◌≡◌};
-    ghost use Rattle.mw_top.specs.declared.fault.Fault.TheVariants.{Bundle};
-
-    ghost from_gives = { λ cause seen. seen ≡ Bundle cause };
-
-    fn from(cause: Cause) -> Fault {
-        Fault::Bundle(cause)
     }
 }

@@ -1,14 +1,17 @@
 // The texts of reports.
-ghost use Rattle.std.specs.Prelude.{◌≡◌, ◌++◌, OnOk};
+ghost use Rattle.std.specs.Prelude.{◌≡◌, ◌++◌, [], OnOk, slice_index_or};
 ghost use Rattle.mw_top.specs.Report.{line, usage_line, fault_line, cause_text, place_text, reader_text, fault_text, refusal_line};
 ghost use Rattle.mw_top.specs.Report.{element_text, difference_text};
 ghost use Rattle.mw_base.specs.Numbers.{hex};
+ghost use Rattle.mw_macro.specs.Described.{description_of};
+ghost use Rattle.mw_rel.specs.Views.{job_of};
 
-use crate::difference::Difference;
 use crate::fault::Fault;
 use mw_base::{Cause, NoMemory, append_decimal, append_hex};
-use mw_board::Board;
+use mw_macro::Machine;
 use mw_plan::FileFault;
+use mw_rel::Job;
+use mw_replay::Difference;
 use std::alloc::Global;
 
 const USAGE: &[u8] =
@@ -85,10 +88,6 @@ fn append_reader_fault(alloc: Global, report: &mut Vec<u8>, fault: &Fault) -> Re
             report.extend_from_slice(fault.key.as_slice())?;
             append_cause(alloc, report, fault.cause)
         }
-        Fault::Bundle(cause) => {
-            report.extend_from_slice(b" key -")?;
-            append_cause(alloc, report, *cause)
-        }
     }
 }
 
@@ -125,25 +124,41 @@ pub(crate) fn append_refusal(
     append_line(report, b"")
 }
 
-/// Appends the name of an element of the board.
-fn append_element(report: &mut Vec<u8>, board: &Board, element: u32) -> Result<(), NoMemory>
-    ensures { OnOk result (report.new.items ≡ report.old.items ++ element_text board.now element) }
+/// The name of a register of a machine.
+fn register_name(machine: &Machine, number: usize) -> &[u8]
+    ensures { result.now ≡ slice_index_or (description_of machine.now).names number [] }
 {
-    report.extend_from_slice(b"element b.")?;
-    let name = board.element_name(element as usize).unwrap_or(b"");
-    report.extend_from_slice(name)?;
+    match machine.names().get(number) {
+        Some(name) => name.as_slice(),
+        None => b"",
+    }
+}
+
+/// Appends an element of a job.
+fn append_element(report: &mut Vec<u8>, job: &Job, element: u32) -> Result<(), NoMemory>
+    ensures { OnOk result (report.new.items ≡ report.old.items ++ element_text (job_of job.now) element) }
+{
+    let number = element as usize;
+    let of_board = job.board.element_count();
+    if number < of_board {
+        report.extend_from_slice(b"element b.")?;
+        report.extend_from_slice(job.board.element_name(number).unwrap_or(b""))?;
+    } else {
+        report.extend_from_slice(b"element m.")?;
+        report.extend_from_slice(register_name(&job.machine, number - of_board))?;
+    }
     Ok(())
 }
 
-/// Appends a difference that the board shows.
+/// Appends a difference that a start of a job shows.
 #[tactic(auto, unfolding(crate::specs::Report::difference_text))]
 pub(crate) fn append_difference(
     alloc: Global,
     report: &mut Vec<u8>,
-    board: &Board,
+    job: &Job,
     difference: Difference,
 ) -> Result<(), NoMemory>
-    ensures { OnOk result (report.new.items ≡ report.old.items ++ difference_text board.now difference) }
+    ensures { OnOk result (report.new.items ≡ report.old.items ++ difference_text (job_of job.now) difference) }
 {
     match difference {
         Difference::Late => report.extend_from_slice(b"late")?,
@@ -152,7 +167,7 @@ pub(crate) fn append_difference(
             append_decimal(alloc, report, u64::from(number))?;
         }
         Difference::StackPointer => report.extend_from_slice(b"element b.sp")?,
-        Difference::Element(element) => append_element(report, board, element)?,
+        Difference::Element(element) => append_element(report, job, element)?,
         Difference::Memory(address) => {
             report.extend_from_slice(b"memory ")?;
             append_hex(alloc, report, u128::from(address))?;

@@ -6,7 +6,7 @@ ghost use Rattle.std.specs.List.{list_all};
 /// What the bench can do.
 #[derive(Clone, Copy, Debug, PartialEq, Eq)]
 pub enum Command {
-    /// Compares one start of the one bundle named.
+    /// Compares one start: a board file, a microprogram for its board, a described machine, a relation, and a start.
     Compare,
     /// Assembles a microprogram: a board file, and the microprogram for its board.
     Asm,
@@ -44,7 +44,7 @@ impl Command {
         match self {
             Command::Compare => Row {
                 word: "compare",
-                files: 1,
+                files: 5,
             },
             Command::Asm => Row {
                 word: "asm",

@@ -1,38 +1,56 @@
--- compare: a bundle, whose one start is compared.
+-- compare: a board file, a microprogram for its board, a described machine, a relation between both, and a start of it.
 use Rattle.std.specs.Prelude.{◌≡◌, ℕ, List, ◌++◌, codes, Option, Some, None}
-use Rattle.mw_board.specs.declared.parts.BoardParts.{BoardParts}
+use Rattle.mw_asm.specs.declared.assembled.Label.{Label}
+use Rattle.mw_asm.specs.Microprogram.{store_of}
+use Rattle.mw_boardfile.specs.Board.{board_of}
+use Rattle.mw_descfile.specs.Machine.{machine_of}
+use Rattle.mw_descfile.specs.Relation.{relation_of}
 use Rattle.mw_plan.specs.Plan.{Plan, done, ◌>>=◌, next_by}
+use Rattle.mw_rel.specs.declared.difference.Difference.{Difference}
+use Rattle.mw_rel.specs.Differs.{difference_of}
+use Rattle.mw_rel.specs.Job.{Job, job_with}
+use Rattle.mw_rel.specs.Start.{Start}
+use Rattle.mw_replay.specs.Counter.{IsStartOf}
+use Rattle.mw_replay.specs.CounterText.{counter_of}
 use Rattle.mw_top.specs.declared.commands.Work.{Work}
-use Rattle.mw_top.specs.declared.commands.Work.TheVariants.{Comparison}
-use Rattle.mw_top.specs.declared.difference.Difference.{Difference}
+use Rattle.mw_top.specs.declared.commands.Work.TheVariants as works
 use Rattle.mw_top.specs.declared.fault.Fault.{Fault}
-use Rattle.mw_top.specs.declared.fault.Fault.TheVariants.{Bundle}
+use Rattle.mw_top.specs.declared.fault.Fault.TheVariants.{Board, Text}
 use Rattle.mw_top.specs.declared.status.Status.{Status}
 use Rattle.mw_top.specs.declared.status.Status.TheVariants.{Done, Differs}
-use Rattle.mw_top.specs.Bundle.Form.{BundleData, read_bundle_of}
-use Rattle.mw_top.specs.Bundle.Job.{board_of, job_of, IsBundleStart}
-use Rattle.mw_top.specs.Differs.{Start, difference_of}
 use Rattle.mw_top.specs.Report.{line, difference_text}
+use Rattle.mw_top.specs.Work.{Comparison}
 
--- the bundle of the one file
+-- the job of four files, and the labels of its microprogram: the board of the first, what the second is assembled to
+-- for it, the machine of the third, and the relation between them of the fourth
+abbrev pub job_plan : (Job → List Label → Plan Fault Work) → Plan Fault Work
+job_plan rest = do
+  board ← next_by Board board_of
+  made ← next_by Text (store_of board)
+  machine ← next_by Text machine_of
+  relation ← next_by Text (relation_of board made.labels machine)
+  rest (job_with board made.store.words machine relation) made.labels
+
+-- the job of the first four files, and the start of the fifth
 unfoldable pub compare_plan : Plan Fault Work
-compare_plan = do
-  bundle ← next_by Bundle read_bundle_of
-  done (Comparison bundle)
+compare_plan = job_plan (λ job labels.
+    next_by Text (counter_of job labels) >>= λ counter.
+    done (works.Comparison (record { job = job; counter = counter })))
 
 -- the status of a comparison
 abbrev pub compare_status : Option Difference → Status
 compare_status None = Done
 compare_status (Some difference) = Differs
 
--- what a comparison of one step shows on this board
-unfoldable pub compare_report : BoardParts → Option Difference → List ℕ
-compare_report board None = line (codes "same 1")
-compare_report board (Some difference) = line (codes "differs step 1") ++ line (codes "difference " ++ difference_text board difference)
+-- what a comparison of one step shows
+unfoldable pub compare_report : Job → Option Difference → List ℕ
+compare_report job None = line (codes "same 1")
+compare_report job (Some difference) =
+    line (codes "differs step 1") ++ line (codes "difference " ++ difference_text job difference)
 
--- the start of the bundle shows this difference, or none, and that is what status and report say
-pub record IsComparison (bundle : BundleData) (status : Status) (report : List ℕ) : Type 0 where
+-- the start that the counter gives shows this difference, or none, and that is what status and report say
+pub record IsComparison (comparison : Comparison) (status : Status) (report : List ℕ) : Type 0 where
   pub start : Start
-  pub begins : IsBundleStart bundle start
-  pub status_is : status ≡ compare_status (difference_of (job_of bundle) start)
-  pub report_is : report ≡ compare_report (board_of bundle) (difference_of (job_of bundle) start)
+  pub begins : IsStartOf comparison.job comparison.counter start
+  pub status_is : status ≡ compare_status (difference_of comparison.job start)
+  pub report_is : report ≡ compare_report comparison.job (difference_of comparison.job start)

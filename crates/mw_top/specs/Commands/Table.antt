@@ -2,7 +2,7 @@
 use Rattle.std.specs.Prelude.{ℕ, List}
 use Rattle.mw_plan.specs.Plan.{Plan}
 use Rattle.mw_top.specs.declared.commands.Work.{Work}
-use Rattle.mw_top.specs.declared.commands.Work.TheVariants.{Comparison, Assembly, Ran}
+use Rattle.mw_top.specs.declared.commands.Work.TheVariants as works
 use Rattle.mw_top.specs.declared.fault.Fault.{Fault}
 use Rattle.mw_top.specs.declared.request.Command.{Command}
 use Rattle.mw_top.specs.declared.request.Command.TheVariants.{Compare, Asm, Run}
@@ -19,6 +19,6 @@ plan_of Run = run_plan
 
 -- the status and the report that are answered with what was made of the files
 abbrev pub IsAnswer : Work → Status → List ℕ → Type 0
-IsAnswer (Comparison bundle) status report = IsComparison bundle status report
-IsAnswer (Assembly board assembled) status report = IsListing board assembled status report
-IsAnswer (Ran text) status report = IsRun text status report
+IsAnswer (works.Comparison comparison) status report = IsComparison comparison status report
+IsAnswer (works.Assembly board assembled) status report = IsListing board assembled status report
+IsAnswer (works.Run prepared) status report = IsRun prepared status report

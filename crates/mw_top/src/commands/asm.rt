@@ -5,13 +5,13 @@ ghost use Rattle.mw_plan.specs.Steps.{Ends};
 ghost use Rattle.mw_top.specs.Commands.Asm.{asm_plan, IsListing};
 
 use super::Work;
+use super::microprogram::read_microprogram;
 use crate::fault::Fault;
 use crate::outcome::Outcome;
 use crate::status::Status;
-use mw_asm::{Assembled, assemble, listing};
+use mw_asm::{Assembled, listing};
 use mw_base::NoMemory;
 use mw_board::Board;
-use mw_boardfile::read_board;
 use mw_outside::Shelf;
 use mw_plan::{Files, Stop};
 use std::alloc::Global;
@@ -29,8 +29,7 @@ pub(super) fn read<S: Shelf>(
     ensures names { files.new.names ≡ files.old.names }
     ensures later { IsLater (shelf_shown S.Shelf shelf.old) (shelf_shown S.Shelf shelf.new) }
 {
-    let board = files.next(alloc, shelf, |bytes| read_board(alloc, bytes))?;
-    let assembled = files.next(alloc, shelf, |bytes| assemble(alloc, &board, bytes))?;
+    let (board, assembled) = read_microprogram(alloc, shelf, files)?;
     Ok(Work::Assembly(board, assembled))
 }
 

@@ -1,37 +1,162 @@
-// compare: a bundle, whose one start is compared.
-ghost use Rattle.std.specs.Prelude.{◌≡◌, ◌++◌, [], IfOk, OnOk, length};
-ghost use Rattle.mw_outside.specs.Views.{IsLater, shelf_shown};
-ghost use Rattle.mw_plan.specs.Steps.{Ends};
-ghost use Rattle.mw_top.specs.Commands.Compare.{compare_plan, compare_status, compare_report, IsComparison};
+// compare: a board file, a microprogram for its board, a described machine, a relation between both, and a start of it.
+ghost use Rattle.std.specs.Prelude.{◌≡◌, ◌+◌, ◌<◌, ◌≤◌, ◌^◌, ◌++◌, List, [], IfOk, OnOk, length, true};
+ghost use Rattle.mw_base.specs.Reading.{Gives};
+ghost use Rattle.mw_descfile.specs.Machine.{machine_of};
+ghost use Rattle.mw_descfile.specs.Relation.{relation_of};
+ghost use Rattle.mw_asm.specs.declared.assembled.Label.{Label};
+ghost use Rattle.mw_outside.specs.Views.{IsLater, ShelfView, shelf_shown};
+ghost use Rattle.mw_plan.specs.Files.{IsLeft};
+ghost use Rattle.mw_plan.specs.Plan.{Plan};
+ghost use Rattle.mw_plan.specs.Steps.{Ends, Follows};
+ghost use Rattle.mw_rel.specs.Job.{AreForEachOther, Job as JobOf, job_with, memories_agree};
+ghost use Rattle.mw_rel.specs.Views.{job_of};
+ghost use Rattle.mw_top.specs.Commands.Compare.{compare_plan, compare_status, compare_report, job_plan, IsComparison};
+ghost use Rattle.mw_top.specs.declared.commands.Work.{Work};
+ghost use Rattle.mw_top.specs.declared.fault.Fault.{Fault};
 
 use super::Work;
-use crate::bundle::{Bundle, compare_bundle, read_bundle, small_board};
-use crate::difference::Difference;
+use super::microprogram::read_microprogram;
 use crate::fault::Fault;
 use crate::outcome::Outcome;
 use crate::report::{append_difference, append_line};
 use crate::status::Status;
-use mw_base::NoMemory;
-use mw_board::Board;
+use mw_asm::{Assembled, Label};
+use mw_base::{Items, NoMemory, Refusal};
+use mw_board::{Board, Store};
+use mw_descfile::{read_machine, read_relation};
+use mw_macro::Machine;
 use mw_outside::Shelf;
 use mw_plan::{Files, Stop};
+use mw_rel::{Job, Relation};
+use mw_replay::{Counter, Difference, read_counter, replay};
 use std::alloc::Global;
+use std::marker::Model;
 
-/// Reads the bundle.
+/// A machine, seen as its description.
+#[derive(Drop)]
+struct Described {
+    machine: Machine,
+}
+
+impl Model for Described {
+    ghost use Rattle.mw_macro.specs.Described.{description_of};
+    ghost use Rattle.mw_macro.specs.Machine.{Description};
+
+    ghost Value = { Description };
+
+    ghost view = { λ d. description_of d.machine };
+}
+
+/// A relation, seen as its parts.
+#[derive(Drop)]
+struct Related {
+    relation: Relation,
+}
+
+impl Model for Related {
+    ghost use Rattle.mw_rel.specs.Relation.{Relation};
+    ghost use Rattle.mw_rel.specs.Views.{relation_of};
+
+    ghost Value = { Relation };
+
+    ghost view = { λ r. relation_of r.relation };
+}
+
+/// A job, and the start of it that is compared. The start is one of the job.
+#[derive(Drop)]
+pub(crate) struct Comparison {
+    job: Job,
+    counter: Counter,
+}
+
+impl Model for Comparison {
+    ghost use Rattle.mw_rel.specs.Views.{job_of};
+    ghost use Rattle.mw_replay.specs.Counter.{IsCounter};
+    ghost use Rattle.mw_top.specs.Work.{Comparison as ComparisonOf};
+
+    ghost Value = { ComparisonOf };
+
+    ghost view = { λ c. record { job = job_of c.job; counter = c.counter } };
+
+    ghost invariant = { λ c. IsCounter (job_of c.job) c.counter };
+}
+
+/// The machine that a text describes.
+fn read_described(alloc: Global, text: &[u8]) -> Result<Described, Refusal>
+    requires { length text.now < 2 ^ 32 }
+    ensures { Gives (λ machine. machine) result (machine_of text.now) }
+{
+    let machine = read_machine(alloc, text)?;
+    Ok(Described { machine })
+}
+
+/// The relation that a text describes between a board with its microprogram and a machine.
+fn read_related(
+    alloc: Global,
+    board: &Board,
+    made: &Assembled,
+    described: &Described,
+    text: &[u8],
+) -> Result<Related, Refusal>
+    requires { length text.now < 2 ^ 32 }
+    ensures gives { Gives (λ relation. relation) result (relation_of board.now made.now.labels described.now text.now) }
+    ensures made { IfOk result (λ relation. AreForEachOther board.now described.now relation) }
+    ensures agree { OnOk result (memories_agree board.now described.now ≡ true) }
+{
+    let relation = read_relation(alloc, board, made, &described.machine, text)?;
+    Ok(Related { relation })
+}
+
+/// The job of a board, a microprogram, a machine and a relation that was made for both.
+fn job_with(board: Board, store: Store, described: Described, related: Related) -> Job
+    requires made { AreForEachOther board described related }
+    requires agree { memories_agree board described ≡ true }
+    ensures { job_of result ≡ job_with board store.words described related }
+{
+    match Job::new(board, store, described.machine, related.relation) {
+        Ok(job) => job,
+        Err(_) => unreachable!(),
+    }
+}
+
+/// Reads the board, assembles the microprogram for it, and reads the machine and the relation between them. The job,
+/// and the labels of the microprogram.
+fn read_job<S: Shelf>(
+    alloc: Global,
+    shelf: &mut S,
+    files: &mut Files<'_, Work, Fault>,
+) -> Result<(Job, Items<Label>), Stop<Fault>>
+    requires four { length files.old.contents + 4 ≤ length files.old.names }
+    ensures follows { (plan : Plan Fault Work) (rest : JobOf → List Label → Plan Fault Work) (first : ShelfView)
+        → IsLater first (shelf_shown S.Shelf shelf.old) → IsLeft plan first files.old (job_plan rest)
+        → Follows (λ read. rest (job_of read.0) read.1) plan first (shelf_shown S.Shelf shelf.new) files.new result }
+    ensures names { files.new.names ≡ files.old.names }
+    ensures four_more { OnOk result (length files.new.contents ≡ length files.old.contents + 4) }
+    ensures later { IsLater (shelf_shown S.Shelf shelf.old) (shelf_shown S.Shelf shelf.new) }
+{
+    let (board, made) = read_microprogram(alloc, shelf, files)?;
+    let machine = files.next(alloc, shelf, |bytes| read_described(alloc, bytes))?;
+    let relation = files.next(alloc, shelf, |bytes| read_related(alloc, &board, &made, &machine, bytes))?;
+    let Assembled { store, labels, .. } = made;
+    Ok((job_with(board, store, machine, relation), labels))
+}
+
+/// Reads the job, and a start of it.
 #[tactic(auto, unfolding(crate::specs::Commands::Compare::compare_plan))]
 pub(super) fn read<S: Shelf>(
     alloc: Global,
     shelf: &mut S,
     files: &mut Files<'_, Work, Fault>,
 ) -> Result<Work, Stop<Fault>>
-    requires one { length files.old.names ≡ 1 }
+    requires five { length files.old.names ≡ 5 }
     requires none_read { files.old.contents ≡ [] }
     ensures ends { Ends compare_plan (shelf_shown S.Shelf shelf.old) (shelf_shown S.Shelf shelf.new) files.new result }
     ensures names { files.new.names ≡ files.old.names }
     ensures later { IsLater (shelf_shown S.Shelf shelf.old) (shelf_shown S.Shelf shelf.new) }
 {
-    let bundle = files.next(alloc, shelf, |bytes| read_bundle(alloc, bytes))?;
-    Ok(Work::Comparison(bundle))
+    let (job, labels) = read_job(alloc, shelf, files)?;
+    let counter = files.next(alloc, shelf, |bytes| read_counter(alloc, &job, labels.as_slice(), bytes))?;
+    Ok(Work::Comparison(Comparison { job, counter }))
 }
 
 fn status_of(shown: Option<Difference>) -> Status
@@ -48,30 +173,29 @@ fn status_of(shown: Option<Difference>) -> Status
 fn append_comparison(
     alloc: Global,
     report: &mut Vec<u8>,
-    board: &Board,
+    job: &Job,
     shown: Option<Difference>,
 ) -> Result<(), NoMemory>
-    ensures { OnOk result (report.new.items ≡ report.old.items ++ compare_report board.now shown) }
+    ensures { OnOk result (report.new.items ≡ report.old.items ++ compare_report (job_of job.now) shown) }
 {
     match shown {
         None => append_line(report, b"same 1"),
         Some(difference) => {
             append_line(report, b"differs step 1")?;
             report.extend_from_slice(b"difference ")?;
-            append_difference(alloc, report, board, difference)?;
+            append_difference(alloc, report, job, difference)?;
             append_line(report, b"")
         }
     }
 }
 
-/// Compares the start of the bundle.
-pub(super) fn report(alloc: Global, bundle: &Bundle) -> Result<Outcome, NoMemory>
-    ensures { IfOk result (λ outcome. IsComparison bundle.now outcome.status outcome.report.items) }
+/// Compares a start.
+pub(super) fn report(alloc: Global, comparison: &Comparison) -> Result<Outcome, NoMemory>
+    ensures { IfOk result (λ outcome. IsComparison comparison.now outcome.status outcome.report.items) }
 {
-    let shown = compare_bundle(alloc, bundle)?;
-    let board = small_board(alloc, bundle)?;
+    let shown = replay(alloc, &comparison.job, &comparison.counter)?;
     let mut report = Vec::new(alloc);
-    append_comparison(alloc, &mut report, &board, shown)?;
+    append_comparison(alloc, &mut report, &comparison.job, shown)?;
     Ok(Outcome {
         status: status_of(shown),
         report,

@@ -1,75 +1,36 @@
-use Rattle.std.proofs.Common.{refl, rules, sym, arith}
+use Rattle.std.proofs.Common.{refl, sym}
 use Rattle.std.proofs.lemmas.Result.{err_from_is_err_and}
-use Rattle.mw_asm.specs.declared.assembled.Assembled.{Assembled}
-use Rattle.mw_asm.specs.Microprogram.{store_of}
-use Rattle.mw_board.specs.declared.parts.BoardParts.{BoardParts}
-use Rattle.mw_boardfile.specs.Board.{board_of}
 use Rattle.mw_outside.specs.Views.{shelf_shown}
-use Rattle.mw_plan.specs.Plan.{Plan, done, first_by}
-use Rattle.mw_plan.proofs.Reading.{later_still}
+use Rattle.mw_plan.specs.Plan.{Plan, done}
 use Rattle.mw_plan.proofs.Steps.{at_first, all_left, stops, ends}
+use Rattle.mw_asm.specs.declared.assembled.Assembled.{Assembled}
+use Rattle.mw_board.specs.declared.parts.BoardParts.{BoardParts}
 use Rattle.mw_top.specs.declared.commands.Work.{Work}
 use Rattle.mw_top.specs.declared.commands.Work.TheVariants.{Assembly}
 use Rattle.mw_top.specs.declared.fault.Fault.{Fault}
-use Rattle.mw_top.specs.declared.fault.Fault.TheVariants.{Board, Text}
 use Rattle.mw_top.specs.Commands.Asm.{asm_plan}
 use Rattle.mw_top.proofs.commands.asm.read.Goals as goal
 
--- what follows the microprogram, and what follows the board
+-- what follows the microprogram
 abbrev after_microprogram : BoardParts → Assembled → Plan Fault Work
 after_microprogram board assembled = done (Assembly board assembled)
 
-abbrev after_board : BoardParts → Plan Fault Work
-after_board board = first_by Text (store_of board) (after_microprogram board)
-
-pub returns-in_err-board-clause-ends : goal.returns-in_err-board-clause-ends
+pub returns-in_err-clause-ends : goal.returns-in_err-clause-ends
 unfolding asm_plan
-returns-in_err-board-clause-ends g c =
+returns-in_err-clause-ends g c =
     let error = err_from_is_err_and c.from_residual.result c.from_residual.ensures.1 in
     let first = shelf_shown g.S.Shelf c.args.shelf.now in
-    stops after_board asm_plan first (shelf_shown g.S.Shelf c.next.new.shelf) _ _ c.from_residual.result (rw (sym error.2) error.1)
-    (c.in_err-board.ensures.follows Board board_of (λ fault seen is. is)
-    (λ bytes result is. search rules) asm_plan after_board first (at_first first)
-    (all_left asm_plan first c.args.files.now c.requires.none_read))
-
-pub next-requires-2-clause-callable : goal.next-requires-2-clause-callable
-next-requires-2-clause-callable g c = λ bytes few _ _ _ _ _ _. omega (arith, few)
-
-pub returns-in_err-assembled-clause-ends : goal.returns-in_err-assembled-clause-ends
-unfolding asm_plan
-returns-in_err-assembled-clause-ends g c =
-    let error = err_from_is_err_and c.from_residual-in_err-assembled.result
-    c.from_residual-in_err-assembled.ensures.1 in
-    let first = shelf_shown g.S.Shelf c.args.shelf.now in
-    let board = c.in_ok-board.ensures.follows Board board_of (λ fault seen is. is)
-    (λ bytes result is. search rules) asm_plan after_board first (at_first first)
-    (all_left asm_plan first c.args.files.now c.requires.none_read) in
-    stops (after_microprogram c.in_ok-board.board) asm_plan first (shelf_shown g.S.Shelf c.next-2.new.shelf) _ _
-    c.from_residual-in_err-assembled.result
+    stops (λ (read : BoardParts × Assembled). after_microprogram read.0 read.1) asm_plan first
+    (shelf_shown g.S.Shelf c.read_microprogram.new.shelf) _ _ c.from_residual.result
     (rw (sym error.2) error.1)
-    (c.in_err-assembled.ensures.follows Text (store_of c.in_ok-board.board) (λ fault seen is. is)
-    (λ bytes result is. search rules) asm_plan
-    (after_microprogram c.in_ok-board.board) first c.in_ok-board.ensures.later board)
+    (c.in_err.ensures.follows asm_plan after_microprogram first (at_first first)
+    (all_left asm_plan first c.args.files.now c.requires.none_read))
 
 pub returns-clause-ends : goal.returns-clause-ends
 unfolding asm_plan
 returns-clause-ends g c =
     let first = shelf_shown g.S.Shelf c.args.shelf.now in
-    let board = c.in_ok-board.ensures.follows Board board_of (λ fault seen is. is)
-    (λ bytes result is. search rules) asm_plan after_board first (at_first first)
-    (all_left asm_plan first c.args.files.now c.requires.none_read) in
-    ends (after_microprogram c.in_ok-board.board) asm_plan first (shelf_shown g.S.Shelf c.next-2.new.shelf) _
-    c.in_ok-assembled.assembled _ refl
-    (c.in_ok-assembled.ensures.follows Text (store_of c.in_ok-board.board) (λ fault seen is. is)
-    (λ bytes result is. search rules) asm_plan
-    (after_microprogram c.in_ok-board.board) first c.in_ok-board.ensures.later board)
-
-pub returns-in_err-assembled-clause-later : goal.returns-in_err-assembled-clause-later
-returns-in_err-assembled-clause-later g c =
-    later_still _ (shelf_shown g.S.Shelf c.next.new.shelf) _ c.in_ok-board.ensures.later
-    c.in_err-assembled.ensures.later
-
-pub returns-clause-later : goal.returns-clause-later
-returns-clause-later g c =
-    later_still _ (shelf_shown g.S.Shelf c.next.new.shelf) _ c.in_ok-board.ensures.later
-    c.in_ok-assembled.ensures.later
+    ends (λ (read : BoardParts × Assembled). after_microprogram read.0 read.1) asm_plan first
+    (shelf_shown g.S.Shelf c.read_microprogram.new.shelf) _ (c.in_ok.field-0.0, c.in_ok.field-0.1) _ refl
+    (c.in_ok.ensures.follows asm_plan after_microprogram first (at_first first)
+    (all_left asm_plan first c.args.files.now c.requires.none_read))

@@ -1,7 +1,0 @@
-use Rattle.std.proofs.Common.{◌≡◌, drop}
-use Rattle.mw_top.specs.Differs.{first_unlike, unlike_from}
-use Rattle.mw_top.proofs.difference.first_unlike.Given as goal
-
--- the lists are alike so far
-abbrev pub invariant-loop-n : goal.invariant-loop-n
-invariant-loop-n g l = first_unlike g.T.PartialEq.eq l.first l.second ≡ unlike_from g.T.PartialEq.eq l.n (drop l.n l.first) (drop l.n l.second)

@@ -1,0 +1,17 @@
+-- What two commands make of their files.
+use Rattle.mw_asm.specs.declared.assembled.Assembled.{Assembled}
+use Rattle.mw_board.specs.declared.parts.BoardParts.{BoardParts}
+use Rattle.mw_rel.specs.Job.{Job}
+use Rattle.mw_replay.specs.Counter.{Counter}
+use Rattle.mw_sim.specs.Start.{Start}
+
+-- a job, and the start of it that is compared
+pub record Comparison : Type 0 where
+  pub job : Job
+  pub counter : Counter
+
+-- a board with its microprogram, and the start of its run
+pub record Prepared : Type 0 where
+  pub board : BoardParts
+  pub made : Assembled
+  pub start : Start
