@@ -51,7 +51,8 @@ address_low : (text : List ℕ) (labels : List ℕ → Option ℕ) (place : Plac
     → address_of text labels place ≡ Ok address → address < 4096
 unfolding address_of
 address_low text labels (Named token) address is =
-    let one = bind_ok (ok_or (labels (spelled text token)) (fault_on token UnknownName)) (low_address token) address is in
+    let one =
+        bind_ok (ok_or (labels (spelled text token)) (fault_on token UnknownName)) (low_address token) address is in
     low token one.0 address one.2
 address_low text labels (Address numeral) address is = low numeral.token numeral.value address is
 
@@ -74,7 +75,8 @@ unfolding block_of
 block_begun s text labels before said block is =
     let one = bind_ok (allowed (nat_lt (length before) 64) (fault_on said.word TooMany)) _ block is in
     let two = bind_ok (address_of text (label_named labels) said.place) _ block one.2 in
-    let three = bind_ok (allowed (not (is_taken before two.0)) (fault_on (place_token said.place) Twice)) _ block two.2 in
+    let three =
+        bind_ok (allowed (not (is_taken before two.0)) (fault_on (place_token said.place) Twice)) _ block two.2 in
     let four = bind_ok (bounded said.bound) _ block three.2 in
     let room = allowed_only (nat_lt (length before) 64) (fault_on said.word TooMany) one.0 one.1 in
     let bound = bound_in said.bound four.0 four.1 in
@@ -164,7 +166,8 @@ once_more : (before : List Boundary) (b : Boundary) → addresses_are_once befor
     → is_taken before b.address ≡ false → addresses_are_once (before ++ b ∷ []) ≡ true
 once_more [] b once apart = refl
 once_more (x ∷ rest) b once apart =
-    let parts = and_parts (not (list_any (λ other. other == x.address) (map (λ (b : Boundary). b.address) rest))) _ once in
+    let parts =
+        and_parts (not (list_any (λ other. other == x.address) (map (λ (b : Boundary). b.address) rest))) _ once in
     let two = neither (x.address == b.address) _ apart in
     and_from _ (addresses_are_once (rest ++ b ∷ []))
     (turned _ (not_again rest b.address x.address two.0 (untaken _ parts.0) b refl))
@@ -184,7 +187,8 @@ told_kept : (text : List ℕ) (scope : Scope) (known next : Known) (block : Bloc
 unfolding with_told
 told_kept text scope known next block (to_point word value) over kept is_open was is =
     let one = bind_ok (with_point word value block) _ next is in
-    subst (IsKept scope.shape) (ok_is {F = TextFault} (record { boundaries = known.boundaries; block = Some one.0 }) next
+    subst (IsKept scope.shape)
+      (ok_is {F = TextFault} (record { boundaries = known.boundaries; block = Some one.0 }) next
     one.2) (record {
       few = kept.few;
       once = kept.once;
@@ -193,7 +197,8 @@ told_kept text scope known next block (to_point word value) over kept is_open wa
     })
 told_kept text scope known next block (to_equate element sign value uses) over kept is_open was is =
     let one = bind_ok (with_equation text scope element sign value uses block) _ next is in
-    subst (IsKept scope.shape) (ok_is {F = TextFault} (record { boundaries = known.boundaries; block = Some one.0 }) next
+    subst (IsKept scope.shape)
+      (ok_is {F = TextFault} (record { boundaries = known.boundaries; block = Some one.0 }) next
     one.2) (record {
       few = kept.few;
       once = kept.once;
@@ -206,7 +211,8 @@ told_kept text scope known next block (to_close word) over kept is_open was is =
     let ended = closed_kept scope.shape known.boundaries block word one.0 is_open one.1 in
     let room = is_open.room in
     let count = length-append known.boundaries (one.0 ∷ []) in
-    subst (IsKept scope.shape) (ok_is {F = TextFault} (record { boundaries = known.boundaries ++ one.0 ∷ []; block = None })
+    subst (IsKept scope.shape)
+      (ok_is {F = TextFault} (record { boundaries = known.boundaries ++ one.0 ∷ []; block = None })
     next one.2) (record {
       few = omega (arith, room, count);
       once = once_more known.boundaries one.0 kept.once (rw ended.1 is_open.apart);
@@ -222,7 +228,8 @@ unfolding with_tokens
 tokens_kept text labels scope known next None line same over kept is =
     let one = bind_ok (beginning_of (at_line text line BadSyntax)) _ next is in
     let two = bind_ok (block_of text labels known.boundaries one.0) _ next one.2 in
-    subst (IsKept scope.shape) (ok_is {F = TextFault} (record { boundaries = known.boundaries; block = Some two.0 }) next
+    subst (IsKept scope.shape)
+      (ok_is {F = TextFault} (record { boundaries = known.boundaries; block = Some two.0 }) next
     two.2) (record {
       few = kept.few;
       once = kept.once;
@@ -246,7 +253,8 @@ any_kept text labels scope known next line (token ∷ rest) over kept is =
 pub line_kept : (text : List ℕ) (labels : List Label) (scope : Scope) (known next : Known) (line : Line)
     → IsScope scope → IsKept scope.shape known → with_line text labels scope known line ≡ Ok next
     → IsKept scope.shape next
-line_kept text labels scope known next line over kept is = any_kept text labels scope known next line line.tokens over kept is
+line_kept text labels scope known next line over kept is =
+    any_kept text labels scope known next line line.tokens over kept is
 
 -- ---- the relation is accepted
 

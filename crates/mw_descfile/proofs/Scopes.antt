@@ -49,7 +49,8 @@ wide : (w : ℕ) (names : List (List ℕ)) (rest : List Element) → IsWidth w
 wide w [] rest is all = all
 wide w (name ∷ names) rest is all = All-cons IsWidth w _ is (wide w names rest is all)
 
-last_wide : (w : ℕ) (names : List (List ℕ)) → IsWidth w → All IsWidth (map (λ (e : Element). e.width) (of_width w names))
+last_wide : (w : ℕ) (names : List (List ℕ)) → IsWidth w
+    → All IsWidth (map (λ (e : Element). e.width) (of_width w names))
 last_wide w [] is = All-nil IsWidth
 last_wide w (name ∷ names) is = All-cons IsWidth w _ is (last_wide w names is)
 

@@ -36,14 +36,17 @@ second_is false b is = is
 -- ---- uses in tokens
 
 pub among_front : (xs ys : List Use) (e : ℕ) → is_among xs e ≡ true → is_among (xs ++ ys) e ≡ true
-among_front xs ys e is = list_any-append (λ (u : Use). u.number == e) xs ys ∙ first_is (is_among xs e) (is_among ys e) is
+among_front xs ys e is =
+    list_any-append (λ (u : Use). u.number == e) xs ys ∙ first_is (is_among xs e) (is_among ys e) is
 
 pub among_back : (xs ys : List Use) (e : ℕ) → is_among ys e ≡ true → is_among (xs ++ ys) e ≡ true
-among_back xs ys e is = list_any-append (λ (u : Use). u.number == e) xs ys ∙ second_is (is_among xs e) (is_among ys e) is
+among_back xs ys e is =
+    list_any-append (λ (u : Use). u.number == e) xs ys ∙ second_is (is_among xs e) (is_among ys e) is
 
 -- from one token on: the element there, and those from the next token on
 pub from_next : (text : List ℕ) (names : List (List ℕ)) (tokens : List Token) (n : ℕ) → n < length tokens
-    → uses_of text names (drop n tokens) ≡ use_first text names (drop n tokens) ++ uses_of text names (drop (n + 1) tokens)
+    → uses_of text names (drop n tokens)
+        ≡ use_first text names (drop n tokens) ++ uses_of text names (drop (n + 1) tokens)
 unfolding uses_of
 from_next text names [] n within = absurd (omega arith)
 from_next text names (token ∷ rest) zero within = refl
@@ -161,7 +164,9 @@ mutual
   within e dotted (by_bit low x bracket place close) small is = within e dotted x (and_parts _ _ small).0 is
   within e dotted (by_constant low number hash bits) small is = absurd cc
   within e dotted (by_name low plain_name name) small is = absurd cc
-  within {m = m} e dotted (by_dotted_name {rest = rest} {owner = owner} {dot = dot} {name = name} low is_dotted is_owner is_dot is_name) small is =
+  within {m = m} e dotted
+      (by_dotted_name {rest = rest} {owner = owner} {dot = dot} {name = name} low is_dotted is_owner is_dot is_name)
+      small is =
       record { is = here m e owner dot name rest is_dot small is }
   within e dotted (by_memory low there word bracket x close) small is = more (more (within e dotted x small is))
   within e dotted (by_group low is_open x close) small is = more (within e dotted x small is)

@@ -68,7 +68,8 @@ with_line text labels scope known line = with_any text labels scope known line l
 
 -- the relation of some boundaries, of which there has to be one
 abbrev pub relation_with : List Boundary → Shape → Result Relation TextFault
-relation_with boundaries s = if nat_lt 0 (length boundaries) then Ok (related boundaries s) else Err (last_fault None NoBoundary)
+relation_with boundaries s =
+    if nat_lt 0 (length boundaries) then Ok (related boundaries s) else Err (last_fault None NoBoundary)
 
 -- the relation of what is known at the end of a text, where that is a fault if a boundary is open
 abbrev pub finished : Shape → TextFault → List Boundary → Option Block → Result Relation TextFault

@@ -1,5 +1,5 @@
 -- What a line of statements says.
-use Rattle.std.specs.Prelude.{ℕ, zero, suc, ◌+◌, ◌-◌, List, [], ◌∷◌, codes, take, drop, slice_get, Bool, if◌then◌else◌, Option, Some, None, Result, Ok, Err}
+use Rattle.std.specs.Prelude.{ℕ, ◌+◌, ◌-◌, ◌==◌, List, [], ◌∷◌, codes, take, drop, slice_get, Bool, if◌then◌else◌, Option, Some, None, Result, Ok, Err}
 use Rattle.std.specs.Str.{bytes_eq}
 use Rattle.mw_base.specs.declared.refusal.TextFault.{TextFault}
 use Rattle.mw_base.specs.declared.sign.Sign.TheVariants as signs
@@ -41,27 +41,23 @@ assign_of scope line = do
   value ← written_of scope (after 2 line)
   Ok (to_assign target sign value)
 
--- how many "[" are open after a token where so many were; nothing where it closes one more
-abbrev pub nested : Symbol → ℕ → Option ℕ
-nested (Sign signs.OpenBracket) n = Some (n + 1)
-nested (Sign signs.CloseBracket) zero = None
-nested (Sign signs.CloseBracket) (suc n) = Some n
-nested _ n = Some n
+-- how many "[" are open after a token where so many were
+abbrev pub open_after : Symbol → ℕ → ℕ
+open_after (Sign signs.OpenBracket) n = n + 1
+open_after (Sign signs.CloseBracket) n = n - 1
+open_after _ n = n
 
--- one more than what follows, where it goes on
-abbrev pub one_more : Option ℕ → (ℕ → ℕ) → ℕ
-one_more None later = 0
-one_more (Some n) later = later n + 1
-
--- how many of these tokens of a text stand before the "]" that closes the "[" before them, where so many more are
--- open; all where none does
-abbrev pub before_close : List ℕ → ℕ → List Token → ℕ
+-- how many of these tokens of a text stand before the "]" behind which no "[" is open, where so many are before them;
+-- all where there is none
+abbrev pub before_close : List ℕ → (open_now : ℕ) → List Token → ℕ
 before_close text n [] = 0
-before_close text n (token ∷ rest) = one_more (nested (symbol_of text token) n) (λ inner. before_close text inner rest)
+before_close text n (token ∷ rest) =
+    if open_after (symbol_of text token) n == 0 then 0
+    else before_close text (open_after (symbol_of text token) n) rest + 1
 
 -- how many tokens stand between the "[" that is token 1 of a line and the "]" that closes it
 abbrev pub inside : Cursor → ℕ
-inside line = before_close line.text 0 (drop 2 line.tokens)
+inside line = before_close line.text 1 (drop 2 line.tokens)
 
 -- the fault where something ends too early before this token, or at the line's end
 abbrev pub fault_before : Cursor → Option Token → TextFault

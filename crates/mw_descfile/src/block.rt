@@ -185,7 +185,8 @@ fn push_lines(lines: &mut Vec<Line>, mut given: Vec<Given>) -> Result<(), NoMemo
 
 /// The lines, without where they were given.
 fn plain_lines(alloc: Global, given: Vec<Given>) -> Result<Vec<Line>, NoMemory>
-    ensures { IfOk result (λ lines. lines_of lines.items ≡ map (λ (g : SeenGiven). g.line) (map given_seen given.items)) }
+    ensures { IfOk result (λ lines. lines_of lines.items
+        ≡ map (λ (g : SeenGiven). g.line) (map given_seen given.items)) }
 {
     let mut lines = Vec::new(alloc);
     push_lines(&mut lines, given)?;

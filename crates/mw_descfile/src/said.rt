@@ -2,7 +2,7 @@
 ghost use Rattle.std.specs.Prelude.{◌≡◌, ◌<◌, ◌≤◌, ◌^◌, length, slice_get};
 ghost use Rattle.mw_base.specs.Reading.{Gives};
 ghost use Rattle.mw_descfile.specs.Views.{said_seen};
-ghost use Rattle.mw_descfile.specs.Statements.{assign_of, nested, before_close, inside, fault_before, first_tokens, write_of, put_of, take_of, if_of, alone, alone_of, keyword_of, keyword_in, said_of};
+ghost use Rattle.mw_descfile.specs.Statements.{assign_of, open_after, before_close, inside, fault_before, first_tokens, write_of, put_of, take_of, if_of, alone, alone_of, keyword_of, keyword_in, said_of};
 
 use crate::scope::Scope;
 use mw_base::{Cursor, Refusal, Refused, Sign, Symbol, TextFault, Token, symbol_of};
@@ -59,28 +59,28 @@ fn assign_of(alloc: Global, scope: &Scope, line: &Cursor) -> Result<Said, Refusa
     Ok(Said::Assign(target, sign, value))
 }
 
-/// How many `[` are open after a token where so many were; none where it closes one more.
-fn nested(symbol: Symbol, inner: usize) -> Option<usize>
-    requires { inner < 2 ^ 63 }
-    ensures { result ≡ nested symbol inner }
+/// How many `[` are open after a token where so many were.
+fn open_after(symbol: Symbol, open_now: usize) -> usize
+    requires { open_now < 2 ^ 63 }
+    ensures { result ≡ open_after symbol open_now }
 {
     match symbol {
-        Symbol::Sign(Sign::OpenBracket) => Some(inner + 1),
-        Symbol::Sign(Sign::CloseBracket) => inner.checked_sub(1),
-        _ => Some(inner),
+        Symbol::Sign(Sign::OpenBracket) => open_now + 1,
+        Symbol::Sign(Sign::CloseBracket) => open_now.saturating_sub(1),
+        _ => open_now,
     }
 }
 
 /// How many of these tokens of a text stand before the `]` that closes the `[` before them; all where none does.
 fn before_close(text: &[u8], tokens: &[Token]) -> usize
-    ensures exact { result ≡ before_close text.now 0 tokens.now }
+    ensures exact { result ≡ before_close text.now 1 tokens.now }
     ensures within { result ≤ length tokens.now }
 {
-    let mut inner = 0;
+    let mut open_now = 1;
     for (i, token) in tokens.iter().enumerate() {
-        match nested(symbol_of(text, *token), inner) {
-            Some(next) => inner = next,
-            None => return i,
+        open_now = open_after(symbol_of(text, *token), open_now);
+        if open_now == 0 {
+            return i;
         }
     }
     tokens.len()

@@ -18,8 +18,10 @@ use Rattle.mw_descfile.specs.Stating.{target_of, with_assign, with_stated}
 use Rattle.mw_descfile.proofs.computed_examples.small_machine.Goals as goal
 
 pub returns : goal.returns
-unfolding name_at number_at sign_at end_at lines_of digits_number number_spelled new_name piece_at sign_of steps symbol_of
+unfolding name_at number_at sign_at end_at lines_of digits_number number_spelled new_name piece_at sign_of steps
+    symbol_of
     line_of lines_from tokens_from line_tokens reduced tree_from word_first sizes_of element_of step_of declaration_of
-    with_sizes new_width with_declared whole_of asked_whole with_tokens machine_of assign_of said_of target_of with_assign
+    with_sizes new_width with_declared whole_of asked_whole with_tokens machine_of assign_of said_of target_of
+    with_assign
     with_stated
 returns c = refl
