@@ -12,7 +12,7 @@ unfolding run_of
 run_more board store env start n = rw add-one refl
 
 -- a run of i cycles, and one cycle more
-pub longer_by : (board : BoardParts) (store : List ℕ) (env : Environment) (start : BoardState) (i : ℕ) (before run : BoardRun) → before ≡ run_of board store env start i → run ≡ longer_run board store env before → run ≡ run_of board store env start (i + 1)
+longer_by : (board : BoardParts) (store : List ℕ) (env : Environment) (start : BoardState) (i : ℕ) (before run : BoardRun) → before ≡ run_of board store env start i → run ≡ longer_run board store env before → run ≡ run_of board store env start (i + 1)
 longer_by board store env start i before run was longer = longer ∙ ap (longer_run board store env) was ∙ run_more board store env start i
 
 -- before the first cycle each number is left

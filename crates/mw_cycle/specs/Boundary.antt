@@ -1,18 +1,10 @@
--- Where a run is compared: the boundaries that a relation names, and the times at which a run reaches them.
+-- The boundaries at which a run is compared, as control addresses, and the times at which it reaches them.
 use Rattle.std.specs.Prelude.{◌≡◌, ℕ, zero, suc, ◌+◌, ◌<◌, List, [], ◌∷◌, Bool, true, false, ◌==◌, ◌≤◌, Option, Some, None, find, option_map}
 use Rattle.std.specs.List.{list_any}
 use Rattle.mw_board.specs.declared.parts.BoardParts.{BoardParts}
 use Rattle.mw_cycle.specs.State.{BoardState}
 use Rattle.mw_cycle.specs.Environment.{Environment}
 use Rattle.mw_cycle.specs.Run.{BoardRun, run_of}
-
--- a boundary: its control address, the bound in cycles of the segment that begins there, the stack pointer, and the lines
--- of the relation
-pub record Boundary (Line : Type 0) : Type 0 where
-  pub address : ℕ
-  pub bound : ℕ
-  pub sp : ℕ
-  pub lines : List Line
 
 -- the address is a boundary's
 abbrev pub is_named : List ℕ → ℕ → Bool

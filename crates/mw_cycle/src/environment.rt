@@ -3,6 +3,7 @@ ghost use Rattle.std.specs.Prelude.{◌≡◌, ◌<◌, slice_index_or};
 ghost use Rattle.mw_cycle.specs.Environment.{Environment, given_at};
 
 use crate::state::CycleIn;
+use mw_base::Event;
 use std::marker::Model;
 
 /// How far a run has come.
@@ -12,6 +13,27 @@ pub struct Clock {
     pub cycle: u64,
     /// How many input words were taken.
     pub taken: u64,
+}
+
+impl Clock {
+    ghost use Rattle.std.specs.Prelude.{◌+◌, ◌^◌};
+    ghost use Rattle.mw_cycle.specs.Run.{clock_after};
+
+    /// The place after a cycle with this event, if any.
+    pub fn after(self, event: Option<Event>) -> Clock
+        requires cycle { self.cycle + 1 < 2 ^ 64 }
+        requires taken { self.taken + 1 < 2 ^ 64 }
+        ensures { result ≡ clock_after event self }
+    {
+        let taken = match event {
+            Some(Event::Taken(_)) => self.taken + 1,
+            _ => self.taken,
+        };
+        Clock {
+            cycle: self.cycle + 1,
+            taken,
+        }
+    }
 }
 
 /// An environment: what isn't in a list is 0.

@@ -1,4 +1,4 @@
-//! One cycle of a board, and runs of cycles from boundary to boundary.
+//! One cycle of a board. Its definitions and laws are of runs too, from boundary to boundary.
 #![tactic(auto)]
 
 mod bits;
@@ -10,7 +10,6 @@ mod flipflops;
 mod laws;
 mod microword;
 mod one_cycle;
-mod run;
 mod state;
 
 pub use datapath::{Datapath, Whole};
@@ -18,5 +17,4 @@ pub use environment::{Clock, Env};
 pub use laws::{boundaries_go_on, rests_are_environments, runs_go_on, segments_end_at_boundaries};
 pub use microword::Microword;
 pub use one_cycle::cycle;
-pub use run::{Run, run_to_boundary};
 pub use state::{CycleIn, Nets, State};
