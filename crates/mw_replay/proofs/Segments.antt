@@ -177,27 +177,29 @@ one_start b p q env other pairs environments = rw (pairs, environments) refl
 
 -- ---- a replay
 
--- the segment of a replay that ends, and one that is late
-pub ended_at : (job : Job) (replay : Replay) (limit : ℕ) (s : BoardState) (es : List Event) (end : Clock)
-    → limit ≡ (numbered job replay.boundary).bound
-    → segment_after job.board job.store replay.env (run_at replay.pair.board [] replay.clock) (addresses_of job) limit
+-- the segment of a replay from the board's state that ends, and one that is late
+pub ended_at : (job : Job) (replay : Replay) (first : BoardState) (limit : ℕ) (s : BoardState) (es : List Event)
+    (end : Clock) → first ≡ replay.pair.board → limit ≡ (numbered job replay.boundary).bound
+    → segment_after job.board job.store replay.env (run_at first [] replay.clock) (addresses_of job) limit
     ≡ Some (run_at s es end)
     → Ended job (next_start job replay) replay.clock s es end
-ended_at job replay limit s es end same reached =
-    let at = run_at replay.pair.board [] replay.clock in
+ended_at job replay first limit s es end board bound reached =
+    let after = λ (state : BoardState) (n : ℕ).
+    segment_after job.board job.store replay.env (run_at state [] replay.clock) (addresses_of job) n in
     ended job (next_start job replay) replay.pair.board replay.clock s es end
-    (subst (λ n. segment_after job.board job.store replay.env at (addresses_of job) n ≡ Some (run_at s es end)) same
-    reached)
+    (subst (λ n. after replay.pair.board n ≡ Some (run_at s es end)) bound
+    (subst (λ state. after state limit ≡ Some (run_at s es end)) board reached))
 
-pub late_at : (job : Job) (replay : Replay) (limit : ℕ) → limit ≡ (numbered job replay.boundary).bound
-    → segment_after job.board job.store replay.env (run_at replay.pair.board [] replay.clock) (addresses_of job) limit
-    ≡ None
+pub late_at : (job : Job) (replay : Replay) (first : BoardState) (limit : ℕ) → first ≡ replay.pair.board
+    → limit ≡ (numbered job replay.boundary).bound
+    → segment_after job.board job.store replay.env (run_at first [] replay.clock) (addresses_of job) limit ≡ None
     → difference_of job (next_start job replay) ≡ Some Late
-late_at job replay limit same late =
-    let at = run_at replay.pair.board [] replay.clock in
+late_at job replay first limit board bound late =
+    let after = λ (state : BoardState) (n : ℕ).
+    segment_after job.board job.store replay.env (run_at state [] replay.clock) (addresses_of job) n in
     shown_late job (next_start job replay)
-    (late_by at (segment_of job (next_start job replay))
-    (subst (λ n. segment_after job.board job.store replay.env at (addresses_of job) n ≡ None) same late))
+    (late_by (run_at replay.pair.board [] replay.clock) (segment_of job (next_start job replay))
+    (subst (λ n. after replay.pair.board n ≡ None) bound (subst (λ state. after state limit ≡ None) board late)))
 
 -- a segment that ends at no boundary is late too; there is none
 pub nowhere_at : (job : Job) (replay : Replay) (s : BoardState) (es : List Event) (end : Clock)

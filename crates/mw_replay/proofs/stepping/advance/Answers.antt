@@ -29,9 +29,8 @@ returns-in_default-clause-shown g c =
     let stand = c.args.stand.now in
     let limit = c.boundary.result.now.bound in
     let board = ap (λ (p : Pair). p.board) c.run_step.ensures.pair in
-    sym (late_at job (replay_of stand) limit (ap (λ (b : Boundary). b.bound) c.boundary.ensures)
-    (subst (λ (s : BoardState). segment_after job.board job.store stand.env (run_at s [] stand.clock)
-    (addresses_of job) limit ≡ None) board (c.run_segment-ended.ensures.late c.in_default.is)))
+    sym (late_at job (replay_of stand) c.run_step.new.pair.board limit board
+    (ap (λ (b : Boundary). b.bound) c.boundary.ensures) (c.run_segment-ended.ensures.late c.in_default.is))
 
 pub returns-in_default-number_at-clause-shown : goal.returns-in_default-number_at-clause-shown
 returns-in_default-number_at-clause-shown g c =
@@ -41,10 +40,8 @@ returns-in_default-number_at-clause-shown g c =
     let board = ap (λ (p : Pair). p.board) c.run_step.ensures.pair in
     let new = c.run_segment-ended.new.pair in
     let events = c.run_segment-ended.new.events.items in
-    let ended = ended_at job (replay_of stand) limit new.board events c.in-Some.end
-    (ap (λ (b : Boundary). b.bound) c.boundary.ensures)
-    (subst (λ (s : BoardState). segment_after job.board job.store stand.env (run_at s [] stand.clock)
-    (addresses_of job) limit ≡ Some (run_at new.board events c.in-Some.end)) board c.in-Some.ensures.reached) in
+    let ended = ended_at job (replay_of stand) c.run_step.new.pair.board limit new.board events c.in-Some.end board
+    (ap (λ (b : Boundary). b.bound) c.boundary.ensures) c.in-Some.ensures.reached in
     sym (nowhere_at job (replay_of stand) new.board events c.in-Some.end ended
     (ap (number_at job) (sym c.address_of.ensures) ∙ sym c.number_at.ensures.exact ∙ c.in_default-number_at.is))
 
@@ -56,10 +53,8 @@ difference_at-requires-clause-few g c =
     let board = ap (λ (p : Pair). p.board) c.run_step.ensures.pair in
     let new = c.run_segment-ended.new.pair in
     let events = c.run_segment-ended.new.events.items in
-    let ended = ended_at job (replay_of stand) limit new.board events c.in-Some.end
-    (ap (λ (b : Boundary). b.bound) c.boundary.ensures)
-    (subst (λ (s : BoardState). segment_after job.board job.store stand.env (run_at s [] stand.clock)
-    (addresses_of job) limit ≡ Some (run_at new.board events c.in-Some.end)) board c.in-Some.ensures.reached) in
+    let ended = ended_at job (replay_of stand) c.run_step.new.pair.board limit new.board events c.in-Some.end board
+    (ap (λ (b : Boundary). b.bound) c.boundary.ensures) c.in-Some.ensures.reached in
     let far = within job (next_start job (replay_of stand)) stand.clock new.board events c.in-Some.end ended in
     let solved = solved_at job stand.boundary c.shape.ensures.valid c.requires.stands.there in
     omega (arith, ap (λ (es : List Event). length es) c.deref.ensures.value, far.few, solved.most)
@@ -73,10 +68,8 @@ returns-clause-shown g c =
     let new = c.run_segment-ended.new.pair in
     let events = c.run_segment-ended.new.events.items in
     let steps = c.run_step.new.steps.items in
-    let ended = ended_at job (replay_of stand) limit new.board events c.in-Some.end
-    (ap (λ (b : Boundary). b.bound) c.boundary.ensures)
-    (subst (λ (s : BoardState). segment_after job.board job.store stand.env (run_at s [] stand.clock)
-    (addresses_of job) limit ≡ Some (run_at new.board events c.in-Some.end)) board c.in-Some.ensures.reached) in
+    let ended = ended_at job (replay_of stand) c.run_step.new.pair.board limit new.board events c.in-Some.end board
+    (ap (λ (b : Boundary). b.bound) c.boundary.ensures) c.in-Some.ensures.reached in
     let there = ap (number_at job) (sym c.address_of.ensures) ∙ sym c.in-Some-number_at.ensures.exact in
     let machine = c.run_segment-ended.ensures.machine ∙ ap (λ (p : Pair). p.machine) c.run_step.ensures.pair in
     shown_after job (next_start job (replay_of stand)) stand.clock new.board events c.in-Some.end new.machine steps
@@ -91,10 +84,8 @@ returns-clause-follows g c =
     let board = ap (λ (p : Pair). p.board) c.run_step.ensures.pair in
     let new = c.run_segment-ended.new.pair in
     let events = c.run_segment-ended.new.events.items in
-    let ended = ended_at job (replay_of stand) limit new.board events c.in-Some.end
-    (ap (λ (b : Boundary). b.bound) c.boundary.ensures)
-    (subst (λ (s : BoardState). segment_after job.board job.store stand.env (run_at s [] stand.clock)
-    (addresses_of job) limit ≡ Some (run_at new.board events c.in-Some.end)) board c.in-Some.ensures.reached) in
+    let ended = ended_at job (replay_of stand) c.run_step.new.pair.board limit new.board events c.in-Some.end board
+    (ap (λ (b : Boundary). b.bound) c.boundary.ensures) c.in-Some.ensures.reached in
     let there = ap (number_at job) (sym c.address_of.ensures) ∙ sym c.in-Some-number_at.ensures.exact in
     let machine = c.run_segment-ended.ensures.machine ∙ ap (λ (p : Pair). p.machine) c.run_step.ensures.pair in
     λ none. follows_after job (replay_of stand) new events c.in-Some.end c.in-Some-number_at.reached ended there machine
@@ -107,10 +98,8 @@ returns-clause-stands g c =
     let board = ap (λ (p : Pair). p.board) c.run_step.ensures.pair in
     let new = c.run_segment-ended.new.pair in
     let events = c.run_segment-ended.new.events.items in
-    let ended = ended_at job (replay_of stand) limit new.board events c.in-Some.end
-    (ap (λ (b : Boundary). b.bound) c.boundary.ensures)
-    (subst (λ (s : BoardState). segment_after job.board job.store stand.env (run_at s [] stand.clock)
-    (addresses_of job) limit ≡ Some (run_at new.board events c.in-Some.end)) board c.in-Some.ensures.reached) in
+    let ended = ended_at job (replay_of stand) c.run_step.new.pair.board limit new.board events c.in-Some.end board
+    (ap (λ (b : Boundary). b.bound) c.boundary.ensures) c.in-Some.ensures.reached in
     let there = ap (number_at job) (sym c.address_of.ensures) ∙ sym c.in-Some-number_at.ensures.exact in
     let machine = c.run_segment-ended.ensures.machine ∙ ap (λ (p : Pair). p.machine) c.run_step.ensures.pair in
     λ none. stands_after job (replay_of stand) new events c.in-Some.end c.in-Some-number_at.reached
@@ -125,10 +114,8 @@ returns-clause-cycle g c =
     let board = ap (λ (p : Pair). p.board) c.run_step.ensures.pair in
     let new = c.run_segment-ended.new.pair in
     let events = c.run_segment-ended.new.events.items in
-    let ended = ended_at job (replay_of stand) limit new.board events c.in-Some.end
-    (ap (λ (b : Boundary). b.bound) c.boundary.ensures)
-    (subst (λ (s : BoardState). segment_after job.board job.store stand.env (run_at s [] stand.clock)
-    (addresses_of job) limit ≡ Some (run_at new.board events c.in-Some.end)) board c.in-Some.ensures.reached) in
+    let ended = ended_at job (replay_of stand) c.run_step.new.pair.board limit new.board events c.in-Some.end board
+    (ap (λ (b : Boundary). b.bound) c.boundary.ensures) c.in-Some.ensures.reached in
     let far = within job (next_start job (replay_of stand)) stand.clock new.board events c.in-Some.end ended in
     let solved = solved_at job stand.boundary c.shape.ensures.valid c.requires.stands.there in
     omega (arith, far.cycle, solved.most)
@@ -141,10 +128,8 @@ returns-clause-taken g c =
     let board = ap (λ (p : Pair). p.board) c.run_step.ensures.pair in
     let new = c.run_segment-ended.new.pair in
     let events = c.run_segment-ended.new.events.items in
-    let ended = ended_at job (replay_of stand) limit new.board events c.in-Some.end
-    (ap (λ (b : Boundary). b.bound) c.boundary.ensures)
-    (subst (λ (s : BoardState). segment_after job.board job.store stand.env (run_at s [] stand.clock)
-    (addresses_of job) limit ≡ Some (run_at new.board events c.in-Some.end)) board c.in-Some.ensures.reached) in
+    let ended = ended_at job (replay_of stand) c.run_step.new.pair.board limit new.board events c.in-Some.end board
+    (ap (λ (b : Boundary). b.bound) c.boundary.ensures) c.in-Some.ensures.reached in
     let far = within job (next_start job (replay_of stand)) stand.clock new.board events c.in-Some.end ended in
     let solved = solved_at job stand.boundary c.shape.ensures.valid c.requires.stands.there in
     omega (arith, far.taken, solved.most)
