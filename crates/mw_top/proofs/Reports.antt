@@ -24,7 +24,7 @@ answer_is_worked : (work : Work) (status : Status) (report : List ℕ) → IsAns
     → is_worked status ≡ true
 answer_is_worked (works.Comparison comparison) status report answer =
     rw answer.status_is (compared_is_worked (difference_of comparison.job answer.start))
-answer_is_worked (works.Assembly board assembled) status report answer = rw answer.status_is refl
+answer_is_worked (works.Assembly program) status report answer = rw answer.status_is refl
 answer_is_worked (works.Run prepared) status report answer = rw answer.status_is refl
 
 -- the report of work that was done

@@ -22,5 +22,5 @@ run_text board count run =
 
 -- the text of a run of a thousand cycles
 abbrev pub run_from : Prepared → List ℕ
-run_from prepared = run_text prepared.board 1000
-    (run_of prepared.board prepared.made.store.words prepared.start.env prepared.start.state 1000)
+run_from prepared = run_text prepared.program.board 1000
+    (run_of prepared.program.board prepared.program.made.store.words prepared.start.env prepared.start.state 1000)

@@ -1,9 +1,8 @@
 -- What two commands make of their files.
-use Rattle.mw_asm.specs.declared.assembled.Assembled.{Assembled}
-use Rattle.mw_board.specs.declared.parts.BoardParts.{BoardParts}
 use Rattle.mw_rel.specs.Job.{Job}
 use Rattle.mw_replay.specs.Counter.{Counter}
 use Rattle.mw_sim.specs.Start.{Start}
+use Rattle.mw_top.specs.declared.commands.microprogram.Program.{Program}
 
 -- a job, and the start of it that is compared
 pub record Comparison : Type 0 where
@@ -12,6 +11,5 @@ pub record Comparison : Type 0 where
 
 -- a board with its microprogram, and the start of its run
 pub record Prepared : Type 0 where
-  pub board : BoardParts
-  pub made : Assembled
+  pub program : Program
   pub start : Start

@@ -13,14 +13,13 @@ mod run;
 use crate::fault::Fault;
 use crate::outcome::Outcome;
 use crate::request::Command;
-use mw_asm::Assembled;
 use mw_base::NoMemory;
-use mw_board::Board;
 use mw_outside::Shelf;
 use mw_plan::{Files, Stop};
 use std::alloc::Global;
 
 use self::compare::Comparison;
+use self::microprogram::Program;
 use self::run::Prepared;
 
 /// What the commands make of their files.
@@ -29,7 +28,7 @@ pub(crate) enum Work {
     /// A job, and the start of it that is compared.
     Comparison(Comparison),
     /// A board, and what a microprogram is assembled to for it.
-    Assembly(Board, Assembled),
+    Assembly(Program),
     /// A board with its microprogram, and the start of its run.
     Run(Prepared),
 }
@@ -60,7 +59,7 @@ pub(crate) fn answer_with(alloc: Global, work: Work) -> Result<Outcome, NoMemory
 {
     match work {
         Work::Comparison(comparison) => compare::report(alloc, &comparison),
-        Work::Assembly(board, assembled) => asm::report(alloc, &board, &assembled),
+        Work::Assembly(program) => asm::report(alloc, &program),
         Work::Run(prepared) => run::report(alloc, prepared),
     }
 }

@@ -19,7 +19,7 @@ run_plan = do
   board ← next_by Board board_of
   made ← next_by Text (store_of board)
   start ← next_by Text (start_of board made.labels)
-  done (works.Run (record { board = board; made = made; start = start }))
+  done (works.Run (record { program = record { board = board; made = made }; start = start }))
 
 -- the report is the text of the run
 pub record IsRun (prepared : Prepared) (status : Status) (report : List ℕ) : Type 0 where

@@ -20,5 +20,5 @@ plan_of Run = run_plan
 -- the status and the report that are answered with what was made of the files
 abbrev pub IsAnswer : Work → Status → List ℕ → Type 0
 IsAnswer (works.Comparison comparison) status report = IsComparison comparison status report
-IsAnswer (works.Assembly board assembled) status report = IsListing board assembled status report
+IsAnswer (works.Assembly program) status report = IsListing program status report
 IsAnswer (works.Run prepared) status report = IsRun prepared status report

@@ -5,13 +5,12 @@ ghost use Rattle.mw_plan.specs.Steps.{Ends};
 ghost use Rattle.mw_top.specs.Commands.Asm.{asm_plan, IsListing};
 
 use super::Work;
-use super::microprogram::read_microprogram;
+use super::microprogram::{Program, read_microprogram};
 use crate::fault::Fault;
 use crate::outcome::Outcome;
 use crate::status::Status;
-use mw_asm::{Assembled, listing};
+use mw_asm::listing;
 use mw_base::NoMemory;
-use mw_board::Board;
 use mw_outside::Shelf;
 use mw_plan::{Files, Stop};
 use std::alloc::Global;
@@ -29,19 +28,15 @@ pub(super) fn read<S: Shelf>(
     ensures names { files.new.names ≡ files.old.names }
     ensures later { IsLater (shelf_shown S.Shelf shelf.old) (shelf_shown S.Shelf shelf.new) }
 {
-    let (board, assembled) = read_microprogram(alloc, shelf, files)?;
-    Ok(Work::Assembly(board, assembled))
+    let program = read_microprogram(alloc, shelf, files)?;
+    Ok(Work::Assembly(program))
 }
 
 /// Lists what was assembled.
-pub(super) fn report(
-    alloc: Global,
-    board: &Board,
-    assembled: &Assembled,
-) -> Result<Outcome, NoMemory>
-    ensures { IfOk result (λ outcome. IsListing board.now assembled.now outcome.status outcome.report.items) }
+pub(super) fn report(alloc: Global, program: &Program) -> Result<Outcome, NoMemory>
+    ensures { IfOk result (λ outcome. IsListing program.now outcome.status outcome.report.items) }
 {
-    let report = listing(alloc, board, assembled)?;
+    let report = listing(alloc, &program.board, &program.made)?;
     Ok(Outcome {
         status: Status::Done,
         report,

@@ -15,14 +15,13 @@ ghost use Rattle.mw_top.specs.declared.commands.Work.{Work};
 ghost use Rattle.mw_top.specs.declared.fault.Fault.{Fault};
 
 use super::Work;
-use super::microprogram::read_microprogram;
+use super::microprogram::{Program, read_microprogram};
 use crate::fault::Fault;
 use crate::outcome::Outcome;
 use crate::report::{append_difference, append_line};
 use crate::status::Status;
 use mw_asm::{Assembled, Label};
 use mw_base::{Items, NoMemory, Refusal};
-use mw_board::{Board, Store};
 use mw_descfile::{read_machine, read_relation};
 use mw_macro::Machine;
 use mw_outside::Shelf;
@@ -62,10 +61,17 @@ impl Model for Related {
     ghost view = { λ r. relation_of r.relation };
 }
 
+/// A job, and the labels of its microprogram.
+#[derive(Drop)]
+struct Labelled {
+    job: Job,
+    labels: Items<Label>,
+}
+
 /// A job, and the start of it that is compared. The start is one of the job.
 #[derive(Drop)]
 pub(crate) struct Comparison {
-    job: Job,
+    labelled: Labelled,
     counter: Counter,
 }
 
@@ -76,9 +82,9 @@ impl Model for Comparison {
 
     ghost Value = { ComparisonOf };
 
-    ghost view = { λ c. record { job = job_of c.job; counter = c.counter } };
+    ghost view = { λ c. record { job = job_of c.labelled.job; counter = c.counter } };
 
-    ghost invariant = { λ c. IsCounter (job_of c.job) c.counter };
+    ghost invariant = { λ c. IsCounter (job_of c.labelled.job) c.counter };
 }
 
 /// The machine that a text describes.
@@ -93,28 +99,30 @@ fn read_described(alloc: Global, text: &[u8]) -> Result<Described, Refusal>
 /// The relation that a text describes between a board with its microprogram and a machine.
 fn read_related(
     alloc: Global,
-    board: &Board,
-    made: &Assembled,
+    program: &Program,
     described: &Described,
     text: &[u8],
 ) -> Result<Related, Refusal>
     requires { length text.now < 2 ^ 32 }
-    ensures gives { Gives (λ relation. relation) result (relation_of board.now made.now.labels described.now text.now) }
-    ensures made { IfOk result (λ relation. AreForEachOther board.now described.now relation) }
-    ensures agree { OnOk result (memories_agree board.now described.now ≡ true) }
+    ensures gives { Gives (λ relation. relation) result (relation_of program.now.board program.now.made.labels described.now text.now) }
+    ensures made { IfOk result (λ relation. AreForEachOther program.now.board described.now relation) }
+    ensures agree { OnOk result (memories_agree program.now.board described.now ≡ true) }
 {
-    let relation = read_relation(alloc, board, made, &described.machine, text)?;
+    let relation = read_relation(alloc, &program.board, &program.made, &described.machine, text)?;
     Ok(Related { relation })
 }
 
-/// The job of a board, a microprogram, a machine and a relation that was made for both.
-fn job_with(board: Board, store: Store, described: Described, related: Related) -> Job
-    requires made { AreForEachOther board described related }
-    requires agree { memories_agree board described ≡ true }
-    ensures { job_of result ≡ job_with board store.words described related }
+/// The job of a board with its microprogram, a machine and a relation that was made for both.
+fn job_with(program: Program, described: Described, related: Related) -> Labelled
+    requires made { AreForEachOther program.board described related }
+    requires agree { memories_agree program.board described ≡ true }
+    ensures job { job_of result.job ≡ job_with program.board program.made.store.words described related }
+    ensures labels { result.labels ≡ program.made.labels }
 {
+    let Program { board, made } = program;
+    let Assembled { store, labels, .. } = made;
     match Job::new(board, store, described.machine, related.relation) {
-        Ok(job) => job,
+        Ok(job) => Labelled { job, labels },
         Err(_) => unreachable!(),
     }
 }
@@ -125,20 +133,19 @@ fn read_job<S: Shelf>(
     alloc: Global,
     shelf: &mut S,
     files: &mut Files<'_, Work, Fault>,
-) -> Result<(Job, Items<Label>), Stop<Fault>>
+) -> Result<Labelled, Stop<Fault>>
     requires four { length files.old.contents + 4 ≤ length files.old.names }
     ensures follows { (plan : Plan Fault Work) (rest : JobOf → List Label → Plan Fault Work) (first : ShelfView)
         → IsLater first (shelf_shown S.Shelf shelf.old) → IsLeft plan first files.old (job_plan rest)
-        → Follows (λ read. rest (job_of read.0) read.1) plan first (shelf_shown S.Shelf shelf.new) files.new result }
+        → Follows (λ read. rest (job_of read.job) read.labels) plan first (shelf_shown S.Shelf shelf.new) files.new result }
     ensures names { files.new.names ≡ files.old.names }
     ensures four_more { OnOk result (length files.new.contents ≡ length files.old.contents + 4) }
     ensures later { IsLater (shelf_shown S.Shelf shelf.old) (shelf_shown S.Shelf shelf.new) }
 {
-    let (board, made) = read_microprogram(alloc, shelf, files)?;
+    let program = read_microprogram(alloc, shelf, files)?;
     let machine = files.next(alloc, shelf, |bytes| read_described(alloc, bytes))?;
-    let relation = files.next(alloc, shelf, |bytes| read_related(alloc, &board, &made, &machine, bytes))?;
-    let Assembled { store, labels, .. } = made;
-    Ok((job_with(board, store, machine, relation), labels))
+    let relation = files.next(alloc, shelf, |bytes| read_related(alloc, &program, &machine, bytes))?;
+    Ok(job_with(program, machine, relation))
 }
 
 /// Reads the job, and a start of it.
@@ -154,9 +161,11 @@ pub(super) fn read<S: Shelf>(
     ensures names { files.new.names ≡ files.old.names }
     ensures later { IsLater (shelf_shown S.Shelf shelf.old) (shelf_shown S.Shelf shelf.new) }
 {
-    let (job, labels) = read_job(alloc, shelf, files)?;
-    let counter = files.next(alloc, shelf, |bytes| read_counter(alloc, &job, labels.as_slice(), bytes))?;
-    Ok(Work::Comparison(Comparison { job, counter }))
+    let labelled = read_job(alloc, shelf, files)?;
+    let counter = files.next(alloc, shelf, |bytes| {
+        read_counter(alloc, &labelled.job, labelled.labels.as_slice(), bytes)
+    })?;
+    Ok(Work::Comparison(Comparison { labelled, counter }))
 }
 
 fn status_of(shown: Option<Difference>) -> Status
@@ -193,9 +202,9 @@ fn append_comparison(
 pub(super) fn report(alloc: Global, comparison: &Comparison) -> Result<Outcome, NoMemory>
     ensures { IfOk result (λ outcome. IsComparison comparison.now outcome.status outcome.report.items) }
 {
-    let shown = replay(alloc, &comparison.job, &comparison.counter)?;
+    let shown = replay(alloc, &comparison.labelled.job, &comparison.counter)?;
     let mut report = Vec::new(alloc);
-    append_comparison(alloc, &mut report, &comparison.job, shown)?;
+    append_comparison(alloc, &mut report, &comparison.labelled.job, shown)?;
     Ok(Outcome {
         status: status_of(shown),
         report,

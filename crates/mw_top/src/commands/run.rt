@@ -11,13 +11,12 @@ ghost use Rattle.mw_top.specs.Commands.Run.{run_plan, IsRun};
 ghost use Rattle.mw_top.specs.RunText.{event_line, run_from, run_text};
 
 use super::Work;
-use super::microprogram::read_microprogram;
+use super::microprogram::{Program, read_microprogram};
 use crate::fault::Fault;
 use crate::outcome::Outcome;
 use crate::report::{append_hex_line, append_line};
 use crate::state_text::append_state;
 use crate::status::Status;
-use mw_asm::Assembled;
 use mw_base::{Event, NoMemory, append_decimal};
 use mw_board::{Board, Store};
 use mw_cycle::{Clock, Env, State, Whole};
@@ -33,8 +32,7 @@ const CYCLES: u32 = 1000;
 /// A board with its microprogram, and the start of its run. The start fits the board.
 #[derive(Drop)]
 pub(crate) struct Prepared {
-    board: Board,
-    made: Assembled,
+    program: Program,
     start: Start,
 }
 
@@ -45,9 +43,9 @@ impl Model for Prepared {
 
     ghost Value = { PreparedOf };
 
-    ghost view = { λ p. record { board = p.board; made = p.made; start = p.start } };
+    ghost view = { λ p. record { program = p.program; start = p.start } };
 
-    ghost invariant = { λ p. Fits p.board p.start.state × IsEnvironment p.board p.start.env };
+    ghost invariant = { λ p. Fits p.program.board p.start.state × IsEnvironment p.program.board p.start.env };
 }
 
 /// Runs a board from its state, over an environment. The events of its cycles, in order.
@@ -96,15 +94,15 @@ fn append_events(alloc: Global, report: &mut Vec<u8>, events: &[Event]) -> Resul
 fn run_from(alloc: Global, prepared: Prepared) -> Result<Vec<u8>, NoMemory>
     ensures { IfOk result (λ text. text.items ≡ run_from prepared) }
 {
-    let Prepared { board, made, start } = prepared;
+    let Prepared { program, start } = prepared;
     let Start { mut state, env } = start;
-    let events = run(alloc, &board, &made.store, &mut state, &env)?;
+    let events = run(alloc, &program.board, &program.made.store, &mut state, &env)?;
     let mut text = Vec::new(alloc);
     text.extend_from_slice(b"cycles ")?;
     append_decimal(alloc, &mut text, u64::from(CYCLES))?;
     append_line(&mut text, b"")?;
     append_events(alloc, &mut text, &events)?;
-    append_state(alloc, &mut text, &board, &state)?;
+    append_state(alloc, &mut text, &program.board, &state)?;
     Ok(text)
 }
 
@@ -121,9 +119,11 @@ pub(super) fn read<S: Shelf>(
     ensures names { files.new.names ≡ files.old.names }
     ensures later { IsLater (shelf_shown S.Shelf shelf.old) (shelf_shown S.Shelf shelf.new) }
 {
-    let (board, made) = read_microprogram(alloc, shelf, files)?;
-    let start = files.next(alloc, shelf, |bytes| read_start(alloc, &board, &made, bytes))?;
-    Ok(Work::Run(Prepared { board, made, start }))
+    let program = read_microprogram(alloc, shelf, files)?;
+    let start = files.next(alloc, shelf, |bytes| {
+        read_start(alloc, &program.board, &program.made, bytes)
+    })?;
+    Ok(Work::Run(Prepared { program, start }))
 }
 
 /// Runs, and answers with the text of the run.
