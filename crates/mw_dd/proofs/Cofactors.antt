@@ -1,23 +1,23 @@
 -- Joint cofactors of the functions of three nodes.
-use Rattle.std.proofs.Common.{◌≡◌, ◌⊎◌, inl, inr, ℕ, zero, suc, ◌+◌, ◌<◌, ◌≤◌, List, [], ◌∷◌, length, get_or, map, arith, refl, ap}
+use Rattle.std.proofs.Common.{◌≡◌, ◌⊎◌, inl, inr, ℕ, zero, suc, ◌<◌, ◌≤◌, List, [], ◌∷◌, length, get_or, map, arith}
+use Rattle.std.proofs.Common.{refl, ap}
 use Rattle.std.proofs.Common.{◌∙◌, sym, subst, eqb}
 use Rattle.std.specs.Prelude.{Bool, true, false, ◌||◌, slice_get, Some}
 use Rattle.std.specs.List.{IsDistinct, AllByRecursion, AllPairs, list_any}
 use Rattle.std.proofs.lemmas.Bool.{false≢true}
 use Rattle.std.proofs.lemmas.Bool.Decides.{nat_tests}
-use Rattle.std.proofs.lemmas.List.{get_or-map, length-map}
-use Rattle.std.proofs.lemmas.Map.Keys.{IsDistinct-cons}
+use Rattle.std.proofs.lemmas.List.{length-map}
 use Rattle.std.proofs.lemmas.Map.Steps.{length-le_from_distinct_below}
-use Rattle.std.proofs.lemmas.Option.{slice_get_within, slice_get-get_or}
+use Rattle.std.proofs.lemmas.Option.{slice_get_within}
 use Rattle.mw_term.specs.Assigned.{Given}
-use Rattle.mw_term.specs.Cofactors.{Variable, variable, value_of, is_before, with_fixed, left_of, AreSame, IsCounted, IsCofactor}
-use Rattle.mw_term.specs.Cofactors.{AreCofactors, HasAtMostCofactors, HasMoreCofactors}
+use Rattle.mw_term.specs.Cofactors.{Variable, variable, value_of, is_before, with_fixed, left_of, AreSame, IsCofactor}
+use Rattle.mw_term.specs.Cofactors.{HasAtMostCofactors, HasMoreCofactors}
 use Rattle.mw_term.specs.Functions as functions
 use Rattle.mw_dd.specs.declared.nodes.Node.{Node}
 use Rattle.mw_dd.specs.declared.nodes.Triple.{Triple}
 use Rattle.mw_dd.specs.Nodes.{value_at, IsDd, IsFrom, IsReduced, after}
-use Rattle.mw_dd.specs.Steps.{Grows, AreDds, AreFrom, HasVariable, IsTop, meaning, ends, IsEnd, IsLeft, IsAmong, AreAmong}
-use Rattle.mw_dd.proofs.Order.{not_before_first, not_after, before_or_after}
+use Rattle.mw_dd.specs.Steps.{Grows, AreDds, AreFrom, IsTop, meaning, ends, IsEnd, IsLeft, IsAmong, AreAmong}
+use Rattle.mw_dd.proofs.Order.{not_before_first}
 use Rattle.mw_dd.proofs.Values.{value-zero, value-one}
 use Rattle.mw_dd.proofs.From.{from-trans, same_from, same_fixed, fixed_later, fixed_before, only, fixed_only}
 use Rattle.mw_dd.proofs.Unique.{canonical}
@@ -92,7 +92,7 @@ among-grows old new triples more u grows stay is = (
   stay is.0 is.1 is.2,
   dds-grows old new is.1 grows is.3,
   same_then u (meaning old is.1) (meaning new is.1) is.4
-  (same_back (meaning new is.1) (meaning old is.1) (meaning-grows old new is.1 grows is.3)),
+      (same_back (meaning new is.1) (meaning old is.1) (meaning-grows old new is.1 grows is.3)),
 )
 
 pub are_among-grows : (old new : List Node) (triples more : List Triple) (t : Triple) → Grows old new
@@ -140,7 +140,7 @@ pub top-before : (nodes : List Node) (t : Triple) (v place : Variable) → IsTop
 top-before = top_place
 
 module _ (nodes : List Node) (r : IsReduced nodes) (t : Triple) (there : AreDds nodes t) (v : Variable)
-  (top : IsTop nodes t v) where
+    (top : IsTop nodes t v) where
   -- what is left where no variable of the triple is fixed
   left_whole : (u : functions.Triple) (place : Variable) (fixed : Given) → is_before v place ≡ false
       → AreSame u (left_of (meaning nodes t) place fixed) → AreSame u (meaning nodes t)
@@ -330,8 +330,8 @@ module _ (nodes : List Node) (r : IsReduced nodes) (whole : Triple) (all : AreDd
           let one = at triples i d (omega (arith, first, second)) in
           let other = at triples j d second in
           let alike = one_triple one.0 other.0 (are.there i one.0 one.1) (are.there j other.0 other.1)
-              (subst (λ (u : functions.Triple). AreSame u (meaning nodes other.0)) one.2
-              (subst (AreSame (get_or (map (meaning nodes) triples) i d)) other.2 same)) in
+          (subst (λ (u : functions.Triple). AreSame u (meaning nodes other.0)) one.2
+          (subst (AreSame (get_or (map (meaning nodes) triples) i d)) other.2 same)) in
           let place = are.once i j other.0 (one.1 ∙ ap Some alike) other.1 in
           omega (arith, place, first);
     },
@@ -404,8 +404,8 @@ module _ (nodes : List Node) (triples : List Triple) where
   distinct all places none different = tt
   distinct all places (more u us i is t there same rest) different = (
     no_member (eqb i) is
-    (never_found u us is i t there same rest (λ j below. different 0 (suc j) u (omega arith) (omega (arith, below)))
-    (list_any (eqb i) is) refl),
+        (never_found u us is i t there same rest (λ j below. different 0 (suc j) u (omega arith) (omega (arith, below)))
+        (list_any (eqb i) is) refl),
     distinct us is rest (λ j k d first second. different (suc j) (suc k) d (omega (arith, first)) (omega (arith, second))),
   )
 
@@ -415,7 +415,7 @@ module _ (nodes : List Node) (triples : List Triple) where
   at_most t n among few us are =
       let all = matched us (λ j d below. among (get_or us j d) (are.each j d below)) in
       let most = length-le_from_distinct_below all.0 (length triples) (distinct us all.0 all.1 are.different)
-          (λ q any. let found = found_at us all.0 q all.1 any in slice_get_within triples q found.1 found.3) in
+      (λ q any. let found = found_at us all.0 q all.1 any in slice_get_within triples q found.1 found.3) in
       omega (arith, most, all.2, few)
 
 most-same : (t u : functions.Triple) (n : ℕ) → AreSame t u → HasAtMostCofactors t n → HasAtMostCofactors u n

@@ -1,17 +1,16 @@
 -- Nodes whose variables are not before a place.
-use Rattle.std.proofs.Common.{◌≡◌, ◌⊎◌, inl, inr, ℕ, suc, zero, ◌+◌, ◌-◌, ◌<◌, ◌≤◌, ◌^◌, List, length, arith}
+use Rattle.std.proofs.Common.{◌≡◌, inl, inr, ℕ, suc, zero, ◌+◌, ◌<◌, ◌^◌, List, arith}
 use Rattle.std.proofs.Common.{refl, ap, ◌∙◌, sym, subst}
-use Rattle.std.specs.Prelude.{Bool, true, false, if◌then◌else◌, ◌==◌, slice_get, Some, None}
+use Rattle.std.specs.Prelude.{Bool, true, false, if◌then◌else◌, ◌==◌, slice_get, Some}
 use Rattle.std.proofs.lemmas.Nat.Bits.{bit_at-zero, bit_at-pow_same}
-use Rattle.std.proofs.lemmas.Option.{slice_get_cases, slice_get_within}
-use Rattle.mw_base.specs.Words.{bit_of}
+use Rattle.std.proofs.lemmas.Option.{slice_get_cases}
 use Rattle.mw_term.specs.Assigned.{Given}
 use Rattle.mw_term.specs.Cofactors.{Variable, value_of, is_before, with_fixed}
 use Rattle.mw_term.proofs.Fixed.{fixed_are_before}
 use Rattle.mw_dd.specs.declared.nodes.Node.{Node}
-use Rattle.mw_dd.specs.Nodes.{value_at, count, IsDd, IsFrom, IsReduced, after}
+use Rattle.mw_dd.specs.Nodes.{value_at, IsDd, IsFrom, IsReduced, after}
 use Rattle.mw_dd.specs.Steps.{Grows}
-use Rattle.mw_dd.proofs.Order.{not_before-trans, after_later, before_after, other_after}
+use Rattle.mw_dd.proofs.Order.{not_before-trans, after_later, before_after}
 use Rattle.mw_dd.proofs.Values.{value-node, value-zero, value-one}
 
 -- a node is a constant, or stands in the list
@@ -85,9 +84,9 @@ module _ (nodes : List Node) (r : IsReduced nodes) (place : Variable) (a b : Giv
       let i = r.inner k n at in
       let own = from k n e at in
       let low = ih n.low (omega (arith, i.low, e, h)) (omega (arith, i.low, e, t))
-          (from-after nodes n.variable place n.low i.low_later own) in
+      (from-after nodes n.variable place n.low i.low_later own) in
       let high = ih n.high (omega (arith, i.high, e, h)) (omega (arith, i.high, e, t))
-          (from-after nodes n.variable place n.high i.high_later own) in
+      (from-after nodes n.variable place n.high i.high_later own) in
       rw (e, value-node a nodes k n at i.low i.high, value-node b nodes k n at i.low i.high, same n.variable own, low, high)
       refl
 

@@ -1,12 +1,12 @@
 -- Linked keys, and one more.
 use Rattle.std.proofs.Common.{◌≡◌, ◌⊎◌, inl, inr, ℕ, ◌+◌, ◌-◌, ◌<◌, ◌≤◌, ◌^◌, List, [], ◌∷◌, ◌++◌, length, set}
 use Rattle.std.proofs.Common.{zero, suc, refl, ap, sym, ◌∙◌, arith, subst}
-use Rattle.std.specs.Prelude.{slice_get, slice_index, Some, None}
+use Rattle.std.specs.Prelude.{slice_get, slice_index, Some}
 use Rattle.std.proofs.lemmas.Bool.{cases_eq}
 use Rattle.std.proofs.lemmas.List.{length-append, length-set, get_or-set_same, get_or-set_other}
-use Rattle.std.proofs.lemmas.Option.{slice_get_within, slice_get_past, slice_get-map, none-some}
+use Rattle.std.proofs.lemmas.Option.{slice_get_within}
 use Rattle.mw_dd.specs.declared.table.Entry.{Entry}
-use Rattle.mw_dd.specs.Links.{bucket_of, Leads, here, on, AreLinked, IsAbsent, key_of, keys_of}
+use Rattle.mw_dd.specs.Links.{bucket_of, Leads, here, on, AreLinked, IsAbsent, keys_of}
 use Rattle.mw_dd.proofs.Lists.{get-push, get-push_old, get-push_new}
 
 -- the head of a bucket, where another one is changed
@@ -28,7 +28,7 @@ module _ {K : Type 0} where
   leads_within entries from to (on {entry = first} at rest) below = slice_get_within entries from first at
 
   module _ (hash_of : K → ℕ) (entries : List (Entry K)) (heads : List ℕ) (entry : Entry K)
-    (are : AreLinked hash_of entries heads) where
+      (are : AreLinked hash_of entries heads) where
     abbrev own : ℕ
     own = bucket_of (hash_of entry.key) (length heads)
 
@@ -43,11 +43,11 @@ module _ {K : Type 0} where
         elim (cases_eq c own) [
           | inl same ↦
               let head : slice_index (set heads own (length entries)) c ≡ length entries =
-                  ap (slice_index (set heads own (length entries))) same ∙ get_or-set_same heads own (length entries) 0 below in
+              ap (slice_index (set heads own (length entries))) same ∙ get_or-set_same heads own (length entries) 0 below in
               let old : slice_index heads c ≡ entry.next =
-                  ap (slice_index heads) same
-                  ∙ sym (next (subst (λ (b : ℕ). slice_index heads b < length entries) same
-                  (leads_within entries (slice_index heads c) i led within))) in
+              ap (slice_index heads) same
+              ∙ sym (next (subst (λ (b : ℕ). slice_index heads b < length entries) same
+              (leads_within entries (slice_index heads c) i led within))) in
               subst (λ (from : ℕ). Leads (entries ++ entry ∷ []) from i) (sym head)
               (on (get-push_new entries entry)
               (subst (λ (from : ℕ). Leads (entries ++ entry ∷ []) from i) old
@@ -63,10 +63,10 @@ module _ {K : Type 0} where
         (slice_index (set heads own (length entries)) (bucket_of (hash_of other.key) (length heads))) i
     new_linked below i other last same =
         let head : slice_index (set heads own (length entries)) own ≡ length entries =
-            get_or-set_same heads own (length entries) 0 below in
+        get_or-set_same heads own (length entries) 0 below in
         let from : slice_index (set heads own (length entries)) (bucket_of (hash_of other.key) (length heads)) ≡ i =
-            ap (λ (x : Entry K). slice_index (set heads own (length entries)) (bucket_of (hash_of x.key) (length heads)))
-            (sym same) ∙ head ∙ sym last in
+        ap (λ (x : Entry K). slice_index (set heads own (length entries)) (bucket_of (hash_of x.key) (length heads)))
+        (sym same) ∙ head ∙ sym last in
         subst (λ (from : ℕ). Leads (entries ++ entry ∷ []) from i) (sym from) here
 
     -- one more key, at the head of its bucket

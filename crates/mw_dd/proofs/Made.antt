@@ -1,8 +1,7 @@
 -- Nodes that are looked at, and one that is made.
 use Rattle.std.proofs.Common.{◌≡◌, ◌⊎◌, inl, inr, ℕ, ◌+◌, ◌-◌, ◌<◌, ◌≤◌, List, [], ◌∷◌, ◌++◌, length, arith, refl, ap}
 use Rattle.std.proofs.Common.{◌∙◌, sym, subst}
-use Rattle.std.specs.Prelude.{Bool, true, false, if◌then◌else◌, slice_get, Some}
-use Rattle.std.proofs.lemmas.List.{length-append}
+use Rattle.std.specs.Prelude.{true, false, if◌then◌else◌, slice_get, Some}
 use Rattle.std.proofs.lemmas.Option.{slice_get_within}
 use Rattle.mw_term.specs.Assigned.{Given}
 use Rattle.mw_term.specs.Cofactors.{Variable, value_of, is_before}
@@ -62,7 +61,7 @@ pub top-is : (nodes : List Node) (t : Triple) (n : Node) (v u : Variable) → 2 
 top-is nodes t n v u inner at first below_first from_first second below_second from_second =
     let e : t.f - 2 + 2 ≡ t.f = omega (arith, inner) in
     let own : IsFrom nodes n.variable t.f = subst (IsFrom nodes n.variable) e
-        (from_node nodes n.variable (t.f - 2) n at (not_before_itself n.variable)) in
+    (from_node nodes n.variable (t.f - 2) n at (not_before_itself n.variable)) in
     record {
       one = one_of nodes t n v u (has_own nodes t.f n inner at) first second;
       from = record {
@@ -135,20 +134,22 @@ module _ (nodes : List Node) (r : IsReduced nodes) (n : Node) (can : CanBeMade n
   }
 
 -- the value of a node that was found
-pub found_value : (nodes : List Node) → IsReduced nodes → (n : Node) (place : ℕ) (given : Given) → slice_get nodes place ≡ Some n → value_at given nodes (place + 2)
-      ≡ (if value_of n.variable given then value_at given nodes n.high else value_at given nodes n.low)
+pub found_value : (nodes : List Node) → IsReduced nodes → (n : Node) (place : ℕ) (given : Given)
+    → slice_get nodes place ≡ Some n → value_at given nodes (place + 2)
+    ≡ (if value_of n.variable given then value_at given nodes n.high else value_at given nodes n.low)
 found_value nodes r n place given at =
-      let i = r.inner place n at in
-      value-node given nodes place n at i.low i.high
+    let i = r.inner place n at in
+    value-node given nodes place n at i.low i.high
 
 -- and of one that was made
-pub made_value : (nodes : List Node) (n : Node) → CanBeMade nodes n → (given : Given) → value_at given (nodes ++ n ∷ []) (length nodes + 2)
-      ≡ (if value_of n.variable given then value_at given nodes n.high else value_at given nodes n.low)
+pub made_value : (nodes : List Node) (n : Node) → CanBeMade nodes n → (given : Given)
+    → value_at given (nodes ++ n ∷ []) (length nodes + 2)
+    ≡ (if value_of n.variable given then value_at given nodes n.high else value_at given nodes n.low)
 made_value nodes n can given =
-      let high = value-old given nodes n n.high can.high in
-      let low = value-old given nodes n n.low can.low in
-      value-node given (nodes ++ n ∷ []) (length nodes) n (get-push_new nodes n) can.low can.high ∙ rw (high, low) refl
+    let high = value-old given nodes n n.high can.high in
+    let low = value-old given nodes n n.low can.low in
+    value-node given (nodes ++ n ∷ []) (length nodes) n (get-push_new nodes n) can.low can.high ∙ rw (high, low) refl
 
 pub made_from : (nodes : List Node) (n : Node) → IsFrom (nodes ++ n ∷ []) n.variable (length nodes + 2)
 made_from nodes n =
-      from_node (nodes ++ n ∷ []) n.variable (length nodes) n (get-push_new nodes n) (not_before_itself n.variable)
+    from_node (nodes ++ n ∷ []) n.variable (length nodes) n (get-push_new nodes n) (not_before_itself n.variable)

@@ -1,24 +1,25 @@
 -- What one call has met, step by step.
-use Rattle.std.proofs.Common.{◌≡◌, ◌⊎◌, inl, inr, ℕ, zero, suc, ◌+◌, ◌<◌, ◌≤◌, List, [], ◌∷◌, ◌++◌, length, set, arith, refl, ap}
+use Rattle.std.proofs.Common.{◌≡◌, ◌⊎◌, inl, inr, ℕ, zero, suc, ◌+◌, ◌<◌, ◌≤◌, List, [], ◌∷◌, ◌++◌, length, set, arith}
+use Rattle.std.proofs.Common.{refl, ap}
 use Rattle.std.proofs.Common.{◌∙◌, sym, subst}
 use Rattle.std.specs.Prelude.{Bool, true, false, if◌then◌else◌, slice_get, Some}
 use Rattle.std.proofs.lemmas.Bool.{cases_eq}
 use Rattle.std.proofs.lemmas.List.{length-append, length-set}
 use Rattle.std.proofs.lemmas.Option.{slice_get_within}
 use Rattle.mw_term.specs.Assigned.{Given}
-use Rattle.mw_term.specs.Cofactors.{Variable, value_of, is_before, with_fixed, left_of, AreSame, IsCofactor, HasMoreCofactors}
+use Rattle.mw_term.specs.Cofactors.{Variable, value_of, with_fixed, HasMoreCofactors}
 use Rattle.mw_dd.specs.declared.nodes.Node.{Node}
 use Rattle.mw_dd.specs.declared.nodes.Triple.{Triple}
 use Rattle.mw_dd.specs.declared.memo.Memo.{Memo}
 use Rattle.mw_dd.specs.Links.{IsAbsent}
-use Rattle.mw_dd.specs.Nodes.{value_at, IsDd, IsFrom, IsReduced, after}
-use Rattle.mw_dd.specs.Steps.{Grows, AreDds, AreFrom, HasVariable, IsTop, IsResult, IsEnd, IsLeft, AreAmong, meaning, ends, size}
+use Rattle.mw_dd.specs.Nodes.{value_at, IsDd, IsFrom, IsReduced}
+use Rattle.mw_dd.specs.Steps.{Grows, AreDds, AreFrom, IsTop, IsResult, IsEnd, IsLeft, AreAmong, meaning, ends, size}
 use Rattle.mw_dd.specs.Memos.{IsMet, AreKeys, IsDone, AreSettled, Settles, AreLeft}
 use Rattle.mw_dd.proofs.Lists.{get-push, get-push_old, get-push_new, get-set_same, get-set_other}
 use Rattle.mw_dd.proofs.Values.{value-zero, value-one, grows-trans}
 use Rattle.mw_dd.proofs.From.{from-trans, from-grows, from-shrinks}
 use Rattle.mw_dd.proofs.Cofactors.{Stay, IsSide, dds-grows, meaning-grows, are_among-grows, among-grows, cofactor-same}
-use Rattle.mw_dd.proofs.Cofactors.{cofactor_cases, same_then, same_back, top-before, AreCounted, more_cofactors}
+use Rattle.mw_dd.proofs.Cofactors.{cofactor_cases, same_then, same_back, top-before, more_cofactors}
 
 -- ---- results
 
@@ -63,8 +64,12 @@ pub result-grows : (old new : List Node) (t : Triple) (r : ℕ) → Grows old ne
     → IsResult new t r
 result-grows old new t r grows are is = record {
   there = omega (arith, grows.more, is.there);
-  value = λ given. rw (grows.same given r is.there, grows.same given t.f are.f, grows.same given t.g are.g,
-      grows.same given t.h are.h) (is.value given);
+  value = λ given. rw (
+    grows.same given r is.there,
+    grows.same given t.f are.f,
+    grows.same given t.g are.g,
+    grows.same given t.h are.h,
+  ) (is.value given);
   from = λ place from.
       from-grows old new place r grows is.there (is.from place (are_from-shrinks old new place t grows from));
 }
@@ -87,7 +92,7 @@ pub record IsStep (n1 n2 n3 n4 : List Node) (t lo hi : Triple) (v : Variable) (l
   pub made_from : IsFrom n4 v made
 
 module _ (n1 n2 n3 n4 : List Node) (t lo hi : Triple) (v : Variable) (low high made : ℕ)
-  (step : IsStep n1 n2 n3 n4 t lo hi v low high made) where
+    (step : IsStep n1 n2 n3 n4 t lo hi v low high made) where
   to_third : Grows n1 n3
   to_third = grows-trans n1 n2 n3 step.first step.second
 
@@ -102,21 +107,34 @@ module _ (n1 n2 n3 n4 : List Node) (t lo hi : Triple) (v : Variable) (low high m
       → value_at given n4 made ≡ (if b then value_at given n3 high else value_at given n3 low) → Chosen given
   value_case given true is value =
       value ∙ step.high_is.value given
-      ∙ rw (to_third.same given hi.f step.high_side.there.f, to_third.same given hi.g step.high_side.there.g,
-      to_third.same given hi.h step.high_side.there.h, step.high_side.f given is, step.high_side.g given is,
-      step.high_side.h given is) refl
+      ∙ rw (
+        to_third.same given hi.f step.high_side.there.f,
+        to_third.same given hi.g step.high_side.there.g,
+        to_third.same given hi.h step.high_side.there.h,
+        step.high_side.f given is,
+        step.high_side.g given is,
+        step.high_side.h given is,
+      ) refl
   value_case given false is value =
       value ∙ step.second.same given low step.low_is.there ∙ step.low_is.value given
-      ∙ rw (step.first.same given lo.f step.low_side.there.f, step.first.same given lo.g step.low_side.there.g,
-      step.first.same given lo.h step.low_side.there.h, step.low_side.f given is, step.low_side.g given is,
-      step.low_side.h given is) refl
+      ∙ rw (
+        step.first.same given lo.f step.low_side.there.f,
+        step.first.same given lo.g step.low_side.there.g,
+        step.first.same given lo.h step.low_side.there.h,
+        step.low_side.f given is,
+        step.low_side.g given is,
+        step.low_side.h given is,
+      ) refl
 
   -- the node over both halves is the result
   pub step_result : IsResult n4 t made
   step_result = record {
     there = step.made_there;
-    value = λ given. rw (to_last.same given t.f step.there.f, to_last.same given t.g step.there.g,
-        to_last.same given t.h step.there.h)
+    value = λ given. rw (
+      to_last.same given t.f step.there.f,
+      to_last.same given t.g step.there.g,
+      to_last.same given t.h step.there.h,
+    )
         (value_case given (value_of v given) refl (step.made_value given));
     from = λ place from. from-trans n4 v place made step.made_from
         (top-before n1 t v place step.top (are_from-shrinks n1 n4 place t to_last from));
@@ -128,9 +146,14 @@ module _ (n1 n2 n3 n4 : List Node) (t lo hi : Triple) (v : Variable) (low high m
   step_among second third place r stay at low_among high_among u is =
       let was = cofactor-same (meaning n4 t) (meaning n1 t) u (meaning-grows n1 n4 t to_last step.there) is in
       elim (cofactor_cases n1 r t step.there v step.top lo hi step.low_side step.high_side u was) [
-        | inl whole ↦ (place, t, at, dds-grows n1 n4 t to_last step.there,
-            same_then u (meaning n1 t) (meaning n4 t) whole
-            (same_back (meaning n4 t) (meaning n1 t) (meaning-grows n1 n4 t to_last step.there)))
+        | inl whole ↦ (
+          place,
+          t,
+          at,
+          dds-grows n1 n4 t to_last step.there,
+          same_then u (meaning n1 t) (meaning n4 t) whole
+              (same_back (meaning n4 t) (meaning n1 t) (meaning-grows n1 n4 t to_last step.there)),
+        )
         | inr half ↦ elim half [
           | inl one ↦ among-grows n2 n4 second third u (grows-trans n2 n3 n4 step.second step.third) stay
               (low_among u (cofactor-same (meaning n1 lo) (meaning n2 lo) u
@@ -257,7 +280,7 @@ module _ (nodes : List Node) (before now : Memo) (t : Triple) (begun : IsBegun b
   ended_settles n3 n4 third last place made settles keys3 grows is_place triples results is among =
       let at_place : IsMet third place t = rw is_place (settles.stay (length before.triples) t begun_at) in
       let within : place < length third.results.items =
-          omega (arith, slice_get_within third.triples place t at_place, keys3.beside) in
+      omega (arith, slice_get_within third.triples place t at_place, keys3.beside) in
       let stay : Stay third.triples last.triples = λ i s at. rw triples at in
       let back : (i : ℕ) (s : Triple) → IsMet last i s → IsMet third i s = λ i s at. rw triples at at in
       let own : IsDone n4 last place t = record {
@@ -267,10 +290,10 @@ module _ (nodes : List Node) (before now : Memo) (t : Triple) (begun : IsBegun b
         among = rw triples among;
       } in
       let other : (i : ℕ) (s : Triple) → ¬ (i ≡ place) → IsMet third i s → IsDone n3 third i s → IsDone n4 last i s =
-          λ i s differ at is. done-grows n3 n4 third last i s grows (keys3.there i s at) stay
-          (λ r h. rw results (get-set_other third.results.items place i made differ ∙ h)) is in
+      λ i s differ at is. done-grows n3 n4 third last i s grows (keys3.there i s at) stay
+      (λ r h. rw results (get-set_other third.results.items place i made differ ∙ h)) is in
       let old_place : (i : ℕ) (s : Triple) → IsMet before i s → ¬ (i ≡ place) =
-          λ i s at same. let w = slice_get_within before.triples i s at in omega (arith, same, is_place, w) in
+      λ i s at same. let w = slice_get_within before.triples i s at in omega (arith, same, is_place, w) in
       record {
         stay = λ i s at. stay i s (settles.stay i s (begun_stay i s at));
         done = λ i s at is. other i s (old_place i s at) (settles.stay i s (begun_stay i s at))
@@ -329,8 +352,8 @@ ended_left n3 n4 third last whole keys grows all triples left i s at =
 -- ---- over the budget
 
 module _ (nodes : List Node) (r : IsReduced nodes) (memo : Memo) (keys : AreKeys nodes memo) (t : Triple)
-  (there : AreDds nodes t) (counts : ends t ≡ false) (absent : IsAbsent memo.triples t) (whole : Triple)
-  (all : AreDds nodes whole) (is : IsLeft nodes whole t) (left : AreLeft nodes memo whole) where
+    (there : AreDds nodes t) (counts : ends t ≡ false) (absent : IsAbsent memo.triples t) (whole : Triple)
+    (all : AreDds nodes whole) (is : IsLeft nodes whole t) (left : AreLeft nodes memo whole) where
   each_there : (i : ℕ) (s : Triple) → slice_get (t ∷ memo.triples) i ≡ Some s → AreDds nodes s
   each_there zero s at = subst (AreDds nodes) (some_triple t s at) there
   each_there (suc i) s at = keys.there i s at

@@ -1,13 +1,12 @@
 -- What the public calls say, from what the steps leave.
-use Rattle.std.proofs.Common.{◌≡◌, ◌⊎◌, ℕ, ◌+◌, ◌<◌, ◌≤◌, List, [], ◌∷◌, length, arith, refl, ap, ◌∙◌, sym}
-use Rattle.std.specs.Prelude.{Bool, true, false, if◌then◌else◌, slice_get, Some, Result, Ok, Err, OnOk, ◌↔◌, ◌==◌, IsTrue}
+use Rattle.std.proofs.Common.{◌≡◌, ℕ, List, [], arith, ap, ◌∙◌, sym}
+use Rattle.std.specs.Prelude.{Bool, true, false, if◌then◌else◌, Result, Ok, Err, OnOk, ◌↔◌, ◌==◌, IsTrue}
 use Rattle.std.proofs.lemmas.Bool.Decides.{nat_tests}
 use Rattle.mw_term.specs.Assigned.{Given}
 use Rattle.mw_term.specs.Cofactors.{Agree}
 use Rattle.mw_term.specs.Functions.{never}
 use Rattle.mw_dd.specs.declared.nodes.Node.{Node}
 use Rattle.mw_dd.specs.Nodes.{value_at, function_of, IsDd, IsReduced}
-use Rattle.mw_dd.specs.Diagrams.{IsCanonical}
 use Rattle.mw_dd.proofs.Values.{value-zero, value-one}
 use Rattle.mw_dd.proofs.Unique.{canonical}
 

@@ -1,16 +1,17 @@
 -- Equal functions have equal nodes.
-use Rattle.std.proofs.Common.{◌≡◌, ◌⊎◌, inl, inr, ℕ, suc, zero, ◌+◌, ◌<◌, ◌≤◌, List, length, arith, refl, ap, ◌∙◌, sym}
-use Rattle.std.specs.Prelude.{Bool, true, false, slice_get, Some}
+use Rattle.std.proofs.Common.{◌≡◌, inl, inr, ℕ, suc, zero, ◌+◌, ◌<◌, List, arith, refl, ap, ◌∙◌, sym}
+use Rattle.std.specs.Prelude.{true, false, slice_get, Some}
 use Rattle.std.proofs.lemmas.Bool.{false≢true, true≢false}
 use Rattle.std.proofs.lemmas.Option.{slice_get_within}
 use Rattle.mw_term.specs.Assigned.{Given}
-use Rattle.mw_term.specs.Cofactors.{Variable, is_before, with_fixed, Agree}
+use Rattle.mw_term.specs.Cofactors.{Variable, with_fixed, Agree}
 use Rattle.mw_dd.specs.declared.nodes.Node.{Node}
 use Rattle.mw_dd.specs.Nodes.{value_at, function_of, IsDd, IsFrom, IsReduced, after}
 use Rattle.mw_dd.specs.Diagrams.{IsCanonical}
 use Rattle.mw_dd.proofs.Order.{later_after, order_cases}
 use Rattle.mw_dd.proofs.Values.{value-high, value-low, value-zero, value-one}
-use Rattle.mw_dd.proofs.From.{Place, is_false, is_true, is_node, place_of, from_constant, from_node, same_fixed, only, fixed_only}
+use Rattle.mw_dd.proofs.From.{Place, is_false, is_true, is_node, place_of, from_constant, from_node, same_fixed, only}
+use Rattle.mw_dd.proofs.From.{fixed_only}
 
 -- a node by its parts
 same_node : (n m : Node) → n.variable ≡ m.variable → n.low ≡ m.low → n.high ≡ m.high → n ≡ m
@@ -67,17 +68,17 @@ module _ (nodes : List Node) (r : IsReduced nodes) where
       let p = slice_get_within nodes k n at in
       let q = slice_get_within nodes j m of in
       let low : n.low ≡ m.low = ih n.low m.low (omega (arith, a.low, h)) (omega (arith, b.low, g)) (omega (arith, a.low, p))
-          (omega (arith, b.low, q))
-          (λ given. sym (low_is k n given at)
-          ∙ same (with_fixed (after n.variable) (only n.variable false) given)
-          ∙ ap (λ (v : Variable). value_at (with_fixed (after v) (only v false) given) nodes (j + 2)) e
-          ∙ low_is j m given of) in
+      (omega (arith, b.low, q))
+      (λ given. sym (low_is k n given at)
+      ∙ same (with_fixed (after n.variable) (only n.variable false) given)
+      ∙ ap (λ (v : Variable). value_at (with_fixed (after v) (only v false) given) nodes (j + 2)) e
+      ∙ low_is j m given of) in
       let high : n.high ≡ m.high = ih n.high m.high (omega (arith, a.high, h)) (omega (arith, b.high, g))
-          (omega (arith, a.high, p)) (omega (arith, b.high, q))
-          (λ given. sym (high_is k n given at)
-          ∙ same (with_fixed (after n.variable) (only n.variable true) given)
-          ∙ ap (λ (v : Variable). value_at (with_fixed (after v) (only v true) given) nodes (j + 2)) e
-          ∙ high_is j m given of) in
+      (omega (arith, a.high, p)) (omega (arith, b.high, q))
+      (λ given. sym (high_is k n given at)
+      ∙ same (with_fixed (after n.variable) (only n.variable true) given)
+      ∙ ap (λ (v : Variable). value_at (with_fixed (after v) (only v true) given) nodes (j + 2)) e
+      ∙ high_is j m given of) in
       r.once k j m (at ∙ ap Some (same_node n m e low high)) of
 
   nowhere : Given

@@ -1,6 +1,6 @@
 -- The values of nodes, as the list grows.
-use Rattle.std.proofs.Common.{◌≡◌, ℕ, suc, zero, ◌+◌, ◌-◌, ◌<◌, ◌≤◌, List, [], ◌∷◌, ◌++◌, length, get_or, arith}
-use Rattle.std.proofs.Common.{refl, ap, ◌∙◌, sym}
+use Rattle.std.proofs.Common.{◌≡◌, ℕ, suc, zero, ◌+◌, ◌<◌, List, [], ◌∷◌, ◌++◌, length, get_or, arith}
+use Rattle.std.proofs.Common.{refl, ap, ◌∙◌}
 use Rattle.std.specs.Prelude.{Bool, true, false, if◌then◌else◌, slice_get, Some}
 use Rattle.std.proofs.lemmas.List.{get_or_append_left, get_or_push, length-append}
 use Rattle.mw_term.specs.Assigned.{Given}
@@ -46,9 +46,9 @@ module _ (given : Given) where
       let f : length after ≡ length before + 1 = length-append before (node_value given before m ∷ []) in
       let z : length before + 0 ≡ length before = omega arith in
       let low = values-old after ns n.low (omega (arith, f))
-          ∙ get_or_append_left before (node_value given before m ∷ []) false n.low (omega arith) in
+      ∙ get_or_append_left before (node_value given before m ∷ []) false n.low (omega arith) in
       let high = values-old after ns n.high (omega (arith, f))
-          ∙ get_or_append_left before (node_value given before m ∷ []) false n.high (omega arith) in
+      ∙ get_or_append_left before (node_value given before m ∷ []) false n.high (omega arith) in
       rw (z, low, high) (values-old after ns (length before) (omega (arith, f))
       ∙ get_or_push before (node_value given before m) false (length before) refl ∙ ap (node_value given before) same)
   values-at before (m ∷ ns) (suc k) n e p q =

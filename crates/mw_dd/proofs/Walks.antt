@@ -1,5 +1,6 @@
 -- The way of the first assignment, step by step.
-use Rattle.std.proofs.Common.{◌≡◌, ◌⊎◌, inl, inr, ℕ, zero, suc, ◌+◌, ◌-◌, ◌<◌, ◌≤◌, ◌/◌, ◌%◌, ◌^◌, ◌*◌, List, arith, refl, ap, ◌∙◌, sym, subst}
+use Rattle.std.proofs.Common.{◌≡◌, ◌⊎◌, inl, inr, ℕ, zero, suc, ◌+◌, ◌-◌, ◌<◌, ◌≤◌, ◌%◌, ◌^◌, ◌*◌, List, arith, refl}
+use Rattle.std.proofs.Common.{ap, ◌∙◌, sym, subst}
 use Rattle.std.proofs.Common.{cond}
 use Rattle.std.specs.Prelude.{Bool, true, false, ◌==◌, slice_get, Some, unwrap_or, bit_or, ◌||◌}
 use Rattle.std.specs.Cmp.{nat_cmp_total}
@@ -17,9 +18,9 @@ use Rattle.mw_dd.specs.declared.nodes.Node.{Node}
 use Rattle.mw_dd.specs.Nodes.{value_at, function_of, IsDd, IsFrom, IsReduced, after}
 use Rattle.mw_dd.specs.Diagrams.{AgreeBefore, IsFirst}
 use Rattle.mw_dd.specs.Walks.{Walks}
-use Rattle.mw_dd.proofs.Order.{same_variable, not_before_first, not_before-trans, not_after, before_after, order_cases, not_before_itself}
+use Rattle.mw_dd.proofs.Order.{same_variable, not_before_first, not_before-trans, not_after, before_after, order_cases}
+use Rattle.mw_dd.proofs.Order.{not_before_itself}
 use Rattle.mw_dd.proofs.Values.{value-high, value-low, value-zero, value-one}
-use Rattle.mw_dd.proofs.From.{from_constant}
 
 -- ---- one bit of an assignment
 
@@ -154,7 +155,7 @@ walk-end nodes whole numbers x walks below =
     }
 
 module _ (nodes : List Node) (r : IsReduced nodes) (whole : ℕ) (x : ℕ) (n : Node) (inner : 2 ≤ x)
-  (at : slice_get nodes (x - 2) ≡ Some n) where
+    (at : slice_get nodes (x - 2) ≡ Some n) where
   abbrev is_node : x - 2 + 2 ≡ x
   is_node = omega (arith, inner)
 
@@ -195,8 +196,8 @@ module _ (nodes : List Node) (r : IsReduced nodes) (whole : ℕ) (x : ℕ) (n : 
 
   -- down the second, where the first never holds
   module _ (numbers now : Numbers) (own_now : value_of n.variable (given_by now) ≡ true)
-    (others : (u : Variable) → ¬ (u ≡ n.variable) → value_of u (given_by now) ≡ value_of u (given_by numbers))
-    (none : n.low ≡ 0) (walks : Walks nodes whole numbers x) where
+      (others : (u : Variable) → ¬ (u ≡ n.variable) → value_of u (given_by now) ≡ value_of u (given_by numbers))
+      (none : n.low ≡ 0) (walks : Walks nodes whole numbers x) where
     high_some : ¬ (n.low ≡ n.high) → n.low ≡ 0 → 0 < n.high
     high_some differ none = elim (cases_eq n.high 0) [
       | inl same ↦ absurd (differ (none ∙ sym same))

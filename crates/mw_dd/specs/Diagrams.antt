@@ -1,5 +1,5 @@
 -- What holds of the functions of diagrams.
-use Rattle.std.specs.Prelude.{◌≡◌, ℕ, List, Bool, true}
+use Rattle.std.specs.Prelude.{◌≡◌, ℕ, List, true}
 use Rattle.mw_term.specs.Assigned.{Given, Numbers, given_by}
 use Rattle.mw_term.specs.Cofactors.{Variable, value_of, is_before, Agree}
 use Rattle.mw_term.specs.Functions.{Function, Triple, ite}

@@ -1,5 +1,5 @@
 -- Keys that are linked, each bucket's from its last one.
-use Rattle.std.specs.Prelude.{◌≡◌, ◌⊎◌, ℕ, ◌+◌, ◌-◌, ◌<◌, ◌≤◌, ◌^◌, List, length, map, slice_get, slice_index, Some, bit_and}
+use Rattle.std.specs.Prelude.{◌≡◌, ◌⊎◌, ℕ, ◌-◌, ◌<◌, ◌≤◌, ◌^◌, List, length, map, slice_get, slice_index, Some, bit_and}
 use Rattle.mw_dd.specs.declared.table.Entry.{Entry}
 
 -- the bucket of a hash, among so many

@@ -1,13 +1,12 @@
 -- What a step of an operation on nodes leaves.
-use Rattle.std.specs.Prelude.{◌≡◌, ◌⊎◌, ℕ, ◌+◌, ◌<◌, ◌≤◌, List, length, slice_get, Some, if◌then◌else◌}
+use Rattle.std.specs.Prelude.{◌≡◌, ◌⊎◌, ℕ, ◌+◌, ◌≤◌, List, length, slice_get, Some, if◌then◌else◌}
 use Rattle.std.specs.Prelude.{nat_lt, ◌==◌, ◌||◌, Bool}
 use Rattle.mw_term.specs.Assigned.{Given}
-use Rattle.mw_term.specs.Cofactors.{Variable, AreSame, left_of, IsCofactor, HasMoreCofactors}
+use Rattle.mw_term.specs.Cofactors.{Variable, AreSame, left_of, IsCofactor}
 use Rattle.mw_term.specs.Functions as functions
 use Rattle.mw_dd.specs.declared.nodes.Node.{Node}
 use Rattle.mw_dd.specs.declared.nodes.Triple.{Triple}
-use Rattle.mw_dd.specs.declared.memo.Memo.{Memo}
-use Rattle.mw_dd.specs.Nodes.{value_at, count, IsDd, IsFrom}
+use Rattle.mw_dd.specs.Nodes.{value_at, IsDd, IsFrom}
 use Rattle.mw_dd.specs.Diagrams.{functions_of}
 
 -- nodes stay at their places and keep their values

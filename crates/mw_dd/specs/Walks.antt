@@ -1,5 +1,5 @@
 -- The way of the first assignment down from a node.
-use Rattle.std.specs.Prelude.{◌≡◌, ℕ, ◌<◌, List, Bool, true, false}
+use Rattle.std.specs.Prelude.{◌≡◌, ℕ, ◌<◌, List, true, false}
 use Rattle.mw_term.specs.Assigned.{Given, Numbers, given_by}
 use Rattle.mw_term.specs.Cofactors.{Variable, value_of, is_before}
 use Rattle.mw_dd.specs.declared.nodes.Node.{Node}

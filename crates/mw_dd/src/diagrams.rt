@@ -95,14 +95,7 @@ impl Diagrams {
     /// - `NoMemory`: memory ran out.
     ///
     /// Earlier functions stay as they are then too.
-    pub fn ite(
-        &mut self,
-        alloc: Global,
-        f: Dd,
-        g: Dd,
-        h: Dd,
-        budget: u32,
-    ) -> Result<Dd, DdFault>
+    pub fn ite(&mut self, alloc: Global, f: Dd, g: Dd, h: Dd, budget: u32) -> Result<Dd, DdFault>
         requires f { IsDd self.old f }
         requires g { IsDd self.old g }
         requires h { IsDd self.old h }
@@ -114,7 +107,13 @@ impl Diagrams {
         ensures canonical { IsCanonical self.new }
     {
         self.memo.clear();
-        choose(&mut self.nodes, &mut self.memo, alloc, Triple { f, g, h }, budget)
+        choose(
+            &mut self.nodes,
+            &mut self.memo,
+            alloc,
+            Triple { f, g, h },
+            budget,
+        )
     }
 
     /// Whether a function holds under no assignment.

@@ -16,11 +16,7 @@ use mw_term::Assignment;
 use std::alloc::Global;
 
 /// Gives a variable the value 1, and leaves the others.
-fn raise(
-    assignment: &mut Assignment,
-    alloc: Global,
-    variable: Variable,
-) -> Result<(), NoMemory>
+fn raise(assignment: &mut Assignment, alloc: Global, variable: Variable) -> Result<(), NoMemory>
     requires { variable.bit < 32 }
     ensures own { OnOk result (value_of variable (given_by assignment.new) ≡ true) }
     ensures others { OnOk result ((u : cofactors.Variable) → ¬ (u ≡ variable)

@@ -16,8 +16,7 @@ pub(crate) struct Memo {
 
 impl Memo {
     /// Nothing met.
-    pub(crate) fn new(alloc: Global) -> Result<Memo, NoMemory>
-    {
+    pub(crate) fn new(alloc: Global) -> Result<Memo, NoMemory> {
         Ok(Memo {
             triples: Table::new(alloc)?,
             results: Vec::new(alloc),

@@ -141,11 +141,7 @@ pub(crate) fn side(nodes: &Table<Node>, t: Triple, variable: Variable, side: boo
 }
 
 /// The node with these branches, made where it isn't there.
-pub(crate) fn make(
-    nodes: &mut Table<Node>,
-    alloc: Global,
-    node: Node,
-) -> Result<Dd, NoMemory>
+pub(crate) fn make(nodes: &mut Table<Node>, alloc: Global, node: Node) -> Result<Dd, NoMemory>
     requires reduced { IsReduced nodes.old }
     requires bit { node.variable.bit < 32 }
     requires low { IsDd nodes.old node.low }

@@ -2,8 +2,7 @@ use Rattle.std.proofs.Common.{◌≡◌, ◌∙◌, ◌<◌, ◌*◌, ◌^◌, �
 use Rattle.std.specs.Prelude.{bit_or}
 use Rattle.std.specs.FinMap as map
 use Rattle.std.proofs.lemmas.Result.{on_ok_weaker}
-
-use Rattle.mw_term.specs.Cofactors.{Variable, value_of}
+use Rattle.mw_term.specs.Cofactors.{Variable}
 use Rattle.mw_dd.proofs.Walks.{raised, raised-is, raised-own, raised-others}
 use Rattle.mw_dd.proofs.first.raise.Goals as goal
 

@@ -1,15 +1,15 @@
-use Rattle.std.proofs.Common.{rules, ◌≡◌, ◌∙◌, ◌+◌, ◌≤◌, ◌<◌, ℕ, [], ◌∷◌, length, get_or, sym, ap, arith, refl, subst, true, false}
-use Rattle.std.specs.Prelude.{slice_get, Some}
+use Rattle.std.proofs.Common.{rules, ◌≡◌, ◌∙◌, ◌≤◌, ℕ, [], ◌∷◌, length, sym, ap, arith, refl, subst, true, false}
 use Rattle.std.proofs.lemmas.List.{length-append}
 use Rattle.std.proofs.lemmas.Option.{slice_get_within, get_or_from_slice_get}
 use Rattle.mw_dd.specs.Nodes.{after}
-use Rattle.mw_dd.specs.Memos.{IsDone, Settles}
-use Rattle.mw_dd.specs.Steps.{meaning, size, IsResult, AreAmong, Grows}
+use Rattle.mw_dd.specs.Steps.{meaning, size, IsResult, AreAmong}
 use Rattle.mw_dd.proofs.From.{from-grows}
 use Rattle.mw_dd.proofs.Cofactors.{IsSide, end_among, dds-grows, meaning-grows, more-same, left-side}
-use Rattle.mw_dd.proofs.Memos.{end_result, over_here, IsBegun, begun_keys, begun_settled, begun_left, begun_at, settled-settles}
-use Rattle.mw_dd.proofs.Memos.{settles-trans, are_from-grows, left-grows, IsStep, step_result, step_among, ended_settles, ended_left}
-use Rattle.mw_dd.proofs.Memos.{ended_keys, found_done}
+use Rattle.mw_dd.proofs.Memos.{end_result, over_here, IsBegun, begun_keys, begun_settled, begun_left, begun_at}
+use Rattle.mw_dd.proofs.Memos.{settled-settles}
+use Rattle.mw_dd.proofs.Memos.{settles-trans, are_from-grows, left-grows, IsStep, step_result, step_among}
+use Rattle.mw_dd.proofs.Memos.{ended_settles, ended_left}
+use Rattle.mw_dd.proofs.Memos.{found_done}
 use Rattle.mw_dd.proofs.ite.+choose.Goals as goal
 
 pub returns-in-Some-clause-value : goal.returns-in-Some-clause-value
@@ -28,16 +28,16 @@ index-requires t c =
 pub returns-in-Some-find-clause-value : goal.returns-in-Some-find-clause-value
 returns-in-Some-find-clause-value t c =
     let done = found_done c.args.nodes.now c.args.memo.now c.in-Some-find.place c.args.t c.requires.settled
-        c.in-Some-find.ensures.found in
+    c.in-Some-find.ensures.found in
     let one : done.result ≡ c.index.result.now =
-        sym (get_or_from_slice_get c.args.memo.now.results.items c.in-Some-find.place done.result c.index.result.now done.at)
-        ∙ sym c.index.ensures in
+    sym (get_or_from_slice_get c.args.memo.now.results.items c.in-Some-find.place done.result c.index.result.now done.at)
+    ∙ sym c.index.ensures in
     subst (IsResult c.args.nodes.now c.args.t) one done.is
 
 pub returns-in-Some-find-clause-among : goal.returns-in-Some-find-clause-among
 returns-in-Some-find-clause-among t c =
     let done = found_done c.args.nodes.now c.args.memo.now c.in-Some-find.place c.args.t c.requires.settled
-        c.in-Some-find.ensures.found in
+    c.in-Some-find.ensures.found in
     done.among
 
 pub returns-then-len-budget-clause-over : goal.returns-then-len-budget-clause-over
@@ -52,25 +52,25 @@ choose-requires t c =
     let memo0 = c.args.memo.now in
     let memo1 = c.begin.new.self in
     let begun : IsBegun memo0 memo1 c.args.t =
-        record { triples = c.in_ok-place.ensures.triples; results = c.in_ok-place.ensures.results } in
+    record { triples = c.in_ok-place.ensures.triples; results = c.in_ok-place.ensures.results } in
     let keys = begun_keys n1 memo0 memo1 c.args.t begun c.requires.keys c.requires.there (c.in_default.ensures.none refl)
-        (c.in_default-find.ensures.absent refl) in
+    (c.in_default-find.ensures.absent refl) in
     let less = c.side-at_low.ensures.earlier in
     let settled = begun_settled n1 memo0 memo1 c.args.t begun c.requires.keys (size c.side-at_low.result) less
-        c.requires.settled in
+    c.requires.settled in
     let longer = ap length c.in_ok-place.ensures.triples ∙ length-append memo0.triples (c.args.t ∷ []) in
     let within : length memo1.triples ≤ c.args.budget =
-        omega (arith, longer, c.if-len-budget.false, c.len.ensures.exact) in
+    omega (arith, longer, c.if-len-budget.false, c.len.ensures.exact) in
     search rules
 
 pub returns-in-Err-clause-over : goal.returns-in-Err-clause-over
 returns-in-Err-clause-over t c = λ same whole all is left.
     let n1 = c.args.nodes.now in
     let begun : IsBegun c.args.memo.now c.begin.new.self c.args.t =
-        record { triples = c.in_ok-place.ensures.triples; results = c.in_ok-place.ensures.results } in
+    record { triples = c.in_ok-place.ensures.triples; results = c.in_ok-place.ensures.results } in
     let lo = c.side-at_low.ensures in
     let side : IsSide n1 c.args.t c.top-variable.result false c.side-at_low.result =
-        record { f = lo.f; g = lo.g; h = lo.h; from = lo.from; there = lo.there } in
+    record { f = lo.f; g = lo.g; h = lo.h; from = lo.from; there = lo.there } in
     c.in-Err.ensures.over same whole all
     (left-side n1 c.requires.reduced whole all c.args.t c.side-at_low.result c.top-variable.result false
     c.top-variable.ensures side is)
@@ -82,12 +82,12 @@ choose-requires-2 t c =
     let memo0 = c.args.memo.now in
     let memo1 = c.begin.new.self in
     let begun : IsBegun memo0 memo1 c.args.t =
-        record { triples = c.in_ok-place.ensures.triples; results = c.in_ok-place.ensures.results } in
+    record { triples = c.in_ok-place.ensures.triples; results = c.in_ok-place.ensures.results } in
     let less = c.side-at_high.ensures.earlier in
     let there = dds-grows n1 c.choose.new.nodes c.side-at_high.result c.in-Ok.ensures.grows c.side-at_high.ensures.there in
     let settled = settled-settles n1 c.choose.new.nodes memo1 c.choose.new.memo (size c.side-at_high.result)
-        c.in-Ok.ensures.settles
-        (begun_settled n1 memo0 memo1 c.args.t begun c.requires.keys (size c.side-at_high.result) less c.requires.settled) in
+    c.in-Ok.ensures.settles
+    (begun_settled n1 memo0 memo1 c.args.t begun c.requires.keys (size c.side-at_high.result) less c.requires.settled) in
     let reduced = c.in-Ok.ensures.reduced in
     let keys = c.in-Ok.ensures.keys in
     let within = c.in-Ok.ensures.within in
@@ -98,13 +98,13 @@ returns-in-Err-choose-clause-over t c = λ same whole all is left.
     let n1 = c.args.nodes.now in
     let n2 = c.choose.new.nodes in
     let begun : IsBegun c.args.memo.now c.begin.new.self c.args.t =
-        record { triples = c.in_ok-place.ensures.triples; results = c.in_ok-place.ensures.results } in
+    record { triples = c.in_ok-place.ensures.triples; results = c.in_ok-place.ensures.results } in
     let lo = c.side-at_low.ensures in
     let hi = c.side-at_high.ensures in
     let low : IsSide n1 c.args.t c.top-variable.result false c.side-at_low.result =
-        record { f = lo.f; g = lo.g; h = lo.h; from = lo.from; there = lo.there } in
+    record { f = lo.f; g = lo.g; h = lo.h; from = lo.from; there = lo.there } in
     let high : IsSide n1 c.args.t c.top-variable.result true c.side-at_high.result =
-        record { f = hi.f; g = hi.g; h = hi.h; from = hi.from; there = hi.there } in
+    record { f = hi.f; g = hi.g; h = hi.h; from = hi.from; there = hi.there } in
     let grows = c.in-Ok.ensures.grows in
     more-same (meaning n2 whole) (meaning n1 whole) c.args.budget (meaning-grows n1 n2 whole grows all)
     (c.in-Err-choose.ensures.over same whole (dds-grows n1 n2 whole grows all)
@@ -141,10 +141,10 @@ make-requires-clause-high_later t c =
 pub end-requires-2 : goal.end-requires-2
 end-requires-2 t c =
     let begun : IsBegun c.args.memo.now c.begin.new.self c.args.t =
-        record { triples = c.in_ok-place.ensures.triples; results = c.in_ok-place.ensures.results } in
+    record { triples = c.in_ok-place.ensures.triples; results = c.in_ok-place.ensures.results } in
     let at = c.in-Ok-choose.ensures.settles.stay (length c.args.memo.now.triples) c.args.t
-        (c.in-Ok.ensures.settles.stay (length c.args.memo.now.triples) c.args.t
-        (begun_at c.args.nodes.now c.args.memo.now c.begin.new.self c.args.t begun c.requires.keys)) in
+    (c.in-Ok.ensures.settles.stay (length c.args.memo.now.triples) c.args.t
+    (begun_at c.args.nodes.now c.args.memo.now c.begin.new.self c.args.t begun c.requires.keys)) in
     let within = slice_get_within c.choose-2.new.memo.triples (length c.args.memo.now.triples) c.args.t at in
     omega (arith, within, c.in-Ok-choose.ensures.keys.beside, c.in_ok-place.ensures.place)
 
@@ -187,7 +187,7 @@ all_among : (t : ℕ) (c : goal.After-end-2 t) → AreAmong c.make.new.nodes c.c
 all_among t c =
     let place = length c.args.memo.now.triples in
     let at = c.in-Ok-choose.ensures.settles.stay place c.args.t (c.in-Ok.ensures.settles.stay place c.args.t
-        (begun_at c.args.nodes.now c.args.memo.now c.begin.new.self c.args.t (began t c) c.requires.keys)) in
+    (begun_at c.args.nodes.now c.args.memo.now c.begin.new.self c.args.t (began t c) c.requires.keys)) in
     step_among c.args.nodes.now c.choose.new.nodes c.choose-2.new.nodes c.make.new.nodes c.args.t c.side-at_low.result
     c.side-at_high.result c.top-variable.result c.in-Ok.low c.in-Ok-choose.high c.in_ok-made.made (stepped t c)
     c.choose.new.memo.triples c.choose-2.new.memo.triples place c.requires.reduced c.in-Ok-choose.ensures.settles.stay at

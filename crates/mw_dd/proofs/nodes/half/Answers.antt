@@ -1,4 +1,4 @@
-use Rattle.std.proofs.Common.{◌≡◌, ◌∙◌, arith, refl}
+use Rattle.std.proofs.Common.{◌∙◌, arith, refl}
 use Rattle.std.proofs.lemmas.Bool.{false≢true}
 use Rattle.mw_dd.proofs.Made.{half-from, half-high, half-low}
 use Rattle.mw_dd.proofs.nodes.half.Goals as goal

@@ -1,4 +1,4 @@
-use Rattle.std.proofs.Common.{◌≡◌, ◌+◌, ◌∙◌, sym, ap, ℕ, length, arith, refl}
+use Rattle.std.proofs.Common.{◌≡◌, ◌+◌, ◌∙◌, ap, ℕ, length, arith, refl}
 use Rattle.std.proofs.lemmas.Bool.Decides.{nat_tests}
 use Rattle.mw_dd.proofs.Order.{not_before_itself}
 use Rattle.mw_dd.proofs.Values.{grows-push}
@@ -37,11 +37,11 @@ returns-clause-grows c = rw c.in_ok-place.ensures.items (grows-push c.args.nodes
 pub returns-clause-value : goal.returns-clause-value
 returns-clause-value c = λ given.
     let place : c.at-2.result ≡ length c.args.nodes.now + 2 =
-        c.at-2.ensures ∙ ap (λ (n : ℕ). n + 2) c.in_ok-place.ensures.place in
+    c.at-2.ensures ∙ ap (λ (n : ℕ). n + 2) c.in_ok-place.ensures.place in
     rw (place, c.in_ok-place.ensures.items) (made_value c.args.nodes.now c.args.node (can c) given)
 
 pub returns-clause-from : goal.returns-clause-from
 returns-clause-from c =
     let place : c.at-2.result ≡ length c.args.nodes.now + 2 =
-        c.at-2.ensures ∙ ap (λ (n : ℕ). n + 2) c.in_ok-place.ensures.place in
+    c.at-2.ensures ∙ ap (λ (n : ℕ). n + 2) c.in_ok-place.ensures.place in
     rw (place, c.in_ok-place.ensures.items) (made_from c.args.nodes.now c.args.node)

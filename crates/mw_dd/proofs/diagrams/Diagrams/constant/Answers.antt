@@ -1,4 +1,4 @@
-use Rattle.std.proofs.Common.{◌≡◌, ◌∙◌, ap, sym, ℕ}
+use Rattle.std.proofs.Common.{◌∙◌, ap, sym}
 use Rattle.mw_dd.specs.Nodes.{value_at}
 use Rattle.mw_dd.proofs.Values.{value-zero, value-one}
 use Rattle.mw_dd.proofs.diagrams.Diagrams.constant.Goals as goal

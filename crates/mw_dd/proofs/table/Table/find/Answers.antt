@@ -1,4 +1,4 @@
-use Rattle.std.proofs.Common.{◌≡◌, ◌∙◌, sym, arith, length, ◌≤◌}
+use Rattle.std.proofs.Common.{arith}
 use Rattle.mw_dd.proofs.Links.{absent}
 use Rattle.mw_dd.proofs.table.Table.find.Goals as goal
 

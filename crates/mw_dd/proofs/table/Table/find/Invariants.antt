@@ -1,4 +1,4 @@
-use Rattle.std.proofs.Common.{◌≡◌, ◌+◌, length, nat_lt}
+use Rattle.std.proofs.Common.{◌+◌, length, nat_lt}
 use Rattle.std.specs.Prelude.{if◌then◌else◌}
 use Rattle.mw_dd.proofs.Links.{Ahead}
 use Rattle.mw_dd.proofs.table.Table.find.Given as goal
