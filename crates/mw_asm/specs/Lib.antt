@@ -3,6 +3,7 @@ pub mod Examples
 pub mod FirstPass
 pub mod ItemBits
 pub mod Items
+pub mod Labels
 pub mod Listing
 pub mod Microprogram
 pub mod Names

@@ -6,6 +6,7 @@ mod bits;
 mod first_pass;
 mod item_bits;
 mod items;
+mod labels;
 mod listed;
 mod microprogram;
 mod names;
@@ -13,6 +14,7 @@ mod second_pass;
 mod statement;
 
 pub use assembled::{Assembled, Label};
+pub use labels::address_of;
 pub use listed::listing;
 pub use microprogram::assemble;
 

@@ -28,7 +28,8 @@ use Rattle.mw_descfile.specs.declared.relation_line.BlockWord.{BlockWord}
 use Rattle.mw_descfile.specs.declared.relation_line.BlockWord.TheVariants as words
 use Rattle.mw_descfile.specs.declared.scope.Scope.{Scope}
 use Rattle.mw_descfile.specs.declared.uses.Use.{Use}
-use Rattle.mw_descfile.specs.Boundaries.{Block, label_named, place_token, is_taken, bounded, block_of, with_point, with_equation, closed_block}
+use Rattle.mw_asm.specs.Labels.{label_named}
+use Rattle.mw_descfile.specs.Boundaries.{Block, place_token, is_taken, bounded, block_of, with_point, with_equation, closed_block}
 use Rattle.mw_descfile.specs.Expressions.{written_of}
 use Rattle.mw_descfile.specs.KeptRelation.{IsScope, IsGiven, IsEnded, IsOpen, IsKept}
 use Rattle.mw_descfile.specs.Relation.{Known, with_told, with_tokens, with_any, with_line}

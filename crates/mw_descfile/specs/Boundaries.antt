@@ -1,7 +1,6 @@
 -- What the lines of a boundary say, line by line.
-use Rattle.std.specs.Prelude.{ℕ, List, [], ◌∷◌, ◌++◌, length, map, slice_index, Bool, ◌&&◌, not, nat_le, nat_lt, ◌==◌, is_none, if◌then◌else◌, find, Option, Some, None, option_map, ok_or, Result, Ok, Err}
+use Rattle.std.specs.Prelude.{ℕ, List, [], ◌∷◌, ◌++◌, length, map, slice_index, Bool, ◌&&◌, not, nat_le, nat_lt, ◌==◌, is_none, if◌then◌else◌, Option, Some, None, ok_or, Result, Ok, Err}
 use Rattle.std.specs.List.{flat_map, list_any}
-use Rattle.std.specs.Str.{bytes_eq}
 use Rattle.mw_base.specs.declared.cause.Cause.TheVariants.{TooMany, Twice, UnknownElement, LeftTwice, LeftUsedOnRight, NoStackPointer, BadBound}
 use Rattle.mw_base.specs.declared.cursor.Dotted.{Dotted}
 use Rattle.mw_base.specs.declared.cursor.Numeral.{Numeral}
@@ -14,6 +13,7 @@ use Rattle.mw_base.specs.Places.{address_of}
 use Rattle.mw_base.specs.Reading.{◌>>=◌}
 use Rattle.mw_base.specs.TokenLines.{fault_on}
 use Rattle.mw_asm.specs.declared.assembled.Label.{Label}
+use Rattle.mw_asm.specs.Labels.{label_named}
 use Rattle.mw_expr.specs.Placed.{Placed}
 use Rattle.mw_rel.specs.Lines.{Line}
 use Rattle.mw_rel.specs.Relation.{Boundary}
@@ -41,11 +41,6 @@ pub record Block : Type 0 where
   pub lines : List Given
 
 -- ---- its beginning
-
--- the address of the label with a name
-abbrev pub label_named : List Label → List ℕ → Option ℕ
-label_named labels name = option_map (λ (label : Label). label.address)
-    (find (λ (label : Label). bytes_eq name label.name) labels)
 
 -- the token of a PLACE
 abbrev pub place_token : Place → Token

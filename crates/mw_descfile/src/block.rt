@@ -2,12 +2,11 @@
 ghost use Rattle.std.specs.Prelude.{◌≡◌, ◌<◌, ◌≤◌, ◌++◌, OnOk, IfOk, List, [], length, map, None};
 ghost use Rattle.std.specs.List.{flat_map};
 ghost use Rattle.mw_base.specs.FirstFaults.{first_in};
-ghost use Rattle.mw_base.specs.Places.{address_of};
 ghost use Rattle.mw_base.specs.Reading.{Gives};
 ghost use Rattle.mw_expr.specs.Text.{IsShape};
 ghost use Rattle.mw_expr.specs.Written.{written};
 ghost use Rattle.mw_rel.specs.Seen.{boundary_of, boundaries_of, lines_of};
-ghost use Rattle.mw_descfile.specs.Boundaries.{Given as SeenGiven, label_named, place_token, is_taken, bounded, block_of, with_point, with_equation, is_left, twice_left, used_left, line_faults, unsolved, closed_block};
+ghost use Rattle.mw_descfile.specs.Boundaries.{Given as SeenGiven, place_token, is_taken, bounded, block_of, with_point, with_equation, is_left, twice_left, used_left, line_faults, unsolved, closed_block};
 ghost use Rattle.mw_descfile.specs.RelationViews.{given_seen, block_seen};
 ghost use Rattle.mw_descfile.specs.Statements.{allowed};
 
@@ -15,10 +14,10 @@ use crate::declared::ranged;
 use crate::relation_line::Beginning;
 use crate::scope::Scope;
 use crate::uses::{Use, dotted_number};
-use mw_asm::Label;
+use mw_asm::{Label, address_of};
 use mw_base::{
     Cause, Cursor, Dotted, Items, NoMemory, Numeral, Place, Refusal, Refused, TextFault, Token,
-    fault_on, low_address, note_fault, spelled,
+    fault_on, note_fault, spelled,
 };
 use mw_expr::Written;
 use mw_rel::{Boundary, Line};
@@ -64,32 +63,6 @@ pub(crate) fn check(can_be: bool, fault: TextFault) -> Result<(), TextFault>
     ensures { result ≡ allowed can_be fault }
 {
     if can_be { Ok(()) } else { Err(fault) }
-}
-
-/// The address of the label with a name, if there is one.
-fn label_named(labels: &[Label], name: &[u8]) -> Option<u16>
-    ensures { result ≡ label_named labels.now name.now }
-{
-    match labels.iter().find(|label| name == label.name.as_slice()) {
-        Some(label) => Some(label.address),
-        None => None,
-    }
-}
-
-/// The address that a PLACE stands for: cause 30 or 33.
-#[tactic(auto, unfolding(mw_base::specs::Places::address_of))]
-fn address_of(place: Place, text: &[u8], labels: &[Label]) -> Result<u16, TextFault>
-    ensures exact { result ≡ address_of text.now (label_named labels.now) place }
-    ensures low { IfOk result (λ address. address < 4096) }
-{
-    match place {
-        Place::Label(token) => {
-            let unknown = fault_on(token, Cause::UnknownName);
-            let address = label_named(labels, spelled(text, token)).ok_or(unknown)?;
-            low_address(token, u128::from(address))
-        }
-        Place::Address(numeral) => low_address(numeral.token, numeral.value),
-    }
 }
 
 /// The token of a PLACE.

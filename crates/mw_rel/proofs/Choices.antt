@@ -7,7 +7,9 @@ use Rattle.std.proofs.lemmas.List.Elements.{All-head, All-tail}
 use Rattle.mw_board.specs.declared.parts.BoardParts.{BoardParts}
 use Rattle.mw_board.specs.Elements.{element_count}
 use Rattle.mw_cycle.specs.Boundary.{numbers}
-use Rattle.mw_cycle.specs.Elements.{element, element_of, bits_of, with_value, IsValueOf}
+use Rattle.mw_cycle.specs.declared.elements.Element.{Element}
+use Rattle.mw_cycle.specs.declared.elements.Element.TheVariants.{Register, Q, Mar, Ir, FlipFlop, Pc, R, StackWord}
+use Rattle.mw_cycle.specs.Elements.{element, element_of, bits_of, value_of, with_value, IsValueOf}
 use Rattle.mw_cycle.specs.State as boards
 use Rattle.mw_cycle.specs.State.{BoardState, cleared}
 use Rattle.mw_cycle.proofs.Fitting.{cleared_fits}
@@ -19,7 +21,7 @@ use Rattle.mw_macro.specs.DescribedStep.{kept}
 use Rattle.mw_rel.specs.Begin.{Begin, IsBegin, IsCompleted, EachChoiceGivesAPair}
 use Rattle.mw_rel.specs.Completed.{free_value, value_by, standing}
 use Rattle.mw_rel.specs.Free.{is_free, numbered, no_boundary}
-use Rattle.mw_rel.specs.InRelation.{Pair, pair_of}
+use Rattle.mw_rel.specs.InRelation.{BothFit, pair_of}
 use Rattle.mw_rel.specs.Job.{Job, IsJob}
 use Rattle.mw_rel.specs.Lines.{Line}
 use Rattle.mw_rel.specs.Relation.{Boundary}
@@ -71,10 +73,22 @@ first_values board values (suc n) few within each =
     (one_more board values n few (omega arith) (each n (omega arith))
     (first_values board values n few (omega arith) each))
 
+-- and has them wherever it stands
+stands_same : (s : BoardState) (at sp : ℕ) (memory : List ℕ) (e : Element)
+    → value_of (standing s at sp memory) e ≡ value_of s e
+stands_same s at sp memory (Register n) = refl
+stands_same s at sp memory Q = refl
+stands_same s at sp memory Mar = refl
+stands_same s at sp memory Ir = refl
+stands_same s at sp memory (FlipFlop n) = refl
+stands_same s at sp memory Pc = refl
+stands_same s at sp memory R = refl
+stands_same s at sp memory (StackWord n) = refl
+
 -- ---- the values of all elements
 
 -- a list by number
-pub listed : (ℕ → ℕ) → ℕ → List ℕ
+listed : (ℕ → ℕ) → ℕ → List ℕ
 listed f n = map f (numbers 0 n)
 
 listed_length : (f : ℕ → ℕ) (n : ℕ) → length (listed f n) ≡ n
@@ -112,25 +126,28 @@ each_choice_gives_a_pair job n begin is there begins =
     let boundary = numbered job n in
     let count = length s.widths in
     let solved = solved_at job n is there in
-    let given = free_value (is_free boundary) begin.values in
+    let given : ℕ → ℕ = λ e. free_value (is_free boundary) begin.values e in
     let places = listed given count in
     let placed : (e : ℕ) → e < count → slice_index places e ≡ given e = listed_at given count in
     let free = free_words job boundary begin places begins (listed_length given count) placed in
-    let by = value_by s places begin.memory boundary.lines in
+    let by : ℕ → ℕ = λ e. value_by s places begin.memory boundary.lines e in
     let values = listed by count in
     let size : length values ≡ count = listed_length by count in
     let each : (e : ℕ) → e < length values → slice_index values e ≡ by e =
-    λ e below. listed_at by count e (omega arith) in
+    λ e below. listed_at by count e (omega (arith, size, below)) in
     let words : AreWords s.widths values = record {
       count = size;
-      each = λ e below. rw (listed_at by count e below)
+      each = λ e below. subst (λ v. v < 2 ^ slice_index s.widths e) (sym (listed_at by count e below))
           (by_lines s places begin.memory boundary.lines e free begins.memory solved.lines below);
     } in
     let board = first_values job.board values (element_count job.board) is.board.few_flipflops (omega arith)
     (word_fits job values is words) in
     let state = standing board.state boundary.address boundary.sp begin.memory in
     let machine = kept (drop (element_count job.board) values) begin.memory in
-    let fit = record {
+    let set : (e : ℕ) → e < element_count job.board → element job.board state e ≡ slice_index values e =
+    λ e below. stands_same board.state boundary.address boundary.sp begin.memory (element_of job.board e)
+    ∙ board.set e below in
+    let fit : BothFit job (pair_of state machine) = record {
       board = standing_fits job board.state boundary.address boundary.sp begin.memory is board.fits
           (is.matched.relation.formed.boundaries n no_boundary there).address
           (is.matched.parts.pointers n no_boundary there) begins.memory;
@@ -138,8 +155,8 @@ each_choice_gives_a_pair job n begin is there begins =
     } in (
       pair_of state machine,
       completed job boundary begin values (pair_of state machine) fit (record { at = refl; sp = refl; memory = refl })
-          (sym (set_values job state values begin.memory is words board.set)) refl
+          (sym (set_values job state values begin.memory is words set)) refl
           (all_hold s places begin.memory values boundary.lines free.count (size ∙ sym free.count) each solved.lines
           solved.once solved.free)
-          (chosen_values job boundary begin places values size (λ e below. placed e (omega arith)) each begins),
+          (chosen_values job boundary begin places values size (λ e below. placed e (omega (arith, size, below))) each begins),
     )

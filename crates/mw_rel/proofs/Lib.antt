@@ -1,5 +1,6 @@
 pub mod Boundaries
 pub mod Completed
+pub mod Choice
 pub mod Choices
 pub mod Chosen
 pub mod Cycles

@@ -1,5 +1,5 @@
 -- The values of the elements of a pair, from those of its free elements and its memory.
-use Rattle.std.specs.Prelude.{◌≡◌, ℕ, List, [], ◌∷◌, length, Bool, if◌then◌else◌, ◌==◌, filter, slice_index}
+use Rattle.std.specs.Prelude.{◌≡◌, ℕ, ◌<◌, ◌^◌, List, [], ◌∷◌, length, Bool, true, if◌then◌else◌, ◌==◌, filter, slice_index}
 use Rattle.mw_cycle.specs.Boundary.{numbers}
 use Rattle.mw_cycle.specs.State.{BoardState}
 use Rattle.mw_expr.specs.declared.shape.Shape.{Shape}
@@ -27,3 +27,13 @@ HoldsIn s values memory line = slice_index values line.left ≡ value s values m
 -- the state of a board that stands at an address, with a stack pointer and a memory, and is else as it was
 abbrev pub standing : BoardState → (at sp : ℕ) → (memory : List ℕ) → BoardState
 standing s at sp memory = record s { at = at; seq = record s.seq { sp = sp }; memory = memory }
+
+-- an element that is free has one of the given values, at its place among the free ones, and this is a word of its width
+abbrev pub IsGiven : (ℕ → Bool) → (given : List ℕ) → (width e : ℕ) → Type 0
+IsGiven free given width e = free e ≡ true
+    → (free_before free e < length given) × (slice_index given (free_before free e) < 2 ^ width)
+
+-- so has each element that is free, and there are no more values
+pub record AreGiven (free : ℕ → Bool) (given widths : List ℕ) : Type 0 where
+  pub count : length given ≡ free_before free (length widths)
+  pub each : (e : ℕ) → e < length widths → IsGiven free given (slice_index widths e) e

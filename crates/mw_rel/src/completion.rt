@@ -15,60 +15,18 @@ ghost use Rattle.mw_rel.specs.Rules.{IsLineOf, IsSolved};
 ghost use Rattle.mw_rel.specs.Seen.{line_of, lines_of, boundary_of};
 ghost use Rattle.mw_rel.specs.Views.{job_of};
 
+use crate::begin::Begin;
 use crate::boundary::Boundary;
-use crate::free_elements::is_left;
+use crate::free_elements::{count_free, is_free_at};
 use crate::job::Job;
 use crate::line::Line;
 use crate::pair::{MOST_ELEMENTS, Pair};
 use mw_base::NoMemory;
 use mw_board::Board;
-use mw_cycle::{Env, State};
+use mw_cycle::State;
 use mw_expr::value;
 use mw_macro::MacState;
 use std::alloc::Global;
-use std::marker::Model;
-
-/// What a start is chosen by, at a boundary: the values of the free elements, the memory, and an environment.
-#[derive(Debug, Drop)]
-pub struct Begin {
-    /// The values of the free elements, in the order of their numbers.
-    pub values: Vec<u32>,
-    /// The words of the memory of both sides, by address.
-    pub memory: Vec<u32>,
-    /// The environment; it is no part of the pair.
-    pub env: Env,
-}
-
-impl Model for Begin {
-    ghost use Rattle.mw_macro.specs.DescribedStep.{kept};
-    ghost use Rattle.mw_macro.specs.State as machines;
-    ghost use Rattle.mw_rel.specs.Begin.{Begin as BeginOf};
-
-    ghost Value = { BeginOf };
-
-    ghost view = { λ b. record { values = b.values.items; memory = b.memory.items; env = b.env } };
-}
-
-/// Whether the element of this number is on no left side at a boundary.
-fn is_free_at(at: &Boundary, number: usize) -> bool
-    requires { number < 2 ^ 32 }
-    ensures { result ≡ is_free (boundary_of at.now) number }
-{
-    !is_left(at.lines.as_slice(), number as u32)
-}
-
-/// How many elements are free up to one, and with it.
-fn count_free(at: &Boundary, number: usize, before: usize) -> usize
-    requires few { number < 170 }
-    requires before { before ≡ free_before (is_free (boundary_of at.now)) number }
-    requires room { before < 2 ^ 32 }
-    ensures { result ≡ free_before (is_free (boundary_of at.now)) (number + 1) }
-{
-    if is_free_at(at, number) {
-        return before + 1;
-    }
-    before
-}
 
 /// The value of an element that is free, which is the given one at its place among the free ones, and 0 of others.
 fn free_value(at: &Boundary, given: &[u32], number: usize, before: usize) -> u32
@@ -302,7 +260,7 @@ pub fn complete(alloc: Global, job: &Job, boundary: usize, begin: &Begin) -> Res
     requires begins { IsBegin (job_of job.now) (numbered (job_of job.now) boundary) begin.now }
     ensures { IfOk result (λ pair. IsCompleted (job_of job.now) (numbered (job_of job.now) boundary) begin.now pair) }
 {
-    let at = &job.relation.boundaries()[boundary];
+    let at = job.boundary(boundary);
     let count = job.element_count();
     let mut elements = [0; MOST_ELEMENTS];
     let values = &mut elements[..count];

@@ -51,5 +51,5 @@ pub fn line_difference(job: &Job, boundary: usize, pair: &Pair) -> Option<Differ
 {
     // A call for the proof: its clause `valid` says what holds of every job.
     let _ = job.shape();
-    fails_at(job, &job.relation.boundaries()[boundary], pair)
+    fails_at(job, job.boundary(boundary), pair)
 }

@@ -7,6 +7,7 @@ ghost use Rattle.mw_rel.specs.Job.{shape_of, AreMatched};
 ghost use Rattle.mw_rel.specs.Relation.{related};
 ghost use Rattle.mw_rel.specs.Seen.{boundaries_of};
 
+use crate::boundary::Boundary;
 use crate::relation::Relation;
 use mw_base::{Cause, Items, NoMemory};
 use mw_board::{Board, Store};
@@ -64,9 +65,11 @@ pub struct Job {
 }
 
 impl Job {
-    ghost use Rattle.std.specs.Prelude.{length};
+    ghost use Rattle.std.specs.Prelude.{◌<◌, length};
     ghost use Rattle.mw_board.specs.Elements.{element_count};
+    ghost use Rattle.mw_rel.specs.Free.{numbered};
     ghost use Rattle.mw_rel.specs.Job.{job_with, AreForEachOther, memories_agree, IsJob};
+    ghost use Rattle.mw_rel.specs.Seen.{boundary_of};
     ghost use Rattle.mw_rel.specs.Views.{relation_of, job_of};
 
     /// The job of these parts. The relation was made for the shape of this board and this machine, and each of its
@@ -101,6 +104,7 @@ impl Job {
             Err(Cause::ShapesDiffer)
         }
     }
+
     /// The shape that the lines of its relation are over: the widths of the elements of both sides, and those of the
     /// memory.
     pub fn shape(&self) -> &Shape
@@ -110,6 +114,14 @@ impl Job {
         // A call for the proof: its clause `valid` says what holds of every board.
         let _ = self.board.parts();
         self.relation.shape()
+    }
+
+    /// The boundary of this number, from 0.
+    pub fn boundary(&self, number: usize) -> &Boundary
+        requires there { number < length (job_of self.now).relation.boundaries }
+        ensures { boundary_of result.now ≡ numbered (job_of self.now) number }
+    {
+        &self.relation.boundaries()[number]
     }
 
     /// How many elements both sides have: those of the board and, behind them, the machine's registers.

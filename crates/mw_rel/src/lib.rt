@@ -1,6 +1,7 @@
 //! Relations between a board and a described machine, the starts that they give, and what it is that a job is certified.
 #![tactic(auto)]
 
+mod begin;
 mod boundary;
 mod completion;
 mod difference;
@@ -13,8 +14,9 @@ mod pair;
 mod relation;
 mod rules;
 
+pub use begin::Begin;
 pub use boundary::Boundary;
-pub use completion::{Begin, complete};
+pub use completion::complete;
 pub use difference::Difference;
 pub use failing::line_difference;
 pub use free_elements::free;

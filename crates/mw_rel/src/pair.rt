@@ -120,7 +120,7 @@ pub fn holds(job: &Job, boundary: usize, pair: &Pair) -> bool
 {
     // A call for the proof: its clause `valid` says what holds of every job.
     let _ = job.shape();
-    let at = &job.relation.boundaries()[boundary];
+    let at = job.boundary(boundary);
     if !fit(job, pair) {
         return false;
     }

@@ -86,6 +86,7 @@ one_start : (a b : Boundary) (p q : Pair) (env other : Environment) → a ≡ b 
 one_start a b p q env other boundaries pairs environments = rw (boundaries, pairs, environments) refl
 
 pub starts_are_one : StartsAreOne
+unfolding start_with
 starts_are_one job counter start other is below one two =
     let n = counter.boundary in
     let pairs : start.pair ≡ other.pair =

@@ -15,7 +15,7 @@ use Rattle.mw_replay.specs.Replay.{Follows, IsReached}
 pub next_is_start : (job : Job) (start next : Start) → IsJob job → IsStart job start → difference_of job start ≡ None
     → Follows job start next → IsStart job next
 next_is_start job start next is begins none follows =
-    subst (IsStart job) (sym follows.next)
+    subst (IsStart job) (sym follows.is_next)
     (starts_follow job start follows.run follows.reached is begins none follows.segment follows.there)
 
 -- so is each start that is reached
@@ -32,12 +32,14 @@ earlier : (job : Job) (here next : Start) (j : ℕ) (d : Difference) → IsStart
     → Follows job here next → DiffersAt job next j d → DiffersAt job here (j + 1) d
 earlier job here next j d begins none follows differs =
     DiffersAt.later here follows.run follows.reached j d begins none follows.segment follows.there
-    (subst (λ s. DiffersAt job s j d) follows.next differs)
+    (subst (λ s. DiffersAt job s j d) follows.is_next differs)
 
 -- what differs after k steps differs k steps later from the first start
 after_steps : (job : Job) (start here : Start) (k j : ℕ) (d : Difference) → IsJob job → IsStart job start
     → IsReached job start k here → DiffersAt job here j d → DiffersAt job start (k + j) d
-after_steps job start here k j d is begins IsReached.begins differs = differs
+after_steps job start here k j d is begins IsReached.begins differs =
+    let none : j ≡ 0 + j = omega arith in
+    subst (λ n. DiffersAt job start n d) none differs
 after_steps job start here k j d is begins (IsReached.goes_on i before next reached none follows) differs =
     let same : i + (j + 1) ≡ i + 1 + j = omega arith in
     let begun = reached_is_start job start before i is begins reached in
@@ -91,7 +93,7 @@ reaches job start n (suc k) d (DiffersAt.later one run boundary step difference 
       reached = boundary;
       segment = segment;
       there = there;
-      next = refl;
+      is_next = refl;
     } in
     let more : k + 1 ≡ suc k = omega arith in
     subst (λ m. Reaches job start m d) more
@@ -119,7 +121,7 @@ follows_one job start next other one two =
     let at : boundary_at job two.run.state.at ≡ Some one.reached =
     subst (λ (r : BoardRun). boundary_at job r.state.at ≡ Some one.reached) runs one.there in
     let boundaries : one.reached ≡ two.reached = some_one one.reached two.reached (sym at ∙ two.there) in
-    one.next ∙ rw (runs, boundaries) (sym two.next)
+    one.is_next ∙ rw (runs, boundaries) (sym two.is_next)
 
 shows_none : {Q : Type 0} (shown : Option Difference) (d : Difference) → shown ≡ None → shown ≡ Some d → Q
 shows_none shown d none some = cc
@@ -136,7 +138,7 @@ differs_behind job start next n d none follows (DiffersAt.later one run boundary
       reached = boundary;
       segment = segment;
       there = there;
-      next = refl;
+      is_next = refl;
     } in (
       step,
       refl,
@@ -152,7 +154,7 @@ record Behind (job : Job) (here : Start) (k n : ℕ) (d : Difference) : Type 0 w
 
 behind : (job : Job) (start here : Start) (k n : ℕ) (d : Difference) → IsReached job start k here
     → DiffersAt job start n d → Behind job here k n d
-behind job start here k n d IsReached.begins differs = record { step = n; place = refl; differs = differs }
+behind job start here k n d IsReached.begins differs = record { step = n; place = omega arith; differs = differs }
 behind job start here k n d (IsReached.goes_on i before next reached none follows) differs =
     let there = behind job start before i n d reached differs in
     let next_differs = differs_behind job before here there.step d none follows there.differs in

@@ -22,7 +22,8 @@ use Rattle.mw_sim.specs.declared.given.Owner.{Owner}
 use Rattle.mw_sim.specs.declared.given.Owner.TheVariants.{Board, Machine}
 use Rattle.mw_sim.specs.declared.given.Settable.{Settable}
 use Rattle.mw_sim.specs.Given.{Given, given_by}
-use Rattle.mw_sim.specs.Start.{environment_with, first_word, from_first, label_named}
+use Rattle.mw_asm.specs.Labels.{label_named}
+use Rattle.mw_sim.specs.Start.{environment_with, first_word, from_first}
 use Rattle.mw_replay.specs.Counter.{Counter}
 
 -- ---- what a line may set

@@ -1,4 +1,5 @@
 pub mod Counter
 pub mod CounterText
 pub mod Replay
+pub mod Views
 pub mod Laws

@@ -45,7 +45,7 @@ pub record Follows (job : Job) (start next : Start) : Type 0 where
   pub reached : Boundary
   pub segment : segment_of job start ≡ Some run
   pub there : boundary_at job run.state.at ≡ Some reached
-  pub next : next ≡ start_after job start run reached
+  pub is_next : next ≡ start_after job start run reached
 
 -- k steps from a start that show no difference, and the start after them
 pub data IsReached (job : Job) (start : Start) : ℕ → Start → Type 0 where

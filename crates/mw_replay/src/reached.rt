@@ -55,7 +55,7 @@ pub(crate) fn difference_at(
         (numbered (job_of job.now) boundary) (run_at pair.now.board events.now clock)
         (record { state = pair.now.machine; events = steps.now; taken = taken }) }
 {
-    let at = &job.relation.boundaries()[boundary];
+    let at = job.boundary(boundary);
     event_difference(events, steps)
         .or(pointer_difference(at, &pair.board))
         .or(line_difference(job, boundary, pair))

@@ -13,13 +13,14 @@ ghost use Rattle.mw_rel.specs.Start.{addresses_of};
 ghost use Rattle.mw_rel.specs.Views.{job_of};
 ghost use Rattle.mw_sim.specs.Run.{run_at, segment_after};
 ghost use Rattle.mw_replay.specs.Counter.{IsCounter, IsStartOf};
+ghost use Rattle.mw_replay.specs.Views.{replay_of, HasRoom};
 ghost use Rattle.mw_replay.specs.Replay.{IsReplay, Follows, next_start, step_with};
 
 use crate::counter::Counter;
 use crate::reached::{copy_addresses, difference_at, number_at};
 use mw_base::{Event, NoMemory};
-use mw_cycle::{Clock, Datapath, Env, State};
-use mw_macro::{MacState, step};
+use mw_cycle::{Clock, Datapath, Env};
+use mw_macro::step;
 use mw_rel::{Difference, Job, Pair, complete};
 use mw_sim::run_to_boundary;
 use std::alloc::Global;
@@ -34,28 +35,41 @@ const MOST_EVENTS: usize = 4096;
 /// The most boundaries of a relation.
 const MOST_BOUNDARIES: usize = 64;
 
+/// Where a replay stands, and the room that its steps need.
+#[derive(Drop)]
+pub(crate) struct Stand {
+    /// The number of the boundary.
+    boundary: usize,
+    /// The pair there.
+    pair: Pair,
+    /// The whole environment.
+    env: Env,
+    /// How far the replay has come in it.
+    clock: Clock,
+    /// The events of the last segment.
+    events: Vec<Event>,
+    /// The events of the last step.
+    steps: Vec<Event>,
+    /// Nothing: a step keeps nothing here.
+    temps: Vec<u32>,
+}
+
 /// A replay: the start of the next segment, and all memory that its steps need. Contracts see where it stands: the
 /// number of the boundary, the pair there, the whole environment, and how far it has come in it.
 #[derive(Drop)]
 pub struct Replay {
-    boundary: usize,
-    pair: Pair,
-    env: Env,
-    clock: Clock,
-    events: Vec<Event>,
-    steps: Vec<Event>,
-    temps: Vec<u32>,
+    stand: Stand,
 }
 
 impl Model for Replay {
-    ghost use Rattle.std.specs.Prelude.{◌≡◌, ◌≤◌, [], vec_capacity};
     ghost use Rattle.mw_replay.specs.Replay.{Replay as ReplayOf};
+    ghost use Rattle.mw_replay.specs.Views.{replay_of, HasRoom};
 
     ghost Value = { ReplayOf };
 
-    ghost view = { λ r. record { boundary = r.boundary; pair = r.pair; env = r.env; clock = r.clock } };
+    ghost view = { λ r. replay_of r.stand };
 
-    ghost invariant = { λ r. (500 ≤ vec_capacity r.events) × (4096 ≤ vec_capacity r.steps) × (r.temps.items ≡ []) };
+    ghost invariant = { λ r. HasRoom r.stand };
 }
 
 /// A copy of an environment.
@@ -74,33 +88,41 @@ fn run_segment<A: Datapath>(
     part: &A,
     job: &Job,
     limit: u32,
-    state: &mut State,
+    pair: &mut Pair,
     env: &Env,
     clock: Clock,
     events: &mut Vec<Event>,
 ) -> Option<Clock>
-    requires fits { boards.Fits (job_of job.now).board state.old }
+    requires fits { boards.Fits (job_of job.now).board pair.old.board }
     requires env_in { IsEnvironment (job_of job.now).board env.now }
     requires cycle { clock.cycle + limit < 2 ^ 64 }
     requires taken { clock.taken + limit < 2 ^ 64 }
     requires room { limit ≤ vec_capacity events.old }
     ensures reached { IfSome result (λ end. segment_after (job_of job.now).board (job_of job.now).store env.now
-        (run_at state.old [] clock) (addresses_of (job_of job.now)) limit ≡ Some (run_at state.new events.new.items end)) }
+        (run_at pair.old.board [] clock) (addresses_of (job_of job.now)) limit
+        ≡ Some (run_at pair.new.board events.new.items end)) }
     ensures late { result ≡ None → segment_after (job_of job.now).board (job_of job.now).store env.now
-        (run_at state.old [] clock) (addresses_of (job_of job.now)) limit ≡ None }
-    ensures few { IfSome result (λ end. length events.new.items ≤ limit) }
-    ensures cycle { IfSome result (λ end. end.cycle ≤ clock.cycle + limit) }
-    ensures taken { IfSome result (λ end. end.taken ≤ clock.taken + limit) }
-    ensures fits { boards.Fits (job_of job.now).board state.new }
+        (run_at pair.old.board [] clock) (addresses_of (job_of job.now)) limit ≡ None }
+    ensures fits { boards.Fits (job_of job.now).board pair.new.board }
+    ensures machine { pair.new.machine ≡ pair.old.machine }
     ensures capacity { vec_capacity events.old ≤ vec_capacity events.new }
 {
     let mut addresses = [0; MOST_BOUNDARIES];
     let named = &mut addresses[..job.relation.boundaries().len()];
     copy_addresses(job, named);
     events.clear();
-    match run_to_boundary(
-        part, &job.board, &job.store, state, env, clock, named, limit, events,
-    ) {
+    let ended = run_to_boundary(
+        part,
+        &job.board,
+        &job.store,
+        &mut pair.board,
+        env,
+        clock,
+        named,
+        limit,
+        events,
+    );
+    match ended {
         Ok(end) => Some(end),
         Err(_) => None,
     }
@@ -110,20 +132,21 @@ fn run_segment<A: Datapath>(
 /// cycle, and its inputs are those that were not taken yet.
 fn run_step(
     job: &Job,
-    state: &mut MacState,
+    pair: &mut Pair,
     env: &Env,
     clock: Clock,
     temps: &mut Vec<u32>,
     steps: &mut Vec<Event>,
 )
-    requires fits { machines.Fits (job_of job.now).machine state.old }
+    requires fits { machines.Fits (job_of job.now).machine pair.old.machine }
     requires inputs { AreInputs (job_of job.now).machine env.now.inputs }
     requires within { clock.taken + most_events (job_of job.now).machine < 2 ^ 64 }
     requires empty { temps.old.items ≡ [] }
     requires room { 4096 ≤ vec_capacity steps.old }
-    ensures state { state.new ≡ (step_with (job_of job.now) state.old (rest_at env.now clock)).state }
-    ensures events { steps.new.items ≡ (step_with (job_of job.now) state.old (rest_at env.now clock)).events }
-    ensures fits { machines.Fits (job_of job.now).machine state.new }
+    ensures pair { pair.new ≡ pair_of pair.old.board
+        (step_with (job_of job.now) pair.old.machine (rest_at env.now clock)).state }
+    ensures events { steps.new.items ≡ (step_with (job_of job.now) pair.old.machine (rest_at env.now clock)).events }
+    ensures fits { machines.Fits (job_of job.now).machine pair.new.machine }
     ensures capacity { vec_capacity steps.old ≤ vec_capacity steps.new }
     ensures empty { temps.new.items ≡ [] }
 {
@@ -131,13 +154,68 @@ fn run_step(
     steps.clear();
     step(
         &job.machine,
-        state,
+        &mut pair.machine,
         request,
         &env.inputs,
         clock.taken,
         temps,
         steps,
     );
+}
+
+/// The control address at which the board of a pair stands.
+fn address_of(pair: &Pair) -> u16
+    ensures { result ≡ pair.now.board.at }
+{
+    pair.board.at
+}
+
+/// One segment of the board from the next start, and one step of the described machine: the first difference.
+fn advance<A: Datapath>(part: &A, job: &Job, stand: &mut Stand) -> Option<Difference>
+    requires room { HasRoom stand.old }
+    requires stands { IsReplay (job_of job.now) (replay_of stand.old) }
+    requires cycles { stand.old.clock.cycle + (numbered (job_of job.now) stand.old.boundary).bound < 2 ^ 64 }
+    requires taken { stand.old.clock.taken + (numbered (job_of job.now) stand.old.boundary).bound < 2 ^ 64 }
+    requires inputs { stand.old.clock.taken + most_events (job_of job.now).machine < 2 ^ 64 }
+    ensures room { HasRoom stand.new }
+    ensures shown { result ≡ difference_of (job_of job.now) (next_start (job_of job.now) (replay_of stand.old)) }
+    ensures follows { result ≡ None → Follows (job_of job.now) (next_start (job_of job.now) (replay_of stand.old))
+        (next_start (job_of job.now) (replay_of stand.new)) }
+    ensures stands { result ≡ None → IsReplay (job_of job.now) (replay_of stand.new) }
+    ensures cycle { stand.new.clock.cycle ≤ stand.old.clock.cycle + 500 }
+    ensures taken { stand.new.clock.taken ≤ stand.old.clock.taken + 500 }
+{
+    // A call for the proof: its clause `valid` says what holds of every job.
+    let _ = job.shape();
+    let at = stand.clock;
+    let env = &stand.env;
+    let limit = job.boundary(stand.boundary).bound;
+    run_step(
+        job,
+        &mut stand.pair,
+        env,
+        at,
+        &mut stand.temps,
+        &mut stand.steps,
+    );
+    let ended = run_segment(
+        part,
+        job,
+        limit,
+        &mut stand.pair,
+        env,
+        at,
+        &mut stand.events,
+    );
+    let Some(end) = ended else {
+        return Some(Difference::Late);
+    };
+    let Some(reached) = number_at(job, address_of(&stand.pair)) else {
+        return Some(Difference::Late);
+    };
+    stand.boundary = reached;
+    stand.clock = end;
+    difference_at(job, reached, &stand.pair, &stand.events, &stand.steps)
 }
 
 impl Replay {
@@ -154,13 +232,15 @@ impl Replay {
     {
         let pair = complete(alloc, job, counter.boundary, &counter.begin)?;
         Ok(Replay {
-            boundary: counter.boundary,
-            pair,
-            env: copy_of(alloc, &counter.begin.env)?,
-            clock: Clock { cycle: 0, taken: 0 },
-            events: Vec::with_capacity(alloc, MOST_CYCLES)?,
-            steps: Vec::with_capacity(alloc, MOST_EVENTS)?,
-            temps: Vec::new(alloc),
+            stand: Stand {
+                boundary: counter.boundary,
+                pair,
+                env: copy_of(alloc, &counter.begin.env)?,
+                clock: Clock { cycle: 0, taken: 0 },
+                events: Vec::with_capacity(alloc, MOST_CYCLES)?,
+                steps: Vec::with_capacity(alloc, MOST_EVENTS)?,
+                temps: Vec::new(alloc),
+            },
         })
     }
 
@@ -183,33 +263,6 @@ impl Replay {
         ensures cycle { self.new.clock.cycle ≤ self.old.clock.cycle + 500 }
         ensures taken { self.new.clock.taken ≤ self.old.clock.taken + 500 }
     {
-        let at = self.clock;
-        let limit = job.relation.boundaries()[self.boundary].bound;
-        run_step(
-            job,
-            &mut self.pair.machine,
-            &self.env,
-            at,
-            &mut self.temps,
-            &mut self.steps,
-        );
-        let ended = run_segment(
-            part,
-            job,
-            limit,
-            &mut self.pair.board,
-            &self.env,
-            at,
-            &mut self.events,
-        );
-        let Some(end) = ended else {
-            return Some(Difference::Late);
-        };
-        let Some(reached) = number_at(job, self.pair.board.at) else {
-            return Some(Difference::Late);
-        };
-        self.boundary = reached;
-        self.clock = end;
-        difference_at(job, reached, &self.pair, &self.events, &self.steps)
+        advance(part, job, &mut self.stand)
     }
 }

@@ -11,13 +11,13 @@ ghost use Rattle.mw_replay.specs.CounterText.{settables_of, begins_with, behind_
 use crate::counter::Counter;
 use crate::elements::{free_values, settables_of};
 use crate::reached::number_at;
-use mw_asm::Label;
+use mw_asm::{Label, address_of};
 use mw_base::{
     Cause, Cursor, Line, NoMemory, Place, Refusal, Refused, TextFault, Token, fault_on, lines,
     text_end,
 };
 use mw_rel::{Begin, Job};
-use mw_sim::{Given, address_of, environment_with, first_word, from_first, given_by};
+use mw_sim::{Given, environment_with, first_word, from_first, given_by};
 use std::alloc::Global;
 
 /// Whether a line begins with this word.

@@ -1,5 +1,5 @@
 -- The start of a run that an environment file gives.
-use Rattle.std.specs.Prelude.{ℕ, zero, suc, ◌^◌, List, [], ◌∷◌, ◌++◌, codes, length, drop, map, slice_index, true, if◌then◌else◌, ◌==◌, find, option_map, Option, Result, Ok, Err}
+use Rattle.std.specs.Prelude.{ℕ, zero, suc, ◌^◌, List, [], ◌∷◌, ◌++◌, codes, length, drop, map, slice_index, true, if◌then◌else◌, ◌==◌, Option, Result, Ok, Err}
 use Rattle.std.specs.List.{prefix_len}
 use Rattle.std.specs.Str.{bytes_eq}
 use Rattle.mw_base.specs.declared.cause.Cause.TheVariants.{BadSyntax}
@@ -18,6 +18,7 @@ use Rattle.mw_cycle.specs.State.{BoardState, cleared}
 use Rattle.mw_cycle.specs.Elements.{with_element}
 use Rattle.mw_cycle.specs.Environment.{Environment}
 use Rattle.mw_asm.specs.declared.assembled.Label.{Label}
+use Rattle.mw_asm.specs.Labels.{label_named}
 use Rattle.mw_sim.specs.declared.given.Owner.TheVariants.{Board}
 use Rattle.mw_sim.specs.declared.given.Settable.{Settable}
 use Rattle.mw_sim.specs.Given.{Given, given_by, trimmed}
@@ -38,11 +39,6 @@ stack_pointer = record { owner = Board; name = stack_pointer_name; bound = 6; is
 -- what an environment may set: the board's elements, and behind them the stack pointer
 abbrev pub settables_of : BoardParts → List Settable
 settables_of board = map settable (elements_of board) ++ (stack_pointer ∷ [])
-
--- the address of the label with a name
-abbrev pub label_named : List Label → List ℕ → Option ℕ
-label_named labels name = option_map (λ (label : Label). label.address)
-    (find (λ (label : Label). bytes_eq name label.name) labels)
 
 -- the first token, which has to be this word
 unfoldable pub first_word : List ℕ → Cursor → Result Token TextFault

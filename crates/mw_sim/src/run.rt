@@ -135,6 +135,7 @@ pub fn run_to_boundary<A: Datapath>(
     ensures passed { IfErr result (λ late. run_at state.new events.new.items late.clock
         ≡ cycles_after board.now store.now.words env.now (run_at state.old events.old.items clock) limit) }
     ensures fits { Fits board.now state.new }
+    ensures capacity { vec_capacity events.old ≤ vec_capacity events.new }
 {
     let mut reached = clock;
     'cycles: for _ in 0..limit {

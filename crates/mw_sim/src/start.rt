@@ -1,21 +1,19 @@
 // The start of a run that an environment file gives.
 ghost use Rattle.std.specs.Prelude.{◌≡◌, ℕ, ◌+◌, ◌<◌, ◌≤◌, ◌^◌, ◌++◌, ◌==◌, IfOk, OnOk, length, map, slice_get, slice_index, take};
 ghost use Rattle.std.specs.Option.{option_to_list};
-ghost use Rattle.mw_base.specs.Places.{address_of};
 ghost use Rattle.mw_base.specs.Reading.{Gives};
 ghost use Rattle.mw_board.specs.Elements.{element_count, elements_of};
 ghost use Rattle.mw_cycle.specs.Elements.{IsValueOf};
 ghost use Rattle.mw_cycle.specs.Environment.{IsEnvironment};
 ghost use Rattle.mw_cycle.specs.State.{Fits};
 ghost use Rattle.mw_sim.specs.Given.{AreBounded, HasSeries, IsGiven, trimmed};
-ghost use Rattle.mw_sim.specs.Start.{settable, settables_of, label_named, first_word, at_of, blank_lines, from_first, with_values, state_with, environment_with, start_in, start_of};
+ghost use Rattle.mw_sim.specs.Start.{settable, settables_of, first_word, at_of, blank_lines, from_first, with_values, state_with, environment_with, start_in, start_of};
 ghost use Rattle.mw_sim.specs.Views.{given_seen};
 
 use crate::given::{Given, Owner, Settable, given_by, two_to};
-use mw_asm::{Assembled, Label};
+use mw_asm::{Assembled, Label, address_of};
 use mw_base::{
-    Cause, Cursor, Line, Name, NoMemory, Place, Refusal, Refused, TextFault, Token, fault_on,
-    lines, low_address, spelled, text_end,
+    Cause, Cursor, Line, Name, NoMemory, Place, Refusal, Refused, TextFault, Token, lines, text_end,
 };
 use mw_board::Board;
 use mw_cycle::{Env, State};
@@ -81,32 +79,6 @@ fn settables_of(alloc: Global, board: &Board) -> Result<Vec<Settable>, NoMemory>
         is_free: true,
     })?;
     Ok(elements)
-}
-
-/// The address of the label with a name, if there is one.
-fn label_named(labels: &[Label], name: &[u8]) -> Option<u16>
-    ensures { result ≡ label_named labels.now name.now }
-{
-    match labels.iter().find(|label| name == label.name.as_slice()) {
-        Some(label) => Some(label.address),
-        None => None,
-    }
-}
-
-/// The address that a PLACE stands for: cause 30 or 33.
-#[tactic(auto, unfolding(mw_base::specs::Places::address_of))]
-fn address_of(place: Place, text: &[u8], labels: &[Label]) -> Result<u16, TextFault>
-    ensures exact { result ≡ address_of text.now (label_named labels.now) place }
-    ensures low { IfOk result (λ address. address < 4096) }
-{
-    match place {
-        Place::Label(token) => {
-            let unknown = fault_on(token, Cause::UnknownName);
-            let address = label_named(labels, spelled(text, token)).ok_or(unknown)?;
-            low_address(token, u128::from(address))
-        }
-        Place::Address(numeral) => low_address(numeral.token, numeral.value),
-    }
 }
 
 /// The first token of a line, which has to be this word.

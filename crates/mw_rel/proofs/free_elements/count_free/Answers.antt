@@ -2,7 +2,7 @@ use Rattle.std.proofs.Common.{◌+◌, ap, sym, ◌∙◌}
 use Rattle.mw_rel.specs.Free.{is_free}
 use Rattle.mw_rel.specs.Seen.{boundary_of}
 use Rattle.mw_rel.proofs.Completed.{before_free, before_left}
-use Rattle.mw_rel.proofs.completion.count_free.Goals as goal
+use Rattle.mw_rel.proofs.free_elements.count_free.Goals as goal
 
 pub returns-then-is_free_at : goal.returns-then-is_free_at
 returns-then-is_free_at c =
