@@ -300,7 +300,9 @@ pub fn read_relation(
     text: &[u8],
 ) -> Result<Relation, Refusal>
     requires { length text.now < 2 ^ 32 }
-    ensures { Gives relation_seen result (relation_of board.now made.now.labels (description_of machine.now) text.now) }
+    ensures gives { Gives relation_seen result (relation_of board.now made.now.labels (description_of machine.now) text.now) }
+    ensures made { IfOk result (λ relation. AreForEachOther board.now (description_of machine.now) (relation_seen relation)) }
+    ensures agree { OnOk result (memories_agree board.now (description_of machine.now) ≡ true) }
 {
     let lines = lines(alloc, text)?;
     let agree = memories_agree(board, machine);
