@@ -1,12 +1,12 @@
 // The relation of a text.
-ghost use Rattle.std.specs.Prelude.{◌≡◌, ◌<◌, ◌≤◌, ◌^◌, [], None, ◌++◌, codes, IfOk, OnOk, length, map, nat_lt, slice_get, take};
+ghost use Rattle.std.specs.Prelude.{◌≡◌, ◌<◌, ◌≤◌, ◌^◌, [], None, ◌++◌, codes, IfOk, OnOk, length, map, nat_lt, slice_get, take, true};
 ghost use Rattle.std.specs.Option.{option_to_list};
 ghost use Rattle.mw_base.specs.Reading.{Gives};
 ghost use Rattle.mw_base.specs.Steps.{steps};
 ghost use Rattle.mw_base.specs.TokenLines.{last_fault};
 ghost use Rattle.mw_board.specs.Elements.{elements_of};
 ghost use Rattle.mw_macro.specs.Described.{description_of};
-ghost use Rattle.mw_rel.specs.Job.{memories_agree, shape_of};
+ghost use Rattle.mw_rel.specs.Job.{AreForEachOther, memories_agree, shape_of};
 ghost use Rattle.mw_rel.specs.Seen.{boundaries_of};
 ghost use Rattle.mw_rel.specs.Views.{relation_of as relation_seen};
 ghost use Rattle.mw_descfile.specs.KeptRelation.{IsScope, IsKept};
