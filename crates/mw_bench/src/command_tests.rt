@@ -28,7 +28,16 @@ fn asm_small(rt: HostRuntime) -> Result<(), Fail> {
 #[test]
 fn run_small(rt: HostRuntime) -> Result<(), Fail> {
     let run = b"cycles 1000\nat 0x0\nset b.r0 0x9\nset b.r1 0x8\nset b.upc 0x1\n";
-    assert!(rt; ends(rt.alloc(), &["run", "b", "m", "e"], "e", ENVIRONMENT, 0, run)?);
+    assert!(rt;
+        ends(
+            rt.alloc(),
+            &["run", "b", "m", "e"],
+            "e",
+            ENVIRONMENT,
+            0,
+            run
+        )?
+    );
     Ok(())
 }
 
@@ -47,7 +56,16 @@ fn micro_refusals(rt: HostRuntime) -> Result<(), Fail> {
 #[test]
 fn board_refusals(rt: HostRuntime) -> Result<(), Fail> {
     let open = b"version = 1\nfill = \"0";
-    assert!(rt; ends(rt.alloc(), &ASM, "b", open, 4, b"refused b key - cause 20\n")?);
+    assert!(rt;
+        ends(
+            rt.alloc(),
+            &ASM,
+            "b",
+            open,
+            4,
+            b"refused b key - cause 20\n"
+        )?
+    );
     let longer = vec![in rt.alloc(); b'\n'; 1_048_577]?;
     let too_long = b"refused b line 0 column 0 cause 5\n";
     assert!(rt; ends(rt.alloc(), &ASM, "b", &longer, 4, too_long)?);

@@ -29,7 +29,10 @@ fn compare_machine_element(rt: HostRuntime) -> Result<(), Fail> {
     shelf.set(rt.alloc(), "s", start)?;
     let mut out = MemorySink::new(rt.alloc(), 4096, &[])?;
     assert_eq!(rt; call(rt.alloc(), &WORDS, &mut shelf, &mut out)?, 1);
-    assert_eq!(rt; out.bytes(), b"differs step 1\ndifference element m.X\n".as_slice());
+    assert_eq!(rt;
+        out.bytes(),
+        b"differs step 1\ndifference element m.X\n".as_slice()
+    );
     Ok(())
 }
 
@@ -72,7 +75,11 @@ fn each_fetch_fails(rt: HostRuntime) -> Result<(), Fail> {
             number += 1;
             let mut shelf = small(rt.alloc(), 64, &[number])?;
             let mut out = MemorySink::new(rt.alloc(), 4096, &[])?;
-            assert_eq!(rt; call(rt.alloc(), &WORDS, &mut shelf, &mut out)?, 5, "fetch {number} fails");
+            assert_eq!(rt;
+                call(rt.alloc(), &WORDS, &mut shelf, &mut out)?,
+                5,
+                "fetch {number} fails"
+            );
             assert_eq!(rt; out.bytes(), report.as_bytes(), "fetch {number} fails");
         }
     }
@@ -92,7 +99,11 @@ fn each_byte_fails(rt: HostRuntime) -> Result<(), Fail> {
         shelf.set(rt.alloc(), "k", machine)?;
         let mut out = MemorySink::new(rt.alloc(), 1, &[number as u64])?;
         let status = if number <= length { 6 } else { 1 };
-        assert_eq!(rt; call(rt.alloc(), &WORDS, &mut shelf, &mut out)?, status, "put {number} fails");
+        assert_eq!(rt;
+            call(rt.alloc(), &WORDS, &mut shelf, &mut out)?,
+            status,
+            "put {number} fails"
+        );
         assert_eq!(rt; out.bytes(), &DIFFERS[..number - 1], "put {number} fails");
     }
     Ok(())

@@ -4,6 +4,7 @@ pub mod Closed
 pub mod DeclaredLines
 pub mod Expressions
 pub mod KnownLines
+pub mod Matched
 pub mod Names
 pub mod Opens
 pub mod Pushed

@@ -1,12 +1,12 @@
 // The relation of a text.
-ghost use Rattle.std.specs.Prelude.{◌≡◌, ◌<◌, ◌≤◌, ◌^◌, [], None, ◌++◌, codes, IfOk, OnOk, length, map, nat_lt, slice_get, take};
+ghost use Rattle.std.specs.Prelude.{◌≡◌, ◌<◌, ◌≤◌, ◌^◌, [], None, ◌++◌, codes, IfOk, OnOk, length, map, nat_lt, slice_get, take, true};
 ghost use Rattle.std.specs.Option.{option_to_list};
 ghost use Rattle.mw_base.specs.Reading.{Gives};
 ghost use Rattle.mw_base.specs.Steps.{steps};
 ghost use Rattle.mw_base.specs.TokenLines.{last_fault};
 ghost use Rattle.mw_board.specs.Elements.{elements_of};
 ghost use Rattle.mw_macro.specs.Described.{description_of};
-ghost use Rattle.mw_rel.specs.Job.{memories_agree, shape_of};
+ghost use Rattle.mw_rel.specs.Job.{AreForEachOther, memories_agree, shape_of};
 ghost use Rattle.mw_rel.specs.Seen.{boundaries_of};
 ghost use Rattle.mw_rel.specs.Views.{relation_of as relation_seen};
 ghost use Rattle.mw_descfile.specs.KeptRelation.{IsScope, IsKept};
@@ -300,7 +300,9 @@ pub fn read_relation(
     text: &[u8],
 ) -> Result<Relation, Refusal>
     requires { length text.now < 2 ^ 32 }
-    ensures { Gives relation_seen result (relation_of board.now made.now.labels (description_of machine.now) text.now) }
+    ensures gives { Gives relation_seen result (relation_of board.now made.now.labels (description_of machine.now) text.now) }
+    ensures made { IfOk result (λ relation. AreForEachOther board.now (description_of machine.now) (relation_seen relation)) }
+    ensures agree { OnOk result (memories_agree board.now (description_of machine.now) ≡ true) }
 {
     let lines = lines(alloc, text)?;
     let agree = memories_agree(board, machine);

@@ -10,6 +10,9 @@ mod compare;
 mod microprogram;
 mod run;
 
+use self::compare::Comparison;
+use self::microprogram::Program;
+use self::run::Prepared;
 use crate::fault::Fault;
 use crate::outcome::Outcome;
 use crate::request::Command;
@@ -17,10 +20,6 @@ use mw_base::NoMemory;
 use mw_outside::Shelf;
 use mw_plan::{Files, Stop};
 use std::alloc::Global;
-
-use self::compare::Comparison;
-use self::microprogram::Program;
-use self::run::Prepared;
 
 /// What the commands make of their files.
 #[derive(Drop)]

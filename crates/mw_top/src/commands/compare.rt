@@ -108,7 +108,13 @@ fn read_related(
     ensures made { IfOk result (λ relation. AreForEachOther program.now.board described.now relation) }
     ensures agree { OnOk result (memories_agree program.now.board described.now ≡ true) }
 {
-    let relation = read_relation(alloc, &program.board, &program.made, &described.machine, text)?;
+    let relation = read_relation(
+        alloc,
+        &program.board,
+        &program.made,
+        &described.machine,
+        text,
+    )?;
     Ok(Related { relation })
 }
 
@@ -144,7 +150,11 @@ fn read_job<S: Shelf>(
 {
     let program = read_microprogram(alloc, shelf, files)?;
     let machine = files.next(alloc, shelf, |bytes| read_described(alloc, bytes))?;
-    let relation = files.next(alloc, shelf, |bytes| read_related(alloc, &program, &machine, bytes))?;
+    let relation = files.next(
+        alloc,
+        shelf,
+        |bytes| read_related(alloc, &program, &machine, bytes),
+    )?;
     Ok(job_with(program, machine, relation))
 }
 

@@ -39,7 +39,7 @@ pub(super) fn read_microprogram<S: Shelf>(
     ensures follows { (plan : Plan Fault Work) (rest : Program → Plan Fault Work) (first : ShelfView)
         → IsLater first (shelf_shown S.Shelf shelf.old)
         → IsLeft plan first files.old (first_by faults.Board board_of (λ board.
-            first_by faults.Text (store_of board) (λ made. rest (record { board = board; made = made }))))
+        first_by faults.Text (store_of board) (λ made. rest (record { board = board; made = made }))))
         → Follows rest plan first (shelf_shown S.Shelf shelf.new) files.new result }
     ensures names { files.new.names ≡ files.old.names }
     ensures two_more { OnOk result (length files.new.contents ≡ length files.old.contents + 2) }

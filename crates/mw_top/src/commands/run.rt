@@ -91,10 +91,11 @@ fn append_events(alloc: Global, report: &mut Vec<u8>, events: &[Event]) -> Resul
 
 /// The text of a run.
 #[tactic(auto, unfolding(crate::specs::RunText::run_text))]
-fn run_from(alloc: Global, prepared: Prepared) -> Result<Vec<u8>, NoMemory>
-    ensures { IfOk result (λ text. text.items ≡ run_from prepared) }
+fn run_from(alloc: Global, program: &Program, start: Start) -> Result<Vec<u8>, NoMemory>
+    requires fits { Fits program.now.board start.state }
+    requires env_in { IsEnvironment program.now.board start.env }
+    ensures { IfOk result (λ text. text.items ≡ run_from (record { program = program.now; start = start })) }
 {
-    let Prepared { program, start } = prepared;
     let Start { mut state, env } = start;
     let events = run(alloc, &program.board, &program.made.store, &mut state, &env)?;
     let mut text = Vec::new(alloc);
@@ -130,7 +131,8 @@ pub(super) fn read<S: Shelf>(
 pub(super) fn report(alloc: Global, prepared: Prepared) -> Result<Outcome, NoMemory>
     ensures { IfOk result (λ outcome. IsRun prepared outcome.status outcome.report.items) }
 {
-    let report = run_from(alloc, prepared)?;
+    let Prepared { program, start } = prepared;
+    let report = run_from(alloc, &program, start)?;
     Ok(Outcome {
         status: Status::Done,
         report,
