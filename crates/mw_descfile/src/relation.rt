@@ -265,9 +265,30 @@ fn memories_agree(board: &Board, machine: &Machine) -> bool
     shape.address == parts.address && shape.word == parts.width
 }
 
+/// The relation of a text, or its first fault.
+#[tactic(auto, unfolding(crate::specs::Relation::relation_of))]
+fn relation_in(
+    alloc: Global,
+    board: &Board,
+    made: &Assembled,
+    machine: &Machine,
+    text: &[u8],
+) -> Result<Relation, Refusal>
+    requires { length text.now < 2 ^ 32 }
+    ensures { Gives relation_seen result (relation_of board.now made.now.labels (description_of machine.now) text.now) }
+{
+    let lines = lines(alloc, text)?;
+    let agree = memories_agree(board, machine);
+    check(agree, first_place(Cause::ShapesDiffer)).map_err(Refused::At)?;
+    let scope = scope_for(alloc, board, machine)?;
+    let known = known_of(alloc, text, made.labels.as_slice(), &scope, &lines)?;
+    finished(scope.shape, text_end(&lines, Cause::BadSyntax), known)
+}
+
 /// The relation that a text describes between a board with its assembled microprogram and a machine.
 ///
-/// The text has fewer than 2^32 bytes. The time is linear in its length, and in that of the list of labels for each
+/// It is made for that board and that machine, whose memories have the same widths: a job can be made of them. The text
+/// has fewer than 2^32 bytes. The time is linear in its length, and in that of the list of labels for each
 /// boundary.
 ///
 /// # Errors
@@ -291,7 +312,6 @@ fn memories_agree(board: &Board, machine: &Machine) -> bool
 ///
 /// Last come 60 just past the text's last line, where a boundary is open there, and 53 at line 1 and column 1, where
 /// there is none. Want of memory.
-#[tactic(auto, unfolding(crate::specs::Relation::relation_of))]
 pub fn read_relation(
     alloc: Global,
     board: &Board,
@@ -304,10 +324,5 @@ pub fn read_relation(
     ensures made { IfOk result (λ relation. AreForEachOther board.now (description_of machine.now) (relation_seen relation)) }
     ensures agree { OnOk result (memories_agree board.now (description_of machine.now) ≡ true) }
 {
-    let lines = lines(alloc, text)?;
-    let agree = memories_agree(board, machine);
-    check(agree, first_place(Cause::ShapesDiffer)).map_err(Refused::At)?;
-    let scope = scope_for(alloc, board, machine)?;
-    let known = known_of(alloc, text, made.labels.as_slice(), &scope, &lines)?;
-    finished(scope.shape, text_end(&lines, Cause::BadSyntax), known)
+    relation_in(alloc, board, made, machine, text)
 }
