@@ -94,7 +94,7 @@ position_below test names None is = tt
 
 number_below : (text : List ℕ) (scope : Scope) (element : Dotted) (left : ℕ) → IsScope scope
     → ok_or (dotted_number text scope.names element.owner element.name)
-        (fault_on element.owner UnknownElement) ≡ Ok left
+    (fault_on element.owner UnknownElement) ≡ Ok left
     → left < length scope.shape.widths
 number_below text scope element left kept is =
     let below = found (λ n. n < length scope.names) (fault_on element.owner UnknownElement)
@@ -118,7 +118,7 @@ equation_kept text scope element sign value tokens before block next kept read i
     let three = bind_ok (asked_whole s block.reads_left wanted sign value) _ next two.2 in
     let whole = three.0 in
     let four =
-        bind_ok (asked wanted sign (seen_width s value)) (λ same. whole_of s block.reads_left value) whole three.1
+    bind_ok (asked wanted sign (seen_width s value)) (λ same. whole_of s block.reads_left value) whole three.1
     in
     let m = meaning_of text scope.names s.address in
     let read_it : WasRead value = record { m = m; cursor = _; is = read.1 } in
@@ -152,7 +152,7 @@ equation_kept text scope element sign value tokens before block next kept read i
     let few : length (block.lines ++ g ∷ []) ≤ 256 =
     let count = length-append block.lines (g ∷ []) in grind (arith, nat_tests, room, count) in
     subst (IsOpen s before)
-      (ok_is {F = TextFault} (record block { reads_left = whole.left; lines = block.lines ++ g ∷ [] })
+    (ok_is {F = TextFault} (record block { reads_left = whole.left; lines = block.lines ++ g ∷ [] })
     next three.2) (record {
       room = is_open.room;
       address = is_open.address;
@@ -243,7 +243,7 @@ reads_none : (s : Shape) (all front others : List Given) (g : Given) → all ≡
 reads_none s all front [] g is given free = refl
 reads_none s all front (o ∷ rest) g is given free =
     let at : is_left all o.line.left ≡ true =
-        rw is (list_any-append (λ (h : Given). h.line.left == o.line.left) front (o ∷ rest)
+    rw is (list_any-append (λ (h : Given). h.line.left == o.line.left) front (o ∷ rest)
     ∙ second_is (is_left front o.line.left) (is_left (o ∷ rest) o.line.left)
     (first_is (o.line.left == o.line.left) (is_left rest o.line.left) (eq-eqb o.line.left o.line.left refl))) in
     let none = no_use all g.uses o.line.left free at in
@@ -270,7 +270,7 @@ pub use_more : (all : List Given) (uses : List Use) (first next total : Option T
     → first_in next (flat_map (used_left all) (drop (n + 1) uses)) ≡ total
 use_more all uses first next total n u at is so_far =
     rw is (sym (first_in_append first (used_left all u) (flat_map (used_left all) (drop (n + 1) uses)))
-      ∙ rw at at so_far)
+    ∙ rw at at so_far)
 
 pub line_more : (all ys : List Given) (first next total : Option TextFault) (n : ℕ) (g : Given)
     → drop n ys ≡ g ∷ drop (n + 1) ys → take (n + 1) ys ≡ take n ys ++ g ∷ []

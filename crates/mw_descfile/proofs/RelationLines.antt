@@ -52,7 +52,7 @@ address_low : (text : List ℕ) (labels : List ℕ → Option ℕ) (place : Plac
 unfolding address_of
 address_low text labels (Named token) address is =
     let one =
-        bind_ok (ok_or (labels (spelled text token)) (fault_on token UnknownName)) (low_address token) address is in
+    bind_ok (ok_or (labels (spelled text token)) (fault_on token UnknownName)) (low_address token) address is in
     low token one.0 address one.2
 address_low text labels (Address numeral) address is = low numeral.token numeral.value address is
 
@@ -76,7 +76,7 @@ block_begun s text labels before said block is =
     let one = bind_ok (allowed (nat_lt (length before) 64) (fault_on said.word TooMany)) _ block is in
     let two = bind_ok (address_of text (label_named labels) said.place) _ block one.2 in
     let three =
-        bind_ok (allowed (not (is_taken before two.0)) (fault_on (place_token said.place) Twice)) _ block two.2 in
+    bind_ok (allowed (not (is_taken before two.0)) (fault_on (place_token said.place) Twice)) _ block two.2 in
     let four = bind_ok (bounded said.bound) _ block three.2 in
     let room = allowed_only (nat_lt (length before) 64) (fault_on said.word TooMany) one.0 one.1 in
     let bound = bound_in said.bound four.0 four.1 in
@@ -167,7 +167,7 @@ once_more : (before : List Boundary) (b : Boundary) → addresses_are_once befor
 once_more [] b once apart = refl
 once_more (x ∷ rest) b once apart =
     let parts =
-        and_parts (not (list_any (λ other. other == x.address) (map (λ (b : Boundary). b.address) rest))) _ once in
+    and_parts (not (list_any (λ other. other == x.address) (map (λ (b : Boundary). b.address) rest))) _ once in
     let two = neither (x.address == b.address) _ apart in
     and_from _ (addresses_are_once (rest ++ b ∷ []))
     (turned _ (not_again rest b.address x.address two.0 (untaken _ parts.0) b refl))
@@ -188,7 +188,7 @@ unfolding with_told
 told_kept text scope known next block (to_point word value) over kept is_open was is =
     let one = bind_ok (with_point word value block) _ next is in
     subst (IsKept scope.shape)
-      (ok_is {F = TextFault} (record { boundaries = known.boundaries; block = Some one.0 }) next
+    (ok_is {F = TextFault} (record { boundaries = known.boundaries; block = Some one.0 }) next
     one.2) (record {
       few = kept.few;
       once = kept.once;
@@ -198,7 +198,7 @@ told_kept text scope known next block (to_point word value) over kept is_open wa
 told_kept text scope known next block (to_equate element sign value uses) over kept is_open was is =
     let one = bind_ok (with_equation text scope element sign value uses block) _ next is in
     subst (IsKept scope.shape)
-      (ok_is {F = TextFault} (record { boundaries = known.boundaries; block = Some one.0 }) next
+    (ok_is {F = TextFault} (record { boundaries = known.boundaries; block = Some one.0 }) next
     one.2) (record {
       few = kept.few;
       once = kept.once;
@@ -212,7 +212,7 @@ told_kept text scope known next block (to_close word) over kept is_open was is =
     let room = is_open.room in
     let count = length-append known.boundaries (one.0 ∷ []) in
     subst (IsKept scope.shape)
-      (ok_is {F = TextFault} (record { boundaries = known.boundaries ++ one.0 ∷ []; block = None })
+    (ok_is {F = TextFault} (record { boundaries = known.boundaries ++ one.0 ∷ []; block = None })
     next one.2) (record {
       few = omega (arith, room, count);
       once = once_more known.boundaries one.0 kept.once (rw ended.1 is_open.apart);
@@ -229,7 +229,7 @@ tokens_kept text labels scope known next None line same over kept is =
     let one = bind_ok (beginning_of (at_line text line BadSyntax)) _ next is in
     let two = bind_ok (block_of text labels known.boundaries one.0) _ next one.2 in
     subst (IsKept scope.shape)
-      (ok_is {F = TextFault} (record { boundaries = known.boundaries; block = Some two.0 }) next
+    (ok_is {F = TextFault} (record { boundaries = known.boundaries; block = Some two.0 }) next
     two.2) (record {
       few = kept.few;
       once = kept.once;

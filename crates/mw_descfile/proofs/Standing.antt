@@ -46,7 +46,7 @@ among_back xs ys e is =
 -- from one token on: the element there, and those from the next token on
 pub from_next : (text : List ℕ) (names : List (List ℕ)) (tokens : List Token) (n : ℕ) → n < length tokens
     → uses_of text names (drop n tokens)
-        ≡ use_first text names (drop n tokens) ++ uses_of text names (drop (n + 1) tokens)
+    ≡ use_first text names (drop n tokens) ++ uses_of text names (drop (n + 1) tokens)
 unfolding uses_of
 from_next text names [] n within = absurd (omega arith)
 from_next text names (token ∷ rest) zero within = refl

@@ -7,4 +7,4 @@ pub returns-clause-kept : goal.returns-clause-kept
 returns-clause-kept c =
     rw (c.from_vec.ensures, c.in_ok-names_of.ensures, c.in_ok-shape_of.ensures)
     (scope_kept c.args.board.now (description_of c.args.machine.now) c.parts.ensures.valid
-      c.args.machine.now.is_machine)
+    c.args.machine.now.is_machine)
