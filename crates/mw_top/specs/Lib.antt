@@ -1,5 +1,6 @@
 pub mod Answer
 pub mod Call
+pub mod Codes
 pub mod Commands
 pub mod Report
 pub mod Request

@@ -40,8 +40,12 @@ struct Described {
 impl Model for Described {
     ghost use Rattle.mw_macro.specs.Described.{description_of};
     ghost use Rattle.mw_macro.specs.Machine.{Description};
+    ghost use Rattle.mw_top.specs.Codes.{coded_acts};
+    ghost use Rattle.std.specs.Coded.{codes};
 
     ghost Value = { Description };
+
+    ghost coded = { Prim.hlevel (codes, coded_acts) };
 
     ghost view = { λ d. description_of d.machine };
 }
@@ -55,8 +59,12 @@ struct Related {
 impl Model for Related {
     ghost use Rattle.mw_rel.specs.Relation.{Relation};
     ghost use Rattle.mw_rel.specs.Views.{relation_of};
+    ghost use Rattle.mw_top.specs.Codes.{coded_tree};
+    ghost use Rattle.std.specs.Coded.{codes};
 
     ghost Value = { Relation };
+
+    ghost coded = { Prim.hlevel (codes, coded_tree) };
 
     ghost view = { λ r. relation_of r.relation };
 }
@@ -78,9 +86,13 @@ pub(crate) struct Comparison {
 impl Model for Comparison {
     ghost use Rattle.mw_rel.specs.Views.{job_of};
     ghost use Rattle.mw_replay.specs.Counter.{IsCounter};
+    ghost use Rattle.mw_top.specs.Codes.{coded_acts, coded_tree};
     ghost use Rattle.mw_top.specs.Work.{Comparison as ComparisonOf};
+    ghost use Rattle.std.specs.Coded.{codes};
 
     ghost Value = { ComparisonOf };
+
+    ghost coded = { Prim.hlevel (codes, coded_acts, coded_tree) };
 
     ghost view = { λ c. record { job = job_of c.labelled.job; counter = c.counter } };
 
