@@ -40,6 +40,7 @@ abbrev mutual
   trees_code (more t ts) = gcons (gnum 1) (gcons (tree_code t) (trees_code ts))
 
 mutual
+  -- expressions of one code are one
   pub tree_inj : (x y : Tree) → tree_code x ≡ tree_code y → x ≡ y
   tree_inj (element n) (element n2) p = λ i. element (coded_ℕ.inj n n2 (ap (λ (g : Gv). tail g) p) i)
   tree_inj (element n) (constant n2 w2) p = absurd (apart 0 1 p (omega arith))
@@ -123,6 +124,7 @@ mutual
   tree_inj (memory a) (widened a2 w2) p = absurd (apart 8 7 p (omega arith))
   tree_inj (memory a) (memory a2) p = λ i. memory (tree_inj a a2 (ap (λ (g : Gv). tail g) p) i)
 
+  -- so are the parts of a join
   pub trees_inj : (x y : Trees) → trees_code x ≡ trees_code y → x ≡ y
   trees_inj none none p = refl
   trees_inj none (more t2 ts2) p = absurd (apart 0 1 p (omega arith))
@@ -148,6 +150,7 @@ abbrev mutual
   acts_code (next x xs) = gcons (gnum 1) (gcons (act_code x) (acts_code xs))
 
 mutual
+  -- statements of one code are one
   pub act_inj : (x y : Act) → act_code x ≡ act_code y → x ≡ y
   act_inj (assign n v) (assign n2 v2) p = λ i. assign (coded_ℕ.inj n n2 (ap (λ (g : Gv). head (tail g)) p) i) (tree_inj v v2 (ap (λ (g : Gv). tail (tail g)) p) i)
   act_inj (assign n v) (write a2 v2) p = absurd (apart 0 1 p (omega arith))
@@ -175,6 +178,7 @@ mutual
   act_inj (choose c a b) (take_in n2) p = absurd (apart 4 3 p (omega arith))
   act_inj (choose c a b) (choose c2 a2 b2) p = λ i. choose (tree_inj c c2 (ap (λ (g : Gv). head (tail g)) p) i) (acts_inj a a2 (ap (λ (g : Gv). head (tail (tail g))) p) i) (acts_inj b b2 (ap (λ (g : Gv). tail (tail (tail g))) p) i)
 
+  -- so are statements in their order
   pub acts_inj : (x y : Acts) → acts_code x ≡ acts_code y → x ≡ y
   acts_inj nothing nothing p = refl
   acts_inj nothing (next x2 xs2) p = absurd (apart 0 1 p (omega arith))
