@@ -72,7 +72,7 @@ fn each_fetch_fails(rt: HostRuntime) -> Result<(), Fail> {
     for (file, length) in lengths() {
         let report = format!(in rt.alloc(); "fault read {file}\n")?;
         for _ in 0..length.div_ceil(64) + 1 {
-            number += 1;
+            number = number.wrapping_add(1);
             let mut shelf = small(rt.alloc(), 64, &[number])?;
             let mut out = MemorySink::new(rt.alloc(), 4096, &[])?;
             assert_eq!(rt;
@@ -83,7 +83,7 @@ fn each_fetch_fails(rt: HostRuntime) -> Result<(), Fail> {
             assert_eq!(rt; out.bytes(), report.as_bytes(), "fetch {number} fails");
         }
     }
-    let mut shelf = small(rt.alloc(), 64, &[number + 1])?;
+    let mut shelf = small(rt.alloc(), 64, &[number.wrapping_add(1)])?;
     let mut out = MemorySink::new(rt.alloc(), 4096, &[])?;
     assert_eq!(rt; call(rt.alloc(), &WORDS, &mut shelf, &mut out)?, 0);
     Ok(())
