@@ -1,7 +1,7 @@
 -- The numbers of the causes of refusal.
 use Rattle.std.specs.Prelude.{ℕ}
 use Rattle.mw_base.specs.declared.cause.Cause.{Cause}
-use Rattle.mw_base.specs.declared.cause.Cause.TheVariants.{BadByte, BadNumber, TooWide, LineTooLong, FileTooLong, FieldOutside, SelectTooWide, BadWidth, MapSize, TooMany, NotToml, MissingKey, UnknownKey, WrongKind, BadValue, UnknownName, Twice, FieldConflict, ValueTooWide, StoreFull, Overlap, BadLine, UnknownElement, WidthsDiffer, TooDeep, LeftTwice, LeftUsedOnRight, NoStackPointer, NoBoundary, BadBound, ShapesDiffer, NotFree, BadSyntax, BadCommand, NoSuchElement, NothingToUndo, NotBundle}
+use Rattle.mw_base.specs.declared.cause.Cause.TheVariants.{BadByte, BadNumber, TooWide, LineTooLong, FileTooLong, FieldOutside, SelectTooWide, BadWidth, MapSize, TooMany, NotToml, MissingKey, UnknownKey, WrongKind, BadValue, UnknownName, Twice, FieldConflict, ValueTooWide, StoreFull, Overlap, BadLine, UnknownElement, WidthsDiffer, TooDeep, LeftTwice, LeftUsedOnRight, NoStackPointer, NoBoundary, BadBound, ShapesDiffer, NotFree, BadSyntax, BadCommand, NoSuchElement, NothingToUndo}
 
 -- the number of a cause, which its reports print
 abbrev pub number_of : Cause → ℕ
@@ -41,4 +41,3 @@ number_of BadSyntax = 60
 number_of BadCommand = 70
 number_of NoSuchElement = 71
 number_of NothingToUndo = 72
-number_of NotBundle = 90

@@ -77,8 +77,6 @@ pub enum Cause {
     NoSuchElement,
     /// 72: more is taken back than was done.
     NothingToUndo,
-    /// 90: a TOML document isn't a bundle.
-    NotBundle,
 }
 
 impl Cause {
@@ -123,7 +121,6 @@ impl Cause {
             Cause::BadCommand => 70,
             Cause::NoSuchElement => 71,
             Cause::NothingToUndo => 72,
-            Cause::NotBundle => 90,
         }
     }
 }

@@ -70,10 +70,9 @@ fn cause_numbers(rt: HostRuntime) {
         Cause::NotFree,
         Cause::BadSyntax,
         Cause::NothingToUndo,
-        Cause::NotBundle,
     ]
     .map(Cause::number);
-    assert_eq!(rt; numbers, [1, 5, 10, 14, 20, 24, 31, 36, 42, 56, 60, 72, 90]);
+    assert_eq!(rt; numbers, [1, 5, 10, 14, 20, 24, 31, 36, 42, 56, 60, 72]);
 }
 
 #[test]
