@@ -1,11 +1,11 @@
 -- Going back in the history.
-use Rattle.std.proofs.Common.{◌≡◌, ℕ, ◌+◌, ◌-◌, ◌<◌, ◌≤◌, ◌^◌, List, [], ◌∷◌, ◌++◌, length, length-set, drop, reverse, slice_set, Result, Ok, Err, refl, sym, ap, ◌∙◌, subst, take, arith}
+use Rattle.std.proofs.Common.{◌≡◌, ℕ, ◌+◌, ◌-◌, ◌<◌, ◌^◌, List, [], ◌∷◌, ◌++◌, length, drop, reverse, Ok, Err, refl, sym, ap, ◌∙◌, subst, take, arith}
 use Rattle.std.proofs.lemmas.List.{drop-drop, drop_all, length-drop}
 use Rattle.mw_base.specs.declared.refusal.TextFault.{TextFault}
 use Rattle.mw_board.specs.declared.parts.BoardParts.{BoardParts}
 use Rattle.mw_debug.specs.declared.session.Undo.{Undo}
-use Rattle.mw_debug.specs.Kept.{AreMoments, IsSession}
-use Rattle.mw_debug.specs.Session.{Moment, Session, back_at, with_back}
+use Rattle.mw_debug.specs.Kept.{AreMoments}
+use Rattle.mw_debug.specs.Session.{Moment, Session, with_back}
 use Rattle.mw_debug.specs.Views.{moment_of, moments_of}
 use Rattle.mw_debug.proofs.Moments.{history_more}
 

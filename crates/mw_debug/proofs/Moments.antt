@@ -1,6 +1,7 @@
 -- What is kept of a moment gives it back.
-use Rattle.std.proofs.Common.{◌≡◌, ℕ, suc, ◌+◌, ◌≤◌, ◌<◌, ◌^◌, List, [], ◌∷◌, ◌++◌, All, length, drop, subst, reverse, slice_index, slice_set, Bool, true, false, cond, nat_lt, Option, Some, None, refl, sym, ap, ◌∙◌, arith}
+use Rattle.std.proofs.Common.{◌≡◌, ℕ, suc, ◌+◌, ◌≤◌, ◌<◌, ◌^◌, List, [], ◌∷◌, ◌++◌, All, length, subst, reverse, slice_index, slice_set, Bool, true, false, cond, nat_lt, Option, Some, None, refl, sym, ap, ◌∙◌, arith}
 use Rattle.std.proofs.lemmas.List.{length-reverse, reverse-append, set-get_or, set-set}
+use Rattle.std.proofs.lemmas.List.Elements.{All-nil}
 use Rattle.mw_base.specs.declared.event.Event.{Event}
 use Rattle.mw_base.specs.declared.event.Event.TheVariants.{Out, Taken}
 use Rattle.mw_board.specs.declared.parts.BoardParts.{BoardParts}
@@ -16,8 +17,8 @@ use Rattle.mw_cycle.specs.State.{BoardState, Fits}
 use Rattle.mw_sim.specs.Start.{with_pointer}
 use Rattle.mw_debug.specs.declared.session.Undo.{Undo}
 use Rattle.mw_debug.specs.Elements.{state_with}
-use Rattle.mw_debug.specs.Kept.{AreMoments, IsElement, IsMoment, IsSession}
-use Rattle.mw_debug.specs.Session.{Moment, Session}
+use Rattle.mw_debug.specs.Kept.{AreMoments, IsElement, IsSession}
+use Rattle.mw_debug.specs.Session.{Moment, Session, begun}
 use Rattle.mw_debug.specs.Views.{moment_of, moments_of, undo_of}
 
 -- ---- one moment
@@ -112,11 +113,14 @@ pub session_on : (board : BoardParts) (old new : Session) → IsSession board ol
 session_on board old new is history watched fits cycle taken =
     let more : length new.history ≡ length old.history + 1 = rw history (omega arith) in
     record {
-      moments = (record {
-        fits = fits;
-        cycle = omega (arith, more, cycle, is.moments.0.cycle);
-        taken = omega (arith, more, taken, is.moments.0.taken);
-      }, subst (λ (ms : List Moment). AreMoments board ms) (sym history) is.moments);
+      moments = (
+        record {
+          fits = fits;
+          cycle = omega (arith, more, cycle, is.moments.0.cycle);
+          taken = omega (arith, more, taken, is.moments.0.taken);
+        },
+        subst (λ (ms : List Moment). AreMoments board ms) (sym history) is.moments,
+      );
       watched = subst (λ (ns : List ℕ). All (λ number. IsElement board number) ns) (sym watched) is.watched;
     }
 
@@ -127,3 +131,10 @@ pub few_cycles : (board : BoardParts) (m : Moment) (journal : List Undo) (memory
 few_cycles board m journal memory n is more few =
     let entries = history_length journal memory in
     (omega (arith, more, few, entries, is.0.cycle), omega (arith, more, few, entries, is.0.taken))
+
+-- before the first command
+pub begun_is : (board : BoardParts) (s : BoardState) → Fits board s → IsSession board (begun s)
+begun_is board s fits = record {
+  moments = (record { fits = fits; cycle = omega arith; taken = omega arith }, tt);
+  watched = All-nil (λ (number : ℕ). IsElement board number);
+}

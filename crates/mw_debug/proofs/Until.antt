@@ -1,5 +1,5 @@
 -- The cycles of a command, and how many `until` makes.
-use Rattle.std.proofs.Common.{◌≡◌, ℕ, ◌+◌, ◌-◌, ◌<◌, ◌≤◌, [], ◌∷◌, Bool, true, false, cond, find, List, Option, Some, None, add-one, ◌==◌, ◌||◌, refl, ap, sym, ◌∙◌}
+use Rattle.std.proofs.Common.{◌≡◌, ℕ, ◌+◌, ◌-◌, ◌<◌, ◌≤◌, [], ◌∷◌, Bool, true, false, find, List, Option, Some, None, add-one, ◌==◌, refl, ap, ◌∙◌}
 use Rattle.std.specs.Option.{unwrap_or}
 use Rattle.mw_cycle.specs.Boundary.{first_boundary, is_named, numbers}
 use Rattle.mw_cycle.specs.Environment.{Environment}

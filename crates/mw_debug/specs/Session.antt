@@ -1,5 +1,5 @@
 -- What the commands of a script do to a board: where it stands, and where it stood before.
-use Rattle.std.specs.Prelude.{ℕ, zero, suc, List, [], ◌∷◌, ◌++◌, drop, Bool, ◌==◌, if◌then◌else◌, Result, Ok, Err}
+use Rattle.std.specs.Prelude.{ℕ, zero, suc, List, [], ◌∷◌, ◌++◌, drop, ◌==◌, if◌then◌else◌, Result, Ok, Err}
 use Rattle.std.specs.List.{flat_map, list_any}
 use Rattle.std.specs.Option.{unwrap_or}
 use Rattle.mw_base.specs.Numbers.{decimal}
@@ -12,7 +12,6 @@ use Rattle.mw_cycle.specs.Environment.{Environment, at_start}
 use Rattle.mw_cycle.specs.Run.{BoardRun, longer_run}
 use Rattle.mw_cycle.specs.State.{BoardState}
 use Rattle.mw_sim.specs.Run.{run_at}
-use Rattle.mw_sim.specs.Start.{Start}
 use Rattle.mw_sim.specs.Texts.{event_line}
 use Rattle.mw_debug.specs.Elements.{state_with}
 
@@ -30,9 +29,9 @@ pub record Session : Type 0 where
   pub text : List ℕ
 
 -- before the first command
-abbrev pub begun : Start → Session
-begun start = record {
-  now = record { state = start.state; clock = at_start };
+abbrev pub begun : BoardState → Session
+begun state = record {
+  now = record { state = state; clock = at_start };
   history = [];
   watched = [];
   text = [];

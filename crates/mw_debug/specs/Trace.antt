@@ -62,5 +62,5 @@ with_entry board store env s entry = do
 -- the trace of a script from a start; the fault of the first `back` that undoes more entries than there are
 unfoldable pub trace_of : BoardParts → List ℕ → Start → Script → Result (List ℕ) TextFault
 trace_of board store start script = do
-  s ← steps (with_entry board store start.env) (begun start) script.entries
+  s ← steps (with_entry board store start.env) (begun start.state) script.entries
   Ok s.text

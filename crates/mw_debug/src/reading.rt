@@ -72,12 +72,7 @@ fn element_number_of(board: &Board, text: &[u8], element: Dotted) -> Result<u32,
 
 /// until: cause 30 or 33 of the place, 33 of the limit.
 #[tactic(auto, unfolding(crate::specs::Script::until_act))]
-fn until_act(
-    labels: &[Label],
-    text: &[u8],
-    place: Place,
-    limit: Numeral,
-) -> Result<Act, TextFault>
+fn until_act(labels: &[Label], text: &[u8], place: Place, limit: Numeral) -> Result<Act, TextFault>
     ensures exact { result ≡ until_act labels.now text.now place limit }
     ensures kept { (board : BoardParts) → IfOk result (λ act. IsAct board act) }
     ensures cycles { IfOk result (λ act. cycles_in act ≡ limit.value) }
@@ -100,12 +95,7 @@ fn set_act(board: &Board, text: &[u8], element: Dotted, value: Numeral) -> Resul
 }
 
 /// What a command does: by place, cause 30 or 33 of a place, 71 of an element, 33 of a number.
-fn act_of(
-    board: &Board,
-    labels: &[Label],
-    text: &[u8],
-    command: Command,
-) -> Result<Act, TextFault>
+fn act_of(board: &Board, labels: &[Label], text: &[u8], command: Command) -> Result<Act, TextFault>
     ensures exact { result ≡ act_of board.now labels.now text.now command }
     ensures kept { IfOk result (λ act. IsAct board.now act) }
     ensures cycles { IfOk result (λ act. cycles_in act ≡ cycles_asked command) }

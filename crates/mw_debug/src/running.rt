@@ -6,6 +6,7 @@ ghost use Rattle.mw_base.specs.Steps.{steps};
 ghost use Rattle.mw_cycle.specs.Environment.{IsEnvironment};
 ghost use Rattle.mw_cycle.specs.State.{Fits};
 ghost use Rattle.mw_debug.specs.Kept.{AreActs, IsAct, IsSession};
+ghost use Rattle.mw_debug.specs.Session.{begun};
 ghost use Rattle.mw_debug.specs.Trace.{element_text, word_text, place_text, shown_by, with_last_line, done_by, with_entry, trace_of};
 ghost use Rattle.mw_debug.specs.Views.{session_seen};
 
@@ -121,7 +122,14 @@ impl Session {
             ≡ with_last_line board.now line act (session_seen self.old)) }
     {
         append_decimal(alloc, &mut self.text, u64::from(line))?;
-        append_shown(alloc, &mut self.text, board, &self.state, &self.watched, act)?;
+        append_shown(
+            alloc,
+            &mut self.text,
+            board,
+            &self.state,
+            &self.watched,
+            act,
+        )?;
         self.text.push(b'\n')?;
         Ok(())
     }
@@ -206,6 +214,26 @@ impl Session {
     }
 }
 
+/// Where a script stands after its entries: cause 72 at a command.
+fn session_after(
+    alloc: Global,
+    board: &Board,
+    store: &Store,
+    state: State,
+    env: &Env,
+    entries: &[Entry],
+) -> Result<Session, Refusal>
+    requires fits { Fits board.now state }
+    requires env_in { IsEnvironment board.now env.now }
+    requires acts { AreActs board.now entries.now }
+    ensures { Gives session_seen result
+        (steps (with_entry board.now store.now.words env.now) (begun state) entries.now) }
+{
+    let mut session = Session::begun(alloc, board, state);
+    session.run_entries(alloc, board, store, env, entries)?;
+    Ok(session)
+}
+
 /// What a script prints from a start, command by command: each line begins with the number of its command's line. First
 /// come the events of a command's cycles, `out V` and `taken V`; then `show` prints `b.ELEMENT=V` or `mem A=V`, and every
 /// other command `at A` and the elements that are watched, in the order in which they were first watched. It takes a
@@ -231,7 +259,7 @@ pub fn run_script(
     ensures { Gives (λ text. text.items) result (trace_of board.now store.now.words start script.now) }
 {
     let Start { state, env } = start;
-    let mut session = Session::begun(alloc, state);
-    session.run_entries(alloc, board, store, &env, script.entries.as_slice())?;
+    let entries = script.entries.as_slice();
+    let session = session_after(alloc, board, store, state, &env, entries)?;
     Ok(session.text)
 }

@@ -3,7 +3,8 @@ ghost use Rattle.std.specs.Prelude.{◌≡◌, ◌<◌, ◌++◌, ◌==◌, OnOk
 ghost use Rattle.std.specs.List.{flat_map};
 ghost use Rattle.std.specs.Option.{option_to_list};
 ghost use Rattle.mw_base.specs.Reading.{Gives};
-ghost use Rattle.mw_cycle.specs.Environment.{Environment, IsEnvironment};
+ghost use Rattle.mw_cycle.specs.Environment.{IsEnvironment};
+ghost use Rattle.mw_cycle.specs.State.{Fits};
 ghost use Rattle.mw_debug.specs.Kept.{IsElement, IsSession};
 ghost use Rattle.mw_debug.specs.Elements.{bound_of};
 ghost use Rattle.mw_debug.specs.Session.{begun, numbered_event, with_cycle, with_cycles, cycles_until, with_set, with_watched, with_back};
@@ -68,8 +69,10 @@ fn append_numbered(
 impl Session {
     /// Before the first command.
     #[tactic(auto, unfolding(crate::specs::Views::moments_of))]
-    pub fn begun(alloc: Global, state: State) -> Session
-        ensures { (env : Environment) → session_seen result ≡ begun (record { state = state; env = env }) }
+    pub fn begun(alloc: Global, board: &Board, state: State) -> Session
+        requires { Fits board.now state }
+        ensures exact { session_seen result ≡ begun state }
+        ensures kept { IsSession board.now (session_seen result) }
     {
         Session {
             state,
@@ -191,12 +194,7 @@ impl Session {
     }
 
     /// Sets an element to a value.
-    pub fn set(
-        &mut self,
-        board: &Board,
-        number: u32,
-        value: u32,
-    ) -> Result<(), NoMemory>
+    pub fn set(&mut self, board: &Board, number: u32, value: u32) -> Result<(), NoMemory>
         requires kept { IsSession board.now (session_seen self.old) }
         requires there { IsElement board.now number }
         requires value_in { value < bound_of board.now number }
@@ -226,8 +224,8 @@ impl Session {
     fn restore(&mut self, undo: Undo)
         requires { undo.mar < length self.old.state.memory }
         ensures { self.new ≡ record self.old {
-            state = (moment_of undo self.old.state.memory).state;
-            clock = undo.clock;
+          state = (moment_of undo self.old.state.memory).state;
+          clock = undo.clock;
         } }
     {
         let Undo {

@@ -1,8 +1,8 @@
-use Rattle.std.proofs.Common.{◌≡◌, ◌+◌, ◌<◌, ◌^◌, ◌++◌, ◌∷◌, [], length, reverse, refl, sym, ap, arith, rules}
+use Rattle.std.proofs.Common.{◌<◌, ◌^◌, ◌∷◌, [], refl, arith, rules}
 use Rattle.std.proofs.lemmas.List.{length-append}
 use Rattle.mw_cycle.specs.Run.{longer_run}
 use Rattle.mw_debug.specs.Session.{with_cycle}
-use Rattle.mw_debug.specs.Views.{moments_of, session_seen, undo_of}
+use Rattle.mw_debug.specs.Views.{session_seen, undo_of}
 use Rattle.mw_debug.proofs.Moments.{cycle_undone, cycles_on, few_cycles, history_with, session_on, taken_on}
 use Rattle.mw_debug.proofs.session.Session.make_cycle.Goals as goal
 
@@ -29,8 +29,16 @@ returns-clause-exact c =
     let clock = c.args.self.now.clock in
     let history = history_with c.args.self.now.journal.items (undo_of s clock) _ _
     (cycle_undone c.args.board.now c.args.store.now.words s clock c.given-given.result) in
-    rw (c.cycle-nets.ensures.exact, c.after-self.ensures, c.in_ok-append_numbered.ensures, c.in_ok-push.ensures.items,
-    c.undo-undo.ensures, c.cycle-nets.ensures.nets, history, c.given-given.ensures) refl
+    rw (
+      c.cycle-nets.ensures.exact,
+      c.after-self.ensures,
+      c.in_ok-append_numbered.ensures,
+      c.in_ok-push.ensures.items,
+      c.undo-undo.ensures,
+      c.cycle-nets.ensures.nets,
+      history,
+      c.given-given.ensures,
+    ) refl
 
 pub returns-clause-kept : goal.returns-clause-kept
 returns-clause-kept c =

@@ -1,4 +1,4 @@
-use Rattle.std.proofs.Common.{◌≡◌, ℕ, ◌==◌, refl, sym, ap, ◌∙◌, arith}
+use Rattle.std.proofs.Common.{◌≡◌, ◌==◌, refl, sym, ap, ◌∙◌, arith}
 use Rattle.mw_debug.specs.Session.{Session, address_after, cycles_until, with_cycles}
 use Rattle.mw_debug.specs.Views.{session_seen}
 use Rattle.mw_debug.proofs.Until.{all_left, ended, goes_on, one_more, reached}
