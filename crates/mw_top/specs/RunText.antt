@@ -20,7 +20,7 @@ unfoldable pub run_text : BoardParts → ℕ → BoardRun → List ℕ
 run_text board count run =
     line (codes "cycles " ++ decimal count) ++ flat_map event_line run.events ++ state_text board run.state
 
--- the text of a run of a thousand cycles
-abbrev pub run_from : Prepared → List ℕ
-run_from prepared = run_text prepared.program.board 1000
-    (run_of prepared.program.board prepared.program.made.store.words prepared.start.env prepared.start.state 1000)
+-- the text of the run of so many cycles from a start
+abbrev pub run_from : Prepared → ℕ → List ℕ
+run_from prepared cycles = run_text prepared.program.board cycles
+    (run_of prepared.program.board prepared.program.made.store.words prepared.start.env prepared.start.state cycles)

@@ -3,7 +3,7 @@ ghost use Rattle.std.specs.Prelude.{◌≡◌, [], IfOk, length};
 ghost use Rattle.mw_outside.specs.Views.{IsLater, shelf_shown};
 ghost use Rattle.mw_plan.specs.Steps.{Ends};
 ghost use Rattle.mw_top.specs.Commands.Table.{plan_of, IsAnswer};
-ghost use Rattle.mw_top.specs.Request.{row_of};
+ghost use Rattle.mw_top.specs.Request.{data_of, row_of};
 
 mod asm;
 mod compare;
@@ -15,7 +15,7 @@ use self::microprogram::Program;
 use self::run::Prepared;
 use crate::fault::Fault;
 use crate::outcome::Outcome;
-use crate::request::Command;
+use crate::request::{Command, Request};
 use mw_base::NoMemory;
 use mw_outside::Shelf;
 use mw_plan::{Files, Stop};
@@ -52,13 +52,15 @@ pub(crate) fn read_files<S: Shelf>(
     }
 }
 
-/// Answers with what a command made of its files.
-pub(crate) fn answer_with(alloc: Global, work: Work) -> Result<Outcome, NoMemory>
-    ensures { IfOk result (λ outcome. IsAnswer work outcome.status outcome.report.items) }
+/// Answers a request with what its command made of its files.
+pub(crate) fn answer_with(alloc: Global, request: &Request, work: Work) -> Result<Outcome, NoMemory>
+    ensures { IfOk result (λ outcome. IsAnswer (data_of request.now) work outcome.status outcome.report.items) }
 {
     match work {
-        Work::Comparison(comparison) => compare::report(alloc, &comparison),
+        Work::Comparison(comparison) => {
+            compare::report(alloc, &comparison, request.steps, request.parts)
+        }
         Work::Assembly(program) => asm::report(alloc, &program),
-        Work::Run(prepared) => run::report(alloc, prepared),
+        Work::Run(prepared) => run::report(alloc, prepared, request.cycles, request.parts),
     }
 }

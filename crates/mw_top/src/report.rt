@@ -2,7 +2,7 @@
 ghost use Rattle.std.specs.Prelude.{◌≡◌, ◌++◌, [], OnOk, slice_index_or};
 ghost use Rattle.mw_top.specs.Report.{line, usage_line, fault_line, cause_text, place_text, reader_text, fault_text, refusal_line};
 ghost use Rattle.mw_top.specs.Report.{element_text, difference_text};
-ghost use Rattle.mw_base.specs.Numbers.{hex};
+ghost use Rattle.mw_base.specs.Numbers.{decimal, hex};
 ghost use Rattle.mw_macro.specs.Described.{description_of};
 ghost use Rattle.mw_rel.specs.Views.{job_of};
 
@@ -37,6 +37,20 @@ pub(crate) fn append_hex_line(
 {
     report.extend_from_slice(front)?;
     append_hex(alloc, report, u128::from(number))?;
+    append_line(report, b"")
+}
+
+/// Appends a line that ends with a number in decimal digits.
+pub(crate) fn append_decimal_line(
+    alloc: Global,
+    report: &mut Vec<u8>,
+    front: &[u8],
+    number: u32,
+) -> Result<(), NoMemory>
+    ensures { OnOk result (report.new.items ≡ report.old.items ++ line (front.now ++ decimal number)) }
+{
+    report.extend_from_slice(front)?;
+    append_decimal(alloc, report, u64::from(number))?;
     append_line(report, b"")
 }
 

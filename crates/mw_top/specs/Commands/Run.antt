@@ -21,7 +21,7 @@ run_plan = do
   start ← next_by Text (start_of board made.labels)
   done (works.Run (record { program = record { board = board; made = made }; start = start }))
 
--- the report is the text of the run
-pub record IsRun (prepared : Prepared) (status : Status) (report : List ℕ) : Type 0 where
+-- the report is the text of the run of so many cycles
+pub record IsRun (cycles : ℕ) (prepared : Prepared) (status : Status) (report : List ℕ) : Type 0 where
   pub status_is : status ≡ Done
-  pub report_is : report ≡ run_from prepared
+  pub report_is : report ≡ run_from prepared cycles
