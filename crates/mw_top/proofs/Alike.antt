@@ -89,6 +89,8 @@ answer_once request parts (works.Assembly program) status other report text firs
     (second.status_is ∙ sym first.status_is, second.report_is ∙ sym first.report_is)
 answer_once request parts (works.Run prepared) status other report text first second =
     (second.status_is ∙ sym first.status_is, second.report_is ∙ sym first.report_is)
+answer_once request parts (works.Trace trace) status other report text first second =
+    (second.status_is ∙ sym first.status_is, second.report_is ∙ sym first.report_is)
 
 done_once : (a b : Work) → ◌≡◌ {A = Option (Plan Fault Work)} (Some (done a)) (Some (done b)) → a ≡ b
 done_once a b same = cc

@@ -26,6 +26,7 @@ answer_is_worked request (works.Comparison comparison) status report answer =
     rw answer.status_is (compared_is_worked answer.compared)
 answer_is_worked request (works.Assembly program) status report answer = rw answer.status_is refl
 answer_is_worked request (works.Run prepared) status report answer = rw answer.status_is refl
+answer_is_worked request (works.Trace trace) status report answer = rw answer.status_is refl
 
 -- the report of work that was done
 worked_is_report : (call : Call) (status : Status) (report : List ℕ) → is_worked status ≡ true

@@ -1,19 +1,12 @@
 -- What a run prints.
 use Rattle.std.specs.Prelude.{ℕ, List, ◌++◌, codes}
 use Rattle.std.specs.List.{flat_map}
-use Rattle.mw_base.specs.Numbers.{decimal, hex}
-use Rattle.mw_base.specs.declared.event.Event.{Event}
-use Rattle.mw_base.specs.declared.event.Event.TheVariants.{Out, Taken}
+use Rattle.mw_base.specs.Numbers.{decimal}
 use Rattle.mw_board.specs.declared.parts.BoardParts.{BoardParts}
 use Rattle.mw_cycle.specs.Run.{BoardRun, run_of}
-use Rattle.mw_top.specs.Report.{line}
+use Rattle.mw_sim.specs.Texts.{event_line, line}
 use Rattle.mw_top.specs.StateText.{state_text}
 use Rattle.mw_top.specs.Work.{Prepared}
-
--- the line of an event
-abbrev pub event_line : Event → List ℕ
-event_line (Out word) = line (codes "out " ++ hex word)
-event_line (Taken word) = line (codes "taken " ++ hex word)
 
 -- a run of so many cycles: their number, the events in order, and the state after them
 unfoldable pub run_text : BoardParts → ℕ → BoardRun → List ℕ

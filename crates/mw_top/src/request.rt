@@ -22,6 +22,8 @@ pub enum Command {
     Asm,
     /// Runs a board: a board file, a microprogram for its board, and an environment.
     Run,
+    /// Runs a script: a board file, a microprogram for its board, an environment, and the script.
+    Debug,
 }
 
 /// A command with its files and options. An option that isn't the command's own stands as it does where it isn't given.
@@ -58,7 +60,12 @@ struct Row {
 
 impl Command {
     /// The commands.
-    const ALL: [Command; 3] = [Command::Compare, Command::Asm, Command::Run];
+    const ALL: [Command; 4] = [
+        Command::Compare,
+        Command::Asm,
+        Command::Run,
+        Command::Debug,
+    ];
 
     /// The row of the command.
     fn row(self) -> Row
@@ -85,6 +92,12 @@ impl Command {
                 files: 3,
                 numbers: &[Number::Cycles],
                 parts: true,
+            },
+            Command::Debug => Row {
+                word: "debug",
+                files: 4,
+                numbers: &[],
+                parts: false,
             },
         }
     }

@@ -13,6 +13,7 @@ use Rattle.mw_rel.specs.Start.{Start}
 use Rattle.mw_replay.specs.Counter.{IsCounter, IsStartOf}
 use Rattle.mw_replay.specs.CounterText.{counter_of}
 use Rattle.mw_replay.specs.Replay.{IsReached}
+use Rattle.mw_sim.specs.Texts.{line}
 use Rattle.mw_top.specs.declared.commands.Work.{Work}
 use Rattle.mw_top.specs.declared.commands.Work.TheVariants as works
 use Rattle.mw_top.specs.declared.commands.compare.Compared.{Compared}
@@ -21,7 +22,7 @@ use Rattle.mw_top.specs.declared.fault.Fault.{Fault}
 use Rattle.mw_top.specs.declared.fault.Fault.TheVariants.{Board, Text}
 use Rattle.mw_top.specs.declared.status.Status.{Status}
 use Rattle.mw_top.specs.declared.status.Status.TheVariants.{Done, Differs}
-use Rattle.mw_top.specs.Report.{line, difference_text}
+use Rattle.mw_top.specs.Report.{difference_text}
 use Rattle.mw_top.specs.Work.{Comparison}
 
 -- the job of four files, and the labels of its microprogram: the board of the first, what the second is assembled to

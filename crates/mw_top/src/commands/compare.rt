@@ -23,7 +23,7 @@ use super::Work;
 use super::microprogram::{Program, read_microprogram};
 use crate::fault::Fault;
 use crate::outcome::Outcome;
-use crate::report::{append_decimal_line, append_difference, append_line};
+use crate::report::{append_decimal_line, append_difference};
 use crate::status::Status;
 use mw_asm::{Assembled, Label};
 use mw_base::{Items, NoMemory, Refusal};
@@ -34,7 +34,7 @@ use mw_outside::Shelf;
 use mw_plan::{Files, Stop};
 use mw_rel::{Job, Relation};
 use mw_replay::{Counter, Difference, Replay, read_counter};
-use mw_sim::Parts;
+use mw_sim::{Parts, append_line};
 use std::alloc::Global;
 use std::marker::Model;
 

@@ -8,13 +8,15 @@ ghost use Rattle.mw_outside.specs.Views.{IsLater, shelf_shown};
 ghost use Rattle.mw_plan.specs.Steps.{Ends};
 ghost use Rattle.mw_sim.specs.Run.{run_at};
 ghost use Rattle.mw_top.specs.Commands.Run.{run_plan, IsRun};
-ghost use Rattle.mw_top.specs.RunText.{event_line, run_from, run_text};
+ghost use Rattle.mw_sim.specs.Texts.{event_line};
+ghost use Rattle.mw_top.specs.RunText.{run_from, run_text};
 
 use super::Work;
-use super::microprogram::{Program, read_microprogram};
+use super::microprogram::Program;
+use super::prepared::{Prepared, read_prepared};
 use crate::fault::Fault;
 use crate::outcome::Outcome;
-use crate::report::{append_decimal_line, append_hex_line};
+use crate::report::append_decimal_line;
 use crate::state_text::append_state;
 use crate::status::Status;
 use mw_base::{Event, NoMemory};
@@ -22,28 +24,8 @@ use mw_board::{Board, Store};
 use mw_cycle::{Clock, Datapath, Env, State, Whole};
 use mw_outside::Shelf;
 use mw_plan::{Files, Stop};
-use mw_sim::{Parts, Start, read_start, run_cycles};
+use mw_sim::{Parts, Start, append_event, run_cycles};
 use std::alloc::Global;
-use std::marker::Model;
-
-/// A board with its microprogram, and the start of its run. The start fits the board.
-#[derive(Drop)]
-pub(crate) struct Prepared {
-    program: Program,
-    start: Start,
-}
-
-impl Model for Prepared {
-    ghost use Rattle.mw_cycle.specs.Environment.{IsEnvironment};
-    ghost use Rattle.mw_cycle.specs.State.{Fits};
-    ghost use Rattle.mw_top.specs.Work.{Prepared as PreparedOf};
-
-    ghost Value = { PreparedOf };
-
-    ghost view = { λ p. record { program = p.program; start = p.start } };
-
-    ghost invariant = { λ p. Fits p.program.board p.start.state × IsEnvironment p.program.board p.start.env };
-}
 
 /// Runs a board from its state, over an environment, by its arithmetic part. The events of its cycles, in order.
 fn run_part<A: Datapath>(
@@ -91,16 +73,6 @@ fn run(
         run_part(&Whole, board, store, state, env, cycles, &mut events);
     }
     Ok(events)
-}
-
-/// Appends an event.
-fn append_event(alloc: Global, report: &mut Vec<u8>, event: Event) -> Result<(), NoMemory>
-    ensures { OnOk result (report.new.items ≡ report.old.items ++ event_line event) }
-{
-    match event {
-        Event::Out(word) => append_hex_line(alloc, report, b"out ", word),
-        Event::Taken(word) => append_hex_line(alloc, report, b"taken ", word),
-    }
 }
 
 /// Appends events, in order.
@@ -156,11 +128,8 @@ pub(super) fn read<S: Shelf>(
     ensures names { files.new.names ≡ files.old.names }
     ensures later { IsLater (shelf_shown S.Shelf shelf.old) (shelf_shown S.Shelf shelf.new) }
 {
-    let program = read_microprogram(alloc, shelf, files)?;
-    let start = files.next(alloc, shelf, |bytes| {
-        read_start(alloc, &program.board, &program.made, bytes)
-    })?;
-    Ok(Work::Run(Prepared { program, start }))
+    let prepared = read_prepared(alloc, shelf, files)?;
+    Ok(Work::Run(prepared))
 }
 
 /// Runs for so many cycles, and answers with the text of the run.
