@@ -1,5 +1,6 @@
 // What the words of a command line ask for.
 ghost use Rattle.std.specs.Prelude.{◌≡◌, IfOk, IfSome, Some, map, option_map, string_bytes};
+ghost use Rattle.std.specs.Str.{bytes_eq};
 ghost use Rattle.clap.specs.Words.{first_of, found_of, rows_of};
 ghost use Rattle.mw_top.specs.Request.{HasItsFiles, command_in, command_of, data_of, files_in, number_in, options_in, request_in, request_of, row_of, with_options};
 
@@ -60,12 +61,7 @@ struct Row {
 
 impl Command {
     /// The commands.
-    const ALL: [Command; 4] = [
-        Command::Compare,
-        Command::Asm,
-        Command::Run,
-        Command::Debug,
-    ];
+    const ALL: [Command; 4] = [Command::Compare, Command::Asm, Command::Run, Command::Debug];
 
     /// The row of the command.
     fn row(self) -> Row
@@ -103,12 +99,19 @@ impl Command {
     }
 }
 
+/// Whether a word stands for a command.
+fn is_word_of(command: Command, word: &str) -> bool
+    ensures { result ≡ bytes_eq word.now (row_of command).word }
+{
+    word == command.row().word
+}
+
 fn command_of(word: &str) -> Option<Command>
     ensures { result ≡ command_of word.now }
 {
     Command::ALL
         .into_iter()
-        .find(|command| command.row().word == word)
+        .find(|command| is_word_of(*command, word))
 }
 
 /// The first value of an argument of a line.
