@@ -35,7 +35,7 @@ use Rattle.mw_rel.specs.Rules.{are_once, is_even, are_even, reads_no_left, lefts
 use Rattle.mw_descfile.specs.declared.scope.Scope.{Scope}
 use Rattle.mw_descfile.specs.declared.block.Given.{Given as KeptGiven}
 use Rattle.mw_descfile.specs.declared.uses.Use.{Use}
-use Rattle.mw_descfile.specs.Boundaries.{Given, Block, with_point, with_equation, is_left, twice_left, used_left, line_faults, unsolved, solved_unless, closed_block}
+use Rattle.mw_descfile.specs.Boundaries.{Given, Block, with_stack_pointer, with_equation, is_left, twice_left, used_left, line_faults, unsolved, solved_unless, closed_block}
 use Rattle.mw_descfile.specs.Declarations.{ranged}
 use Rattle.mw_descfile.specs.Expressions.{asked, Whole, whole_of, asked_whole}
 use Rattle.mw_descfile.specs.KeptRelation.{IsScope, is_among, IsGiven, lines_in, IsEnded, IsOpen}
@@ -165,10 +165,10 @@ equation_kept text scope element sign value tokens before block next kept read i
           (All-nil (IsGiven s)));
     })
 
-pub point_kept : (s : Shape) (word : Token) (value : Numeral) (before : List Boundary) (block next : Block)
-    → IsOpen s before block → with_point word value block ≡ Ok next → IsOpen s before next
-unfolding with_point
-point_kept s word value before block next is_open is =
+pub stack_pointer_kept : (s : Shape) (word : Token) (value : Numeral) (before : List Boundary) (block next : Block)
+    → IsOpen s before block → with_stack_pointer word value block ≡ Ok next → IsOpen s before next
+unfolding with_stack_pointer
+stack_pointer_kept s word value before block next is_open is =
     let one = bind_ok (allowed (is_none block.sp) (fault_on word Twice)) _ next is in
     let two = bind_ok (ranged 0 5 value) _ next one.2 in
     subst (IsOpen s before) (ok_is {F = TextFault} (record block { sp = Some two.0 }) next two.2) (record {
