@@ -1,6 +1,6 @@
 -- The relation of a text is made for its board and its machine.
-use Rattle.std.proofs.Common.{◌≡◌, ℕ, ◌≤◌, List, [], ◌∷◌, ◌++◌, length, Bool, true, false, refl, sym, arith, subst}
-use Rattle.std.specs.Prelude.{Option, Some, None, ok_or, is_none, not, nat_le, nat_lt, ◌&&◌, if◌then◌else◌, slice_index, IfSome, Result, Ok, Err}
+use Rattle.std.proofs.Common.{◌≡◌, ℕ, ◌≤◌, List, [], ◌∷◌, ◌++◌, length, true, refl, arith, subst}
+use Rattle.std.specs.Prelude.{Option, Some, None, ok_or, is_none, not, nat_le, nat_lt, ◌&&◌, slice_index, IfSome, Ok}
 use Rattle.std.specs.List.{All}
 use Rattle.std.proofs.lemmas.Bool.{and_parts}
 use Rattle.std.proofs.lemmas.Bool.Decides.{nat_tests}
@@ -14,7 +14,6 @@ use Rattle.mw_base.specs.declared.token.Token.{Token}
 use Rattle.mw_base.specs.Cursors.{at_line}
 use Rattle.mw_base.specs.FirstFaults.{first_in}
 use Rattle.mw_base.specs.Places.{address_of}
-use Rattle.mw_base.specs.Reading.{◌>>=◌}
 use Rattle.mw_base.specs.Steps.{steps}
 use Rattle.mw_base.specs.TokenLines.{fault_on, last_fault, text_end, token_lines}
 use Rattle.mw_base.proofs.Results.{ok_is, bind_ok, if_ok, found}
@@ -33,7 +32,7 @@ use Rattle.mw_descfile.specs.declared.uses.Use.{Use}
 use Rattle.mw_descfile.specs.Boundaries.{Block, place_token, is_taken, bounded, block_of, with_stack_pointer, with_equation, closed_block, solved_unless, unsolved}
 use Rattle.mw_descfile.specs.Declarations.{ranged}
 use Rattle.mw_descfile.specs.Expressions.{asked_whole}
-use Rattle.mw_descfile.specs.Relation.{Known, with_told, with_tokens, with_any, with_line, scope_for, relation_with, finished, relation_of}
+use Rattle.mw_descfile.specs.Relation.{Known, with_told, with_tokens, with_any, with_line, scope_for, finished, relation_of}
 use Rattle.mw_descfile.specs.RelationLines.{beginning_of, dotted_number, Told, sp_line, equation_line, end_line, told_of}
 use Rattle.mw_descfile.specs.Statements.{allowed}
 use Rattle.mw_descfile.proofs.SaidLines.{allowed_only}

@@ -1,8 +1,8 @@
 -- What each line of a relation keeps, and that what is known at its end is a relation.
-use Rattle.std.proofs.Common.{◌≡◌, ℕ, ◌+◌, ◌<◌, ◌≤◌, List, [], ◌∷◌, ◌++◌, length, map, Bool, true, false, refl, sym, ap, ◌∙◌, arith, subst, length-append}
-use Rattle.std.specs.Prelude.{Option, Some, None, ok_or, not, nat_le, nat_lt, ◌&&◌, ◌||◌, ◌==◌, if◌then◌else◌, IfSome, Result, Ok, Err}
+use Rattle.std.proofs.Common.{◌≡◌, ℕ, ◌<◌, ◌≤◌, List, [], ◌∷◌, ◌++◌, length, map, Bool, true, false, refl, arith, subst, length-append}
+use Rattle.std.specs.Prelude.{Option, Some, None, ok_or, not, nat_le, nat_lt, ◌&&◌, ◌||◌, ◌==◌, Ok}
 use Rattle.std.specs.List.{All, list_all, list_any}
-use Rattle.std.proofs.lemmas.Bool.{and_parts, and_from, eqb-true}
+use Rattle.std.proofs.lemmas.Bool.{and_parts, and_from}
 use Rattle.std.proofs.lemmas.Bool.Decides.{nat_tests}
 use Rattle.std.proofs.lemmas.List.Elements.{All-nil, All-cons, All-head, All-tail, All-append}
 use Rattle.mw_base.specs.declared.cause.Cause.TheVariants.{BadSyntax, TooMany, Twice, UnknownName, ValueTooWide, WidthsDiffer, LeftTwice, LeftUsedOnRight, NoBoundary, BadBound}
@@ -15,14 +15,13 @@ use Rattle.mw_base.specs.declared.sign.Sign.TheVariants.{Equals}
 use Rattle.mw_base.specs.declared.token.Token.{Token}
 use Rattle.mw_base.specs.Cursors.{Cursor, at_line, after, token_at, number_at, sign_at, element_of, end_at}
 use Rattle.mw_base.specs.Places.{low_address, address_of}
-use Rattle.mw_base.specs.Reading.{◌>>=◌}
 use Rattle.mw_base.specs.Symbols.{spelled}
 use Rattle.mw_base.specs.TokenLines.{fault_on}
-use Rattle.mw_base.proofs.Results.{ok_of, ok_is, bind_ok, if_ok}
+use Rattle.mw_base.proofs.Results.{ok_is, bind_ok, if_ok}
 use Rattle.mw_asm.specs.declared.assembled.Label.{Label}
 use Rattle.mw_expr.specs.declared.shape.Shape.{Shape}
-use Rattle.mw_rel.specs.Relation.{Boundary, Relation, related, IsFormed, IsFormedBoundary}
-use Rattle.mw_rel.specs.Rules.{are_once, addresses_are_once, are_even, lefts_are_once, rights_are_free, is_bounded, refusal_of}
+use Rattle.mw_rel.specs.Relation.{Boundary, related, IsFormed, IsFormedBoundary}
+use Rattle.mw_rel.specs.Rules.{addresses_are_once, are_even, lefts_are_once, rights_are_free, is_bounded, refusal_of}
 use Rattle.mw_descfile.specs.declared.relation_line.Beginning.{Beginning}
 use Rattle.mw_descfile.specs.declared.relation_line.BlockWord.{BlockWord}
 use Rattle.mw_descfile.specs.declared.relation_line.BlockWord.TheVariants as words

@@ -22,7 +22,7 @@ use Rattle.mw_descfile.specs.declared.scope.Scope.{Scope}
 use Rattle.mw_descfile.specs.declared.uses.Use.{Use}
 use Rattle.mw_descfile.specs.Declarations.{ranged}
 use Rattle.mw_descfile.specs.Expressions.{asked_whole}
-use Rattle.mw_descfile.specs.RelationLines.{dotted_number, Told, sp_line, equation_line, end_line}
+use Rattle.mw_descfile.specs.RelationLines.{dotted_number}
 use Rattle.mw_descfile.specs.Statements.{allowed}
 
 -- a line as it was given: what it says, the token of its left element, and the elements that stand on its right

@@ -1,5 +1,5 @@
 -- How clauses see what the code keeps of a relation's text.
-use Rattle.std.specs.Prelude.{List, map, option_map}
+use Rattle.std.specs.Prelude.{map, option_map}
 use Rattle.mw_expr.specs.Written.{written}
 use Rattle.mw_rel.specs.Seen.{line_of, boundaries_of}
 use Rattle.mw_descfile.specs.declared.block as blocks
