@@ -1,5 +1,5 @@
 -- What is answered to the same work by requests that differ in nothing but `--parts`.
-use Rattle.std.proofs.Common.{◌≡◌, ℕ, ◌+◌, List, Bool, Option, Some, None, refl, sym, ap, ap₂, ◌∙◌, subst}
+use Rattle.std.proofs.Common.{◌≡◌, ℕ, ◌+◌, List, Bool, Option, Some, refl, sym, ap, ap₂, ◌∙◌, subst}
 use Rattle.std.proofs.lemmas.Option.{none-some, same_Some}
 use Rattle.mw_cycle.specs.Run.{BoardRun}
 use Rattle.mw_plan.specs.Plan.{Plan, after, done}

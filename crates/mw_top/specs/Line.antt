@@ -1,5 +1,5 @@
 -- The command line as one simple command of `clap`, without help and version flags.
-use Rattle.std.specs.Prelude.{List, [], ◌∷◌, Some, codes, true}
+use Rattle.std.specs.Prelude.{Some, codes, true}
 use Rattle.clap.specs.Lexer.{usize_max}
 use Rattle.clap.specs.Simple.{on_top}
 use Rattle.clap.specs.Words.{App, Rule, Text, new_app, new_rule, with_rule}

@@ -1,5 +1,5 @@
 // The top call: all that the program does.
-ghost use Rattle.std.specs.Prelude.{◌≡◌, ◌≢◌, ◌≤◌, List, ℕ, [], ◌∷◌, None, Some, true, Contains, IfOk, map, length, string_bytes};
+ghost use Rattle.std.specs.Prelude.{◌≡◌, ◌≢◌, ◌≤◌, List, ℕ, [], ◌∷◌, None, Some, true, Contains, IfOk, map, string_bytes};
 ghost use Rattle.mw_outside.specs.Views.{ShelfView, SinkView, IsLater, shelf_shown, sink_shown};
 ghost use Rattle.mw_plan.specs.Shelf.{AreTold};
 ghost use Rattle.mw_top.specs.Answer.{AreAccepted, AreRefused, IsEnd, IsReport, is_worked};

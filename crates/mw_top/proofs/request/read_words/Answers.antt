@@ -1,4 +1,4 @@
-use Rattle.std.proofs.Common.{◌≡◌, List, [], ◌∷◌, None, refl, sym, map, string_bytes}
+use Rattle.std.proofs.Common.{◌≡◌, List, [], ◌∷◌, None, refl, map, string_bytes}
 use Rattle.std.specs.Prelude.{◌≢◌}
 use Rattle.clap.specs.Kinds.{Kinds}
 use Rattle.clap.specs.Words.{Row, fault_of, matches_of}
