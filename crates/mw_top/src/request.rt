@@ -34,19 +34,20 @@ pub struct Request {
     pub command: Command,
     /// The names of its files, in the order of the words.
     pub files: Vec<String>,
-    /// The most nodes of an operation: 1 to 16,000,000, and 1,000,000 where it isn't given.
+    /// The most joint cofactors of an operation: 1 to 16,000,000, and 1,000,000 where it isn't given. No command reads it
+    /// yet.
     pub nodes: u32,
-    /// The most cases of a boundary: 1 to 65,536, and 4,096 where it isn't given.
+    /// The most cases of a boundary: 1 to 65,536, and 4,096 where it isn't given. No command reads it yet.
     pub paths: u32,
     /// How many steps are compared at most: 1 to 10,000, and 1 where it isn't given.
     pub steps: u32,
     /// How many cycles a run has: 1 to 1,000,000, and 1,000 where it isn't given.
     pub cycles: u32,
-    /// Whether the arithmetic part of the board works as its parts.
+    /// Whether the board's arithmetic goes through its slices, joined by lookahead, and not over whole words.
     pub parts: bool,
 }
 
-/// What the words say of a command.
+/// What a command's words are.
 #[derive(Clone, Copy)]
 struct Row {
     /// The word that stands for it.
@@ -106,6 +107,7 @@ fn is_word_of(command: Command, word: &str) -> bool
     word == command.row().word
 }
 
+/// The command that a word stands for.
 fn command_of(word: &str) -> Option<Command>
     ensures { result ≡ command_of word.now }
 {

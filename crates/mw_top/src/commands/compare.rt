@@ -278,6 +278,7 @@ fn compare(
     Ok(compare_by(parts, job, &mut replay, steps))
 }
 
+/// The status of what a comparison shows.
 fn status_of(compared: Compared) -> Status
     ensures { result ≡ compare_status compared }
 {

@@ -9,7 +9,7 @@ use mw_base::number;
 /// An option with a number.
 #[derive(Clone, Copy, Debug, PartialEq, Eq)]
 pub(crate) enum Number {
-    /// The most nodes of an operation.
+    /// The most joint cofactors of an operation.
     Nodes,
     /// The most cases of a boundary.
     Paths,
@@ -33,7 +33,7 @@ pub(crate) struct Limit {
 /// The options of a command.
 #[derive(Clone, Copy)]
 pub(crate) struct Options {
-    /// The most nodes of an operation.
+    /// The most joint cofactors of an operation.
     pub(crate) nodes: u32,
     /// The most cases of a boundary.
     pub(crate) paths: u32,
@@ -41,7 +41,7 @@ pub(crate) struct Options {
     pub(crate) steps: u32,
     /// How many cycles a run has.
     pub(crate) cycles: u32,
-    /// Whether the arithmetic part of the board works as its parts.
+    /// Whether the board's arithmetic goes through its slices, joined by lookahead, and not over whole words.
     pub(crate) parts: bool,
 }
 
@@ -77,6 +77,7 @@ impl Number {
     }
 }
 
+/// Whether all are decimal digits.
 fn are_digits(text: &[u8]) -> bool
     ensures { result ≡ list_all is_ascii_digit text.now }
 {
