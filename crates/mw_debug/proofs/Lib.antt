@@ -3,3 +3,4 @@ pub mod Readings
 pub mod Moments
 pub mod Until
 pub mod Back
+pub mod Naming

@@ -1,5 +1,6 @@
 pub mod Commands
 pub mod Elements
+pub mod Labels
 pub mod Script
 pub mod Session
 pub mod Trace

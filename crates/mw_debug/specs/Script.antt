@@ -1,5 +1,5 @@
 -- The script of a text.
-use Rattle.std.specs.Prelude.{ℕ, ◌+◌, ◌^◌, List, [], ◌∷◌, ◌++◌, ◌&&◌, if◌then◌else◌, nat_le, ok_or, Result, Ok, Err}
+use Rattle.std.specs.Prelude.{ℕ, ◌+◌, ◌^◌, List, [], ◌∷◌, ◌++◌, ◌&&◌, if◌then◌else◌, nat_le, ok_or, Option, Result, Ok, Err}
 use Rattle.mw_base.specs.declared.cause.Cause.TheVariants.{BadCommand, NoSuchElement, ValueTooWide}
 use Rattle.mw_base.specs.declared.cursor.Dotted.{Dotted}
 use Rattle.mw_base.specs.declared.cursor.Numeral.{Numeral}
@@ -39,10 +39,10 @@ element_number_of board text element =
     ok_or (number_of board (spelled text element.owner) (spelled text element.name))
     (fault_on element.owner NoSuchElement)
 
--- until: the address, and how many cycles there are at most
-unfoldable pub until_act : List Label → List ℕ → Place → Numeral → Result Act TextFault
+-- until: the address, given those of the labels, and how many cycles there are at most
+unfoldable pub until_act : (List ℕ → Option ℕ) → List ℕ → Place → Numeral → Result Act TextFault
 until_act labels text place limit = do
-  address ← address_of text (label_named labels) place
+  address ← address_of text labels place
   limit ← count_of limit
   Ok (acts.Until address limit)
 
@@ -54,7 +54,7 @@ set_act board text element value = do
   Ok (acts.Set number value)
 
 -- what a command does
-abbrev pub act_of : BoardParts → List Label → List ℕ → Command → Result Act TextFault
+abbrev pub act_of : BoardParts → (List ℕ → Option ℕ) → List ℕ → Command → Result Act TextFault
 act_of board labels text (commands.Step count) = count_of count >>= λ count. Ok (acts.Step count)
 act_of board labels text (commands.Until place limit) = until_act labels text place limit
 act_of board labels text (commands.Set element value) = set_act board text element value
@@ -83,27 +83,27 @@ with_cycles_asked first so_far more =
     if nat_le (so_far + more) 100000 then Ok (so_far + more) else Err (fault_on first BadCommand)
 
 -- a command that begins with this token as an entry, and the cycles asked for with its own
-unfoldable pub counted_of : BoardParts → List Label → List ℕ → Token → ℕ → Command → Result Counted TextFault
+unfoldable pub counted_of : BoardParts → (List ℕ → Option ℕ) → List ℕ → Token → ℕ → Command → Result Counted TextFault
 counted_of board labels text first so_far command = do
   cycles ← with_cycles_asked first so_far (cycles_asked command)
   act ← act_of board labels text command
   Ok (record { entry = record { line = first.line; column = first.column; act = act }; cycles = cycles })
 
 -- with a command that begins with this token
-unfoldable pub with_command : BoardParts → List Label → List ℕ → Token → Reading → Command → Result Reading TextFault
+unfoldable pub with_command : BoardParts → (List ℕ → Option ℕ) → List ℕ → Token → Reading → Command → Result Reading TextFault
 with_command board labels text first reading command = do
   counted ← counted_of board labels text first reading.cycles command
   Ok (record { entries = reading.entries ++ counted.entry ∷ []; cycles = counted.cycles })
 
 -- with a line that has these tokens; a blank one says nothing
-abbrev pub with_tokens : BoardParts → List Label → List ℕ → Reading → Line → List Token → Result Reading TextFault
+abbrev pub with_tokens : BoardParts → (List ℕ → Option ℕ) → List ℕ → Reading → Line → List Token → Result Reading TextFault
 with_tokens board labels text reading line [] = Ok reading
 with_tokens board labels text reading line (first ∷ rest) =
     command_of (at_line text line BadCommand) first >>= λ command.
     with_command board labels text first reading command
 
 -- with a line
-abbrev pub with_line : BoardParts → List Label → List ℕ → Reading → Line → Result Reading TextFault
+abbrev pub with_line : BoardParts → (List ℕ → Option ℕ) → List ℕ → Reading → Line → Result Reading TextFault
 with_line board labels text reading line = with_tokens board labels text reading line line.tokens
 
 -- nothing is read yet
@@ -115,5 +115,5 @@ nothing_read = record { entries = []; cycles = 0 }
 unfoldable pub script_of : BoardParts → List Label → List ℕ → Result Script TextFault
 script_of board labels text = do
   lines ← token_lines text
-  reading ← steps (with_line board labels text) nothing_read lines
+  reading ← steps (with_line board (label_named labels) text) nothing_read lines
   Ok (record { entries = reading.entries })

@@ -3,6 +3,7 @@
 
 mod command;
 mod element;
+mod labels;
 mod reading;
 mod running;
 mod script;

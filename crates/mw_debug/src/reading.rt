@@ -1,5 +1,6 @@
 // The script of a text.
 ghost use Rattle.std.specs.Prelude.{◌≡◌, ◌+◌, ◌<◌, ◌≤◌, ◌^◌, IfOk, OnOk, length};
+ghost use Rattle.mw_base.specs.Named.{names_seen};
 ghost use Rattle.mw_base.specs.Reading.{Gives};
 ghost use Rattle.mw_base.specs.Steps.{steps};
 ghost use Rattle.mw_board.specs.declared.parts.BoardParts.{BoardParts};
@@ -9,10 +10,11 @@ ghost use Rattle.mw_debug.specs.Views.{reading_seen};
 
 use crate::command::{Command, command_of};
 use crate::element::{bound_of, number_of};
+use crate::labels::names_of;
 use crate::script::{Act, Entry, Script};
-use mw_asm::{Assembled, Label, address_of};
+use mw_asm::Assembled;
 use mw_base::{
-    Cause, Cursor, Dotted, Items, Line, Numeral, Place, Refusal, Refused, TextFault, Token,
+    Cause, Cursor, Dotted, Items, Line, Names, Numeral, Place, Refusal, Refused, TextFault, Token,
     fault_on, lines, spelled,
 };
 use mw_board::Board;
@@ -72,12 +74,17 @@ fn element_number_of(board: &Board, text: &[u8], element: Dotted) -> Result<u32,
 
 /// until: cause 30 or 33 of the place, 33 of the limit.
 #[tactic(auto, unfolding(crate::specs::Script::until_act))]
-fn until_act(labels: &[Label], text: &[u8], place: Place, limit: Numeral) -> Result<Act, TextFault>
-    ensures exact { result ≡ until_act labels.now text.now place limit }
+fn until_act(
+    labels: &Names<u16>,
+    text: &[u8],
+    place: Place,
+    limit: Numeral,
+) -> Result<Act, TextFault>
+    ensures exact { result ≡ until_act (names_seen labels.now) text.now place limit }
     ensures kept { (board : BoardParts) → IfOk result (λ act. IsAct board act) }
     ensures cycles { IfOk result (λ act. cycles_in act ≡ limit.value) }
 {
-    let address = address_of(place, text, labels)?;
+    let address = place.address(text, labels)?;
     let limit = count_of(limit)?;
     Ok(Act::Until(address, limit))
 }
@@ -95,8 +102,13 @@ fn set_act(board: &Board, text: &[u8], element: Dotted, value: Numeral) -> Resul
 }
 
 /// What a command does: by place, cause 30 or 33 of a place, 71 of an element, 33 of a number.
-fn act_of(board: &Board, labels: &[Label], text: &[u8], command: Command) -> Result<Act, TextFault>
-    ensures exact { result ≡ act_of board.now labels.now text.now command }
+fn act_of(
+    board: &Board,
+    labels: &Names<u16>,
+    text: &[u8],
+    command: Command,
+) -> Result<Act, TextFault>
+    ensures exact { result ≡ act_of board.now (names_seen labels.now) text.now command }
     ensures kept { IfOk result (λ act. IsAct board.now act) }
     ensures cycles { IfOk result (λ act. cycles_in act ≡ cycles_asked command) }
 {
@@ -145,14 +157,14 @@ fn with_cycles_asked(first: Token, so_far: u32, more: u128) -> Result<u32, TextF
 #[tactic(auto, unfolding(crate::specs::Script::counted_of))]
 fn counted_of(
     board: &Board,
-    labels: &[Label],
+    labels: &Names<u16>,
     text: &[u8],
     first: Token,
     so_far: u32,
     command: Command,
 ) -> Result<Counted, TextFault>
     requires { so_far ≤ 100000 }
-    ensures exact { result ≡ counted_of board.now labels.now text.now first so_far command }
+    ensures exact { result ≡ counted_of board.now (names_seen labels.now) text.now first so_far command }
     ensures kept { IfOk result (λ counted. IsAct board.now counted.entry.act) }
     ensures sum { IfOk result (λ counted. counted.cycles ≡ so_far + cycles_in counted.entry.act) }
     ensures few { IfOk result (λ counted. counted.cycles ≤ 100000) }
@@ -185,14 +197,14 @@ impl Reading {
     fn add_command(
         &mut self,
         board: &Board,
-        labels: &[Label],
+        labels: &Names<u16>,
         text: &[u8],
         first: Token,
         command: Command,
     ) -> Result<(), Refusal>
         requires kept { IsReading board.now (reading_seen self.old) }
         ensures gives { Gives (λ done. reading_seen self.new) result
-            (with_command board.now labels.now text.now first (reading_seen self.old) command) }
+            (with_command board.now (names_seen labels.now) text.now first (reading_seen self.old) command) }
         ensures kept { OnOk result (IsReading board.now (reading_seen self.new)) }
     {
         match counted_of(board, labels, text, first, self.cycles, command) {
@@ -209,13 +221,13 @@ impl Reading {
     fn add_line(
         &mut self,
         board: &Board,
-        labels: &[Label],
+        labels: &Names<u16>,
         text: &[u8],
         line: &Line,
     ) -> Result<(), Refusal>
         requires kept { IsReading board.now (reading_seen self.old) }
         ensures gives { Gives (λ done. reading_seen self.new) result
-            (with_line board.now labels.now text.now (reading_seen self.old) line.now) }
+            (with_line board.now (names_seen labels.now) text.now (reading_seen self.old) line.now) }
         ensures kept { OnOk result (IsReading board.now (reading_seen self.new)) }
     {
         match line.tokens.as_slice() {
@@ -233,11 +245,11 @@ impl Reading {
 fn reading_of(
     alloc: Global,
     board: &Board,
-    labels: &[Label],
+    labels: &Names<u16>,
     text: &[u8],
     lines: &[Line],
 ) -> Result<Reading, Refusal>
-    ensures gives { Gives reading_seen result (steps (with_line board.now labels.now text.now) nothing_read lines.now) }
+    ensures gives { Gives reading_seen result (steps (with_line board.now (names_seen labels.now) text.now) nothing_read lines.now) }
     ensures kept { IfOk result (λ reading. IsReading board.now (reading_seen reading)) }
 {
     let mut reading = Reading::nothing(alloc);
@@ -268,7 +280,8 @@ pub fn read_script(
     ensures kept { IfOk result (λ script. IsScript board.now script) }
 {
     let lines = lines(alloc, text)?;
-    let reading = reading_of(alloc, board, made.labels.as_slice(), text, &lines)?;
+    let labels = names_of(alloc, made.labels.as_slice())?;
+    let reading = reading_of(alloc, board, &labels, text, &lines)?;
     Ok(Script {
         entries: Items::from_vec(reading.entries),
     })
