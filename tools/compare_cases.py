@@ -314,6 +314,15 @@ def completed_cases(count=48):
                 f"boundary HERE 1\nsp {sp}\nb.upc = 6#12\n{lines}end\n", f"boundary HERE\n{sets}{memory}"])
 
 
+def thirteen_boundaries():
+    """A relation with a boundary at each of the first thirteen addresses; the last wants the complement."""
+    lines = ["b.r0 = m.X"] * 12 + ["b.r0 = ~m.X"]
+    return "".join(f"boundary {at} 1\nsp 0\nb.upc = {at + 1}#12\n{line}\nend\n" for at, line in enumerate(lines))
+
+
+THIRTEEN = {"b": board_text(), "m": "", "k": "memory 4 4\nregister X 4\nstep\n", "r": thirteen_boundaries()}
+
+
 # ---- events, the interrupt line, and the order of differences, on the board of examples/tally
 
 EXAMPLE = Path(__file__).parent.parent / "examples" / "tally"
@@ -552,6 +561,10 @@ def comparison_rows():
     yield from set_lines(sets)
     for name, texts in completed_cases():
         yield row_of(name, sets, dict(zip("bmkrs", texts)))
+    sets = sets_of("thirteen boundaries", THIRTEEN)
+    yield from set_lines(sets)
+    for at in (7, 8, 9, 10, 11, 12):
+        yield row_of(f"boundary {at} of thirteen", sets, THIRTEEN | {"s": f"boundary {at}\nset m.X 6\n"})
 
 
 def event_rows():

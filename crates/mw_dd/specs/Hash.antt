@@ -1,8 +1,7 @@
 -- Numbers for buckets.
 use Rattle.std.specs.Prelude.{ℕ, ◌+◌, ◌*◌, ◌/◌, ◌%◌, ◌^◌}
+use Rattle.mw_dd.specs.declared.hash.TheConstants.{FIRST, SECOND, THIRD, FOURTH}
 
 -- four numbers scattered over 32 bits
 unfoldable pub scattered : (a b c d : ℕ) → ℕ
-scattered a b c d =
-    (a * 11400714819323198485 + b * 14029467366897019727 + c * 1609587929392839161 + d * 2870177450012600261)
-    % 2 ^ 64 / 2 ^ 32
+scattered a b c d = (a * FIRST + b * SECOND + c * THIRD + d * FOURTH) % 2 ^ 64 / 2 ^ 32

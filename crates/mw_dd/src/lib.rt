@@ -13,3 +13,6 @@ mod variable;
 
 pub use dd::{Dd, DdFault};
 pub use diagrams::Diagrams;
+
+#[cfg(test)]
+mod tests;

@@ -1,5 +1,6 @@
 // Calls that no command shows yet.
 mod cycles;
+mod diagrams;
 mod expressions;
 mod machines;
 mod numbers;
@@ -33,6 +34,7 @@ pub fn made(alloc: Global, words: &[String], files: &[File]) -> Result<Vec<u8>, 
         "machine" => machines::read(alloc, contents(files, "text")?),
         "relation" => relations::read(alloc, files),
         "number" => numbers::read(alloc, given),
+        "diagrams" => diagrams::read(alloc, contents(files, "text")?),
         "alu" => parts::alu_table(alloc, given),
         "slice" => parts::slice_table(alloc, given),
         "step" => parts::stepped(alloc, given),

@@ -1,0 +1,5 @@
+pub mod Elements
+pub mod Readings
+pub mod Moments
+pub mod Until
+pub mod Back

@@ -1,0 +1,210 @@
+// `call diagrams`: reads the file `text`, whose lines are made in turn in one table of diagrams. A function is written
+// as its table, the digits 0 and 1 where bit 0 of word 0 is 0 before those where it is 1, each half by bit 0 of word 1,
+// and so on; as `BIT.WORD`, a variable; or as `? F G H`, which is G where F holds and else H. A line is `same F G`, and
+// gives whether they are one node; `budgets N F G H`, and gives for each budget from 0 to N whether `? F G H` is made
+// (1) or over it (0); or `first F`, and gives the numbers of words 0 to 3 under the first assignment where F holds, or
+// `never`.
+ghost use Rattle.std.specs.Prelude.{◌<◌, ℕ, length, IfOk, OnOk};
+ghost use Rattle.mw_dd.specs.Nodes.{IsDd};
+
+use crate::fault::{Fault, wrong};
+use mw_base::NoMemory;
+use mw_dd::{Dd, DdFault, Diagrams};
+use std::alloc::Global;
+
+/// Why words gave no function.
+#[derive(Clone, Copy)]
+enum NotMade {
+    /// They don't begin with a function.
+    NoFunction,
+    /// Memory ran out.
+    NoMemory,
+}
+
+impl From<NoMemory> for NotMade {
+    fn from(_: NoMemory) -> NotMade {
+        NotMade::NoMemory
+    }
+}
+
+/// No table of diagrams has room for as many operations as the greatest budget.
+impl From<DdFault> for NotMade {
+    fn from(_: DdFault) -> NotMade {
+        NotMade::NoMemory
+    }
+}
+
+impl From<NotMade> for Fault {
+    fn from(why: NotMade) -> Fault {
+        match why {
+            NotMade::NoFunction => wrong("no function"),
+            NotMade::NoMemory => Fault::NoMemory,
+        }
+    }
+}
+
+/// The variable of a bit and a word.
+fn variable(diagrams: &mut Diagrams, alloc: Global, bit: &str, word: &str) -> Result<Dd, NotMade>
+    ensures there { IfOk result (IsDd diagrams.new) }
+    ensures keeps { (x : ℕ) → IsDd diagrams.old x → IsDd diagrams.new x }
+{
+    match (bit.parse::<u8>(), word.parse::<u64>()) {
+        (Ok(bit), Ok(word)) if bit < 32 => Ok(diagrams.variable(alloc, bit, word)?),
+        _ => Err(NotMade::NoFunction),
+    }
+}
+
+/// The function of a table, whose halves bit 0 of a word chooses from.
+fn table(diagrams: &mut Diagrams, alloc: Global, digits: &[u8], word: u64) -> Result<Dd, NotMade>
+    ensures there { IfOk result (IsDd diagrams.new) }
+    ensures keeps { (x : ℕ) → IsDd diagrams.old x → IsDd diagrams.new x }
+{
+    let half = digits.len() / 2;
+    match digits {
+        [b'0'] => return Ok(diagrams.constant(false)),
+        [b'1'] => return Ok(diagrams.constant(true)),
+        _ if half == 0 || digits.len() % 2 != 0 => return Err(NotMade::NoFunction),
+        _ => {}
+    }
+    let low = table(diagrams, alloc, &digits[..half], word.saturating_add(1))?;
+    let high = table(diagrams, alloc, &digits[half..], word.saturating_add(1))?;
+    let variable = diagrams.variable(alloc, 0, word)?;
+    Ok(diagrams.ite(alloc, variable, high, low, u32::MAX)?)
+}
+
+/// The function that the last words stand for, from the last on. They are taken away.
+fn function(diagrams: &mut Diagrams, alloc: Global, words: &mut Vec<&str>) -> Result<Dd, NotMade>
+    ensures there { IfOk result (IsDd diagrams.new) }
+    ensures keeps { (x : ℕ) → IsDd diagrams.old x → IsDd diagrams.new x }
+    ensures fewer { OnOk result (length words.new.items < length words.old.items) }
+{
+    let Some(word) = words.pop() else {
+        return Err(NotMade::NoFunction);
+    };
+    if word == "?" {
+        let f = function(diagrams, alloc, words)?;
+        let g = function(diagrams, alloc, words)?;
+        let h = function(diagrams, alloc, words)?;
+        return Ok(diagrams.ite(alloc, f, g, h, u32::MAX)?);
+    }
+    match word.split_once('.') {
+        Some((bit, word)) => variable(diagrams, alloc, bit, word),
+        None => table(diagrams, alloc, word.as_bytes(), 0),
+    }
+}
+
+/// Appends whether two functions are one node.
+fn push_same(
+    alloc: Global,
+    report: &mut Vec<u8>,
+    diagrams: &mut Diagrams,
+    words: &mut Vec<&str>,
+) -> Result<(), Fault> {
+    let f = function(diagrams, alloc, words)?;
+    let g = function(diagrams, alloc, words)?;
+    let same: &[u8] = if f == g { b"same" } else { b"other" };
+    report.extend_from_slice(same)?;
+    Ok(())
+}
+
+/// Whether an operation is made within a budget.
+fn is_made(
+    diagrams: &mut Diagrams,
+    alloc: Global,
+    f: Dd,
+    g: Dd,
+    h: Dd,
+    budget: u32,
+) -> Result<bool, NoMemory>
+    requires f { IsDd diagrams.old f }
+    requires g { IsDd diagrams.old g }
+    requires h { IsDd diagrams.old h }
+    ensures { (x : ℕ) → IsDd diagrams.old x → IsDd diagrams.new x }
+{
+    match diagrams.ite(alloc, f, g, h, budget) {
+        Ok(_) => Ok(true),
+        Err(DdFault::OverBudget) => Ok(false),
+        Err(DdFault::NoMemory) => Err(NoMemory),
+    }
+}
+
+/// Appends for each budget up to the greatest whether an operation is made.
+fn push_budgets(
+    alloc: Global,
+    report: &mut Vec<u8>,
+    diagrams: &mut Diagrams,
+    words: &mut Vec<&str>,
+) -> Result<(), Fault> {
+    let Some(Ok(greatest)) = words.pop().map(|word| word.parse::<u8>()) else {
+        return Err(wrong("no greatest budget"));
+    };
+    let f = function(diagrams, alloc, words)?;
+    let g = function(diagrams, alloc, words)?;
+    let h = function(diagrams, alloc, words)?;
+    for budget in 0..=u32::from(greatest) {
+        let made = is_made(diagrams, alloc, f, g, h, budget)?;
+        report.push(if made { b'1' } else { b'0' })?;
+    }
+    Ok(())
+}
+
+/// Appends the numbers of four words under the first assignment where a function holds.
+fn push_first(
+    alloc: Global,
+    report: &mut Vec<u8>,
+    diagrams: &mut Diagrams,
+    words: &mut Vec<&str>,
+) -> Result<(), Fault> {
+    let f = function(diagrams, alloc, words)?;
+    let Some(first) = diagrams.some_assignment(alloc, f)? else {
+        report.extend_from_slice(b"never")?;
+        return Ok(());
+    };
+    let (a, b) = (first.number(0), first.number(1));
+    let (c, d) = (first.number(2), first.number(3));
+    let numbers = format!(in alloc; "{a} {b} {c} {d}")?;
+    report.extend_from_slice(numbers.as_bytes())?;
+    Ok(())
+}
+
+/// Appends what a line gives.
+fn push_line(
+    alloc: Global,
+    report: &mut Vec<u8>,
+    diagrams: &mut Diagrams,
+    line: &str,
+) -> Result<(), Fault> {
+    let mut words = Vec::new(alloc);
+    for word in line.split_whitespace() {
+        words.push(word)?;
+    }
+    words.reverse();
+    match words.pop() {
+        Some("same") => push_same(alloc, report, diagrams, &mut words)?,
+        Some("budgets") => push_budgets(alloc, report, diagrams, &mut words)?,
+        Some("first") => push_first(alloc, report, diagrams, &mut words)?,
+        _ => return Err(wrong("no such line of functions")),
+    }
+    if !words.is_empty() {
+        return Err(wrong("a word behind the functions"));
+    }
+    report.push(b'\n')?;
+    Ok(())
+}
+
+/// What the lines of a text give.
+///
+/// # Errors
+///
+/// A line that isn't right, and want of memory.
+pub fn read(alloc: Global, text: &[u8]) -> Result<Vec<u8>, Fault> {
+    let Ok(text) = str::from_utf8(text) else {
+        return Err(wrong("no text"));
+    };
+    let mut diagrams = Diagrams::new(alloc)?;
+    let mut report = Vec::new(alloc);
+    for line in text.lines() {
+        push_line(alloc, &mut report, &mut diagrams, line)?;
+    }
+    Ok(report)
+}
