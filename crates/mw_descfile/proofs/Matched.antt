@@ -75,7 +75,15 @@ equation_low text scope element sign value uses block next low is =
     (fault_on element.owner UnknownElement)) _ next one.2 in
     let three = bind_ok (asked_whole scope.shape block.reads_left (slice_index scope.shape.widths two.0) sign value) _
     next two.2 in
-    subst (λ (b : Block). IsLow b.sp) (ok_is {F = TextFault} _ next three.2) low
+    let more : Block = record block {
+      reads_left = three.0.left;
+      lines = block.lines ++ record {
+        line = record { left = two.0; right = three.0.tree };
+        name = element.owner;
+        uses = uses;
+      } ∷ [];
+    } in
+    subst (λ (b : Block). IsLow b.sp) {x = more} (ok_is {F = TextFault} more next three.2) low
 
 closed_low : (block : Block) (word : Token) (boundary : Boundary) → IsLow block.sp
     → closed_block block word ≡ Ok boundary → EndsLow boundary
