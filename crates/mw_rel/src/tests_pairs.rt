@@ -7,7 +7,7 @@ use crate::tests::{
     R0, R1, board, boundary, constant, flipflop, job, machine, same, small_job, word_at,
 };
 use mw_base::{Cause, Name, NoMemory, Refused};
-use mw_cycle::Env;
+use mw_cycle::{Env, State};
 use mw_seq::Seq;
 use std::alloc::Global;
 use std::test::Fail;
@@ -149,20 +149,20 @@ fn bound(alloc: Global, job: &Job, boundary: usize) -> Result<Vec<u32>, NoMemory
     Ok(numbers)
 }
 
-/// Whether the board of a pair is at an address with this sequencer and these values of `r0`, `r15`, `mar` and the
-/// flip-flops, and the machine has these registers.
-fn has_values(
-    pair: &Pair,
-    at: u16,
-    seq: Seq,
-    values: (u32, u32, u32, u16),
-    registers: &[u32],
-) -> bool {
+/// The value of `r0`, that of `mar`, and the flip-flops.
+fn some_of(board: &State) -> (u32, u32, u16) {
+    (board.regs[0], board.mar, board.flips)
+}
+
+/// Whether the board of a pair is at an address with this sequencer and these values of `r0`, `mar` and the flip-flops.
+fn stands(pair: &Pair, at: u16, seq: Seq, values: (u32, u32, u16)) -> bool {
     let board = &pair.board;
-    board.at == at
-        && board.seq == seq
-        && (board.regs[0], board.regs[15], board.mar, board.flips) == values
-        && pair.machine.registers.as_slice() == registers
+    (board.at == at) & (board.seq == seq) & (some_of(board) == values)
+}
+
+/// The machine's registers.
+fn registers(pair: &Pair) -> &[u32] {
+    &pair.machine.registers
 }
 
 /// Turns over the least bit of the number at a place.
@@ -209,7 +209,8 @@ fn the_small_case(rt: HostRuntime) -> Result<(), Fail> {
     assert_eq!(rt; bound(alloc, &job, 0)?.as_slice(), [0, 1, 19].as_slice());
     let values = numbers(alloc, 25, &[(23, 7), (24, 1)])?;
     let mut pair = completed(alloc, &job, 0, values, numbers(alloc, 16, &[])?)?;
-    assert!(rt; has_values(&pair, 0, sequencer(1, 0, 0, 0), (7, 0, 0, 0), &[7, 1]));
+    assert!(rt; stands(&pair, 0, sequencer(1, 0, 0, 0), (7, 0, 0)));
+    assert_eq!(rt; registers(&pair), [7, 1].as_slice());
     assert_eq!(rt; held(&job, &pair), [true, false, false]);
     turn_register(&mut pair, 1);
     assert_eq!(rt; held(&job, &pair), [false; 3]);
@@ -239,7 +240,6 @@ fn a_pair_at_the_first(rt: HostRuntime) -> Result<(), Fail> {
     let alloc = rt.alloc();
     let job = three(alloc)?;
     let given = [
-        (14, 0x5A),
         (17, 1),
         (23, 0xABC),
         (24, 200),
@@ -250,15 +250,8 @@ fn a_pair_at_the_first(rt: HostRuntime) -> Result<(), Fail> {
     let memory = numbers(alloc, 64, &[(9, 0xC3)])?;
     let mut pair = completed(alloc, &job, 0, numbers(alloc, 28, &given)?, memory)?;
     let seq = sequencer(0x011, 0, 0xABC, 2);
-    assert!(rt;
-        has_values(
-            &pair,
-            0x010,
-            seq,
-            (0xC3, 0x5A, 9, 0b11),
-            &[200, 9, 1, 0x777]
-        )
-    );
+    assert!(rt; stands(&pair, 0x010, seq, (0xC3, 9, 0b11)));
+    assert_eq!(rt; registers(&pair), [200, 9, 1, 0x777].as_slice());
     assert_eq!(rt; held(&job, &pair), [true, false, false]);
     turn_register(&mut pair, 2);
     assert_eq!(rt; held(&job, &pair), [false; 3]);
@@ -274,7 +267,8 @@ fn a_pair_at_the_second(rt: HostRuntime) -> Result<(), Fail> {
     let memory = numbers(alloc, 64, &[(33, 0x7E)])?;
     let mut pair = completed(alloc, &job, 1, numbers(alloc, 30, &given)?, memory)?;
     let seq = sequencer(0x201, 0x0F0, 0, 1);
-    assert!(rt; has_values(&pair, 0x200, seq, (3, 0, 33, 0b10), &[0x7E, 0, 0, 0x0F0]));
+    assert!(rt; stands(&pair, 0x200, seq, (3, 33, 0b10)));
+    assert_eq!(rt; registers(&pair), [0x7E, 0, 0, 0x0F0].as_slice());
     assert_eq!(rt; held(&job, &pair), [false, true, false]);
     turn_register(&mut pair, 0);
     assert_eq!(rt; held(&job, &pair), [false; 3]);
@@ -295,7 +289,8 @@ fn a_pair_at_the_third(rt: HostRuntime) -> Result<(), Fail> {
         numbers(alloc, 64, &[])?,
     )?;
     let seq = sequencer(0, 0xFFF, 7, 5);
-    assert!(rt; has_values(&pair, 0, seq, (0, 0, 0x3F, 0b11), &[0, 0x3F, 1, 0]));
+    assert!(rt; stands(&pair, 0, seq, (0, 0x3F, 0b11)));
+    assert_eq!(rt; registers(&pair), [0, 0x3F, 1, 0].as_slice());
     assert_eq!(rt; held(&job, &pair), [false, false, true]);
     turn_word(&mut pair, 40);
     assert_eq!(rt; held(&job, &pair), [false; 3]);
@@ -323,6 +318,15 @@ fn seeded(alloc: Global, job: &Job, boundary: usize, seed: u32) -> Result<Vec<u3
     Ok(values)
 }
 
+/// A memory of 64 words of 8 bits.
+fn seeded_memory(alloc: Global, seed: u32) -> Result<Vec<u32>, NoMemory> {
+    let mut words = Vec::new(alloc);
+    for address in 0..64 {
+        words.push(word(seed, address, 8))?;
+    }
+    Ok(words)
+}
+
 /// Whether a pair that is completed of some values is in relation at its boundary alone, and nowhere once the register
 /// of this number, which stands on the right of one of its lines, is another.
 fn agree(
@@ -332,10 +336,7 @@ fn agree(
     seed: u32,
     register: usize,
 ) -> Result<bool, Refused<Cause>> {
-    let mut memory = numbers(alloc, 64, &[])?;
-    for (address, content) in memory.iter_mut().enumerate() {
-        *content = word(seed, address as u32, 8);
-    }
+    let memory = seeded_memory(alloc, seed)?;
     let values = seeded(alloc, job, boundary, seed)?;
     let mut pair = completed(alloc, job, boundary, values, memory)?;
     let here = [boundary == 0, boundary == 1, boundary == 2];
