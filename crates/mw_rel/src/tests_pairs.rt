@@ -1,5 +1,5 @@
 // Elements that are free and pairs in relation, worked by hand, and how `complete` and `holds` agree.
-ghost use Rattle.std.specs.Prelude.{◌<◌, ◌≤◌, IsTrue, length};
+ghost use Rattle.std.specs.Prelude.{◌<◌, IsTrue, length};
 ghost use Rattle.mw_rel.specs.Views.{job_of};
 
 use super::*;
@@ -7,8 +7,7 @@ use crate::tests::{
     R0, R1, board, boundary, constant, flipflop, job, machine, same, small_job, word_at,
 };
 use mw_base::{Cause, Name, NoMemory, Refused};
-use mw_cycle::{Env, State};
-use mw_seq::Seq;
+use mw_cycle::Env;
 use std::alloc::Global;
 use std::test::Fail;
 
@@ -149,34 +148,25 @@ fn bound(alloc: Global, job: &Job, boundary: usize) -> Result<Vec<u32>, NoMemory
     Ok(numbers)
 }
 
-/// The value of `r0`, that of `mar`, and the flip-flops.
-fn some_of(board: &State) -> (u32, u32, u16) {
-    (board.regs[0], board.mar, board.flips)
+/// The address and the stack pointer of a pair's board.
+fn place(pair: &Pair) -> (u16, u8) {
+    (pair.board.at, pair.board.seq.sp)
 }
 
-/// Whether the board of a pair is at an address with this sequencer and these values of `r0`, `mar` and the flip-flops.
-fn stands(pair: &Pair, at: u16, seq: Seq, values: (u32, u32, u16)) -> bool {
-    let board = &pair.board;
-    (board.at == at) & (board.seq == seq) & (some_of(board) == values)
+/// `upc`, `stack0` and `stack4` of a pair's board.
+fn sequencer(pair: &Pair) -> (u16, u16, u16) {
+    let seq = &pair.board.seq;
+    (seq.pc, seq.stack[0], seq.stack[4])
+}
+
+/// `r0`, `mar` and the flip-flops of a pair's board.
+fn datapath(pair: &Pair) -> (u32, u32, u16) {
+    (pair.board.regs[0], pair.board.mar, pair.board.flips)
 }
 
 /// The machine's registers.
 fn registers(pair: &Pair) -> &[u32] {
     &pair.machine.registers
-}
-
-fn sequencer(pc: u16, first: u16, last: u16, sp: u8) -> Seq
-    requires pc { pc < 4096 }
-    requires first { first < 4096 }
-    requires last { last < 4096 }
-    requires sp { sp ≤ 5 }
-{
-    Seq {
-        pc,
-        r: 0,
-        stack: [first, 0, 0, 0, last],
-        sp,
-    }
 }
 
 #[test]
@@ -192,7 +182,9 @@ fn the_small_case(rt: HostRuntime) -> Result<(), Fail> {
     assert_eq!(rt; bound(alloc, &job, 0)?.as_slice(), [0, 1, 19].as_slice());
     let values = numbers(alloc, 25, &[(23, 7), (24, 1)])?;
     let pair = completed(alloc, &job, 0, values, numbers(alloc, 16, &[])?)?;
-    assert!(rt; stands(&pair, 0, sequencer(1, 0, 0, 0), (7, 0, 0)));
+    assert_eq!(rt; place(&pair), (0, 0));
+    assert_eq!(rt; sequencer(&pair), (1, 0, 0));
+    assert_eq!(rt; datapath(&pair), (7, 0, 0));
     assert_eq!(rt; registers(&pair), [7, 1].as_slice());
     assert_eq!(rt; held(&job, &pair), [true, false, false]);
     let exchanged = small(alloc, 27, 26)?;
@@ -232,8 +224,9 @@ fn a_pair_at_the_first(rt: HostRuntime) -> Result<(), Fail> {
     ];
     let memory = numbers(alloc, 64, &[(9, 0xC3)])?;
     let pair = completed(alloc, &job, 0, numbers(alloc, 28, &given)?, memory)?;
-    let seq = sequencer(0x011, 0, 0xABC, 2);
-    assert!(rt; stands(&pair, 0x010, seq, (0xC3, 9, 0b11)));
+    assert_eq!(rt; place(&pair), (0x010, 2));
+    assert_eq!(rt; sequencer(&pair), (0x011, 0, 0xABC));
+    assert_eq!(rt; datapath(&pair), (0xC3, 9, 0b11));
     assert_eq!(rt; registers(&pair), [200, 9, 1, 0x777].as_slice());
     assert_eq!(rt; held(&job, &pair), [true, false, false]);
     Ok(())
@@ -247,8 +240,9 @@ fn a_pair_at_the_second(rt: HostRuntime) -> Result<(), Fail> {
     let given = [(0, 3), (17, 33), (20, 1), (21, 0x201), (29, 0x0F0)];
     let memory = numbers(alloc, 64, &[(33, 0x7E)])?;
     let pair = completed(alloc, &job, 1, numbers(alloc, 30, &given)?, memory)?;
-    let seq = sequencer(0x201, 0x0F0, 0, 1);
-    assert!(rt; stands(&pair, 0x200, seq, (3, 33, 0b10)));
+    assert_eq!(rt; place(&pair), (0x200, 1));
+    assert_eq!(rt; sequencer(&pair), (0x201, 0x0F0, 0));
+    assert_eq!(rt; datapath(&pair), (3, 33, 0b10));
     assert_eq!(rt; registers(&pair), [0x7E, 0, 0, 0x0F0].as_slice());
     assert_eq!(rt; held(&job, &pair), [false, true, false]);
     Ok(())
@@ -267,8 +261,9 @@ fn a_pair_at_the_third(rt: HostRuntime) -> Result<(), Fail> {
         numbers(alloc, 29, &given)?,
         numbers(alloc, 64, &[])?,
     )?;
-    let seq = sequencer(0, 0xFFF, 7, 5);
-    assert!(rt; stands(&pair, 0, seq, (0, 0x3F, 0b11)));
+    assert_eq!(rt; place(&pair), (0, 5));
+    assert_eq!(rt; sequencer(&pair), (0, 0xFFF, 7));
+    assert_eq!(rt; datapath(&pair), (0, 0x3F, 0b11));
     assert_eq!(rt; registers(&pair), [0, 0x3F, 1, 0].as_slice());
     assert_eq!(rt; held(&job, &pair), [false, false, true]);
     Ok(())
