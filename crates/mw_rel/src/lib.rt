@@ -32,3 +32,7 @@ pub use relation::Relation;
 
 #[cfg(test)]
 mod computed_examples;
+#[cfg(test)]
+mod tests;
+#[cfg(test)]
+mod tests_pairs;
