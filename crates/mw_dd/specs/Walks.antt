@@ -6,9 +6,10 @@ use Rattle.mw_dd.specs.declared.nodes.Node.{Node}
 use Rattle.mw_dd.specs.Nodes.{value_at, IsDd, IsFrom}
 use Rattle.mw_dd.specs.Diagrams.{AgreeBefore}
 
--- Where the way has come to a node: the assignment has its values before the node's place, and 0 from there on. Where
--- another one has the same before the place, the whole is the node; and where the whole holds under another one, the
--- assignment isn't after that one before the place.
+-- The way has come down from a whole function to a node of it. The assignment so far has values for the variables before
+-- the node's place, and 0 for the others. It fixes the whole to the node: under each assignment that agrees with it before
+-- the place, both have one value. And it is still the first: under no assignment that is before it, as far as the place, does
+-- the whole hold.
 pub record Walks (nodes : List Node) (whole : ℕ) (numbers : Numbers) (x : ℕ) : Type 0 where
   pub place : Variable
   pub there : IsDd nodes x

@@ -63,11 +63,12 @@ impl Diagrams {
         if value { Dd::at(1) } else { Dd::at(0) }
     }
 
-    /// The function that is a bit of a word, of 32 bits. Earlier functions stay as they are.
+    /// The function that is a bit, 0 to 31, of the variable word of this number. Earlier functions stay as they are, also
+    /// after a refusal.
     ///
     /// # Errors
     ///
-    /// Memory ran out. Earlier functions stay as they are.
+    /// Memory ran out, or there are as many nodes as there can be (2^32 - 16).
     pub fn variable(&mut self, alloc: Global, bit: u8, word: u64) -> Result<Dd, NoMemory>
         requires { bit < 32 }
         ensures there { IfOk result (IsDd self.new) }
@@ -86,15 +87,14 @@ impl Diagrams {
         )
     }
 
-    /// The function that is the second where the first holds, and else the third. Earlier functions stay as they are.
+    /// The function that is the second where the first holds, and else the third. Earlier functions stay as they are, also
+    /// after a refusal. It goes as deep into the stack as the three have different variables.
     ///
     /// # Errors
     ///
     /// - `OverBudget`: the three have more joint cofactors than the budget, whatever was made before. Where they have,
     ///   there is no other answer but want of memory.
-    /// - `NoMemory`: memory ran out.
-    ///
-    /// Earlier functions stay as they are then too.
+    /// - `NoMemory`: memory ran out, or there are as many nodes or operations as there can be (2^32 - 16).
     pub fn ite(&mut self, alloc: Global, f: Dd, g: Dd, h: Dd, budget: u32) -> Result<Dd, DdFault>
         requires f { IsDd self.old f }
         requires g { IsDd self.old g }
@@ -106,6 +106,7 @@ impl Diagrams {
         ensures keeps { Keeps self.old self.new }
         ensures canonical { IsCanonical self.new }
     {
+        // The budget counts what this call meets, and nothing of earlier ones.
         self.memo.clear();
         choose(
             &mut self.nodes,
@@ -122,6 +123,7 @@ impl Diagrams {
         ensures exact { IsTrue result ↔ Agree (function_of self.now f) never }
         ensures canonical { IsCanonical self.now }
     {
+        // A use for the proof: the nodes are reduced, so that no other node is false.
         let _nodes = &self.nodes;
         f.position() == 0
     }

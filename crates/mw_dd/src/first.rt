@@ -26,7 +26,7 @@ fn raise(assignment: &mut Assignment, alloc: Global, variable: Variable) -> Resu
     assignment.set(alloc, variable.word, number)
 }
 
-/// The branch of a node that the first assignment takes: the first, unless it holds never.
+/// The branch of a node that the first assignment takes: the low one, unless it holds never.
 fn taken(
     nodes: &Table<Node>,
     alloc: Global,

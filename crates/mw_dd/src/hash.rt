@@ -2,7 +2,7 @@
 ghost use Rattle.std.specs.Prelude.{◌≡◌};
 ghost use Rattle.mw_dd.specs.Hash.{scattered};
 
-// What each of four numbers is multiplied by: odd numbers without a pattern.
+// What each of four numbers is multiplied by: 2^64 over the golden ratio, and primes that xxHash has.
 const FIRST: u64 = 0x9e37_79b9_7f4a_7c15;
 
 const SECOND: u64 = 0xc2b2_ae3d_27d4_eb4f;

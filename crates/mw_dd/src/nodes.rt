@@ -13,7 +13,7 @@ use crate::variable::Variable;
 use mw_base::NoMemory;
 use std::alloc::Global;
 
-/// A node: the function that is the second branch where its variable is 1, and else the first.
+/// A node: the function that is the high branch where its variable is 1, and else the low one.
 #[derive(Clone, Copy)]
 pub(crate) struct Node {
     pub variable: Variable,
@@ -140,7 +140,7 @@ pub(crate) fn side(nodes: &Table<Node>, t: Triple, variable: Variable, side: boo
     }
 }
 
-/// The node with these branches, made where it isn't there.
+/// The node with these branches, made where it isn't there; where both are one, that branch.
 pub(crate) fn make(nodes: &mut Table<Node>, alloc: Global, node: Node) -> Result<Dd, NoMemory>
     requires reduced { IsReduced nodes.old }
     requires bit { node.variable.bit < 32 }

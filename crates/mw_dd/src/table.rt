@@ -12,9 +12,11 @@ pub(crate) trait Key: Copy {
     /// The number by which it is found.
     ghost hash_of: { Self → ℕ };
 
+    /// That number, of 32 bits.
     fn hash(&self) -> u32
         ensures { result ≡ hash_of self.now };
 
+    /// Whether both are one key.
     fn is(&self, other: &Self) -> bool
         ensures { IsTrue result ↔ (self.now ≡ other.now) };
 }
@@ -22,10 +24,10 @@ pub(crate) trait Key: Copy {
 /// No place.
 const NOWHERE: u32 = 0xffff_ffff;
 
-/// The most keys that a table can have.
+/// The most keys that a table can have: less than `NOWHERE`, with room for the numbers that users put before places.
 const MOST: usize = 0xffff_fff0;
 
-/// How many buckets a new table has.
+/// How many buckets a new table has: a power of two, as they always are, so that a mask finds a hash's bucket.
 const FIRST_BUCKETS: usize = 64;
 
 /// A key, and the place of an earlier one of the same bucket.
@@ -62,7 +64,8 @@ fn bucket(hash: u32, count: usize) -> usize
     hash as usize & (count - 1)
 }
 
-/// A place where it is earlier than another, and else none.
+/// A place where it is earlier than another, and else none. It always is where it is asked for, so that the
+/// invariant needn't bound the heads.
 fn earlier(place: u32, other: u32) -> u32
     ensures earlier { (result < other) ⊎ (result ≡ 2 ^ 32 - 1) }
     ensures same { place < other → result ≡ place }

@@ -1,6 +1,6 @@
 -- The machine of statements is accepted.
-use Rattle.std.proofs.Common.{◌≡◌, ℕ, ◌+◌, ◌-◌, ◌≤◌, List, [], ◌∷◌, length, take, Bool, true, false, refl, arith, length-take-le}
-use Rattle.std.specs.Prelude.{Option, Some, None, not, nat_le, ◌&&◌, if◌then◌else◌}
+use Rattle.std.proofs.Common.{◌≡◌, ℕ, ◌-◌, ◌≤◌, List, [], ◌∷◌, length, take, Bool, true, false, refl, arith, length-take-le}
+use Rattle.std.specs.Prelude.{Option, Some, None, not, nat_le, if◌then◌else◌}
 use Rattle.std.specs.List.{list_all}
 use Rattle.std.proofs.lemmas.Bool.{and_from}
 use Rattle.std.proofs.lemmas.Bool.Decides.{nat_tests}
@@ -10,7 +10,7 @@ use Rattle.mw_macro.specs.declared.counts.Counted.TheVariants.{Statements, Reads
 use Rattle.mw_macro.specs.declared.rules.Fault.{Fault}
 use Rattle.mw_macro.specs.declared.rules.Fault.TheVariants.{NoElement, OtherWidth, TooNested}
 use Rattle.mw_macro.specs.Counts.{total}
-use Rattle.mw_macro.specs.Machine.{Description, IsFormed}
+use Rattle.mw_macro.specs.Machine.{IsFormed}
 use Rattle.mw_macro.specs.Right.{IsBetween}
 use Rattle.mw_macro.specs.Rules.{is_within, is_within_limits, are_free, are_short, are_ranges, have_fault, is_free_of, refusal_of}
 use Rattle.mw_macro.specs.Statements.{acts_of}

@@ -1,8 +1,8 @@
 -- What the lines of a boundary keep, and what it has where it ends.
-use Rattle.std.proofs.Common.{◌≡◌, ℕ, ◌+◌, ◌-◌, ◌<◌, ◌≤◌, ◌^◌, List, [], ◌∷◌, ◌++◌, length, map, take, drop, get_or, Bool, true, false, refl, sym, ap, ◌∙◌, arith, subst, inl, inr, append_assoc, append-nil, length-append}
-use Rattle.std.specs.Prelude.{Option, Some, None, IfSome, ok_or, not, nat_le, nat_lt, ◌&&◌, ◌||◌, ◌==◌, is_none, if◌then◌else◌, slice_get, slice_index, Result, Ok, Err}
+use Rattle.std.proofs.Common.{◌≡◌, ℕ, ◌+◌, ◌<◌, ◌≤◌, List, [], ◌∷◌, ◌++◌, length, map, take, drop, get_or, Bool, true, false, refl, sym, ap, ◌∙◌, arith, subst, append_assoc, length-append}
+use Rattle.std.specs.Prelude.{Option, Some, None, IfSome, ok_or, not, nat_le, nat_lt, ◌==◌, is_none, if◌then◌else◌, slice_index, Ok}
 use Rattle.std.specs.List.{All, flat_map, list_all, list_any, position}
-use Rattle.std.proofs.lemmas.Bool.{and_parts, and_from, eqb-true, eq-eqb, cases_Bool}
+use Rattle.std.proofs.lemmas.Bool.{and_from, eqb-true, eq-eqb}
 use Rattle.std.proofs.lemmas.Bool.Decides.{nat_tests}
 use Rattle.std.proofs.lemmas.List.Elements.{All-nil, All-cons, All-head, All-tail, All-append}
 use Rattle.std.proofs.lemmas.List.{get_or-map, length-map, take-map, take_more}
@@ -14,30 +14,29 @@ use Rattle.mw_base.specs.declared.cursor.Numeral.{Numeral}
 use Rattle.mw_base.specs.declared.refusal.TextFault.{TextFault}
 use Rattle.mw_base.specs.declared.token.Token.{Token}
 use Rattle.mw_base.specs.FirstFaults.{first_in}
-use Rattle.mw_base.specs.Reading.{◌>>=◌}
 use Rattle.mw_base.specs.TokenLines.{fault_on}
 use Rattle.mw_base.proofs.FirstFaults.{no_first, first_in_append}
 use Rattle.mw_base.proofs.Lists.{next as item_next}
-use Rattle.mw_base.proofs.Results.{ok_of, ok_is, bind_ok, found}
+use Rattle.mw_base.proofs.Results.{ok_is, bind_ok, found}
 use Rattle.mw_expr.specs.declared.shape.Shape.{Shape}
-use Rattle.mw_expr.specs.Faults.{first_fault, seen_width}
+use Rattle.mw_expr.specs.Faults.{seen_width}
 use Rattle.mw_expr.specs.Grammar.{meaning_of, tree_of}
 use Rattle.mw_expr.specs.Placed.{Placed}
 use Rattle.mw_expr.specs.Plain.{plain}
 use Rattle.mw_expr.specs.Tree.{Tree}
 use Rattle.mw_expr.specs.Widths.{width, is_known, depth, width_of}
-use Rattle.mw_expr.proofs.Small.{nil_front, nil_back, small_whole}
+use Rattle.mw_expr.proofs.Small.{nil_front, nil_back}
 use Rattle.mw_expr.proofs.Sound.{is_read_by_rule}
 use Rattle.mw_macro.specs.Counts.{reads}
 use Rattle.mw_rel.specs.Lines.{Line, stands_in, reads_of}
 use Rattle.mw_rel.specs.Relation.{Boundary, IsFormedLine, IsFormedBoundary}
-use Rattle.mw_rel.specs.Rules.{are_once, is_even, are_even, reads_no_left, lefts_are_once, rights_are_free, is_bounded}
+use Rattle.mw_rel.specs.Rules.{are_once, is_even, reads_no_left}
 use Rattle.mw_descfile.specs.declared.scope.Scope.{Scope}
 use Rattle.mw_descfile.specs.declared.block.Given.{Given as KeptGiven}
 use Rattle.mw_descfile.specs.declared.uses.Use.{Use}
-use Rattle.mw_descfile.specs.Boundaries.{Given, Block, with_point, with_equation, is_left, twice_left, used_left, line_faults, unsolved, solved_unless, closed_block}
+use Rattle.mw_descfile.specs.Boundaries.{Given, Block, with_stack_pointer, with_equation, is_left, twice_left, used_left, line_faults, unsolved, solved_unless, closed_block}
 use Rattle.mw_descfile.specs.Declarations.{ranged}
-use Rattle.mw_descfile.specs.Expressions.{asked, Whole, whole_of, asked_whole}
+use Rattle.mw_descfile.specs.Expressions.{asked, whole_of, asked_whole}
 use Rattle.mw_descfile.specs.KeptRelation.{IsScope, is_among, IsGiven, lines_in, IsEnded, IsOpen}
 use Rattle.mw_descfile.specs.RelationLines.{dotted_number, uses_of}
 use Rattle.mw_descfile.specs.RelationViews.{given_seen}
@@ -165,10 +164,10 @@ equation_kept text scope element sign value tokens before block next kept read i
           (All-nil (IsGiven s)));
     })
 
-pub point_kept : (s : Shape) (word : Token) (value : Numeral) (before : List Boundary) (block next : Block)
-    → IsOpen s before block → with_point word value block ≡ Ok next → IsOpen s before next
-unfolding with_point
-point_kept s word value before block next is_open is =
+pub stack_pointer_kept : (s : Shape) (word : Token) (value : Numeral) (before : List Boundary) (block next : Block)
+    → IsOpen s before block → with_stack_pointer word value block ≡ Ok next → IsOpen s before next
+unfolding with_stack_pointer
+stack_pointer_kept s word value before block next is_open is =
     let one = bind_ok (allowed (is_none block.sp) (fault_on word Twice)) _ next is in
     let two = bind_ok (ranged 0 5 value) _ next one.2 in
     subst (IsOpen s before) (ok_is {F = TextFault} (record block { sp = Some two.0 }) next two.2) (record {

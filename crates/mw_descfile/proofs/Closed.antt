@@ -1,6 +1,6 @@
 -- The machine that would end between two lines, and what another statement makes of it.
-use Rattle.std.proofs.Common.{◌≡◌, ℕ, ◌+◌, ◌-◌, List, [], ◌∷◌, ◌++◌, length, Bool, refl, ◌∙◌, sym, ap, arith, subst}
-use Rattle.std.specs.Prelude.{Option, Some, None, ◌||◌, false}
+use Rattle.std.proofs.Common.{◌≡◌, ℕ, ◌+◌, ◌-◌, List, [], ◌∷◌, ◌++◌, length, refl, arith, subst}
+use Rattle.std.specs.Prelude.{Option, Some, None, false}
 use Rattle.std.proofs.lemmas.Bool.{or_from, or_parts}
 use Rattle.mw_expr.specs.declared.shape.Shape.{Shape}
 use Rattle.mw_expr.specs.Tree.{Tree}
@@ -9,7 +9,7 @@ use Rattle.mw_macro.specs.declared.counts.Counted.TheVariants.{Statements, Reads
 use Rattle.mw_macro.specs.declared.rules.Fault.{Fault}
 use Rattle.mw_macro.specs.Counts.{own, count, total}
 use Rattle.mw_macro.specs.Rules.{is_fault, is_nesting_fault, has_fault, have_fault}
-use Rattle.mw_macro.specs.Statements.{Act, acts_of, choose}
+use Rattle.mw_macro.specs.Statements.{Act, acts_of}
 use Rattle.mw_descfile.specs.Kept.{closed}
 use Rattle.mw_descfile.specs.Stating.{OpenIf, closed_if}
 

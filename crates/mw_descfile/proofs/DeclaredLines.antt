@@ -1,25 +1,22 @@
 -- What each line before the statements keeps.
-use Rattle.std.proofs.Common.{◌≡◌, ℕ, ◌+◌, ◌-◌, ◌<◌, ◌≤◌, List, [], ◌∷◌, ◌++◌, length, take, Bool, true, false, refl, sym, ◌∙◌, ap, arith, subst, cond, append_assoc, append-nil, IfSome, IsSome}
-use Rattle.std.specs.Prelude.{Option, Some, None, not, nat_le, nat_lt, ◌&&◌, ◌||◌, ◌==◌, is_some, codes, if◌then◌else◌, bytes_eq, slice_index, Result, Ok, Err}
-use Rattle.std.specs.List.{All, list_all, list_any}
-use Rattle.std.specs.Map.{update}
-use Rattle.std.proofs.lemmas.Bool.{and_parts, and_from, or_parts, or_from, cases_Bool}
+use Rattle.std.proofs.Common.{◌≡◌, ℕ, ◌+◌, ◌<◌, ◌≤◌, List, [], ◌∷◌, ◌++◌, length, take, Bool, true, false, refl, sym, arith, subst, cond, append_assoc, append-nil, IfSome, IsSome}
+use Rattle.std.specs.Prelude.{Option, Some, None, nat_le, nat_lt, ◌||◌, is_some, codes, if◌then◌else◌, bytes_eq, slice_index, Ok, Err}
+use Rattle.std.specs.List.{All}
+use Rattle.std.proofs.lemmas.Bool.{or_parts}
 use Rattle.std.proofs.lemmas.Bool.Decides.{nat_tests}
-use Rattle.std.proofs.lemmas.List.Elements.{All-nil, All-cons, All-append, All-head, All-tail, All-weaker}
-use Rattle.std.proofs.lemmas.Slice.Eq.{bytes_eq-Decides}
+use Rattle.std.proofs.lemmas.List.Elements.{All-nil}
 use Rattle.std.proofs.Math.Seq.{take-append_seam, get_or-append_seam}
 use Rattle.mw_base.specs.declared.cause.Cause.TheVariants.{TooMany, Twice, ValueTooWide}
 use Rattle.mw_base.specs.declared.cursor.Numeral.{Numeral}
 use Rattle.mw_base.specs.declared.refusal.TextFault.{TextFault}
 use Rattle.mw_base.specs.declared.token.Token.{Token}
-use Rattle.mw_base.specs.Named.{with_name, new_name}
+use Rattle.mw_base.specs.Named.{new_name}
 use Rattle.mw_base.specs.Names.{is_spelled_as_name}
-use Rattle.mw_base.specs.Reading.{◌>>=◌}
 use Rattle.mw_base.specs.Symbols.{spelled}
 use Rattle.mw_base.specs.TokenLines.{fault_on}
 use Rattle.mw_base.proofs.Results.{ok_of, ok_is, bind_ok, if_ok}
 use Rattle.mw_macro.specs.Right.{IsBetween}
-use Rattle.mw_macro.specs.Rules.{is_reserved, is_within, are_free, are_short}
+use Rattle.mw_macro.specs.Rules.{is_reserved, is_within}
 use Rattle.mw_descfile.specs.declared.declaration.Sizes.{Sizes}
 use Rattle.mw_descfile.specs.declared.element.Element.{Element}
 use Rattle.mw_descfile.specs.declared.element.Kind.{Kind}
@@ -28,7 +25,7 @@ use Rattle.mw_descfile.specs.Declarations.{Elements, Declared, no_elements, with
 use Rattle.mw_descfile.specs.Kept.{AreNames, AreElements, IsDeclared, IsOver, IsStated}
 use Rattle.mw_descfile.specs.Stating.{begun, number_in}
 use Rattle.mw_descfile.proofs.Expressions.{length_both}
-use Rattle.mw_descfile.proofs.Names.{has_more, other_has, names_between, all_more, all_both, none_taken}
+use Rattle.mw_descfile.proofs.Names.{has_more, names_between, all_more, all_both, none_taken}
 
 -- ---- what the steps say
 

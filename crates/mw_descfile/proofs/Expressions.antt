@@ -1,6 +1,6 @@
 -- What an expression has that was read.
 use Rattle.std.proofs.Common.{◌≡◌, ℕ, ◌+◌, ◌-◌, ◌≤◌, List, [], ◌∷◌, ◌++◌, length, Bool, true, false, refl, ◌∙◌, sym, ap, arith, subst, inl, inr}
-use Rattle.std.specs.Prelude.{Option, Some, None, not, nat_le, ◌==◌, if◌then◌else◌, Result, Ok, Err, slice_get}
+use Rattle.std.specs.Prelude.{Option, Some, None, not, ◌==◌, if◌then◌else◌, Ok, Err, slice_get}
 use Rattle.std.proofs.lemmas.Bool.Decides.{nat_tests}
 use Rattle.std.proofs.lemmas.Option.{slice_get_cases}
 use Rattle.mw_base.specs.declared.refusal.TextFault.{TextFault}
@@ -8,25 +8,23 @@ use Rattle.mw_base.specs.declared.token.Token.{Token}
 use Rattle.mw_base.specs.declared.cause.Cause.TheVariants.{WidthsDiffer}
 use Rattle.mw_base.specs.Cursors.{Cursor}
 use Rattle.mw_base.specs.FirstFaults.{first_in}
-use Rattle.mw_base.specs.Reading.{◌>>=◌}
 use Rattle.mw_base.specs.TokenLines.{fault_on}
 use Rattle.mw_base.proofs.FirstFaults.{no_first, after_two}
 use Rattle.mw_base.proofs.Results.{ok_of, ok_is, bind_ok}
 use Rattle.mw_expr.specs.declared.shape.Shape.{Shape}
-use Rattle.mw_expr.specs.Faults.{faults, first_fault, is_other, seen_width}
+use Rattle.mw_expr.specs.Faults.{faults, first_fault, seen_width}
 use Rattle.mw_expr.specs.Grammar.{Meaning, tree_of}
 use Rattle.mw_expr.specs.Mems.{mems, mems_in}
 use Rattle.mw_expr.specs.Placed.{Placed, named, constant, complement, pair, choice, part, join, widened, memory, group, Parts, none, more}
 use Rattle.mw_expr.specs.Plain.{plain, plain_parts, is_small}
 use Rattle.mw_expr.specs.Text.{IsShape}
-use Rattle.mw_expr.specs.Tree.{Tree}
-use Rattle.mw_expr.specs.Widths.{width, is_known, depth}
+use Rattle.mw_expr.specs.Widths.{width}
 use Rattle.mw_expr.proofs.Small.{nil_front, nil_back, small_whole}
 use Rattle.mw_expr.proofs.Wide.{HasSeenWidth, seen_whole}
 use Rattle.mw_macro.specs.declared.rules.Fault.{Fault}
 use Rattle.mw_macro.specs.declared.rules.Fault.TheVariants.{NoElement, OtherWidth, TooNested}
 use Rattle.mw_macro.specs.Counts.{reads, reads_in}
-use Rattle.mw_macro.specs.Rules.{is_width, is_fault}
+use Rattle.mw_macro.specs.Rules.{is_fault}
 use Rattle.mw_descfile.specs.Expressions.{asked, surplus, first_of_whole, Whole, unless, whole_of, asked_whole}
 
 -- ---- how often it reads the memory

@@ -1,8 +1,6 @@
 -- What each line keeps.
-use Rattle.std.proofs.Common.{◌≡◌, ℕ, List, [], ◌∷◌, Bool, true, false, refl, subst}
-use Rattle.std.specs.Prelude.{Option, Some, None, ok_or, slice_get, Result, Ok, Err, IsTrue}
-use Rattle.std.specs.List.{All}
-use Rattle.std.specs.Str.{bytes_eq}
+use Rattle.std.proofs.Common.{◌≡◌, ℕ, List, [], ◌∷◌, true, refl, subst}
+use Rattle.std.specs.Prelude.{Option, Some, None, ok_or, slice_get, Ok, IsTrue}
 use Rattle.std.proofs.lemmas.Option.{slice_get_within, get_or_from_slice_get}
 use Rattle.mw_base.specs.declared.cause.Cause.TheVariants.{BadSyntax}
 use Rattle.mw_base.specs.declared.line.Line.{Line}
@@ -16,7 +14,6 @@ use Rattle.mw_base.specs.declared.token.Token.{Token}
 use Rattle.mw_base.specs.Cursors.{Cursor, at_line, token_at, name_token, name_at, number_at, end_at}
 use Rattle.mw_base.specs.Names.{is_spelled_as_name}
 use Rattle.mw_base.specs.Pieces.{Spells}
-use Rattle.mw_base.specs.Reading.{◌>>=◌}
 use Rattle.mw_base.specs.Signs.{sign_of}
 use Rattle.mw_base.specs.Symbols.{spelled, of_sign, symbol_of_kind, symbol_of}
 use Rattle.mw_base.proofs.Results.{ok_of, ok_is, bind_ok}
@@ -26,9 +23,9 @@ use Rattle.mw_descfile.specs.declared.declaration.Heading.{Heading}
 use Rattle.mw_descfile.specs.declared.declaration.Heading.TheVariants as headings
 use Rattle.mw_descfile.specs.declared.element.Kind.{Kind}
 use Rattle.mw_descfile.specs.Declarations.{Declared, sizes_of, heading_of, element_of, step_of, declaration_after, declaration_of, with_sizes, with_declared}
-use Rattle.mw_descfile.specs.Kept.{AreSpelled, IsDeclared, IsStated, IsKept}
+use Rattle.mw_descfile.specs.Kept.{AreSpelled, IsDeclared, IsKept}
 use Rattle.mw_descfile.specs.Machine.{Known, nothing, declaring, stating, with_declaration, with_tokens, with_any, with_line}
-use Rattle.mw_descfile.specs.Stating.{Stated, begun, with_stated}
+use Rattle.mw_descfile.specs.Stating.{begun, with_stated}
 use Rattle.mw_descfile.proofs.DeclaredLines.{sizes_kept, declared_kept, begun_kept}
 use Rattle.mw_descfile.proofs.StatedLines.{stated_kept}
 

@@ -1,6 +1,6 @@
 -- The relation of a text is made for its board and its machine.
-use Rattle.std.proofs.Common.{◌≡◌, ℕ, ◌≤◌, List, [], ◌∷◌, ◌++◌, length, Bool, true, false, refl, sym, arith, subst}
-use Rattle.std.specs.Prelude.{Option, Some, None, ok_or, is_none, not, nat_le, nat_lt, ◌&&◌, if◌then◌else◌, slice_index, IfSome, Result, Ok, Err}
+use Rattle.std.proofs.Common.{◌≡◌, ℕ, ◌≤◌, List, [], ◌∷◌, ◌++◌, length, true, refl, arith, subst}
+use Rattle.std.specs.Prelude.{Option, Some, None, ok_or, is_none, not, nat_le, nat_lt, ◌&&◌, slice_index, IfSome, Ok}
 use Rattle.std.specs.List.{All}
 use Rattle.std.proofs.lemmas.Bool.{and_parts}
 use Rattle.std.proofs.lemmas.Bool.Decides.{nat_tests}
@@ -14,7 +14,6 @@ use Rattle.mw_base.specs.declared.token.Token.{Token}
 use Rattle.mw_base.specs.Cursors.{at_line}
 use Rattle.mw_base.specs.FirstFaults.{first_in}
 use Rattle.mw_base.specs.Places.{address_of}
-use Rattle.mw_base.specs.Reading.{◌>>=◌}
 use Rattle.mw_base.specs.Steps.{steps}
 use Rattle.mw_base.specs.TokenLines.{fault_on, last_fault, text_end, token_lines}
 use Rattle.mw_base.proofs.Results.{ok_is, bind_ok, if_ok, found}
@@ -30,11 +29,11 @@ use Rattle.mw_rel.specs.Relation.{Boundary, Relation, related}
 use Rattle.mw_descfile.specs.declared.relation_line.Beginning.{Beginning}
 use Rattle.mw_descfile.specs.declared.scope.Scope.{Scope}
 use Rattle.mw_descfile.specs.declared.uses.Use.{Use}
-use Rattle.mw_descfile.specs.Boundaries.{Block, place_token, is_taken, bounded, block_of, with_point, with_equation, closed_block, solved_unless, unsolved}
+use Rattle.mw_descfile.specs.Boundaries.{Block, place_token, is_taken, bounded, block_of, with_stack_pointer, with_equation, closed_block, solved_unless, unsolved}
 use Rattle.mw_descfile.specs.Declarations.{ranged}
 use Rattle.mw_descfile.specs.Expressions.{asked_whole}
-use Rattle.mw_descfile.specs.Relation.{Known, with_told, with_tokens, with_any, with_line, scope_for, relation_with, finished, relation_of}
-use Rattle.mw_descfile.specs.RelationLines.{beginning_of, dotted_number, Told, to_point, to_equate, to_close, told_of}
+use Rattle.mw_descfile.specs.Relation.{Known, with_told, with_tokens, with_any, with_line, scope_for, finished, relation_of}
+use Rattle.mw_descfile.specs.RelationLines.{beginning_of, dotted_number, Told, sp_line, equation_line, end_line, told_of}
 use Rattle.mw_descfile.specs.Statements.{allowed}
 use Rattle.mw_descfile.proofs.SaidLines.{allowed_only}
 
@@ -53,9 +52,9 @@ record AreLow (known : Known) : Type 0 where
   boundaries : All EndsLow known.boundaries
   block : IfSome known.block (λ block. IsLow block.sp)
 
-point_low : (word : Token) (value : Numeral) (block next : Block) → with_point word value block ≡ Ok next → IsLow next.sp
-unfolding with_point IsLow
-point_low word value block next is =
+stack_pointer_low : (word : Token) (value : Numeral) (block next : Block) → with_stack_pointer word value block ≡ Ok next → IsLow next.sp
+unfolding with_stack_pointer IsLow
+stack_pointer_low word value block next is =
     let one = bind_ok (allowed (is_none block.sp) (fault_on word Twice)) _ next is in
     let two = bind_ok (ranged 0 5 value) _ next one.2 in
     let both = if_ok (nat_le 0 value.value && nat_le value.value 5) value.value two.0
@@ -76,7 +75,15 @@ equation_low text scope element sign value uses block next low is =
     (fault_on element.owner UnknownElement)) _ next one.2 in
     let three = bind_ok (asked_whole scope.shape block.reads_left (slice_index scope.shape.widths two.0) sign value) _
     next two.2 in
-    subst (λ (b : Block). IsLow b.sp) (ok_is {F = TextFault} _ next three.2) low
+    let more : Block = record block {
+      reads_left = three.0.left;
+      lines = block.lines ++ record {
+        line = record { left = two.0; right = three.0.tree };
+        name = element.owner;
+        uses = uses;
+      } ∷ [];
+    } in
+    subst (λ (b : Block). IsLow b.sp) {x = more} (ok_is {F = TextFault} more next three.2) low
 
 closed_low : (block : Block) (word : Token) (boundary : Boundary) → IsLow block.sp
     → closed_block block word ≡ Ok boundary → EndsLow boundary
@@ -102,18 +109,18 @@ begun_low text labels before said block is =
 told_low : (text : List ℕ) (scope : Scope) (known next : Known) (block : Block) (told : Told) → AreLow known
     → IsLow block.sp → with_told text scope known.boundaries block told ≡ Ok next → AreLow next
 unfolding with_told IsLow
-told_low text scope known next block (to_point word value) all low is =
-    let one = bind_ok (with_point word value block) _ next is in
+told_low text scope known next block (sp_line word value) all low is =
+    let one = bind_ok (with_stack_pointer word value block) _ next is in
     subst AreLow (ok_is {F = TextFault} (record { boundaries = known.boundaries; block = Some one.0 }) next one.2)
-    (record { boundaries = all.boundaries; block = point_low word value block one.0 one.1 })
-told_low text scope known next block (to_equate element sign value uses) all low is =
+    (record { boundaries = all.boundaries; block = stack_pointer_low word value block one.0 one.1 })
+told_low text scope known next block (equation_line element sign value uses) all low is =
     let one = bind_ok (with_equation text scope element sign value uses block) _ next is in
     subst AreLow (ok_is {F = TextFault} (record { boundaries = known.boundaries; block = Some one.0 }) next one.2)
     (record {
       boundaries = all.boundaries;
       block = equation_low text scope element sign value uses block one.0 low one.1;
     })
-told_low text scope known next block (to_close word) all low is =
+told_low text scope known next block (end_line word) all low is =
     let one = bind_ok (closed_block block word) _ next is in
     subst AreLow (ok_is {F = TextFault} (record { boundaries = known.boundaries ++ one.0 ∷ []; block = None }) next
     one.2) (record {

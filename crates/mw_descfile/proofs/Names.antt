@@ -1,13 +1,13 @@
 -- Names of elements, with one more among them.
 use Rattle.std.proofs.Common.{◌≡◌, ℕ, List, [], ◌∷◌, ◌++◌, length, Bool, true, false, refl, sym, subst, cond, IsSome, inl, inr}
-use Rattle.std.specs.Prelude.{Option, Some, None, not, nat_le, ◌&&◌, ◌||◌, is_some, bytes_eq}
+use Rattle.std.specs.Prelude.{Option, Some, None, not, nat_le, is_some, bytes_eq}
 use Rattle.std.specs.List.{All, list_all, list_any}
 use Rattle.std.proofs.lemmas.Bool.{and_parts, and_from, or_parts, or_from, cases_Bool}
 use Rattle.std.proofs.lemmas.List.Elements.{All-nil, All-cons, All-head, All-tail}
 use Rattle.std.proofs.lemmas.Slice.Eq.{bytes_eq-Decides}
 use Rattle.mw_base.specs.Named.{with_name}
 use Rattle.mw_base.specs.Names.{is_spelled_as_name}
-use Rattle.mw_macro.specs.Rules.{is_reserved, are_free, are_short}
+use Rattle.mw_macro.specs.Rules.{is_reserved, are_free}
 use Rattle.mw_descfile.specs.declared.element.Element.{Element}
 use Rattle.mw_descfile.specs.Kept.{AreNames}
 

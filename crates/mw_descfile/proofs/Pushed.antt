@@ -1,5 +1,5 @@
 -- Lines that are appended, the last of them after the others.
-use Rattle.std.proofs.Common.{◌≡◌, List, [], ◌∷◌, ◌++◌, map, refl, ◌∙◌, sym, ap, append_assoc}
+use Rattle.std.proofs.Common.{◌≡◌, List, [], ◌∷◌, ◌++◌, map, ◌∙◌, sym, ap, append_assoc}
 use Rattle.std.proofs.lemmas.List.{map-append}
 use Rattle.mw_rel.specs.Lines.{Line}
 use Rattle.mw_rel.specs.declared.line.Line.{Line as KeptLine}

@@ -1,8 +1,8 @@
 -- What each line of a relation keeps, and that what is known at its end is a relation.
-use Rattle.std.proofs.Common.{◌≡◌, ℕ, ◌+◌, ◌<◌, ◌≤◌, List, [], ◌∷◌, ◌++◌, length, map, Bool, true, false, refl, sym, ap, ◌∙◌, arith, subst, length-append}
-use Rattle.std.specs.Prelude.{Option, Some, None, ok_or, not, nat_le, nat_lt, ◌&&◌, ◌||◌, ◌==◌, if◌then◌else◌, IfSome, Result, Ok, Err}
+use Rattle.std.proofs.Common.{◌≡◌, ℕ, ◌<◌, ◌≤◌, List, [], ◌∷◌, ◌++◌, length, map, Bool, true, false, refl, arith, subst, length-append}
+use Rattle.std.specs.Prelude.{Option, Some, None, ok_or, not, nat_le, nat_lt, ◌&&◌, ◌||◌, ◌==◌, Ok}
 use Rattle.std.specs.List.{All, list_all, list_any}
-use Rattle.std.proofs.lemmas.Bool.{and_parts, and_from, eqb-true}
+use Rattle.std.proofs.lemmas.Bool.{and_parts, and_from}
 use Rattle.std.proofs.lemmas.Bool.Decides.{nat_tests}
 use Rattle.std.proofs.lemmas.List.Elements.{All-nil, All-cons, All-head, All-tail, All-append}
 use Rattle.mw_base.specs.declared.cause.Cause.TheVariants.{BadSyntax, TooMany, Twice, UnknownName, ValueTooWide, WidthsDiffer, LeftTwice, LeftUsedOnRight, NoBoundary, BadBound}
@@ -15,28 +15,27 @@ use Rattle.mw_base.specs.declared.sign.Sign.TheVariants.{Equals}
 use Rattle.mw_base.specs.declared.token.Token.{Token}
 use Rattle.mw_base.specs.Cursors.{Cursor, at_line, after, token_at, number_at, sign_at, element_of, end_at}
 use Rattle.mw_base.specs.Places.{low_address, address_of}
-use Rattle.mw_base.specs.Reading.{◌>>=◌}
 use Rattle.mw_base.specs.Symbols.{spelled}
 use Rattle.mw_base.specs.TokenLines.{fault_on}
-use Rattle.mw_base.proofs.Results.{ok_of, ok_is, bind_ok, if_ok}
+use Rattle.mw_base.proofs.Results.{ok_is, bind_ok, if_ok}
 use Rattle.mw_asm.specs.declared.assembled.Label.{Label}
 use Rattle.mw_expr.specs.declared.shape.Shape.{Shape}
-use Rattle.mw_rel.specs.Relation.{Boundary, Relation, related, IsFormed, IsFormedBoundary}
-use Rattle.mw_rel.specs.Rules.{are_once, addresses_are_once, are_even, lefts_are_once, rights_are_free, is_bounded, refusal_of}
+use Rattle.mw_rel.specs.Relation.{Boundary, related, IsFormed, IsFormedBoundary}
+use Rattle.mw_rel.specs.Rules.{addresses_are_once, are_even, lefts_are_once, rights_are_free, is_bounded, refusal_of}
 use Rattle.mw_descfile.specs.declared.relation_line.Beginning.{Beginning}
 use Rattle.mw_descfile.specs.declared.relation_line.BlockWord.{BlockWord}
 use Rattle.mw_descfile.specs.declared.relation_line.BlockWord.TheVariants as words
 use Rattle.mw_descfile.specs.declared.scope.Scope.{Scope}
 use Rattle.mw_descfile.specs.declared.uses.Use.{Use}
 use Rattle.mw_asm.specs.Labels.{label_named}
-use Rattle.mw_descfile.specs.Boundaries.{Block, place_token, is_taken, bounded, block_of, with_point, with_equation, closed_block}
+use Rattle.mw_descfile.specs.Boundaries.{Block, place_token, is_taken, bounded, block_of, with_stack_pointer, with_equation, closed_block}
 use Rattle.mw_descfile.specs.Expressions.{written_of}
 use Rattle.mw_descfile.specs.KeptRelation.{IsScope, IsGiven, IsEnded, IsOpen, IsKept}
 use Rattle.mw_descfile.specs.Relation.{Known, with_told, with_tokens, with_any, with_line}
-use Rattle.mw_descfile.specs.RelationLines.{beginning_of, uses_of, Told, to_point, to_equate, to_close, point_of, equation_of, close_of, block_word_in, told_after, told_of}
+use Rattle.mw_descfile.specs.RelationLines.{beginning_of, uses_of, Told, sp_line, equation_line, end_line, stack_pointer_of, equation_of, end_of, block_word_in, told_after, told_of}
 use Rattle.mw_descfile.specs.Statements.{allowed}
 use Rattle.mw_descfile.proofs.Accepted.{rule_kept}
-use Rattle.mw_descfile.proofs.Blocks.{WasWritten, equation_kept, point_kept, closed_kept}
+use Rattle.mw_descfile.proofs.Blocks.{WasWritten, equation_kept, stack_pointer_kept, closed_kept}
 use Rattle.mw_descfile.proofs.SaidLines.{allowed_only}
 
 -- ---- a boundary begins
@@ -102,10 +101,10 @@ block_begun s text labels before said block is =
 
 -- the value of a line was read from its tokens, and so were the elements that stand in it
 abbrev WasTold : List ℕ → Scope → Told → Type 0
-WasTold text scope (to_point word value) = Unit {0}
-WasTold text scope (to_equate element sign value uses) =
+WasTold text scope (sp_line word value) = Unit {0}
+WasTold text scope (equation_line element sign value uses) =
     (tokens : List Token) × (WasWritten text scope tokens value) × (uses ≡ uses_of text scope.names tokens)
-WasTold text scope (to_close word) = Unit {0}
+WasTold text scope (end_line word) = Unit {0}
 
 equation_told : (scope : Scope) (line : Cursor) (told : Told) → equation_of scope line ≡ Ok told
     → WasTold line.text scope told
@@ -114,29 +113,29 @@ equation_told scope line told is =
     let one = bind_ok (element_of line) _ told is in
     let two = bind_ok (sign_at Equals 3 line) _ told one.2 in
     let three = bind_ok (written_of scope (after 4 line)) _ told two.2 in
-    subst (WasTold line.text scope) (ok_is {F = TextFault} (to_equate one.0 two.0 three.0
+    subst (WasTold line.text scope) (ok_is {F = TextFault} (equation_line one.0 two.0 three.0
     (uses_of line.text scope.names (after 4 line).tokens)) told three.2)
     ((after 4 line).tokens, (line.end, three.1), refl)
 
-point_told : (scope : Scope) (line : Cursor) (told : Told) → point_of line ≡ Ok told → WasTold line.text scope told
-unfolding point_of
-point_told scope line told is =
+stack_pointer_told : (scope : Scope) (line : Cursor) (told : Told) → stack_pointer_of line ≡ Ok told → WasTold line.text scope told
+unfolding stack_pointer_of
+stack_pointer_told scope line told is =
     let one = bind_ok (token_at 0 line) _ told is in
     let two = bind_ok (number_at 1 line) _ told one.2 in
     let three = bind_ok (end_at 2 line) _ told two.2 in
-    subst (WasTold line.text scope) (ok_is {F = TextFault} (to_point one.0 two.0) told three.2) tt
+    subst (WasTold line.text scope) (ok_is {F = TextFault} (sp_line one.0 two.0) told three.2) tt
 
-close_told : (scope : Scope) (line : Cursor) (told : Told) → close_of line ≡ Ok told → WasTold line.text scope told
-unfolding close_of
-close_told scope line told is =
+end_told : (scope : Scope) (line : Cursor) (told : Told) → end_of line ≡ Ok told → WasTold line.text scope told
+unfolding end_of
+end_told scope line told is =
     let one = bind_ok (token_at 0 line) _ told is in
     let two = bind_ok (end_at 1 line) _ told one.2 in
-    subst (WasTold line.text scope) (ok_is {F = TextFault} (to_close one.0) told two.2) tt
+    subst (WasTold line.text scope) (ok_is {F = TextFault} (end_line one.0) told two.2) tt
 
 after_told : (scope : Scope) (line : Cursor) (word : Option BlockWord) (told : Told)
     → told_after scope line word ≡ Ok told → WasTold line.text scope told
-after_told scope line (Some words.Pointer) told is = point_told scope line told is
-after_told scope line (Some words.End) told is = close_told scope line told is
+after_told scope line (Some words.StackPointer) told is = stack_pointer_told scope line told is
+after_told scope line (Some words.End) told is = end_told scope line told is
 after_told scope line None told is = equation_told scope line told is
 
 was_told : (scope : Scope) (line : Cursor) (told : Told) → told_of scope line ≡ Ok told → WasTold line.text scope told
@@ -185,17 +184,17 @@ told_kept : (text : List ℕ) (scope : Scope) (known next : Known) (block : Bloc
     → IsKept scope.shape known → IsOpen scope.shape known.boundaries block → WasTold text scope told
     → with_told text scope known.boundaries block told ≡ Ok next → IsKept scope.shape next
 unfolding with_told
-told_kept text scope known next block (to_point word value) over kept is_open was is =
-    let one = bind_ok (with_point word value block) _ next is in
+told_kept text scope known next block (sp_line word value) over kept is_open was is =
+    let one = bind_ok (with_stack_pointer word value block) _ next is in
     subst (IsKept scope.shape)
     (ok_is {F = TextFault} (record { boundaries = known.boundaries; block = Some one.0 }) next
     one.2) (record {
       few = kept.few;
       once = kept.once;
       ended = kept.ended;
-      open_now = point_kept scope.shape word value known.boundaries block one.0 is_open one.1;
+      open_now = stack_pointer_kept scope.shape word value known.boundaries block one.0 is_open one.1;
     })
-told_kept text scope known next block (to_equate element sign value uses) over kept is_open was is =
+told_kept text scope known next block (equation_line element sign value uses) over kept is_open was is =
     let one = bind_ok (with_equation text scope element sign value uses block) _ next is in
     subst (IsKept scope.shape)
     (ok_is {F = TextFault} (record { boundaries = known.boundaries; block = Some one.0 }) next
@@ -206,7 +205,7 @@ told_kept text scope known next block (to_equate element sign value uses) over k
       open_now = equation_kept text scope element sign value was.0 known.boundaries block one.0 over was.1 is_open
           (subst (λ (all : List Use). with_equation text scope element sign value all block ≡ Ok one.0) was.2 one.1);
     })
-told_kept text scope known next block (to_close word) over kept is_open was is =
+told_kept text scope known next block (end_line word) over kept is_open was is =
     let one = bind_ok (closed_block block word) _ next is in
     let ended = closed_kept scope.shape known.boundaries block word one.0 is_open one.1 in
     let room = is_open.room in

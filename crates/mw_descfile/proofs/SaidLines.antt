@@ -1,12 +1,10 @@
 -- What a line of statements says was read from it.
-use Rattle.std.proofs.Common.{◌≡◌, ℕ, ◌+◌, List, Bool, true, false, refl, subst}
-use Rattle.std.specs.Prelude.{Option, Some, None, if◌then◌else◌, Result, Ok, Err}
+use Rattle.std.proofs.Common.{◌≡◌, ◌+◌, Bool, true, false, refl, subst}
+use Rattle.std.specs.Prelude.{Option, Some, None, Ok}
 use Rattle.mw_base.specs.declared.refusal.TextFault.{TextFault}
 use Rattle.mw_base.specs.declared.sign.Sign.TheVariants as signs
 use Rattle.mw_base.specs.Cursors.{Cursor, after, misplaced, token_at, name_at, sign_at, end_at}
-use Rattle.mw_base.specs.Reading.{◌>>=◌}
 use Rattle.mw_base.proofs.Results.{ok_of, ok_is, bind_ok}
-use Rattle.mw_expr.specs.Placed.{Placed}
 use Rattle.mw_descfile.specs.declared.said.Blocks.{Blocks}
 use Rattle.mw_descfile.specs.declared.said.Keyword.{Keyword}
 use Rattle.mw_descfile.specs.declared.said.Keyword.TheVariants as keywords

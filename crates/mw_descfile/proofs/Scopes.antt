@@ -1,5 +1,5 @@
 -- What the expressions of a relation are over.
-use Rattle.std.proofs.Common.{◌≡◌, ℕ, zero, suc, ◌+◌, ◌<◌, ◌≤◌, ◌^◌, List, [], ◌∷◌, ◌++◌, length, map, take, true, refl, sym, ap, ◌∙◌, arith, length-append, length-take-le}
+use Rattle.std.proofs.Common.{◌≡◌, ℕ, zero, suc, ◌+◌, ◌<◌, ◌≤◌, List, [], ◌∷◌, ◌++◌, length, map, take, true, refl, ap, arith, length-append, length-take-le}
 use Rattle.std.specs.Prelude.{codes, slice_get, slice_index}
 use Rattle.std.specs.Option.{option_to_list}
 use Rattle.std.specs.List.{All}
@@ -12,7 +12,6 @@ use Rattle.mw_board.specs.Elements.{Element, register_names, address_register_na
 use Rattle.mw_board.specs.Valid.{IsBoard}
 use Rattle.mw_board.proofs.Elements.{count_is}
 use Rattle.mw_expr.specs.Grammar.{is_dotted}
-use Rattle.mw_expr.specs.Text.{IsShape}
 use Rattle.mw_macro.specs.Machine.{Description}
 use Rattle.mw_macro.specs.Right.{IsBetween, IsMachine}
 use Rattle.mw_rel.specs.Job.{shape_of}

@@ -1,7 +1,6 @@
 -- What each line of statements keeps.
-use Rattle.std.proofs.Common.{◌≡◌, ℕ, ◌+◌, ◌-◌, ◌<◌, ◌≤◌, List, [], ◌∷◌, ◌++◌, length, Bool, true, false, refl, sym, arith, subst, IfSome}
-use Rattle.std.specs.Prelude.{Option, Some, None, not, nat_lt, ◌||◌, ◌==◌, is_none, if◌then◌else◌, option_map, ok_or, slice_index, Result, Ok, Err}
-use Rattle.std.specs.List.{list_all}
+use Rattle.std.proofs.Common.{◌≡◌, ℕ, ◌+◌, ◌-◌, ◌<◌, List, [], ◌∷◌, ◌++◌, length, true, false, refl, arith, subst, IfSome}
+use Rattle.std.specs.Prelude.{Option, Some, None, not, nat_lt, ◌==◌, is_none, option_map, ok_or, slice_index, Ok}
 use Rattle.std.proofs.lemmas.Bool.{or_from}
 use Rattle.std.proofs.lemmas.Bool.Decides.{nat_tests}
 use Rattle.mw_base.specs.declared.cause.Cause.TheVariants.{TooMany, TooDeep, UnknownElement, BadSyntax}
@@ -9,28 +8,25 @@ use Rattle.mw_base.specs.declared.line.Line.{Line}
 use Rattle.mw_base.specs.declared.refusal.TextFault.{TextFault}
 use Rattle.mw_base.specs.declared.token.Token.{Token}
 use Rattle.mw_base.specs.Cursors.{at_line}
-use Rattle.mw_base.specs.Reading.{◌>>=◌}
 use Rattle.mw_base.specs.Symbols.{spelled}
 use Rattle.mw_base.specs.TokenLines.{fault_on}
-use Rattle.mw_base.proofs.Results.{ok_of, ok_is, bind_ok}
+use Rattle.mw_base.proofs.Results.{ok_is, bind_ok}
 use Rattle.mw_expr.specs.declared.shape.Shape.{Shape}
 use Rattle.mw_expr.specs.Faults.{seen_width}
 use Rattle.mw_expr.specs.Placed.{Placed}
-use Rattle.mw_expr.specs.Text.{IsShape}
-use Rattle.mw_expr.specs.Tree.{Tree}
 use Rattle.mw_macro.specs.declared.counts.Counted.TheVariants.{Statements, Reads}
 use Rattle.mw_macro.specs.declared.rules.Fault.{Fault}
 use Rattle.mw_macro.specs.declared.rules.Fault.TheVariants.{NoElement, OtherWidth, TooNested}
-use Rattle.mw_macro.specs.Counts.{count, total}
-use Rattle.mw_macro.specs.Rules.{is_fault, is_target_fault, is_input_fault, is_nesting_fault, has_fault, have_fault}
-use Rattle.mw_macro.specs.Statements.{Act, assign, write, put, take_in, choose, acts_of, nothing}
+use Rattle.mw_macro.specs.Counts.{count}
+use Rattle.mw_macro.specs.Rules.{is_fault, is_target_fault, is_input_fault, is_nesting_fault, has_fault}
+use Rattle.mw_macro.specs.Statements.{Act, assign, write, put, take_in, choose, nothing}
 use Rattle.mw_descfile.specs.declared.element.Element.{Element}
-use Rattle.mw_descfile.specs.Expressions.{Whole, asked, whole_of, asked_whole}
+use Rattle.mw_descfile.specs.Expressions.{asked, whole_of, asked_whole}
 use Rattle.mw_descfile.specs.Kept.{IsOver, IsStated, closed}
 use Rattle.mw_descfile.specs.Statements.{Said, to_assign, to_write, to_put, to_take, to_choose, to_turn, to_end, said_of}
-use Rattle.mw_descfile.specs.Stating.{Over, OpenIf, Stated, number_in, target_of, room, shallow, with_act, with_assign, with_write, with_put, with_take, with_open, with_if, other_list, ended, can_else, can_end, blocks_of, closed_if, with_said, with_stated}
+use Rattle.mw_descfile.specs.Stating.{Over, OpenIf, Stated, number_in, target_of, room, shallow, with_act, with_assign, with_write, with_put, with_take, with_open, with_if, other_list, ended, can_else, blocks_of, closed_if, with_said, with_stated}
 use Rattle.mw_descfile.proofs.Closed.{more_free, more_total}
-use Rattle.mw_descfile.proofs.Expressions.{WasRead, HasWidth, no_test, asked_same, whole_has, no_fault, asked_has}
+use Rattle.mw_descfile.proofs.Expressions.{WasRead, asked_same, whole_has, no_fault, asked_has}
 use Rattle.mw_descfile.proofs.SaidLines.{allowed_only, WasSaid, was_said}
 use Rattle.mw_descfile.proofs.Shapes.{over_shape}
 

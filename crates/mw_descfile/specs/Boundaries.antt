@@ -22,7 +22,7 @@ use Rattle.mw_descfile.specs.declared.scope.Scope.{Scope}
 use Rattle.mw_descfile.specs.declared.uses.Use.{Use}
 use Rattle.mw_descfile.specs.Declarations.{ranged}
 use Rattle.mw_descfile.specs.Expressions.{asked_whole}
-use Rattle.mw_descfile.specs.RelationLines.{dotted_number, Told, to_point, to_equate, to_close}
+use Rattle.mw_descfile.specs.RelationLines.{dotted_number}
 use Rattle.mw_descfile.specs.Statements.{allowed}
 
 -- a line as it was given: what it says, the token of its left element, and the elements that stand on its right
@@ -68,8 +68,8 @@ block_of text labels before said = do
 -- ---- its lines
 
 -- sp N, once
-unfoldable pub with_point : Token → Numeral → Block → Result Block TextFault
-with_point word value block = do
+unfoldable pub with_stack_pointer : Token → Numeral → Block → Result Block TextFault
+with_stack_pointer word value block = do
   once ← allowed (is_none block.sp) (fault_on word Twice)
   sp ← ranged 0 5 value
   Ok (record block { sp = Some sp })

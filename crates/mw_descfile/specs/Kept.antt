@@ -1,18 +1,16 @@
 -- What is so of everything that is known of a machine's text, so that a machine is made of it.
-use Rattle.std.specs.Prelude.{◌≡◌, ℕ, ◌+◌, ◌-◌, ◌<◌, ◌≤◌, IsSome, IfSome, List, [], ◌∷◌, ◌++◌, length, take, slice_index, All, true, false, Option}
+use Rattle.std.specs.Prelude.{◌≡◌, ℕ, ◌+◌, ◌-◌, ◌<◌, ◌≤◌, IsSome, IfSome, List, [], ◌∷◌, ◌++◌, length, take, slice_index, All, true, false}
 use Rattle.std.specs.List.{list_all}
 use Rattle.mw_base.specs.declared.token.Token.{Token}
 use Rattle.mw_base.specs.Names.{is_spelled_as_name}
 use Rattle.mw_base.specs.Pieces.{Spells}
 use Rattle.mw_base.specs.Symbols.{spelled}
-use Rattle.mw_expr.specs.declared.shape.Shape.{Shape}
-use Rattle.mw_macro.specs.declared.counts.Counted.{Counted}
 use Rattle.mw_macro.specs.declared.counts.Counted.TheVariants.{Statements, Reads}
 use Rattle.mw_macro.specs.declared.rules.Fault.{Fault}
 use Rattle.mw_macro.specs.Counts.{total}
 use Rattle.mw_macro.specs.Right.{IsBetween}
 use Rattle.mw_macro.specs.Rules.{is_within, are_free, are_short, have_fault}
-use Rattle.mw_macro.specs.Statements.{Act, Acts, acts_of}
+use Rattle.mw_macro.specs.Statements.{Act, acts_of}
 use Rattle.mw_descfile.specs.declared.element.Element.{Element}
 use Rattle.mw_descfile.specs.Declarations.{Elements, Declared, of_kind}
 use Rattle.mw_descfile.specs.Machine.{Known, nothing, declaring, stating}

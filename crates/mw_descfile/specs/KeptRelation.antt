@@ -1,6 +1,6 @@
 -- What is so of everything that is known of a relation's text, so that a relation is made of it.
 use Rattle.std.specs.Prelude.{◌≡◌, ℕ, ◌+◌, ◌<◌, ◌≤◌, ◌^◌, List, length, map, All, IfSome, Bool, true, false, ◌==◌}
-use Rattle.std.specs.List.{list_all, list_any}
+use Rattle.std.specs.List.{list_any}
 use Rattle.mw_expr.specs.declared.shape.Shape.{Shape}
 use Rattle.mw_expr.specs.Grammar.{is_dotted}
 use Rattle.mw_expr.specs.Text.{IsShape}

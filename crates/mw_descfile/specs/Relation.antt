@@ -16,8 +16,8 @@ use Rattle.mw_macro.specs.Machine.{Description}
 use Rattle.mw_rel.specs.Job.{shape_of, memories_agree}
 use Rattle.mw_rel.specs.Relation.{Boundary, Relation, related}
 use Rattle.mw_descfile.specs.declared.scope.Scope.{Scope}
-use Rattle.mw_descfile.specs.Boundaries.{Block, block_of, with_point, with_equation, closed_block}
-use Rattle.mw_descfile.specs.RelationLines.{beginning_of, Told, to_point, to_equate, to_close, told_of}
+use Rattle.mw_descfile.specs.Boundaries.{Block, block_of, with_stack_pointer, with_equation, closed_block}
+use Rattle.mw_descfile.specs.RelationLines.{beginning_of, Told, sp_line, equation_line, end_line, told_of}
 use Rattle.mw_descfile.specs.Statements.{allowed}
 
 -- the names of the elements of a relation: b.NAME for those of the board, and behind them m.NAME for the registers
@@ -37,13 +37,13 @@ pub record Known : Type 0 where
 
 -- with the boundary that is open as it is after what a line of it says
 unfoldable pub with_told : List ℕ → Scope → List Boundary → Block → Told → Result Known TextFault
-with_told text scope boundaries block (to_point word value) = do
-  more ← with_point word value block
+with_told text scope boundaries block (sp_line word value) = do
+  more ← with_stack_pointer word value block
   Ok (record { boundaries = boundaries; block = Some more })
-with_told text scope boundaries block (to_equate element sign value uses) = do
+with_told text scope boundaries block (equation_line element sign value uses) = do
   more ← with_equation text scope element sign value uses block
   Ok (record { boundaries = boundaries; block = Some more })
-with_told text scope boundaries block (to_close word) = do
+with_told text scope boundaries block (end_line word) = do
   boundary ← closed_block block word
   Ok (record { boundaries = boundaries ++ boundary ∷ []; block = None })
 

@@ -1,5 +1,5 @@
 -- What a line of a relation says.
-use Rattle.std.specs.Prelude.{ℕ, List, [], ◌∷◌, ◌++◌, codes, if◌then◌else◌, Option, Some, None, Result, Ok, Err}
+use Rattle.std.specs.Prelude.{ℕ, List, [], ◌∷◌, ◌++◌, codes, if◌then◌else◌, Option, Some, None, Result, Ok}
 use Rattle.std.specs.Str.{bytes_eq}
 use Rattle.mw_base.specs.declared.cursor.Dotted.{Dotted}
 use Rattle.mw_base.specs.declared.cursor.Numeral.{Numeral}
@@ -51,19 +51,19 @@ uses_of text names (token ∷ rest) = use_first text names (token ∷ rest) ++ u
 -- What a line of a boundary says, with the tokens at which its faults stand.
 pub data Told : Type 0 where
   -- how many words are on the stack: the word `sp` and the number
-  to_point : (word : Token) (value : Numeral) → Told
+  sp_line : (word : Token) (value : Numeral) → Told
   -- an element has a value: the element, the "=", the value, and the elements that stand in it
-  to_equate : (element : Dotted) (sign : Token) (value : Placed) (uses : List Use) → Told
+  equation_line : (element : Dotted) (sign : Token) (value : Placed) (uses : List Use) → Told
   -- the boundary ends: the word `end`
-  to_close : (word : Token) → Told
+  end_line : (word : Token) → Told
 
 -- sp N
-unfoldable pub point_of : Cursor → Result Told TextFault
-point_of line = do
+unfoldable pub stack_pointer_of : Cursor → Result Told TextFault
+stack_pointer_of line = do
   word ← token_at 0 line
   value ← number_at 1 line
   end ← end_at 2 line
-  Ok (to_point word value)
+  Ok (sp_line word value)
 
 -- ELEMENT = E
 unfoldable pub equation_of : Scope → Cursor → Result Told TextFault
@@ -71,19 +71,19 @@ equation_of scope line = do
   element ← element_of line
   sign ← sign_at Equals 3 line
   value ← written_of scope (after 4 line)
-  Ok (to_equate element sign value (uses_of line.text scope.names (after 4 line).tokens))
+  Ok (equation_line element sign value (uses_of line.text scope.names (after 4 line).tokens))
 
 -- end
-unfoldable pub close_of : Cursor → Result Told TextFault
-close_of line = do
+unfoldable pub end_of : Cursor → Result Told TextFault
+end_of line = do
   word ← token_at 0 line
   end ← end_at 1 line
-  Ok (to_close word)
+  Ok (end_line word)
 
 -- the word with which a line of its own kind begins
 abbrev pub block_word_of : List ℕ → Option BlockWord
 block_word_of word =
-    if bytes_eq word (codes "sp") then Some words.Pointer
+    if bytes_eq word (codes "sp") then Some words.StackPointer
     else (if bytes_eq word (codes "end") then Some words.End
     else None)
 
@@ -98,8 +98,8 @@ block_word_in line = if has_sign Dot 1 line then None else block_word_first line
 
 -- what a line says that begins with this word, if it is one of those
 abbrev pub told_after : Scope → Cursor → Option BlockWord → Result Told TextFault
-told_after scope line (Some words.Pointer) = point_of line
-told_after scope line (Some words.End) = close_of line
+told_after scope line (Some words.StackPointer) = stack_pointer_of line
+told_after scope line (Some words.End) = end_of line
 told_after scope line None = equation_of scope line
 
 -- what a line of a boundary says, or where it leaves its grammar: at the first token that can't follow those before

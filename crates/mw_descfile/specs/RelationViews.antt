@@ -1,5 +1,5 @@
 -- How clauses see what the code keeps of a relation's text.
-use Rattle.std.specs.Prelude.{List, map, option_map}
+use Rattle.std.specs.Prelude.{map, option_map}
 use Rattle.mw_expr.specs.Written.{written}
 use Rattle.mw_rel.specs.Seen.{line_of, boundaries_of}
 use Rattle.mw_descfile.specs.declared.block as blocks
@@ -8,13 +8,13 @@ use Rattle.mw_descfile.specs.declared.relation_line.Told.{Told as KeptTold}
 use Rattle.mw_descfile.specs.declared.relation_line.Told.TheVariants as kept
 use Rattle.mw_descfile.specs.Boundaries.{Given, Block}
 use Rattle.mw_descfile.specs.Relation.{Known}
-use Rattle.mw_descfile.specs.RelationLines.{Told, to_point, to_equate, to_close}
+use Rattle.mw_descfile.specs.RelationLines.{Told, sp_line, equation_line, end_line}
 
 -- what a line of a boundary says
 abbrev pub told_seen : KeptTold → Told
-told_seen (kept.Point word value) = to_point word value
-told_seen (kept.Equate element sign value uses) = to_equate element sign (written value) uses.items
-told_seen (kept.Close word) = to_close word
+told_seen (kept.StackPointer word value) = sp_line word value
+told_seen (kept.Equation element sign value uses) = equation_line element sign (written value) uses.items
+told_seen (kept.End word) = end_line word
 
 -- a line as it was given
 abbrev pub given_seen : blocks.Given.Given → Given

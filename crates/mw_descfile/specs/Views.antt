@@ -1,5 +1,5 @@
 -- How clauses see what the code keeps.
-use Rattle.std.specs.Prelude.{List, map, reverse, option_map}
+use Rattle.std.specs.Prelude.{map, reverse, option_map}
 use Rattle.mw_base.specs.Named.{names_seen}
 use Rattle.mw_expr.specs.Tree.{view}
 use Rattle.mw_expr.specs.Written.{written}

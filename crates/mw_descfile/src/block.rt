@@ -6,7 +6,7 @@ ghost use Rattle.mw_base.specs.Reading.{Gives};
 ghost use Rattle.mw_expr.specs.Text.{IsShape};
 ghost use Rattle.mw_expr.specs.Written.{written};
 ghost use Rattle.mw_rel.specs.Seen.{boundary_of, boundaries_of, lines_of};
-ghost use Rattle.mw_descfile.specs.Boundaries.{Given as SeenGiven, place_token, is_taken, bounded, block_of, with_point, with_equation, is_left, twice_left, used_left, line_faults, unsolved, closed_block};
+ghost use Rattle.mw_descfile.specs.Boundaries.{Given as SeenGiven, place_token, is_taken, bounded, block_of, with_stack_pointer, with_equation, is_left, twice_left, used_left, line_faults, unsolved, closed_block};
 ghost use Rattle.mw_descfile.specs.RelationViews.{given_seen, block_seen};
 ghost use Rattle.mw_descfile.specs.Statements.{allowed};
 
@@ -227,9 +227,9 @@ impl Block {
     }
 
     /// sp N: cause 31 at `sp`, 33 at the number.
-    #[tactic(auto, unfolding(crate::specs::Boundaries::with_point))]
-    pub(crate) fn point(&mut self, word: Token, value: Numeral) -> Result<(), Refusal>
-        ensures { Gives (λ done. block_seen self.new) result (with_point word value (block_seen self.old)) }
+    #[tactic(auto, unfolding(crate::specs::Boundaries::with_stack_pointer))]
+    pub(crate) fn set_stack_pointer(&mut self, word: Token, value: Numeral) -> Result<(), Refusal>
+        ensures { Gives (λ done. block_seen self.new) result (with_stack_pointer word value (block_seen self.old)) }
     {
         check(self.sp.is_none(), fault_on(word, Cause::Twice)).map_err(Refused::At)?;
         self.sp = Some(ranged(0, 5, value).map_err(Refused::At)?);
@@ -238,7 +238,7 @@ impl Block {
 
     /// ELEMENT = E: cause 14 or 40 at the element, 41 at the `=`, and the value's own.
     #[tactic(auto, unfolding(crate::specs::Boundaries::with_equation))]
-    pub(crate) fn equate(
+    pub(crate) fn add_equation(
         &mut self,
         alloc: Global,
         scope: &Scope,

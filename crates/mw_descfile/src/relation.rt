@@ -121,11 +121,11 @@ fn with_told(
         (block_seen block) (told_seen told)) }
 {
     match told {
-        Told::Point(word, value) => block.point(word, value)?,
-        Told::Equate(element, sign, value, uses) => {
-            block.equate(alloc, scope, line, element, sign, &value, uses)?
+        Told::StackPointer(word, value) => block.set_stack_pointer(word, value)?,
+        Told::Equation(element, sign, value, uses) => {
+            block.add_equation(alloc, scope, line, element, sign, &value, uses)?
         }
-        Told::Close(word) => {
+        Told::End(word) => {
             boundaries.push(block.close(alloc, word)?)?;
             return Ok(Known {
                 boundaries,

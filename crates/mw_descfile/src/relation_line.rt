@@ -1,7 +1,7 @@
 // What a line of a relation says.
 ghost use Rattle.std.specs.Prelude.{◌≡◌};
 ghost use Rattle.mw_base.specs.Reading.{Gives};
-ghost use Rattle.mw_descfile.specs.RelationLines.{beginning_of, point_of, equation_of, close_of, block_word_of, block_word_in, told_of};
+ghost use Rattle.mw_descfile.specs.RelationLines.{beginning_of, stack_pointer_of, equation_of, end_of, block_word_of, block_word_in, told_of};
 ghost use Rattle.mw_descfile.specs.RelationViews.{told_seen};
 
 use crate::declaration::word_first;
@@ -26,7 +26,7 @@ pub(crate) struct Beginning {
 #[derive(Clone, Copy)]
 pub(crate) enum BlockWord {
     /// `sp`.
-    Pointer,
+    StackPointer,
     /// `end`.
     End,
 }
@@ -35,11 +35,11 @@ pub(crate) enum BlockWord {
 #[derive(Drop)]
 pub(crate) enum Told {
     /// The word `sp`, and how many words are on the stack.
-    Point(Token, Numeral),
+    StackPointer(Token, Numeral),
     /// The element, the `=`, the value, and the elements that stand in it.
-    Equate(Dotted, Token, Written, Vec<Use>),
+    Equation(Dotted, Token, Written, Vec<Use>),
     /// The word `end`.
-    Close(Token),
+    End(Token),
 }
 
 /// boundary PLACE BOUND: cause 60.
@@ -55,14 +55,14 @@ pub(crate) fn beginning_of(line: &Cursor) -> Result<Beginning, TextFault>
 }
 
 /// sp N.
-#[tactic(auto, unfolding(crate::specs::RelationLines::point_of))]
-fn point_of(line: &Cursor) -> Result<Told, Refusal>
-    ensures { Gives told_seen result (point_of line.now) }
+#[tactic(auto, unfolding(crate::specs::RelationLines::stack_pointer_of))]
+fn stack_pointer_of(line: &Cursor) -> Result<Told, Refusal>
+    ensures { Gives told_seen result (stack_pointer_of line.now) }
 {
     let word = line.token(0).map_err(Refused::At)?;
     let value = line.number(1).map_err(Refused::At)?;
     line.end(2).map_err(Refused::At)?;
-    Ok(Told::Point(word, value))
+    Ok(Told::StackPointer(word, value))
 }
 
 /// ELEMENT = E.
@@ -75,17 +75,17 @@ fn equation_of(alloc: Global, scope: &Scope, line: &Cursor) -> Result<Told, Refu
     let right = line.after(4);
     let value = scope.written(alloc, &right)?;
     let uses = uses_of(alloc, scope.names.as_slice(), &right)?;
-    Ok(Told::Equate(element, sign, value, uses))
+    Ok(Told::Equation(element, sign, value, uses))
 }
 
 /// end.
-#[tactic(auto, unfolding(crate::specs::RelationLines::close_of))]
-fn close_of(line: &Cursor) -> Result<Told, Refusal>
-    ensures { Gives told_seen result (close_of line.now) }
+#[tactic(auto, unfolding(crate::specs::RelationLines::end_of))]
+fn end_of(line: &Cursor) -> Result<Told, Refusal>
+    ensures { Gives told_seen result (end_of line.now) }
 {
     let word = line.token(0).map_err(Refused::At)?;
     line.end(1).map_err(Refused::At)?;
-    Ok(Told::Close(word))
+    Ok(Told::End(word))
 }
 
 /// The word of these bytes that begins a line of its own kind.
@@ -93,7 +93,7 @@ fn block_word_of(word: &[u8]) -> Option<BlockWord>
     ensures { result ≡ block_word_of word.now }
 {
     if word == b"sp".as_slice() {
-        Some(BlockWord::Pointer)
+        Some(BlockWord::StackPointer)
     } else if word == b"end".as_slice() {
         Some(BlockWord::End)
     } else {
@@ -120,8 +120,8 @@ pub(crate) fn told_of(alloc: Global, scope: &Scope, line: &Cursor) -> Result<Tol
     ensures { Gives told_seen result (told_of scope.now line.now) }
 {
     match block_word_in(line) {
-        Some(BlockWord::Pointer) => point_of(line),
-        Some(BlockWord::End) => close_of(line),
+        Some(BlockWord::StackPointer) => stack_pointer_of(line),
+        Some(BlockWord::End) => end_of(line),
         None => equation_of(alloc, scope, line),
     }
 }

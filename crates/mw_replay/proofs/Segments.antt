@@ -28,6 +28,7 @@ use Rattle.mw_rel.proofs.Same.{segment}
 use Rattle.mw_sim.specs.Run.{run_at, segment_after}
 use Rattle.mw_replay.specs.CounterText.{number_at}
 use Rattle.mw_replay.specs.Replay.{Follows, IsReplay, Replay, next_start, step_with}
+use Rattle.mw_replay.specs.Segment.{Ended, IsShort}
 use Rattle.mw_replay.proofs.Numbers.{boundary_by_number}
 use Rattle.mw_replay.proofs.Steps.{next_is_start}
 
@@ -64,15 +65,6 @@ inputs_few [] = omega arith
 inputs_few (Taken v ∷ rest) = omega (arith, inputs_few rest)
 inputs_few (Out v ∷ rest) = omega (arith, inputs_few rest)
 
--- where the segment of a start ends, from a place in a longer environment
-pub record Ended (job : Job) (start : Start) (place : Clock) (s : BoardState) (es : List Event) (end : Clock)
-    : Type 0 where
-  pub run : BoardRun
-  pub segment : segment_of job start ≡ Some run
-  pub state : s ≡ run.state
-  pub events : es ≡ run.events
-  pub clock : end ≡ further place run.clock
-
 some_one : {A : Type 0} (a b : A) → Some a ≡ Some b → a ≡ b
 some_one a b same = cc
 
@@ -101,14 +93,9 @@ late_by first (Some run) none = cc
 late_by first None none = refl
 
 -- how far it comes
-pub record Within (job : Job) (start : Start) (place : Clock) (es : List Event) (end : Clock) : Type 0 where
-  pub few : length es ≤ start.boundary.bound
-  pub cycle : end.cycle ≤ place.cycle + start.boundary.bound
-  pub taken : end.taken ≤ place.taken + start.boundary.bound
-
-pub within : (job : Job) (start : Start) (place : Clock) (s : BoardState) (es : List Event) (end : Clock)
-    → Ended job start place s es end → Within job start place es end
-within job start place s es end is =
+pub short : (job : Job) (start : Start) (place : Clock) (s : BoardState) (es : List Event) (end : Clock)
+    → Ended job start place s es end → start.boundary.bound ≤ 500 → IsShort place es end
+short job start place s es end is most =
     let ran = segment job start is.run is.segment in
     let n = ran.cycles in
     let events : length is.run.events ≤ n =
@@ -120,9 +107,9 @@ within job start place s es end is =
     subst (λ (r : BoardRun). r.clock.taken ≡ inputs_in r.events) (sym ran.is)
     (inputs_are job.board job.store start.env start.pair.board n) in
     record {
-      few = omega (arith, ap (λ (e : List Event). length e) is.events, ran.within);
-      cycle = omega (arith, ap (λ (c : Clock). c.cycle) is.clock, ran.within);
-      taken = omega (arith, ap (λ (c : Clock). c.taken) is.clock, inputs_few is.run.events, ran.within);
+      few = omega (arith, ap (λ (e : List Event). length e) is.events, ran.within, most);
+      cycle = omega (arith, ap (λ (c : Clock). c.cycle) is.clock, ran.within, most);
+      taken = omega (arith, ap (λ (c : Clock). c.taken) is.clock, inputs_few is.run.events, ran.within, most);
     }
 
 -- ---- what is shown

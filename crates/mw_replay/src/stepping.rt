@@ -8,13 +8,16 @@ ghost use Rattle.mw_macro.specs.DescribedStep.{AreInputs, step_of};
 ghost use Rattle.mw_macro.specs.State as machines;
 ghost use Rattle.mw_rel.specs.Differs.{difference_of, shown_by};
 ghost use Rattle.mw_rel.specs.Free.{numbered};
-ghost use Rattle.mw_rel.specs.InRelation.{pair_of};
+ghost use Rattle.mw_rel.specs.declared.difference.Difference.TheVariants.{Late};
+ghost use Rattle.mw_rel.specs.InRelation.{BothFit, pair_of};
+ghost use Rattle.mw_rel.specs.Job.{IsJob};
 ghost use Rattle.mw_rel.specs.Start.{addresses_of};
 ghost use Rattle.mw_rel.specs.Views.{job_of};
 ghost use Rattle.mw_sim.specs.Run.{run_at, segment_after};
 ghost use Rattle.mw_replay.specs.Counter.{IsCounter, IsStartOf};
 ghost use Rattle.mw_replay.specs.Views.{replay_of, HasRoom};
 ghost use Rattle.mw_replay.specs.Replay.{IsReplay, Follows, next_start, step_with};
+ghost use Rattle.mw_replay.specs.Segment.{Comes, IsShort};
 
 use crate::counter::Counter;
 use crate::reached::{copy_addresses, difference_at, number_at};
@@ -170,6 +173,61 @@ fn address_of(pair: &Pair) -> u16
     pair.board.at
 }
 
+/// Where a segment has come to.
+#[derive(Clone, Copy)]
+struct Reached {
+    /// The number of the boundary.
+    boundary: usize,
+    /// How far the replay has come in its environment.
+    clock: Clock,
+}
+
+/// Runs the next segment of the board and makes the described step beside it; None where it is late.
+fn run_both<A: Datapath>(part: &A, job: &Job, stand: &mut Stand) -> Option<Reached>
+    requires room { HasRoom stand.old }
+    requires stands { IsReplay (job_of job.now) (replay_of stand.old) }
+    requires cycles { stand.old.clock.cycle + (numbered (job_of job.now) stand.old.boundary).bound < 2 ^ 64 }
+    requires taken { stand.old.clock.taken + (numbered (job_of job.now) stand.old.boundary).bound < 2 ^ 64 }
+    requires inputs { stand.old.clock.taken + most_events (job_of job.now).machine < 2 ^ 64 }
+    ensures room { HasRoom stand.new }
+    ensures env { stand.new.env ≡ stand.old.env }
+    ensures clock { stand.new.clock ≡ stand.old.clock }
+    ensures fit { BothFit (job_of job.now) stand.new.pair }
+    ensures job { IsJob (job_of job.now) }
+    ensures short { IfSome result (λ r. IsShort stand.old.clock stand.new.events.items r.clock) }
+    ensures reached { IfSome result (λ r. Comes (job_of job.now) (replay_of stand.old) stand.new r.boundary r.clock) }
+    ensures late { result ≡ None → difference_of (job_of job.now) (next_start (job_of job.now) (replay_of stand.old))
+        ≡ Some Late }
+{
+    // A call for the proof: its clause `valid` says what holds of every job.
+    let _ = job.shape();
+    let limit = job.boundary(stand.boundary).bound;
+    run_step(
+        job,
+        &mut stand.pair,
+        &stand.env,
+        stand.clock,
+        &mut stand.temps,
+        &mut stand.steps,
+    );
+    let ended = run_segment(
+        part,
+        job,
+        limit,
+        &mut stand.pair,
+        &stand.env,
+        stand.clock,
+        &mut stand.events,
+    );
+    let Some(clock) = ended else {
+        return None;
+    };
+    let Some(boundary) = number_at(job, address_of(&stand.pair)) else {
+        return None;
+    };
+    Some(Reached { boundary, clock })
+}
+
 /// One segment of the board from the next start, and one step of the described machine: the first difference.
 fn advance<A: Datapath>(part: &A, job: &Job, stand: &mut Stand) -> Option<Difference>
     requires room { HasRoom stand.old }
@@ -185,37 +243,18 @@ fn advance<A: Datapath>(part: &A, job: &Job, stand: &mut Stand) -> Option<Differ
     ensures cycle { stand.new.clock.cycle ≤ stand.old.clock.cycle + 500 }
     ensures taken { stand.new.clock.taken ≤ stand.old.clock.taken + 500 }
 {
-    // A call for the proof: its clause `valid` says what holds of every job.
-    let _ = job.shape();
-    let at = stand.clock;
-    let env = &stand.env;
-    let limit = job.boundary(stand.boundary).bound;
-    run_step(
-        job,
-        &mut stand.pair,
-        env,
-        at,
-        &mut stand.temps,
-        &mut stand.steps,
-    );
-    let ended = run_segment(
-        part,
-        job,
-        limit,
-        &mut stand.pair,
-        env,
-        at,
-        &mut stand.events,
-    );
-    let Some(end) = ended else {
+    let Some(reached) = run_both(part, job, stand) else {
         return Some(Difference::Late);
     };
-    let Some(reached) = number_at(job, address_of(&stand.pair)) else {
-        return Some(Difference::Late);
-    };
-    stand.boundary = reached;
-    stand.clock = end;
-    difference_at(job, reached, &stand.pair, &stand.events, &stand.steps)
+    stand.boundary = reached.boundary;
+    stand.clock = reached.clock;
+    difference_at(
+        job,
+        reached.boundary,
+        &stand.pair,
+        &stand.events,
+        &stand.steps,
+    )
 }
 
 impl Replay {

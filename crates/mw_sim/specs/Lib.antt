@@ -3,3 +3,4 @@ pub mod Lines
 pub mod Given
 pub mod Start
 pub mod Views
+pub mod Texts

@@ -75,8 +75,12 @@ fn number_named(elements: &[Settable], owner: &[u8], name: &[u8]) -> Option<usiz
         && name == element.name.as_slice())
 }
 
-/// The value of a number, which has to be below a bound: cause 33.
-fn value_below(bound: u64, numeral: Numeral) -> Result<u32, TextFault>
+/// The value of a number, which has to be below a bound.
+///
+/// # Errors
+///
+/// Cause 33 where it isn't, at the number.
+pub fn value_below(bound: u64, numeral: Numeral) -> Result<u32, TextFault>
     requires { bound ≤ 2 ^ 32 }
     ensures { result ≡ value_below bound numeral }
 {

@@ -1,4 +1,5 @@
-//! Simulation: a board run from a state, over an environment, for so many cycles or to a boundary.
+//! Simulation: a board run from a state, over an environment, for so many cycles or to a boundary; and the lines of
+//! reports that show it.
 #![tactic(auto)]
 
 mod given;
@@ -6,8 +7,10 @@ mod lines;
 mod parts;
 mod run;
 mod start;
+mod texts;
 
-pub use given::{Given, Owner, Settable, given_by, two_to};
+pub use given::{Given, Owner, Settable, given_by, two_to, value_below};
 pub use parts::Parts;
 pub use run::{Late, run_cycles, run_to_boundary};
 pub use start::{Start, environment_with, first_word, from_first, read_start};
+pub use texts::{append_event, append_hex_line, append_line};

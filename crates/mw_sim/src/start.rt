@@ -38,6 +38,36 @@ impl Model for Start {
     ghost view = { λ start. record { state = start.state; env = start.env } };
 }
 
+impl Start {
+    /// Another start that is the same.
+    ///
+    /// # Errors
+    ///
+    /// Memory ran out.
+    pub fn copied(&self, alloc: Global) -> Result<Start, NoMemory>
+        ensures { IfOk result (λ start. start ≡ self.now) }
+    {
+        let Start { state, env } = self;
+        Ok(Start {
+            state: State {
+                at: state.at,
+                regs: state.regs,
+                q: state.q,
+                mar: state.mar,
+                ir: state.ir,
+                flips: state.flips,
+                seq: state.seq,
+                memory: Vec::from_slice(alloc, &state.memory)?,
+            },
+            env: Env {
+                line: Vec::from_slice(alloc, &env.line)?,
+                noise: Vec::from_slice(alloc, &env.noise)?,
+                inputs: Vec::from_slice(alloc, &env.inputs)?,
+            },
+        })
+    }
+}
+
 /// Appends the element of a board with this number, as a line may set it.
 fn push_element(
     alloc: Global,

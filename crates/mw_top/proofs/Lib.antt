@@ -1,3 +1,4 @@
+pub mod Alike
 pub mod Ends
 pub mod Lines
 pub mod Reports

@@ -1,11 +1,11 @@
 -- From what the files of a request come to, to the report that its status permits.
-use Rattle.std.proofs.Common.{◌≡◌, ℕ, List, true, Option, Some, None, refl, ap, subst}
+use Rattle.std.proofs.Common.{◌≡◌, ℕ, List, true, Some, refl, ap, subst}
 use Rattle.mw_plan.specs.Files.{FilesRead, IsLeft}
 use Rattle.mw_plan.specs.Plan.{done}
-use Rattle.mw_rel.specs.declared.difference.Difference.{Difference}
-use Rattle.mw_rel.specs.Differs.{difference_of}
 use Rattle.mw_top.specs.declared.commands.Work.{Work}
 use Rattle.mw_top.specs.declared.commands.Work.TheVariants as works
+use Rattle.mw_top.specs.declared.commands.compare.Compared.{Compared}
+use Rattle.mw_top.specs.declared.commands.compare.Compared.TheVariants as compared
 use Rattle.mw_top.specs.declared.status.Status.{Status}
 use Rattle.mw_top.specs.declared.status.Status.TheVariants.{Done, Differs, Unknown, Usage, Refused, ReadFault, WriteFault, NoMemory}
 use Rattle.mw_top.specs.Answer.{is_worked, IsWorked, IsReport}
@@ -16,16 +16,17 @@ use Rattle.mw_top.specs.Request.{RequestData, request_of, files_of}
 
 -- ---- what was made is answered by a status of work that was done
 
-compared_is_worked : (shown : Option Difference) → is_worked (compare_status shown) ≡ true
-compared_is_worked None = refl
-compared_is_worked (Some difference) = refl
+compared_is_worked : (shown : Compared) → is_worked (compare_status shown) ≡ true
+compared_is_worked compared.Same = refl
+compared_is_worked (compared.Differs step difference) = refl
 
-answer_is_worked : (work : Work) (status : Status) (report : List ℕ) → IsAnswer work status report
-    → is_worked status ≡ true
-answer_is_worked (works.Comparison comparison) status report answer =
-    rw answer.status_is (compared_is_worked (difference_of comparison.job answer.start))
-answer_is_worked (works.Assembly program) status report answer = rw answer.status_is refl
-answer_is_worked (works.Run prepared) status report answer = rw answer.status_is refl
+answer_is_worked : (request : RequestData) (work : Work) (status : Status) (report : List ℕ)
+    → IsAnswer request work status report → is_worked status ≡ true
+answer_is_worked request (works.Comparison comparison) status report answer =
+    rw answer.status_is (compared_is_worked answer.compared)
+answer_is_worked request (works.Assembly program) status report answer = rw answer.status_is refl
+answer_is_worked request (works.Run prepared) status report answer = rw answer.status_is refl
+answer_is_worked request (works.Trace trace) status report answer = rw answer.status_is refl
 
 -- the report of work that was done
 worked_is_report : (call : Call) (status : Status) (report : List ℕ) → is_worked status ≡ true
@@ -50,10 +51,10 @@ of_request request files names = ap (λ (ns : List (List ℕ)). record files { n
 pub is_answered : (call : Call) (request : RequestData) (files : FilesRead) (work : Work) (status : Status)
     (report : List ℕ)
     → request_of call.words ≡ Some request → files.names ≡ request.files
-    → IsLeft (plan_of request.command) call.shelf_before files (done work) → IsAnswer work status report
+    → IsLeft (plan_of request.command) call.shelf_before files (done work) → IsAnswer request work status report
     → IsReport call status report
 is_answered call request files work status report requested names left answer =
-    worked_is_report call status report (answer_is_worked work status report answer) (record {
+    worked_is_report call status report (answer_is_worked request work status report answer) (record {
       request = request;
       requested = requested;
       contents = files.contents;

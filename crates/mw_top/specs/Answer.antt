@@ -35,7 +35,7 @@ pub record IsWorked (call : Call) (status : Status) (report : List ℕ) : Type 0
   pub contents : List (List ℕ)
   pub work : Work
   pub made : IsLeft (plan_of request.command) call.shelf_before (files_of request contents) (done work)
-  pub answer : IsAnswer work status report
+  pub answer : IsAnswer request work status report
 
 -- There is a request, its files were read up to one, and the report names that and the fault for which it is refused.
 pub record IsRefusal (call : Call) (report : List ℕ) : Type 0 where

@@ -1,5 +1,7 @@
 -- The commands: what each makes of its files, and what is answered then.
 pub mod Asm
 pub mod Compare
+pub mod Debug
+pub mod Prepared
 pub mod Run
 pub mod Table

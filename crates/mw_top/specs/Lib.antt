@@ -2,6 +2,11 @@ pub mod Answer
 pub mod Call
 pub mod Codes
 pub mod Commands
+pub mod Laws
+pub mod Line
+pub mod LineRead
+pub mod Made
+pub mod Options
 pub mod Report
 pub mod Request
 pub mod RunText

@@ -1,5 +1,5 @@
 -- The texts of reports.
-use Rattle.std.specs.Prelude.{ℕ, ◌-◌, List, [], ◌∷◌, ◌++◌, codes, slice_index_or, nat_lt, if◌then◌else◌}
+use Rattle.std.specs.Prelude.{ℕ, ◌-◌, List, [], ◌++◌, codes, slice_index_or, nat_lt, if◌then◌else◌}
 use Rattle.std.specs.Option.{unwrap_or}
 use Rattle.mw_base.specs.Numbers.{hex, decimal}
 use Rattle.mw_base.specs.Causes.{number_of}
@@ -11,12 +11,9 @@ use Rattle.mw_plan.specs.declared.fault.FileFault.TheVariants.{TooLong, At}
 use Rattle.mw_rel.specs.declared.difference.Difference.{Difference}
 use Rattle.mw_rel.specs.declared.difference.Difference.TheVariants.{Late, Event, StackPointer, Element, Memory}
 use Rattle.mw_rel.specs.Job.{Job}
+use Rattle.mw_sim.specs.Texts.{line}
 use Rattle.mw_top.specs.declared.fault.Fault.{Fault}
 use Rattle.mw_top.specs.declared.fault.Fault.TheVariants.{Text, Board}
-
--- a line ends with a line feed
-abbrev pub line : List ℕ → List ℕ
-line text = text ++ 10 ∷ []
 
 -- what faulty words are answered with
 abbrev pub usage_line : List ℕ

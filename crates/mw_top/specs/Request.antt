@@ -1,58 +1,127 @@
 -- What the words of a command line ask for.
-use Rattle.std.specs.Prelude.{ℕ, List, [], ◌∷◌, codes, string_bytes, map, length, find, Bool, true, not, ◌&&◌, ◌==◌, if◌then◌else◌, Option, Some, None}
-use Rattle.std.specs.List.{list_all}
+use Rattle.std.specs.Prelude.{◌≡◌, ℕ, List, [], ◌∷◌, codes, string_bytes, map, length, find, Bool, true, false, ◌==◌, if◌then◌else◌, Option, Some, None, option_and_then, unwrap_or}
+use Rattle.std.specs.List.{list_any}
 use Rattle.std.specs.Str.{bytes_eq}
+use Rattle.clap.specs.Kinds.{Kinds}
+use Rattle.clap.specs.Words.{Row, all_of, fault_of, first_of, matches_of}
 use Rattle.mw_plan.specs.Files.{FilesRead}
 use Rattle.mw_top.specs.declared.request.Command.{Command}
-use Rattle.mw_top.specs.declared.request.Command.TheVariants.{Asm, Compare, Run}
+use Rattle.mw_top.specs.declared.request.Command.TheVariants.{Asm, Compare, Debug, Run}
 use Rattle.mw_top.specs.declared.request.Request.{Request}
+use Rattle.mw_top.specs.declared.request.options.Number.{Number}
+use Rattle.mw_top.specs.declared.request.options.Number.TheVariants.{Nodes, Paths, Steps, Cycles}
+use Rattle.mw_top.specs.declared.request.options.Options.{Options}
+use Rattle.mw_top.specs.Line.{line}
+use Rattle.mw_top.specs.Options.{limit_of, number_of, is_true, parts_of, options_from}
 
--- a command and the names of its files, in the order of the words
+-- a command, the names of its files in the order of the words, and the options, of which those that aren't the command's
+-- own stand as they do where no line gives them
 pub record RequestData : Type 0 where
   pub command : Command
   pub files : List (List ℕ)
+  pub nodes : ℕ
+  pub paths : ℕ
+  pub steps : ℕ
+  pub cycles : ℕ
+  pub parts : Bool
 
 -- a request with the bytes of its files' names
 abbrev pub data_of : Request → RequestData
-data_of request = record { command = request.command; files = map string_bytes request.files.now }
+data_of request = record {
+  command = request.command;
+  files = map string_bytes request.files.items;
+  nodes = request.nodes;
+  paths = request.paths;
+  steps = request.steps;
+  cycles = request.cycles;
+  parts = request.parts;
+}
 
 -- the files of a request, of the first so many of which these are the contents
 abbrev pub files_of : RequestData → List (List ℕ) → FilesRead
 files_of request contents = record { names = request.files; contents = contents }
 
--- the word that stands for a command, and how many files the command has
-pub record Row : Type 0 where
+-- the word that stands for a command, how many files it has, and which options are its own
+pub record CommandRow : Type 0 where
   pub word : List ℕ
   pub files : ℕ
+  pub numbers : List Number
+  pub parts : Bool
 
 -- the row of each command
-abbrev pub row_of : Command → Row
-row_of Compare = record { word = codes "compare"; files = 5 }
-row_of Asm = record { word = codes "asm"; files = 2 }
-row_of Run = record { word = codes "run"; files = 3 }
+abbrev pub row_of : Command → CommandRow
+row_of Compare = record { word = codes "compare"; files = 5; numbers = Steps ∷ []; parts = true }
+row_of Asm = record { word = codes "asm"; files = 2; numbers = []; parts = false }
+row_of Run = record { word = codes "run"; files = 3; numbers = Cycles ∷ []; parts = true }
+row_of Debug = record { word = codes "debug"; files = 4; numbers = []; parts = false }
 
 -- the commands
 abbrev pub commands : List Command
-commands = Compare ∷ Asm ∷ Run ∷ []
+commands = Compare ∷ Asm ∷ Run ∷ Debug ∷ []
 
 -- the command of a word
 abbrev pub command_of : List ℕ → Option Command
 command_of word = find (λ command. bytes_eq word (row_of command).word) commands
 
--- a word that doesn't begin with '-'
-abbrev pub is_file_word : List ℕ → Bool
-is_file_word [] = true
-is_file_word (c ∷ cs) = not (c == 45)
+-- the two options are one
+abbrev pub same_number : Number → Number → Bool
+same_number Nodes Nodes = true
+same_number Paths Paths = true
+same_number Steps Steps = true
+same_number Cycles Cycles = true
+same_number _ _ = false
 
--- the command with its files, where there are exactly as many
-abbrev pub with_files : List (List ℕ) → Option Command → Option RequestData
-with_files files None = None
-with_files files (Some command) =
-    if (length files == (row_of command).files) && list_all is_file_word files
-    then Some (record { command = command; files = files })
-    else None
+-- the number of an option, which is read where it is the command's own
+abbrev pub number_in : Command → List Row → Number → Option ℕ
+number_in command matches number = number_of (limit_of number).most (limit_of number).otherwise
+    (list_any (λ own. same_number own number) (row_of command).numbers) (first_of (limit_of number).name matches)
+
+-- the options of a command; nothing where one isn't its own, or isn't a number in its range
+abbrev pub options_in : Command → List Row → Option Options
+options_in command matches = options_from
+    (number_in command matches Nodes) (number_in command matches Paths)
+    (number_in command matches Steps) (number_in command matches Cycles)
+    (parts_of (row_of command).parts (is_true (first_of (codes "parts") matches)))
+
+-- the file words
+abbrev pub files_in : List Row → List (List ℕ)
+files_in matches = unwrap_or (all_of (codes "files") matches) []
+
+-- the command with its files and options, where the files are as many as it has
+abbrev pub with_options : Command → List (List ℕ) → Option Options → Option RequestData
+with_options command files None = None
+with_options command files (Some options) = if length files == (row_of command).files then Some (record {
+  command = command;
+  files = files;
+  nodes = options.nodes;
+  paths = options.paths;
+  steps = options.steps;
+  cycles = options.cycles;
+  parts = options.parts;
+}) else None
+
+-- the command that the line names
+abbrev pub command_in : List Row → Option Command
+command_in matches = option_and_then command_of (first_of (codes "command") matches)
+
+-- the request of a command, where there is one
+abbrev pub with_command : Option Command → List Row → Option RequestData
+with_command None matches = None
+with_command (Some command) matches = with_options command (files_in matches) (options_in command matches)
+
+-- the request of the matches of a line
+abbrev pub request_in : List Row → Option RequestData
+request_in matches = with_command (command_in matches) matches
+
+-- the same, where `clap` has no fault in the line
+abbrev pub unless_refused : Kinds → List Row → Option RequestData
+unless_refused [] matches = request_in matches
+unless_refused (kind ∷ kinds) matches = None
 
 -- the request of the words, without the program's name; nothing where they are no request
 unfoldable pub request_of : List (List ℕ) → Option RequestData
-request_of [] = None
-request_of (word ∷ files) = with_files files (command_of word)
+request_of words = unless_refused (fault_of line words) (matches_of line words)
+
+-- a request has as many files as its command
+abbrev pub HasItsFiles : Request → Type 0
+HasItsFiles request = length request.files.items ≡ (row_of request.command).files

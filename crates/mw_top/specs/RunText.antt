@@ -1,26 +1,19 @@
 -- What a run prints.
 use Rattle.std.specs.Prelude.{ℕ, List, ◌++◌, codes}
 use Rattle.std.specs.List.{flat_map}
-use Rattle.mw_base.specs.Numbers.{decimal, hex}
-use Rattle.mw_base.specs.declared.event.Event.{Event}
-use Rattle.mw_base.specs.declared.event.Event.TheVariants.{Out, Taken}
+use Rattle.mw_base.specs.Numbers.{decimal}
 use Rattle.mw_board.specs.declared.parts.BoardParts.{BoardParts}
 use Rattle.mw_cycle.specs.Run.{BoardRun, run_of}
-use Rattle.mw_top.specs.Report.{line}
+use Rattle.mw_sim.specs.Texts.{event_line, line}
 use Rattle.mw_top.specs.StateText.{state_text}
 use Rattle.mw_top.specs.Work.{Prepared}
-
--- the line of an event
-abbrev pub event_line : Event → List ℕ
-event_line (Out word) = line (codes "out " ++ hex word)
-event_line (Taken word) = line (codes "taken " ++ hex word)
 
 -- a run of so many cycles: their number, the events in order, and the state after them
 unfoldable pub run_text : BoardParts → ℕ → BoardRun → List ℕ
 run_text board count run =
     line (codes "cycles " ++ decimal count) ++ flat_map event_line run.events ++ state_text board run.state
 
--- the text of a run of a thousand cycles
-abbrev pub run_from : Prepared → List ℕ
-run_from prepared = run_text prepared.program.board 1000
-    (run_of prepared.program.board prepared.program.made.store.words prepared.start.env prepared.start.state 1000)
+-- the text of the run of so many cycles from a start
+abbrev pub run_from : Prepared → ℕ → List ℕ
+run_from prepared cycles = run_text prepared.program.board cycles
+    (run_of prepared.program.board prepared.program.made.store.words prepared.start.env prepared.start.state cycles)

@@ -1,4 +1,4 @@
--- What two commands make of their files.
+-- What commands make of their files.
 use Rattle.mw_rel.specs.Job.{Job}
 use Rattle.mw_replay.specs.Counter.{Counter}
 use Rattle.mw_sim.specs.Start.{Start}

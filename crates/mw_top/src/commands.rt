@@ -3,20 +3,22 @@ ghost use Rattle.std.specs.Prelude.{◌≡◌, [], IfOk, length};
 ghost use Rattle.mw_outside.specs.Views.{IsLater, shelf_shown};
 ghost use Rattle.mw_plan.specs.Steps.{Ends};
 ghost use Rattle.mw_top.specs.Commands.Table.{plan_of, IsAnswer};
-ghost use Rattle.mw_top.specs.Request.{row_of};
+ghost use Rattle.mw_top.specs.Request.{data_of, row_of};
 
 mod asm;
 mod compare;
+mod debug;
 mod microprogram;
+mod prepared;
 mod run;
 
 use self::compare::Comparison;
 use self::microprogram::Program;
-use self::run::Prepared;
+use self::prepared::Prepared;
 use crate::fault::Fault;
 use crate::outcome::Outcome;
-use crate::request::Command;
-use mw_base::NoMemory;
+use crate::request::{Command, Request};
+use mw_base::{Items, NoMemory};
 use mw_outside::Shelf;
 use mw_plan::{Files, Stop};
 use std::alloc::Global;
@@ -30,6 +32,8 @@ pub(crate) enum Work {
     Assembly(Program),
     /// A board with its microprogram, and the start of its run.
     Run(Prepared),
+    /// The trace of a script.
+    Trace(Items<u8>),
 }
 
 /// Reads the files of a command, and makes of them what its plan says.
@@ -49,16 +53,20 @@ pub(crate) fn read_files<S: Shelf>(
         Command::Compare => compare::read(alloc, shelf, files),
         Command::Asm => asm::read(alloc, shelf, files),
         Command::Run => run::read(alloc, shelf, files),
+        Command::Debug => debug::read(alloc, shelf, files),
     }
 }
 
-/// Answers with what a command made of its files.
-pub(crate) fn answer_with(alloc: Global, work: Work) -> Result<Outcome, NoMemory>
-    ensures { IfOk result (λ outcome. IsAnswer work outcome.status outcome.report.items) }
+/// Answers a request with what its command made of its files.
+pub(crate) fn answer_with(alloc: Global, request: &Request, work: Work) -> Result<Outcome, NoMemory>
+    ensures { IfOk result (λ outcome. IsAnswer (data_of request.now) work outcome.status outcome.report.items) }
 {
     match work {
-        Work::Comparison(comparison) => compare::report(alloc, &comparison),
+        Work::Comparison(comparison) => {
+            compare::report(alloc, &comparison, request.steps, request.parts)
+        }
         Work::Assembly(program) => asm::report(alloc, &program),
-        Work::Run(prepared) => run::report(alloc, prepared),
+        Work::Run(prepared) => run::report(alloc, prepared, request.cycles, request.parts),
+        Work::Trace(trace) => Ok(debug::report(trace)),
     }
 }

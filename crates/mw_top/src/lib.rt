@@ -3,6 +3,7 @@
 
 mod commands;
 mod fault;
+mod laws;
 mod outcome;
 mod report;
 mod request;
@@ -10,6 +11,7 @@ mod state_text;
 mod status;
 mod top_call;
 
+pub use laws::parts_change_nothing;
 pub use request::{Command, Request, read_words};
 pub use status::Status;
 pub use top_call::bench;

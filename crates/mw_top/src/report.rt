@@ -1,8 +1,9 @@
 // The texts of reports.
 ghost use Rattle.std.specs.Prelude.{◌≡◌, ◌++◌, [], OnOk, slice_index_or};
-ghost use Rattle.mw_top.specs.Report.{line, usage_line, fault_line, cause_text, place_text, reader_text, fault_text, refusal_line};
+ghost use Rattle.mw_sim.specs.Texts.{line};
+ghost use Rattle.mw_top.specs.Report.{usage_line, fault_line, cause_text, place_text, reader_text, fault_text, refusal_line};
 ghost use Rattle.mw_top.specs.Report.{element_text, difference_text};
-ghost use Rattle.mw_base.specs.Numbers.{hex};
+ghost use Rattle.mw_base.specs.Numbers.{decimal, hex};
 ghost use Rattle.mw_macro.specs.Described.{description_of};
 ghost use Rattle.mw_rel.specs.Views.{job_of};
 
@@ -12,31 +13,23 @@ use mw_macro::Machine;
 use mw_plan::FileFault;
 use mw_rel::Job;
 use mw_replay::Difference;
+use mw_sim::append_line;
 use std::alloc::Global;
 
 const USAGE: &[u8] =
     b"usage: mw_bench COMMAND FILES [--nodes N] [--paths P] [--steps K] [--cycles C] [--parts]";
 
-/// Appends a line.
-pub(crate) fn append_line(report: &mut Vec<u8>, text: &[u8]) -> Result<(), NoMemory>
-    ensures { OnOk result (report.new.items ≡ report.old.items ++ line text.now) }
-{
-    report.extend_from_slice(text)?;
-    report.push(b'\n')?;
-    Ok(())
-}
-
-/// Appends a line that ends with a number in hexadecimal digits.
-pub(crate) fn append_hex_line(
+/// Appends a line that ends with a number in decimal digits.
+pub(crate) fn append_decimal_line(
     alloc: Global,
     report: &mut Vec<u8>,
     front: &[u8],
     number: u32,
 ) -> Result<(), NoMemory>
-    ensures { OnOk result (report.new.items ≡ report.old.items ++ line (front.now ++ hex number)) }
+    ensures { OnOk result (report.new.items ≡ report.old.items ++ line (front.now ++ decimal number)) }
 {
     report.extend_from_slice(front)?;
-    append_hex(alloc, report, u128::from(number))?;
+    append_decimal(alloc, report, u64::from(number))?;
     append_line(report, b"")
 }
 

@@ -1,7 +1,18 @@
 // What the words of a command line ask for.
-ghost use Rattle.std.specs.Prelude.{◌≡◌, ◌==◌, ◌&&◌, IsTrue, map, length, option_map, string_bytes, Some, IfSome};
-ghost use Rattle.mw_top.specs.Request.{command_of, row_of, is_file_word, with_files, request_of, data_of};
-ghost use Rattle.std.specs.List.{list_all};
+ghost use Rattle.std.specs.Prelude.{◌≡◌, IfOk, IfSome, Some, map, option_map, string_bytes};
+ghost use Rattle.std.specs.Str.{bytes_eq};
+ghost use Rattle.clap.specs.Words.{first_of, found_of, rows_of};
+ghost use Rattle.mw_top.specs.Request.{HasItsFiles, command_in, command_of, data_of, files_in, number_in, options_in, request_in, request_of, row_of, with_options};
+
+mod computed_examples;
+mod line;
+mod options;
+
+use self::line::{LineRead, read_line};
+use self::options::{Number, Options, number_of, parts_of};
+use clap::ArgMatches;
+use mw_base::NoMemory;
+use std::alloc::Global;
 
 /// What the bench can do.
 #[derive(Clone, Copy, Debug, PartialEq, Eq)]
@@ -12,103 +23,207 @@ pub enum Command {
     Asm,
     /// Runs a board: a board file, a microprogram for its board, and an environment.
     Run,
+    /// Runs a script: a board file, a microprogram for its board, an environment, and the script.
+    Debug,
 }
 
-/// A command and the words that name its files.
-#[derive(Clone, Copy, Debug)]
-pub struct Request<'a> {
+/// A command with its files and options. An option that isn't the command's own stands as it does where it isn't given.
+#[derive(Debug, Drop)]
+pub struct Request {
     /// What is to be done.
     pub command: Command,
     /// The names of its files, in the order of the words.
-    pub files: &'a [String],
+    pub files: Vec<String>,
+    /// The most joint cofactors of an operation: 1 to 16,000,000, and 1,000,000 where it isn't given. No command reads it
+    /// yet.
+    pub nodes: u32,
+    /// The most cases of a boundary: 1 to 65,536, and 4,096 where it isn't given. No command reads it yet.
+    pub paths: u32,
+    /// How many steps are compared at most: 1 to 10,000, and 1 where it isn't given.
+    pub steps: u32,
+    /// How many cycles a run has: 1 to 1,000,000, and 1,000 where it isn't given.
+    pub cycles: u32,
+    /// Whether the board's arithmetic goes through its slices, joined by lookahead, and not over whole words.
+    pub parts: bool,
 }
 
-/// What the words say of a command.
+/// What a command's words are.
 #[derive(Clone, Copy)]
 struct Row {
     /// The word that stands for it.
     word: &'static str,
     /// How many files it has.
     files: usize,
+    /// Its own options with numbers.
+    numbers: &'static [Number],
+    /// Whether `--parts` is its own.
+    parts: bool,
 }
 
 impl Command {
     /// The commands.
-    const ALL: [Command; 3] = [Command::Compare, Command::Asm, Command::Run];
+    const ALL: [Command; 4] = [Command::Compare, Command::Asm, Command::Run, Command::Debug];
 
     /// The row of the command.
     fn row(self) -> Row
         ensures word { result.word.now ≡ (row_of self).word }
         ensures files { result.files ≡ (row_of self).files }
+        ensures numbers { result.numbers.now ≡ (row_of self).numbers }
+        ensures parts { result.parts ≡ (row_of self).parts }
     {
         match self {
             Command::Compare => Row {
                 word: "compare",
                 files: 5,
+                numbers: &[Number::Steps],
+                parts: true,
             },
             Command::Asm => Row {
                 word: "asm",
                 files: 2,
+                numbers: &[],
+                parts: false,
             },
             Command::Run => Row {
                 word: "run",
                 files: 3,
+                numbers: &[Number::Cycles],
+                parts: true,
+            },
+            Command::Debug => Row {
+                word: "debug",
+                files: 4,
+                numbers: &[],
+                parts: false,
             },
         }
     }
 }
 
+/// Whether a word stands for a command.
+fn is_word_of(command: Command, word: &str) -> bool
+    ensures { result ≡ bytes_eq word.now (row_of command).word }
+{
+    word == command.row().word
+}
+
+/// The command that a word stands for.
 fn command_of(word: &str) -> Option<Command>
     ensures { result ≡ command_of word.now }
 {
     Command::ALL
         .into_iter()
-        .find(|command| command.row().word == word)
+        .find(|command| is_word_of(*command, word))
 }
 
-fn is_file_word(word: &str) -> bool
-    ensures { result ≡ is_file_word word.now }
+/// The first value of an argument of a line.
+fn value_in<'a>(line: &ArgMatches<'a>, name: &str) -> Option<&'a str>
+    ensures { option_map (λ word. word.now) result ≡ first_of name.now (rows_of (found_of line.now)) }
 {
-    word.as_bytes().first() != Some(&b'-')
+    line.get_str(name)
 }
 
-fn are_file_words(words: &[String]) -> bool
-    ensures { result ≡ list_all (λ word. is_file_word (string_bytes word)) words.now }
+/// The command that the line names.
+fn command_in(line: &ArgMatches<'_>) -> Option<Command>
+    ensures { result ≡ command_in (rows_of (found_of line.now)) }
 {
-    words.iter().all(|word| is_file_word(word.as_str()))
-}
-
-fn are_files_of(command: Command, words: &[String]) -> bool
-    ensures exact { result ≡ ((length words.now == (row_of command).files)
-        && list_all (λ word. is_file_word (string_bytes word)) words.now) }
-    ensures count { IsTrue result → length words.now ≡ (row_of command).files }
-{
-    words.len() == command.row().files && are_file_words(words)
-}
-
-/// The command with its files, where there are exactly as many.
-fn with_files(command: Command, files: &[String]) -> Option<Request<'_>>
-    ensures exact { option_map data_of result ≡ with_files (map string_bytes files.now) (Some command) }
-    ensures count { IfSome result (λ request. length request.files.now ≡ (row_of request.command).files) }
-{
-    if are_files_of(command, files) {
-        Some(Request { command, files })
-    } else {
-        None
+    match value_in(line, "command") {
+        Some(word) => command_of(word),
+        None => None,
     }
 }
 
-/// The request of the words of a command line, without the program's name. None where they are no request.
-#[tactic(auto, unfolding(crate::specs::Request::request_of))]
-pub fn read_words(words: &[String]) -> Option<Request<'_>>
-    ensures exact { option_map data_of result ≡ request_of (map string_bytes words.now) }
-    ensures count { IfSome result (λ request. length request.files.now ≡ (row_of request.command).files) }
+/// The number of an option, which is read where it is the command's own.
+fn number_in(command: Command, line: &ArgMatches<'_>, number: Number) -> Option<u32>
+    ensures { result ≡ number_in command (rows_of (found_of line.now)) number }
 {
-    match words {
-        [] => None,
-        [word, files @ ..] => match command_of(word.as_str()) {
-            Some(command) => with_files(command, files),
-            None => None,
-        },
+    let limit = number.limit();
+    let is_own = command.row().numbers.contains(&number);
+    number_of(limit, is_own, value_in(line, limit.name))
+}
+
+/// The options of a command.
+fn options_in(command: Command, line: &ArgMatches<'_>) -> Option<Options>
+    ensures { result ≡ options_in command (rows_of (found_of line.now)) }
+{
+    Some(Options {
+        nodes: number_in(command, line, Number::Nodes)?,
+        paths: number_in(command, line, Number::Paths)?,
+        steps: number_in(command, line, Number::Steps)?,
+        cycles: number_in(command, line, Number::Cycles)?,
+        parts: parts_of(command.row().parts, value_in(line, "parts"))?,
+    })
+}
+
+/// Copies of texts.
+fn copies(alloc: Global, texts: &[&str]) -> Result<Vec<String>, NoMemory>
+    ensures { IfOk result (λ copies. map string_bytes copies.items ≡ map (λ text. text.now) texts.now) }
+{
+    let mut copies = Vec::new(alloc);
+    for text in texts {
+        copies.push(String::from_str(alloc, text)?)?;
+    }
+    Ok(copies)
+}
+
+/// The file words of a line.
+fn files_in(alloc: Global, line: &ArgMatches<'_>) -> Result<Vec<String>, NoMemory>
+    ensures { IfOk result (λ files. map string_bytes files.items ≡ files_in (rows_of (found_of line.now))) }
+{
+    match line.get_strs("files") {
+        Some(words) => copies(alloc, words),
+        None => Ok(Vec::new(alloc)),
+    }
+}
+
+/// The command with its files and options, where it has as many files.
+fn with_options(command: Command, files: Vec<String>, options: Options) -> Option<Request>
+    ensures exact { option_map data_of result ≡ with_options command (map string_bytes files.items) (Some options) }
+    ensures count { IfSome result HasItsFiles }
+{
+    if files.len() != command.row().files {
+        return None;
+    }
+    Some(Request {
+        command,
+        files,
+        nodes: options.nodes,
+        paths: options.paths,
+        steps: options.steps,
+        cycles: options.cycles,
+        parts: options.parts,
+    })
+}
+
+/// The request of a line.
+fn request_in(alloc: Global, line: &ArgMatches<'_>) -> Result<Option<Request>, NoMemory>
+    ensures exact { IfOk result (λ request. option_map data_of request ≡ request_in (rows_of (found_of line.now))) }
+    ensures count { IfOk result (λ request. IfSome request HasItsFiles) }
+{
+    let Some(command) = command_in(line) else {
+        return Ok(None);
+    };
+    let Some(options) = options_in(command, line) else {
+        return Ok(None);
+    };
+    let files = files_in(alloc, line)?;
+    Ok(with_options(command, files, options))
+}
+
+/// The request of the words of a command line, without the program's name. None where they are no request: `clap`
+/// refuses them, there is no such command, it has another number of files, an option isn't its own, or a number isn't
+/// one to eight decimal digits or is out of its range.
+///
+/// # Errors
+///
+/// Memory ran out.
+#[tactic(auto, unfolding(crate::specs::Request::request_of))]
+pub fn read_words(alloc: Global, words: &[String]) -> Result<Option<Request>, NoMemory>
+    ensures exact { IfOk result (λ request. option_map data_of request ≡ request_of (map string_bytes words.now)) }
+    ensures count { IfOk result (λ request. IfSome request HasItsFiles) }
+{
+    match read_line(alloc, words)? {
+        LineRead::Matched(line) => request_in(alloc, &line),
+        LineRead::Refused => Ok(None),
     }
 }

@@ -4,10 +4,10 @@ ghost use Rattle.mw_board.specs.Elements.{element_count};
 ghost use Rattle.mw_cycle.specs.State.{Fits};
 ghost use Rattle.mw_top.specs.StateText.{element_line, element_lines, memory_lines, set_line, state_text, word_line};
 
-use crate::report::append_hex_line;
 use mw_base::{NoMemory, append_hex};
 use mw_board::Board;
 use mw_cycle::State;
+use mw_sim::append_hex_line;
 use std::alloc::Global;
 
 /// Appends the line that sets an element with a name; none where its value is 0.

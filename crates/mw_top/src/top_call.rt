@@ -1,11 +1,11 @@
 // The top call: all that the program does.
-ghost use Rattle.std.specs.Prelude.{◌≡◌, ◌≢◌, ◌≤◌, List, ℕ, [], ◌∷◌, None, Some, true, Contains, IfOk, map, length, string_bytes};
+ghost use Rattle.std.specs.Prelude.{◌≡◌, ◌≢◌, ◌≤◌, List, ℕ, [], ◌∷◌, None, Some, true, Contains, IfOk, map, string_bytes};
 ghost use Rattle.mw_outside.specs.Views.{ShelfView, SinkView, IsLater, shelf_shown, sink_shown};
 ghost use Rattle.mw_plan.specs.Shelf.{AreTold};
 ghost use Rattle.mw_top.specs.Answer.{AreAccepted, AreRefused, IsEnd, IsReport, is_worked};
 ghost use Rattle.mw_top.specs.Answer.{IsMemoryEnd, IsReadFaultEnd, IsRefusalEnd, IsUsageEnd, IsWorkEnd, IsWriteFaultEnd};
 ghost use Rattle.mw_top.specs.Call.{Call, NothingFailed, call_of};
-ghost use Rattle.mw_top.specs.Request.{RequestData, data_of, request_of, row_of};
+ghost use Rattle.mw_top.specs.Request.{HasItsFiles, RequestData, data_of, request_of};
 
 use crate::commands::{answer_with, read_files};
 use crate::outcome::{Outcome, read_fault_outcome, refusal_outcome, usage_outcome};
@@ -17,20 +17,16 @@ use mw_plan::{Files, Stop};
 use std::alloc::Global;
 
 /// Does the work of a request.
-fn answer<S: Shelf>(
-    alloc: Global,
-    request: &Request<'_>,
-    shelf: &mut S,
-) -> Result<Outcome, NoMemory>
-    requires { length request.now.files.now ≡ (row_of request.now.command).files }
+fn answer<S: Shelf>(alloc: Global, request: &Request, shelf: &mut S) -> Result<Outcome, NoMemory>
+    requires { HasItsFiles request.now }
     ensures report { (call : Call) → request_of call.words ≡ Some (data_of request.now)
         → call.shelf_before ≡ shelf_shown S.Shelf shelf.old → call.shelf_now ≡ shelf_shown S.Shelf shelf.new
         → IfOk result (λ outcome. IsReport call outcome.status outcome.report.items) }
     ensures later { IsLater (shelf_shown S.Shelf shelf.old) (shelf_shown S.Shelf shelf.new) }
 {
-    let mut files = Files::new(alloc, request.files);
+    let mut files = Files::new(alloc, &request.files);
     match read_files(alloc, request.command, shelf, &mut files) {
-        Ok(work) => answer_with(alloc, work),
+        Ok(work) => answer_with(alloc, request, work),
         Err(Stop::ReadFault) => read_fault_outcome(alloc, files.next_name()),
         Err(Stop::Refused(fault)) => refusal_outcome(alloc, files.next_name(), &fault),
         Err(Stop::NoMemory) => Err(NoMemory),
@@ -44,7 +40,7 @@ fn work<S: Shelf>(alloc: Global, words: &[String], shelf: &mut S) -> Result<Outc
         → IfOk result (λ outcome. IsReport call outcome.status outcome.report.items) }
     ensures later { IsLater (shelf_shown S.Shelf shelf.old) (shelf_shown S.Shelf shelf.new) }
 {
-    match read_words(words) {
+    match read_words(alloc, words)? {
         Some(request) => answer(alloc, &request, shelf),
         None => usage_outcome(alloc),
     }

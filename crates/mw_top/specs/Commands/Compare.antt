@@ -1,24 +1,28 @@
 -- compare: a board file, a microprogram for its board, a described machine, a relation between both, and a start of it.
-use Rattle.std.specs.Prelude.{◌≡◌, ℕ, List, ◌++◌, codes, Option, Some, None}
+use Rattle.std.specs.Prelude.{◌≡◌, ℕ, ◌≤◌, List, ◌++◌, codes}
+use Rattle.mw_base.specs.Numbers.{decimal}
 use Rattle.mw_asm.specs.declared.assembled.Label.{Label}
 use Rattle.mw_asm.specs.Microprogram.{store_of}
 use Rattle.mw_boardfile.specs.Board.{board_of}
 use Rattle.mw_descfile.specs.Machine.{machine_of}
 use Rattle.mw_descfile.specs.Relation.{relation_of}
 use Rattle.mw_plan.specs.Plan.{Plan, done, ◌>>=◌, next_by}
-use Rattle.mw_rel.specs.declared.difference.Difference.{Difference}
-use Rattle.mw_rel.specs.Differs.{difference_of}
-use Rattle.mw_rel.specs.Job.{Job, job_with}
+use Rattle.mw_rel.specs.Differs.{DiffersAt}
+use Rattle.mw_rel.specs.Job.{Job, IsJob, job_with}
 use Rattle.mw_rel.specs.Start.{Start}
-use Rattle.mw_replay.specs.Counter.{IsStartOf}
+use Rattle.mw_replay.specs.Counter.{IsCounter, IsStartOf}
 use Rattle.mw_replay.specs.CounterText.{counter_of}
+use Rattle.mw_replay.specs.Replay.{IsReached}
+use Rattle.mw_sim.specs.Texts.{line}
 use Rattle.mw_top.specs.declared.commands.Work.{Work}
 use Rattle.mw_top.specs.declared.commands.Work.TheVariants as works
+use Rattle.mw_top.specs.declared.commands.compare.Compared.{Compared}
+use Rattle.mw_top.specs.declared.commands.compare.Compared.TheVariants as compared
 use Rattle.mw_top.specs.declared.fault.Fault.{Fault}
 use Rattle.mw_top.specs.declared.fault.Fault.TheVariants.{Board, Text}
 use Rattle.mw_top.specs.declared.status.Status.{Status}
 use Rattle.mw_top.specs.declared.status.Status.TheVariants.{Done, Differs}
-use Rattle.mw_top.specs.Report.{line, difference_text}
+use Rattle.mw_top.specs.Report.{difference_text}
 use Rattle.mw_top.specs.Work.{Comparison}
 
 -- the job of four files, and the labels of its microprogram: the board of the first, what the second is assembled to
@@ -37,20 +41,29 @@ compare_plan = job_plan (λ job labels.
     next_by Text (counter_of job labels) >>= λ counter.
     done (works.Comparison (record { job = job; counter = counter })))
 
+-- so many steps from a start show this: no difference, or at one of them, counted from 1, the first
+abbrev pub Shows : Job → Start → ℕ → Compared → Type 0
+Shows job start steps compared.Same = (here : Start) × IsReached job start steps here
+Shows job start steps (compared.Differs step difference) = (step ≤ steps) × DiffersAt job start step difference
+
 -- the status of a comparison
-abbrev pub compare_status : Option Difference → Status
-compare_status None = Done
-compare_status (Some difference) = Differs
+abbrev pub compare_status : Compared → Status
+compare_status compared.Same = Done
+compare_status (compared.Differs step difference) = Differs
 
--- what a comparison of one step shows
-unfoldable pub compare_report : Job → Option Difference → List ℕ
-compare_report job None = line (codes "same 1")
-compare_report job (Some difference) =
-    line (codes "differs step 1") ++ line (codes "difference " ++ difference_text job difference)
+-- what a comparison of so many steps shows
+unfoldable pub compare_report : Job → ℕ → Compared → List ℕ
+compare_report job steps compared.Same = line (codes "same " ++ decimal steps)
+compare_report job steps (compared.Differs step difference) =
+    line (codes "differs step " ++ decimal step) ++ line (codes "difference " ++ difference_text job difference)
 
--- the start that the counter gives shows this difference, or none, and that is what status and report say
-pub record IsComparison (comparison : Comparison) (status : Status) (report : List ℕ) : Type 0 where
+-- so many steps from the start that the counter gives show this, and that is what status and report say
+pub record IsComparison (steps : ℕ) (comparison : Comparison) (status : Status) (report : List ℕ) : Type 0 where
+  pub job_is : IsJob comparison.job
+  pub counter_is : IsCounter comparison.job comparison.counter
   pub start : Start
   pub begins : IsStartOf comparison.job comparison.counter start
-  pub status_is : status ≡ compare_status (difference_of comparison.job start)
-  pub report_is : report ≡ compare_report comparison.job (difference_of comparison.job start)
+  pub compared : Compared
+  pub shows : Shows comparison.job start steps compared
+  pub status_is : status ≡ compare_status compared
+  pub report_is : report ≡ compare_report comparison.job steps compared

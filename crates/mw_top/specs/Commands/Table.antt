@@ -5,20 +5,24 @@ use Rattle.mw_top.specs.declared.commands.Work.{Work}
 use Rattle.mw_top.specs.declared.commands.Work.TheVariants as works
 use Rattle.mw_top.specs.declared.fault.Fault.{Fault}
 use Rattle.mw_top.specs.declared.request.Command.{Command}
-use Rattle.mw_top.specs.declared.request.Command.TheVariants.{Compare, Asm, Run}
+use Rattle.mw_top.specs.declared.request.Command.TheVariants.{Compare, Asm, Run, Debug}
 use Rattle.mw_top.specs.declared.status.Status.{Status}
 use Rattle.mw_top.specs.Commands.Asm.{asm_plan, IsListing}
 use Rattle.mw_top.specs.Commands.Compare.{compare_plan, IsComparison}
+use Rattle.mw_top.specs.Commands.Debug.{debug_plan, IsTrace}
 use Rattle.mw_top.specs.Commands.Run.{run_plan, IsRun}
+use Rattle.mw_top.specs.Request.{RequestData}
 
 -- what a command makes of its files
 abbrev pub plan_of : Command → Plan Fault Work
 plan_of Compare = compare_plan
 plan_of Asm = asm_plan
 plan_of Run = run_plan
+plan_of Debug = debug_plan
 
--- the status and the report that are answered with what was made of the files
-abbrev pub IsAnswer : Work → Status → List ℕ → Type 0
-IsAnswer (works.Comparison comparison) status report = IsComparison comparison status report
-IsAnswer (works.Assembly program) status report = IsListing program status report
-IsAnswer (works.Run prepared) status report = IsRun prepared status report
+-- the status and the report that a request is answered with, by what was made of its files and by its own numbers
+abbrev pub IsAnswer : RequestData → Work → Status → List ℕ → Type 0
+IsAnswer request (works.Comparison comparison) status report = IsComparison request.steps comparison status report
+IsAnswer request (works.Assembly program) status report = IsListing program status report
+IsAnswer request (works.Run prepared) status report = IsRun request.cycles prepared status report
+IsAnswer request (works.Trace trace) status report = IsTrace trace status report

@@ -1,5 +1,5 @@
 // run: a board file, a microprogram for its board, and an environment in which the board runs.
-ghost use Rattle.std.specs.Prelude.{◌≡◌, ◌<◌, ◌^◌, ◌++◌, [], IfOk, OnOk, length};
+ghost use Rattle.std.specs.Prelude.{◌≡◌, ◌+◌, ◌<◌, ◌≤◌, ◌^◌, ◌++◌, [], IfOk, OnOk, length, vec_capacity, vec_len};
 ghost use Rattle.std.specs.List.{flat_map};
 ghost use Rattle.mw_cycle.specs.Environment.{IsEnvironment, at_start};
 ghost use Rattle.mw_cycle.specs.Run.{run_of};
@@ -8,75 +8,71 @@ ghost use Rattle.mw_outside.specs.Views.{IsLater, shelf_shown};
 ghost use Rattle.mw_plan.specs.Steps.{Ends};
 ghost use Rattle.mw_sim.specs.Run.{run_at};
 ghost use Rattle.mw_top.specs.Commands.Run.{run_plan, IsRun};
-ghost use Rattle.mw_top.specs.RunText.{event_line, run_from, run_text};
+ghost use Rattle.mw_sim.specs.Texts.{event_line};
+ghost use Rattle.mw_top.specs.RunText.{run_from, run_text};
 
 use super::Work;
-use super::microprogram::{Program, read_microprogram};
+use super::microprogram::Program;
+use super::prepared::{Prepared, read_prepared};
 use crate::fault::Fault;
 use crate::outcome::Outcome;
-use crate::report::{append_hex_line, append_line};
+use crate::report::append_decimal_line;
 use crate::state_text::append_state;
 use crate::status::Status;
-use mw_base::{Event, NoMemory, append_decimal};
+use mw_base::{Event, NoMemory};
 use mw_board::{Board, Store};
-use mw_cycle::{Clock, Env, State, Whole};
+use mw_cycle::{Clock, Datapath, Env, State, Whole};
 use mw_outside::Shelf;
 use mw_plan::{Files, Stop};
-use mw_sim::{Start, read_start, run_cycles};
+use mw_sim::{Parts, Start, append_event, run_cycles};
 use std::alloc::Global;
-use std::marker::Model;
 
-/// How many cycles a run has.
-const CYCLES: u32 = 1000;
-
-/// A board with its microprogram, and the start of its run. The start fits the board.
-#[derive(Drop)]
-pub(crate) struct Prepared {
-    program: Program,
-    start: Start,
-}
-
-impl Model for Prepared {
-    ghost use Rattle.mw_cycle.specs.Environment.{IsEnvironment};
-    ghost use Rattle.mw_cycle.specs.State.{Fits};
-    ghost use Rattle.mw_top.specs.Work.{Prepared as PreparedOf};
-
-    ghost Value = { PreparedOf };
-
-    ghost view = { λ p. record { program = p.program; start = p.start } };
-
-    ghost invariant = { λ p. Fits p.program.board p.start.state × IsEnvironment p.program.board p.start.env };
-}
-
-/// Runs a board from its state, over an environment. The events of its cycles, in order.
-fn run(
-    alloc: Global,
+/// Runs a board from its state, over an environment, by its arithmetic part. The events of its cycles, in order.
+fn run_part<A: Datapath>(
+    part: &A,
     board: &Board,
     store: &Store,
     state: &mut State,
     env: &Env,
+    cycles: u32,
+    events: &mut Vec<Event>,
+)
+    requires fits { Fits board.now state.old }
+    requires env_in { IsEnvironment board.now env.now }
+    requires empty { events.old.items ≡ [] }
+    requires room { vec_len events.old + cycles ≤ vec_capacity events.old }
+    ensures state { state.new ≡ (run_of board.now store.now.words env.now state.old cycles).state }
+    ensures events { events.new.items ≡ (run_of board.now store.now.words env.now state.old cycles).events }
+    ensures fits { Fits board.now state.new }
+{
+    let start = Clock { cycle: 0, taken: 0 };
+    run_cycles(part, board, store, state, env, start, cycles, events);
+}
+
+/// Runs a board from its state, over an environment, as its parts or as a whole. The events of its cycles, in order.
+fn run(
+    alloc: Global,
+    parts: bool,
+    board: &Board,
+    store: &Store,
+    state: &mut State,
+    env: &Env,
+    cycles: u32,
 ) -> Result<Vec<Event>, NoMemory>
     requires fits { Fits board.now state.old }
     requires env_in { IsEnvironment board.now env.now }
-    ensures state { OnOk result (state.new ≡ (run_of board.now store.now.words env.now state.old 1000).state) }
+    ensures state { OnOk result (state.new ≡ (run_of board.now store.now.words env.now state.old cycles).state) }
     ensures events { IfOk result (λ events.
-        events.items ≡ (run_of board.now store.now.words env.now state.old 1000).events) }
+        events.items ≡ (run_of board.now store.now.words env.now state.old cycles).events) }
     ensures fits { OnOk result (Fits board.now state.new) }
 {
-    let start = Clock { cycle: 0, taken: 0 };
-    let mut events = Vec::with_capacity(alloc, CYCLES as usize)?;
-    run_cycles(&Whole, board, store, state, env, start, CYCLES, &mut events);
-    Ok(events)
-}
-
-/// Appends an event.
-fn append_event(alloc: Global, report: &mut Vec<u8>, event: Event) -> Result<(), NoMemory>
-    ensures { OnOk result (report.new.items ≡ report.old.items ++ event_line event) }
-{
-    match event {
-        Event::Out(word) => append_hex_line(alloc, report, b"out ", word),
-        Event::Taken(word) => append_hex_line(alloc, report, b"taken ", word),
+    let mut events = Vec::with_capacity(alloc, cycles as usize)?;
+    if parts {
+        run_part(&Parts, board, store, state, env, cycles, &mut events);
+    } else {
+        run_part(&Whole, board, store, state, env, cycles, &mut events);
     }
+    Ok(events)
 }
 
 /// Appends events, in order.
@@ -91,17 +87,29 @@ fn append_events(alloc: Global, report: &mut Vec<u8>, events: &[Event]) -> Resul
 
 /// The text of a run.
 #[tactic(auto, unfolding(crate::specs::RunText::run_text))]
-fn run_from(alloc: Global, program: &Program, start: Start) -> Result<Vec<u8>, NoMemory>
+fn run_from(
+    alloc: Global,
+    program: &Program,
+    start: Start,
+    cycles: u32,
+    parts: bool,
+) -> Result<Vec<u8>, NoMemory>
     requires fits { Fits program.now.board start.state }
     requires env_in { IsEnvironment program.now.board start.env }
-    ensures { IfOk result (λ text. text.items ≡ run_from (record { program = program.now; start = start })) }
+    ensures { IfOk result (λ text. text.items ≡ run_from (record { program = program.now; start = start }) cycles) }
 {
     let Start { mut state, env } = start;
-    let events = run(alloc, &program.board, &program.made.store, &mut state, &env)?;
+    let events = run(
+        alloc,
+        parts,
+        &program.board,
+        &program.made.store,
+        &mut state,
+        &env,
+        cycles,
+    )?;
     let mut text = Vec::new(alloc);
-    text.extend_from_slice(b"cycles ")?;
-    append_decimal(alloc, &mut text, u64::from(CYCLES))?;
-    append_line(&mut text, b"")?;
+    append_decimal_line(alloc, &mut text, b"cycles ", cycles)?;
     append_events(alloc, &mut text, &events)?;
     append_state(alloc, &mut text, &program.board, &state)?;
     Ok(text)
@@ -120,19 +128,21 @@ pub(super) fn read<S: Shelf>(
     ensures names { files.new.names ≡ files.old.names }
     ensures later { IsLater (shelf_shown S.Shelf shelf.old) (shelf_shown S.Shelf shelf.new) }
 {
-    let program = read_microprogram(alloc, shelf, files)?;
-    let start = files.next(alloc, shelf, |bytes| {
-        read_start(alloc, &program.board, &program.made, bytes)
-    })?;
-    Ok(Work::Run(Prepared { program, start }))
+    let prepared = read_prepared(alloc, shelf, files)?;
+    Ok(Work::Run(prepared))
 }
 
-/// Runs, and answers with the text of the run.
-pub(super) fn report(alloc: Global, prepared: Prepared) -> Result<Outcome, NoMemory>
-    ensures { IfOk result (λ outcome. IsRun prepared outcome.status outcome.report.items) }
+/// Runs for so many cycles, and answers with the text of the run.
+pub(super) fn report(
+    alloc: Global,
+    prepared: Prepared,
+    cycles: u32,
+    parts: bool,
+) -> Result<Outcome, NoMemory>
+    ensures { IfOk result (λ outcome. IsRun cycles prepared outcome.status outcome.report.items) }
 {
     let Prepared { program, start } = prepared;
-    let report = run_from(alloc, &program, start)?;
+    let report = run_from(alloc, &program, start, cycles, parts)?;
     Ok(Outcome {
         status: Status::Done,
         report,

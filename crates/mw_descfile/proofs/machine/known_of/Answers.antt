@@ -4,7 +4,6 @@ use Rattle.mw_base.specs.declared.line.Line.{Line}
 use Rattle.mw_base.proofs.Lists.{next}
 use Rattle.mw_base.proofs.Steps.{goes_on, refused, done}
 use Rattle.mw_descfile.specs.Kept.{AreSpelled}
-use Rattle.mw_descfile.specs.Machine.{with_line}
 use Rattle.mw_descfile.specs.Views.{known_seen}
 use Rattle.mw_descfile.proofs.KnownLines.{line_kept}
 use Rattle.mw_descfile.proofs.machine.known_of.Goals as goal

@@ -1,4 +1,4 @@
-use Rattle.std.proofs.Common.{◌≡◌, ◌≤◌, map, ◌++◌, ◌∙◌, take}
+use Rattle.std.proofs.Common.{◌≤◌, ◌++◌, ◌∙◌}
 use Rattle.std.specs.Prelude.{codes}
 use Rattle.std.proofs.lemmas.List.{take_all}
 use Rattle.mw_board.specs.Elements.{Element, elements_of, element_count}

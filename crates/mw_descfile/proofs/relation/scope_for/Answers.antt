@@ -1,4 +1,3 @@
-use Rattle.std.proofs.Common.{sym}
 use Rattle.mw_macro.specs.Described.{description_of}
 use Rattle.mw_descfile.proofs.Scopes.{scope_kept}
 use Rattle.mw_descfile.proofs.relation.scope_for.Goals as goal

@@ -1,4 +1,4 @@
-use Rattle.std.proofs.Common.{◌≤◌, ◌<◌, length, arith}
+use Rattle.std.proofs.Common.{◌≤◌, ◌<◌, length}
 use Rattle.mw_descfile.proofs.Standing.{one_use, no_use_more}
 use Rattle.mw_descfile.proofs.uses.uses_of.Goals as goal
 

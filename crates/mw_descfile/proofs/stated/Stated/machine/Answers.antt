@@ -1,4 +1,4 @@
-use Rattle.std.proofs.Common.{◌≡◌, rules, sym, ◌∙◌, false}
+use Rattle.std.proofs.Common.{◌≡◌, rules, false}
 use Rattle.std.specs.Prelude.{None, Some}
 use Rattle.mw_macro.specs.Rules.{refusal_of}
 use Rattle.mw_descfile.specs.Machine.{description}

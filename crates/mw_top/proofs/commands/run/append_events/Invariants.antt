@@ -1,6 +1,6 @@
 use Rattle.std.proofs.Common.{◌≡◌, ◌++◌, take}
 use Rattle.std.specs.List.{flat_map}
-use Rattle.mw_top.specs.RunText.{event_line}
+use Rattle.mw_sim.specs.Texts.{event_line}
 use Rattle.mw_top.proofs.commands.run.append_events.Given as goal
 
 abbrev pub invariant-loop-event : goal.invariant-loop-event

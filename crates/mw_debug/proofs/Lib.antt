@@ -1,0 +1,6 @@
+pub mod Elements
+pub mod Readings
+pub mod Moments
+pub mod Until
+pub mod Back
+pub mod Naming

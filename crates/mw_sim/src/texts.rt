@@ -1,0 +1,52 @@
+// Lines of reports that several commands print.
+ghost use Rattle.std.specs.Prelude.{◌≡◌, ◌++◌, OnOk};
+ghost use Rattle.mw_base.specs.Numbers.{hex};
+ghost use Rattle.mw_sim.specs.Texts.{event_line, line};
+
+use mw_base::{Event, NoMemory, append_hex};
+use std::alloc::Global;
+
+/// Appends a line.
+///
+/// # Errors
+///
+/// Memory ran out.
+pub fn append_line(report: &mut Vec<u8>, text: &[u8]) -> Result<(), NoMemory>
+    ensures { OnOk result (report.new.items ≡ report.old.items ++ line text.now) }
+{
+    report.extend_from_slice(text)?;
+    report.push(b'\n')?;
+    Ok(())
+}
+
+/// Appends a line that ends with a number in hexadecimal digits.
+///
+/// # Errors
+///
+/// Memory ran out.
+pub fn append_hex_line(
+    alloc: Global,
+    report: &mut Vec<u8>,
+    front: &[u8],
+    number: u32,
+) -> Result<(), NoMemory>
+    ensures { OnOk result (report.new.items ≡ report.old.items ++ line (front.now ++ hex number)) }
+{
+    report.extend_from_slice(front)?;
+    append_hex(alloc, report, u128::from(number))?;
+    append_line(report, b"")
+}
+
+/// Appends the line of an event.
+///
+/// # Errors
+///
+/// Memory ran out.
+pub fn append_event(alloc: Global, report: &mut Vec<u8>, event: Event) -> Result<(), NoMemory>
+    ensures { OnOk result (report.new.items ≡ report.old.items ++ event_line event) }
+{
+    match event {
+        Event::Out(word) => append_hex_line(alloc, report, b"out ", word),
+        Event::Taken(word) => append_hex_line(alloc, report, b"taken ", word),
+    }
+}
