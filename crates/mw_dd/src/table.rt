@@ -144,11 +144,11 @@ impl<K: Key> Table<K> {
         Ok(place)
     }
 
-    /// The same keys in twice as many buckets.
+    /// The same keys in four times as many buckets.
     fn grown(&self, alloc: Global) -> Result<Table<K>, NoMemory>
         ensures { IfOk result (λ table. table ≡ self.now) }
     {
-        let mut grown = Table::with_buckets(alloc, self.heads.len().saturating_mul(2))?;
+        let mut grown = Table::with_buckets(alloc, self.heads.len().saturating_mul(4))?;
         for place in 0..self.entries.len() {
             grown.link(self.entries[place].key)?;
         }
