@@ -1,9 +1,11 @@
-// Elements that are free, by hand, and how `complete` and `holds` agree.
+// Elements that are free and pairs in relation, worked by hand, and how `complete` and `holds` agree.
 ghost use Rattle.std.specs.Prelude.{◌<◌, IsTrue, length};
 ghost use Rattle.mw_rel.specs.Views.{job_of};
 
 use super::*;
-use crate::tests::{R0, board, boundary, constant, flipflop, job, machine, same, word_at};
+use crate::tests::{
+    R0, R1, board, boundary, constant, flipflop, job, machine, same, small_job, word_at,
+};
 use mw_base::{Cause, Name, NoMemory, Refused};
 use mw_cycle::Env;
 use std::alloc::Global;
@@ -68,6 +70,12 @@ fn three_boundaries(alloc: Global) -> Result<Vec<Boundary>, NoMemory> {
         boundary(0x200, 500, 1, second),
         boundary(0, 1, 5, third),
     ]?)
+}
+
+/// The small case's job, with `b.upc = 1#12`, and `b.r0` and `b.r1` equal to the machine's registers of these numbers.
+fn small(alloc: Global, first: u32, second: u32) -> Result<Job, Refused<Cause>> {
+    let lines = vec![in alloc; constant(19, 1, 12), same(R0, first), same(R1, second)]?;
+    small_job(alloc, 4, vec![in alloc; boundary(0, 2, 0, lines)]?)
 }
 
 /// Whether a job has the boundary of this number.
@@ -140,6 +148,65 @@ fn bound(alloc: Global, job: &Job, boundary: usize) -> Result<Vec<u32>, NoMemory
     Ok(numbers)
 }
 
+/// The address and the stack pointer of a pair's board.
+fn place(pair: &Pair) -> (u16, u8) {
+    (pair.board.at, pair.board.seq.sp)
+}
+
+/// `upc`, `stack0` and `stack4` of a pair's board.
+fn sequencer(pair: &Pair) -> (u16, u16, u16) {
+    let seq = &pair.board.seq;
+    (seq.pc, seq.stack[0], seq.stack[4])
+}
+
+/// `r0`, `mar` and the flip-flops of a pair's board.
+fn datapath(pair: &Pair) -> (u32, u32, u16) {
+    (pair.board.regs[0], pair.board.mar, pair.board.flips)
+}
+
+/// The machine's registers.
+fn registers(pair: &Pair) -> &[u32] {
+    &pair.machine.registers
+}
+
+#[test]
+fn elements_of_the_small_case(rt: HostRuntime) -> Result<(), Fail> {
+    let alloc = rt.alloc();
+    let job = small(alloc, 26, 27)?;
+    assert_eq!(rt; job.element_count(), 28);
+    assert_eq!(rt; bound(alloc, &job, 0)?.as_slice(), [R0, R1, 19].as_slice());
+    Ok(())
+}
+
+/// The pair of the small case in which X is 7 and Y is 1.
+fn seven_and_one(alloc: Global, job: &Job) -> Result<Pair, Refused<Cause>> {
+    let values = numbers(alloc, 25, &[(23, 7), (24, 1)])?;
+    completed(alloc, job, 0, values, numbers(alloc, 16, &[])?)
+}
+
+#[test]
+fn the_small_case(rt: HostRuntime) -> Result<(), Fail> {
+    let alloc = rt.alloc();
+    let job = small(alloc, 26, 27)?;
+    let pair = seven_and_one(alloc, &job)?;
+    assert_eq!(rt; place(&pair), (0, 0));
+    assert_eq!(rt; sequencer(&pair), (1, 0, 0));
+    assert_eq!(rt; datapath(&pair), (7, 0, 0));
+    assert_eq!(rt; registers(&pair), [7, 1].as_slice());
+    Ok(())
+}
+
+#[test]
+fn the_small_case_with_registers_exchanged(rt: HostRuntime) -> Result<(), Fail> {
+    let alloc = rt.alloc();
+    let job = small(alloc, 26, 27)?;
+    let exchanged = small(alloc, 27, 26)?;
+    let pair = seven_and_one(alloc, &job)?;
+    assert!(rt; is_held(&job, 0, &pair));
+    assert!(rt; !is_held(&exchanged, 0, &pair));
+    Ok(())
+}
+
 #[test]
 fn elements_that_are_free(rt: HostRuntime) -> Result<(), Fail> {
     let alloc = rt.alloc();
@@ -154,6 +221,66 @@ fn elements_that_are_free(rt: HostRuntime) -> Result<(), Fail> {
         bound(alloc, &job, 2)?.as_slice(),
         [INTERRUPTS, STACK4, M].as_slice()
     );
+    Ok(())
+}
+
+// Free are r1 to r15, q, ir, ie, count, stack0 to stack4, A, M, L and S.
+#[test]
+fn a_pair_at_the_first(rt: HostRuntime) -> Result<(), Fail> {
+    let alloc = rt.alloc();
+    let job = three(alloc)?;
+    let given = [
+        (17, 1),
+        (23, 0xABC),
+        (24, 200),
+        (25, 9),
+        (26, 1),
+        (27, 0x777),
+    ];
+    let memory = numbers(alloc, 64, &[(9, 0xC3)])?;
+    let pair = completed(alloc, &job, 0, numbers(alloc, 28, &given)?, memory)?;
+    assert_eq!(rt; place(&pair), (0x010, 2));
+    assert_eq!(rt; sequencer(&pair), (0x011, 0, 0xABC));
+    assert_eq!(rt; datapath(&pair), (0xC3, 9, 0b11));
+    assert_eq!(rt; registers(&pair), [200, 9, 1, 0x777].as_slice());
+    assert_eq!(rt; held(&job, &pair), [true, false, false]);
+    Ok(())
+}
+
+// Free are r0 to r15, q, mar, ir, link, ie, upc, count, stack1 to stack4, M, L and S.
+#[test]
+fn a_pair_at_the_second(rt: HostRuntime) -> Result<(), Fail> {
+    let alloc = rt.alloc();
+    let job = three(alloc)?;
+    let given = [(0, 3), (17, 33), (20, 1), (21, 0x201), (29, 0x0F0)];
+    let memory = numbers(alloc, 64, &[(33, 0x7E)])?;
+    let pair = completed(alloc, &job, 1, numbers(alloc, 30, &given)?, memory)?;
+    assert_eq!(rt; place(&pair), (0x200, 1));
+    assert_eq!(rt; sequencer(&pair), (0x201, 0x0F0, 0));
+    assert_eq!(rt; datapath(&pair), (3, 33, 0b10));
+    assert_eq!(rt; registers(&pair), [0x7E, 0, 0, 0x0F0].as_slice());
+    assert_eq!(rt; held(&job, &pair), [false, true, false]);
+    Ok(())
+}
+
+// Free are r0 to r15, q, mar, ir, link, upc, count, stack0 to stack3, A, L and S.
+#[test]
+fn a_pair_at_the_third(rt: HostRuntime) -> Result<(), Fail> {
+    let alloc = rt.alloc();
+    let job = three(alloc)?;
+    let given = [(17, 0x3F), (19, 1), (22, 0xFFF), (27, 1)];
+    let pair = completed(
+        alloc,
+        &job,
+        2,
+        numbers(alloc, 29, &given)?,
+        numbers(alloc, 64, &[])?,
+    )?;
+    assert_eq!(rt; place(&pair), (0, 5));
+    assert_eq!(rt; sequencer(&pair), (0, 0xFFF, 7));
+    assert_eq!(rt; datapath(&pair), (0, 0x3F, 0b11));
+    assert_eq!(rt; registers(&pair), [0, 0x3F, 1, 0].as_slice());
+    assert_eq!(rt; held(&job, &pair), [false, false, true]);
     Ok(())
 }
 
