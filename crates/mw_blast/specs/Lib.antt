@@ -1,0 +1,5 @@
+pub mod Bits
+pub mod Causes
+pub mod Kept
+pub mod Rows
+pub mod Splits

@@ -1,0 +1,9 @@
+//! The bits of terms as Boolean functions, made by the rows of the term table within a budget.
+#![tactic(auto)]
+
+mod fault;
+mod rows;
+mod split;
+
+pub use fault::BlastFault;
+pub use split::Split;
