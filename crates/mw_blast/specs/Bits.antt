@@ -12,6 +12,10 @@ pub record StandsFor (nodes : List Node) (x : ℕ) (f : Function) : Type 0 where
   pub there : IsDd nodes x
   pub exact : Agree (function_of nodes x) f
 
+-- some nodes of the table
+abbrev pub AreThere : List Node → List ℕ → Type 0
+AreThere nodes xs = (j : ℕ) → j < length xs → IsDd nodes (slice_index xs j)
+
 -- each of some nodes stands for the function of its place
 abbrev pub StandEach : List Node → List ℕ → (ℕ → Function) → Type 0
 StandEach nodes xs f = (j : ℕ) → j < length xs → StandsFor nodes (slice_index xs j) (f j)

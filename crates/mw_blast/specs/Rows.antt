@@ -10,7 +10,9 @@ use Rattle.mw_dd.specs.declared.dd.DdFault as declared
 use Rattle.mw_blast.specs.declared.rows.Row.{Row}
 use Rattle.mw_blast.specs.declared.rows.Row.TheVariants.{Not, And, Or, Xor, Sum, Carry, Equal, Less, Choice}
 use Rattle.mw_blast.specs.declared.rows.Step.{Step}
-use Rattle.mw_blast.specs.Bits.{StandsFor, AreFor}
+use Rattle.mw_blast.specs.Bits.{StandsFor, AreThere, StandEach}
+use Rattle.mw_dd.specs.Nodes.{IsDd}
+use Rattle.mw_dd.specs.Diagrams.{Keeps}
 use Rattle.mw_blast.specs.Causes.{IsOneOver}
 
 -- the operations of a row at one bit: on a bit of each operand, and on what is carried into it
@@ -54,6 +56,10 @@ carried row a b first (suc j) = row_carry row (a j) (b j) (carried row a b first
 abbrev pub bit_at : Row → (a b : ℕ → Function) → (first : Function) → (j : ℕ) → Function
 bit_at row a b first j = row_bit row (a j) (b j) (carried row a b first j)
 
+-- the operations of a row at bit j of two words
+abbrev pub operations_at : Row → (a b : ℕ → Function) → (first : Function) → (j : ℕ) → List Triple
+operations_at row a b first j = row_operations row (a j) (b j) (carried row a b first j)
+
 -- nodes for what a row makes at one bit, and for what it carries on
 pub record IsStep (nodes : List Node) (row : Row) (a b k : Function) (step : Step) : Type 0 where
   pub bit : StandsFor nodes step.bit (row_bit row a b k)
@@ -70,6 +76,15 @@ IsRefusedAt rows bits budget (Over j) = (j < bits) × IsOneOver (rows j) budget
 IsRefusedAt rows bits budget NoMemory = Unit {0}
 
 -- the fault of an operation at a bit
-unfoldable pub fault_at : (j : ℕ) → DdFault → RowFault
+abbrev pub fault_at : (j : ℕ) → DdFault → RowFault
 fault_at j declared.TheVariants.OverBudget = Over j
 fault_at j declared.TheVariants.NoMemory = NoMemory
+
+-- nodes for what a row made at the bits before bit j, and for what is carried into it
+pub record IsSoFar (old new : List Node) (row : Row) (a b : List ℕ) (first into : ℕ) (j : ℕ) (made : List ℕ) : Type 0 where
+  pub count : length made ≡ j
+  pub there : AreThere new made
+  pub into_there : IsDd new into
+  pub keeps : Keeps old new
+  pub stand : (A B : ℕ → Function) (K : Function) → StandEach old a A → StandEach old b B → StandsFor old first K
+      → StandEach new made (bit_at row A B K) × StandsFor new into (carried row A B K j)

@@ -2,6 +2,7 @@
 use mw_base::NoMemory;
 use mw_dd::DdFault;
 use mw_term::Term;
+use std::alloc::AllocFailed;
 
 /// Why the bits of a term weren't made.
 #[derive(Clone, Copy, Debug, PartialEq, Eq)]
@@ -43,9 +44,20 @@ impl From<NoMemory> for RowFault {
     }
 }
 
+impl<T: Drop> From<AllocFailed<T>> for RowFault {
+    ghost use Rattle.mw_blast.specs.declared.fault.RowFault.TheVariants.{NoMemory};
+    ghost use Rattle.std.specs.Prelude.{◌≡◌};
+
+    ghost from_gives = { λ _ e. e ≡ NoMemory };
+
+    fn from(_: AllocFailed<T>) -> RowFault {
+        RowFault::NoMemory
+    }
+}
+
 impl RowFault {
     ghost use Rattle.std.specs.Prelude.{◌≡◌};
-    ghost use Rattle.mw_blast.specs.Rows.{fault_at, fault_of};
+    ghost use Rattle.mw_blast.specs.Rows.{fault_at};
 
     /// The fault of an operation at a bit.
     pub(crate) fn at(bit: u8, fault: DdFault) -> RowFault
@@ -54,16 +66,6 @@ impl RowFault {
         match fault {
             DdFault::OverBudget => RowFault::Over(bit),
             DdFault::NoMemory => RowFault::NoMemory,
-        }
-    }
-
-    /// The fault as one of a term.
-    pub(crate) fn of(self, term: Term) -> BlastFault
-        ensures { result ≡ fault_of term self }
-    {
-        match self {
-            RowFault::Over(bit) => BlastFault::Over(term, bit),
-            RowFault::NoMemory => BlastFault::NoMemory,
         }
     }
 }

@@ -4,6 +4,7 @@
 mod fault;
 mod rows;
 mod split;
+mod words;
 
 pub use fault::BlastFault;
 pub use split::Split;
