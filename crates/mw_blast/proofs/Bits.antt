@@ -24,6 +24,11 @@ stay_each old new xs f keeps stand j inside = stays old new (slice_index xs j) (
 pub stay_there : (old new : List Node) (xs : List ℕ) → Keeps old new → AreThere old xs → AreThere new xs
 stay_there old new xs keeps there j inside = keeps.there (slice_index xs j) (there j inside)
 
+-- one of some nodes stands for its function still
+pub operand : (old now : List Node) (xs : List ℕ) (j x : ℕ) (f : ℕ → Function) → Keeps old now → StandEach old xs f
+    → j < length xs → x ≡ slice_index xs j → StandsFor now x (f j)
+operand old now xs j x f keeps stand inside is = rw is (stays old now (slice_index xs j) (f j) keeps (stand j inside))
+
 pub keeps-itself : (nodes : List Node) → Keeps nodes nodes
 keeps-itself nodes = record { there = λ x there. there; same = λ x there given. refl }
 

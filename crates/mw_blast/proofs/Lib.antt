@@ -1,3 +1,4 @@
 pub mod Bits
+pub mod Choices
 pub mod Operations
 pub mod SoFar

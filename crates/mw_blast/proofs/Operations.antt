@@ -1,6 +1,6 @@
 -- What rows make at one bit, and where they are over.
-use Rattle.std.proofs.Common.{◌≡◌, ℕ, ◌+◌, ◌<◌, List, [], ◌∷◌, ◌++◌, length, refl, ap, sym, ◌∙◌, arith, length-append, subst}
-use Rattle.std.specs.Prelude.{Bool, if◌then◌else◌, Result, Ok, Err, IfOk, IsErrOf, IsErrAnd, MatchResult}
+use Rattle.std.proofs.Common.{◌≡◌, ℕ, zero, suc, ◌+◌, ◌<◌, List, [], ◌∷◌, ◌++◌, length, refl, ap, sym, ◌∙◌, arith, length-append, subst}
+use Rattle.std.specs.Prelude.{slice_index_or, Bool, if◌then◌else◌, Result, Ok, Err, IfOk, IsErrOf, IsErrAnd, MatchResult}
 use Rattle.std.proofs.lemmas.List.{get_or_append_left, get_or-append-add}
 use Rattle.mw_term.specs.Cofactors.{Agree, HasMoreCofactors, HasAtMostCofactors, AreSame}
 use Rattle.mw_term.specs.Functions.{Function, Triple, ite, made}
@@ -16,20 +16,37 @@ use Rattle.mw_blast.specs.declared.rows.Row.{Row}
 use Rattle.mw_blast.specs.declared.rows.Step.{Step}
 use Rattle.mw_blast.specs.Rows.{row_operations, row_bit, row_carry, IsStep, IsRefused}
 
--- one that is over stands among more
-pub over_among : (front row back : List Triple) (budget : ℕ) → IsOneOver row budget
-    → IsOneOver (front ++ (row ++ back)) budget
-over_among front row back budget over = (
+-- one that is over is over behind others, and before others
+pub over_behind : (front row : List Triple) (budget : ℕ) → IsOneOver row budget → IsOneOver (front ++ row) budget
+over_behind front row budget over = (
   length front + over.0,
   over.1,
-  omega (arith, over.2, length-append front (row ++ back), length-append row back),
-  get_or-append-add front (row ++ back) over.0 over.1 ∙ get_or_append_left row back over.1 over.0 over.2 ∙ over.3,
+  omega (arith, over.2, length-append front row),
+  get_or-append-add front row over.0 over.1 ∙ over.3,
   over.4,
 )
 
+pub over_before : (row back : List Triple) (budget : ℕ) → IsOneOver row budget → IsOneOver (row ++ back) budget
+over_before row back budget over = (
+  over.0,
+  over.1,
+  omega (arith, over.2, length-append row back),
+  get_or_append_left row back over.1 over.0 over.2 ∙ over.3,
+  over.4,
+)
+
+-- where there is one operation alone it is that one
+pub alone_over : (o : Triple) (budget : ℕ) → IsOneOver (o ∷ []) budget → HasMoreCofactors o budget
+alone_over o budget over = at over.0 over.1 over.2 over.3 over.4 where
+  at : (k : ℕ) (u : Triple) → k < 1 → slice_index_or (o ∷ []) k u ≡ u → HasMoreCofactors u budget
+      → HasMoreCofactors o budget
+  at zero u inside is more = subst (λ (t : Triple). HasMoreCofactors t budget) (sym is) more
+  at (suc k) u inside is more = absurd (omega arith)
+
 pub refused_among : (front row back : List Triple) (budget : ℕ) (e : DdFault) → IsRefused row budget e
     → IsRefused (front ++ (row ++ back)) budget e
-refused_among front row back budget OverBudget over = over_among front row back budget over
+refused_among front row back budget OverBudget over =
+    over_behind front (row ++ back) budget (over_before row back budget over)
 refused_among front row back budget NoMemory over = tt
 
 -- nodes that stand for functions have a triple that is theirs

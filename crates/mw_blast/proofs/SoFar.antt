@@ -11,7 +11,7 @@ use Rattle.mw_blast.specs.declared.rows.Row.{Row}
 use Rattle.mw_blast.specs.declared.rows.Step.{Step}
 use Rattle.mw_blast.specs.Bits.{StandsFor, AreThere, StandEach}
 use Rattle.mw_blast.specs.Rows.{row_operations, carried, bit_at, operations_at, IsStep, IsRefused, IsRefusedAt, fault_at, IsSoFar}
-use Rattle.mw_blast.proofs.Bits.{stays, stay_each, stay_there, keeps-itself, keeps-then, each_push}
+use Rattle.mw_blast.proofs.Bits.{operand, stay_each, stay_there, keeps-itself, keeps-then, each_push}
 
 pub none_so_far : (nodes : List Node) (row : Row) (a b : List ℕ) (first : ℕ) → IsDd nodes first
     → IsSoFar nodes nodes row a b first first 0 []
@@ -27,11 +27,6 @@ none_so_far nodes row a b first there = record {
 abbrev pub Steps : (old new : List Node) (row : Row) (x y into : ℕ) (step : Step) → Type 0
 Steps old new row x y into step = (A B K : Function) → StandsFor old x A → StandsFor old y B → StandsFor old into K
     → IsStep new row A B K step
-
--- a bit of an operand stands for its function still
-operand : (old now : List Node) (xs : List ℕ) (j x : ℕ) (f : ℕ → Function) → Keeps old now → StandEach old xs f
-    → j < length xs → x ≡ slice_index xs j → StandsFor now x (f j)
-operand old now xs j x f keeps stand inside is = rw is (stays old now (slice_index xs j) (f j) keeps (stand j inside))
 
 -- one bit more
 pub one_more : (old now new : List Node) (row : Row) (a b : List ℕ) (first into j x y : ℕ) (bits : List ℕ) (step : Step)

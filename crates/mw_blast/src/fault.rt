@@ -2,7 +2,6 @@
 use mw_base::NoMemory;
 use mw_dd::DdFault;
 use mw_term::Term;
-use std::alloc::AllocFailed;
 
 /// Why the bits of a term weren't made.
 #[derive(Clone, Copy, Debug, PartialEq, Eq)]
@@ -40,17 +39,6 @@ impl From<NoMemory> for RowFault {
     ghost from_gives = { λ _ e. e ≡ NoMemory };
 
     fn from(_: NoMemory) -> RowFault {
-        RowFault::NoMemory
-    }
-}
-
-impl<T: Drop> From<AllocFailed<T>> for RowFault {
-    ghost use Rattle.mw_blast.specs.declared.fault.RowFault.TheVariants.{NoMemory};
-    ghost use Rattle.std.specs.Prelude.{◌≡◌};
-
-    ghost from_gives = { λ _ e. e ≡ NoMemory };
-
-    fn from(_: AllocFailed<T>) -> RowFault {
         RowFault::NoMemory
     }
 }

@@ -7,6 +7,7 @@ ghost use Rattle.mw_blast.specs.Bits.{StandsFor, AreThere, StandEach, AreFor};
 ghost use Rattle.mw_blast.specs.Rows.{bit_at, operations_at, IsRefusedAt};
 
 use crate::fault::RowFault;
+use crate::functions::append;
 use crate::rows::Row;
 use mw_dd::{Dd, Diagrams};
 use std::alloc::Global;
@@ -46,7 +47,7 @@ pub(crate) fn word(
             Ok(step) => step,
             Err(fault) => return Err(RowFault::at(bit as u8, fault)),
         };
-        bits.push(step.bit)?;
+        append(&mut bits, step.bit)?;
         carried = step.carried;
     }
     Ok(bits)
