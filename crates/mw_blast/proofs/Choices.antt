@@ -9,10 +9,13 @@ use Rattle.mw_term.specs.Rows.{choices, index_row, last_made}
 use Rattle.mw_dd.specs.declared.dd.DdFault.{DdFault}
 use Rattle.mw_dd.specs.declared.dd.DdFault.TheVariants.{OverBudget, NoMemory}
 use Rattle.mw_dd.specs.declared.nodes.Node.{Node}
-use Rattle.mw_blast.specs.Bits.{StandsFor, AreFor}
+use Rattle.mw_dd.specs.Diagrams.{Keeps}
+use Rattle.mw_base.specs.Words.{bit_of}
+use Rattle.mw_blast.specs.Bits.{StandsFor, AreThere, StandEach, AreFor}
 use Rattle.mw_blast.specs.Causes.{IsOneOver}
-use Rattle.mw_blast.specs.Entries.{function_at, bits_at, half_at, left_by, AreLeftOf}
+use Rattle.mw_blast.specs.Entries.{function_at, bits_at, entry_row, half_at, left_by, AreLeftOf, IsLeftAt}
 use Rattle.mw_blast.specs.Rows.{IsRefused}
+use Rattle.mw_blast.proofs.Bits.{operand, keeps-itself, keeps-then}
 use Rattle.mw_blast.proofs.Operations.{over_behind, over_before, alone_over}
 
 -- ---- pairs
@@ -177,3 +180,81 @@ left_first nodes index n t all left some end size is =
     subst (λ (k : ℕ). left_by index 0 k all ≡ last_made (index_row index 0 k all)) (sym top)
     (left_last index (n - 1) 0 all (size ∙ ap (λ (k : ℕ). 2 ^ k) top)) in
     subst (λ (f : Function). StandsFor nodes (slice_index left 0) f) (first ∙ last) (is.stand.each 0 there)
+
+-- ---- along the index bits
+
+pub begin_left : (nodes : List Node) (index numbers : List ℕ) (place : ℕ) (left : List ℕ)
+    → length numbers ≡ 2 ^ length index
+    → AreFor nodes (length numbers) (function_at (bits_at place numbers)) left
+    → IsLeftAt nodes nodes index (bits_at place numbers) 0 left
+begin_left nodes index numbers place left size are =
+    let all = bits_at place numbers in
+    let count : length all ≡ length numbers = length-map numbers (λ number. λ given. bit_of number place) in
+    let whole : length index - 0 ≡ length index = omega arith in
+    record {
+      there = λ j inside. (are.each j inside).there;
+      count = are.count ∙ size ∙ ap (λ (k : ℕ). 2 ^ k) (sym whole);
+      keeps = keeps-itself nodes;
+      each = λ F stand. none_chosen nodes F (length index) all left (count ∙ size)
+          (subst (λ (k : ℕ). AreFor nodes k (function_at all) left) (sym count) are);
+    }
+
+-- one index bit more
+left_over : (n t : ℕ) → t < n → n - t ≡ suc (n - (t + 1))
+left_over n t below = omega (arith, below)
+
+-- what is left is pairs
+pub pairs_left : (n t count : ℕ) → t < n → count ≡ 2 ^ (n - t) → count / 2 + count / 2 ≡ count
+pairs_left n t count below size =
+    let double : count ≡ 2 ^ (n - (t + 1)) + 2 ^ (n - (t + 1)) =
+    size ∙ ap (λ (k : ℕ). 2 ^ k) (left_over n t below) ∙ twice (n - (t + 1)) in
+    omega (arith, double)
+
+-- what halving says of functions for which its nodes stand
+abbrev pub Halves : (now new : List Node) (x : ℕ) (left halves : List ℕ) → Type 0
+Halves now new x left halves = (I : Function) (fs : List Function) → StandsFor now x I
+    → AreFor now (length fs) (function_at fs) left
+    → AreFor new (length (choices I fs)) (function_at (map made (choices I fs))) halves
+
+pub next_left : (old now new : List Node) (index : List ℕ) (all : List Function) (t x : ℕ) (left halves : List ℕ)
+    → IsLeftAt old now index all t left → t < length index → x ≡ slice_index index t → Keeps now new → AreThere new halves
+    → length halves ≡ length left / 2 → Halves now new x left halves
+    → IsLeftAt old new index all (t + 1) halves
+next_left old now new index all t x left halves is below at keeps there count made_so =
+    let n = length index in
+    let double : length left ≡ 2 ^ (n - (t + 1)) + 2 ^ (n - (t + 1)) =
+    is.count ∙ ap (λ (k : ℕ). 2 ^ k) (left_over n t below) ∙ twice (n - (t + 1)) in
+    record {
+      there = there;
+      count = omega (arith, count, double);
+      keeps = keeps-then old now new is.keeps keeps;
+      each = λ F stand.
+          let rest = is.each F stand in
+          left_next now new F n all t left halves below rest
+          (made_so (F t) rest.functions (operand old now index t x F is.keeps stand below at) rest.stand);
+    }
+
+-- what halving says where it is refused
+abbrev pub RefusesHalves : (now : List Node) (x budget : ℕ) (left : List ℕ) (e : DdFault) → Type 0
+RefusesHalves now x budget left e = (I : Function) (fs : List Function) → StandsFor now x I
+    → AreFor now (length fs) (function_at fs) left → IsRefused (choices I fs) budget e
+
+pub refused_left : (old now : List Node) (index : List ℕ) (all : List Function) (t x budget : ℕ) (left : List ℕ)
+    (e : DdFault) → IsLeftAt old now index all t left → t < length index → x ≡ slice_index index t
+    → RefusesHalves now x budget left e → (F : ℕ → Function) → StandEach old index F
+    → IsRefused (index_row F 0 (length index) all) budget e
+refused_left old now index all t x budget left e is below at refuses F stand =
+    let rest = is.each F stand in
+    left_refused now now F (length index) all t left budget e below rest
+    (refuses (F t) rest.functions (operand old now index t x F is.keeps stand below at) rest.stand)
+
+-- where all have chosen
+pub end_left : (old now : List Node) (index numbers : List ℕ) (place t x : ℕ) (left : List ℕ)
+    → IsLeftAt old now index (bits_at place numbers) t left → t ≡ length index → 1 ≤ length index
+    → length numbers ≡ 2 ^ length index → x ≡ slice_index left 0 → (F : ℕ → Function) → StandEach old index F
+    → StandsFor now x (last_made (entry_row F (length index) numbers place))
+end_left old now index numbers place t x left is end some size at F stand =
+    let all = bits_at place numbers in
+    let count : length all ≡ length numbers = length-map numbers (λ number. λ given. bit_of number place) in
+    subst (λ y. StandsFor now y (last_made (entry_row F (length index) numbers place))) (sym at)
+    (left_first now F (length index) t all left some end (count ∙ size) (is.each F stand))

@@ -3,6 +3,8 @@ use Rattle.std.specs.Prelude.{◌≡◌, ℕ, zero, suc, ◌<◌, List, [], ◌�
 use Rattle.mw_term.specs.Functions.{Function, never, always, Triple, ite, made}
 use Rattle.mw_term.specs.Rows.{inverse, difference, sameness, next_carry, next_equal, next_less, xor_row, sum_row, carry_row}
 use Rattle.mw_dd.specs.declared.nodes.Node.{Node}
+use Rattle.mw_blast.specs.declared.fault.BlastFault.{BlastFault}
+use Rattle.mw_blast.specs.declared.fault.BlastFault.TheVariants as blast
 use Rattle.mw_blast.specs.declared.fault.RowFault.{RowFault}
 use Rattle.mw_blast.specs.declared.fault.RowFault.TheVariants.{Over, NoMemory}
 use Rattle.mw_dd.specs.declared.dd.DdFault.{DdFault}
@@ -88,3 +90,8 @@ pub record IsSoFar (old new : List Node) (row : Row) (a b : List ℕ) (first int
   pub keeps : Keeps old new
   pub stand : (A B : ℕ → Function) (K : Function) → StandEach old a A → StandEach old b B → StandsFor old first K
       → StandEach new made (bit_at row A B K) × StandsFor new into (carried row A B K j)
+
+-- the fault of an op's operation as one of a term
+abbrev pub fault_of : (term : ℕ) → RowFault → BlastFault
+fault_of term (Over j) = blast.Over term j
+fault_of term NoMemory = blast.NoMemory

@@ -44,3 +44,60 @@ fn halved(
     }
     Ok(halves)
 }
+
+/// A bit of the entry of a map at an index. The map has an entry for each value of the index.
+fn entry_bit(
+    dds: &mut Diagrams,
+    alloc: Global,
+    map: &[u16],
+    index: &[Dd],
+    place: u8,
+    budget: u32,
+) -> Result<Dd, DdFault>
+    requires entries { length map.now ≡ 2 ^ length index.now }
+    requires some { 1 ≤ length index.now }
+    requires place { place < 32 }
+    requires index { AreThere dds.old index.now }
+    ensures there { IfOk result (IsDd dds.new) }
+    ensures made { (F : ℕ → Function) → StandEach dds.old index.now F
+        → MatchResult result (λ x. StandsFor dds.new x (last_made (entry_row F (length index.now) map.now place)))
+        (IsRefused (entry_row F (length index.now) map.now place) budget) }
+    ensures keeps { Keeps dds.old dds.new }
+{
+    let mut left = bits_of_each(dds, alloc, map, place)?;
+    for chosen in index {
+        left = halved(dds, alloc, *chosen, &left, budget)?;
+    }
+    Ok(left[0])
+}
+
+/// The bits of the entry of a map at an index, from the lowest. The map has an entry for each value of the index.
+///
+/// # Errors
+///
+/// - `Over`: an operation at this bit is over the budget.
+/// - `NoMemory`: memory ran out.
+pub(crate) fn entry(
+    dds: &mut Diagrams,
+    alloc: Global,
+    map: &[u16],
+    index: &[Dd],
+    budget: u32,
+) -> Result<Vec<Dd>, RowFault>
+    requires entries { length map.now ≡ 2 ^ length index.now }
+    requires some { 1 ≤ length index.now }
+    requires index { AreThere dds.old index.now }
+    ensures made { (F : ℕ → Function) → StandEach dds.old index.now F
+        → MatchResult result (λ v. AreFor dds.new 12 (λ j. last_made (entry_row F (length index.now) map.now j)) v.items)
+        (IsRefusedAt (entry_row F (length index.now) map.now) 12 budget) }
+    ensures keeps { Keeps dds.old dds.new }
+{
+    let mut bits = Vec::new(alloc);
+    for place in 0..ENTRY_BITS {
+        match entry_bit(dds, alloc, map, index, place, budget) {
+            Ok(bit) => append(&mut bits, bit)?,
+            Err(fault) => return Err(RowFault::at(place, fault)),
+        }
+    }
+    Ok(bits)
+}

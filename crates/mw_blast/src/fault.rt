@@ -45,7 +45,7 @@ impl From<NoMemory> for RowFault {
 
 impl RowFault {
     ghost use Rattle.std.specs.Prelude.{◌≡◌};
-    ghost use Rattle.mw_blast.specs.Rows.{fault_at};
+    ghost use Rattle.mw_blast.specs.Rows.{fault_at, fault_of};
 
     /// The fault of an operation at a bit.
     pub(crate) fn at(bit: u8, fault: DdFault) -> RowFault
@@ -54,6 +54,16 @@ impl RowFault {
         match fault {
             DdFault::OverBudget => RowFault::Over(bit),
             DdFault::NoMemory => RowFault::NoMemory,
+        }
+    }
+
+    /// The fault as one of a term.
+    pub(crate) fn of(self, term: Term) -> BlastFault
+        ensures { result ≡ fault_of term self }
+    {
+        match self {
+            RowFault::Over(bit) => BlastFault::Over(term, bit),
+            RowFault::NoMemory => BlastFault::NoMemory,
         }
     }
 }

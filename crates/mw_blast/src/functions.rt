@@ -22,6 +22,19 @@ pub(crate) fn append(functions: &mut Vec<Dd>, function: Dd) -> Result<(), NoMemo
     Ok(())
 }
 
+/// A list of one function.
+///
+/// # Errors
+///
+/// Memory ran out.
+pub(crate) fn single(alloc: Global, function: Dd) -> Result<Vec<Dd>, NoMemory>
+    ensures { IfOk result (λ v. v.items ≡ function ∷ []) }
+{
+    let mut functions = Vec::new(alloc);
+    append(&mut functions, function)?;
+    Ok(functions)
+}
+
 /// A list of functions anew.
 ///
 /// # Errors
