@@ -191,7 +191,7 @@ none_in p y xs false passes is later (suc k) d inside = later is k d (omega arit
 
 none_is : (p : ℕ → Bool) (xs : List ℕ) → find p xs ≡ None → All (λ z. p z ≡ false) xs
 none_is p [] is k d inside = absurd (omega arith)
-none_is p (y ∷ xs) is = none_in p y xs (p y) refl is (none_is p xs)
+none_is p (y ∷ xs) is k d inside = none_in p y xs (p y) refl is (none_is p xs) k d inside
 
 pub all_made : (made : Made) (xs : List ℕ) → find (λ a. not (is_made made a)) xs ≡ None → AreMade made xs
 all_made made xs is k d inside =

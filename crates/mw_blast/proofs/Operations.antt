@@ -88,7 +88,7 @@ behind nodes front o budget (Ok x) made = made
 behind nodes front o budget (Err e) refused = refused_among front (o ∷ []) [] budget e refused
 
 -- a refusal that is handed on
-pub handed_on : {T : Type 0} (result : Result T DdFault) (e : DdFault) (P : T → Type 0) (Q : DdFault → Type 0)
+pub handed_on : {T E : Type 0} (result : Result T E) (e : E) (P : T → Type 0) (Q : E → Type 0)
     → IsErrAnd result (λ x. x ≡ e) → Q e → MatchResult result P Q
 handed_on (Ok x) e P Q is q = absurd is
 handed_on (Err d) e P Q is q = subst Q (sym is) q

@@ -1,7 +1,7 @@
 -- What rows over the bits of terms make of ops.
 use Rattle.std.proofs.Common.{◌≡◌, ℕ, zero, suc, ◌+◌, ◌-◌, ◌<◌, ◌≤◌, List, [], ◌∷◌, ◌++◌, length, slice_index, refl, ap}
 use Rattle.std.proofs.Common.{sym, ◌∙◌, arith, subst, inl, inr, length-append}
-use Rattle.std.specs.Prelude.{Bool, true, false, if◌then◌else◌, ◌==◌, nat_lt, Result, Ok, Err, MatchResult}
+use Rattle.std.specs.Prelude.{Bool, true, false, if◌then◌else◌, ◌==◌, nat_lt, Result, Ok, Err, MatchResult, slice_get, Some}
 use Rattle.std.proofs.lemmas.Bool.{lt-ltb, le-ltb, cases_lt}
 use Rattle.std.proofs.lemmas.List.{get_or_append_left, get_or-append-add}
 use Rattle.std.proofs.lemmas.Bool.Decides.{nat_tests}
@@ -13,7 +13,11 @@ use Rattle.mw_term.specs.Cofactors.{variable, value_of}
 use Rattle.mw_term.specs.Functions.{Function, never, always, Triple, ite, made}
 use Rattle.mw_term.specs.Rows.{bit, difference, next_carry, next_equal, next_less, carry_into, equal_before, less_before, xor_row}
 use Rattle.mw_term.specs.Rows.{carry_row, operations, row_bits, row, last_made, fourth_made, bit_made}
-use Rattle.mw_term.specs.Table.{Table, op_width, term_width, width_over}
+use Rattle.mw_term.specs.Table.{Table, IsTable, ArePair, op_width, widths_of, term_width, width_over}
+use Rattle.mw_term.proofs.Rows.{rows_make_values}
+use Rattle.mw_term.proofs.Tables.{terms_have_ops}
+use Rattle.mw_dd.specs.declared.dd.DdFault.{DdFault}
+use Rattle.mw_dd.specs.declared.dd.DdFault.TheVariants as dd
 use Rattle.mw_dd.specs.declared.nodes.Node.{Node}
 use Rattle.mw_blast.specs.declared.fault.RowFault.{RowFault}
 use Rattle.mw_blast.specs.declared.fault.RowFault.TheVariants.{Over, NoMemory}
@@ -22,7 +26,8 @@ use Rattle.mw_blast.specs.declared.rows.Row.TheVariants as rows
 use Rattle.mw_blast.specs.Bits.{StandsFor, AreFor, AreBits}
 use Rattle.mw_blast.specs.Causes.{IsOneOver}
 use Rattle.mw_blast.specs.Entries.{entry_row}
-use Rattle.mw_blast.specs.Rows.{row_operations, carried, bit_at, operations_at, IsRefusedAt}
+use Rattle.mw_blast.specs.Kept.{Made, AreMade, IsOf, AreReady}
+use Rattle.mw_blast.specs.Rows.{row_operations, carried, bit_at, operations_at, IsRefused, IsRefusedAt, fault_at}
 use Rattle.mw_blast.proofs.Operations.{over_before, over_behind}
 
 -- ---- what is carried
@@ -152,14 +157,14 @@ for_same nodes n m f g xs count same are = record {
 -- what is answered for an op, from what is answered for its row
 pub makes : {T : Type 0} (t : Table) (op : Op) (row_of : Row) (a b : ℕ → Function) (first : Function) (bits : ℕ)
     → Makes t op row_of a b first bits
-    → (nodes : List Node) (budget : ℕ) (items : T → List ℕ) (result : Result T RowFault)
+    → (nodes : List Node) (budget : ℕ) (result : Result T RowFault) (items : T → List ℕ)
     → MatchResult result (λ v. AreFor nodes bits (bit_at row_of a b first) (items v))
     (IsRefusedAt (operations_at row_of a b first) bits budget)
     → MatchResult result (λ v. AreFor nodes (width_over t op) (bit_made t op) (items v))
     (IsRefusedAt (row t op) (row_bits t op) budget)
-makes t op row_of a b first bits are nodes budget items (Ok v) made =
+makes t op row_of a b first bits are nodes budget (Ok v) items made =
     for_same nodes (width_over t op) bits (bit_at row_of a b first) (bit_made t op) (items v) are.wide are.its made
-makes t op row_of a b first bits are nodes budget items (Err e) refused =
+makes t op row_of a b first bits are nodes budget (Err e) items refused =
     refused_row t op (operations_at row_of a b first) bits budget e are.row_wide
     (λ j over. subst (λ (ops : List Triple). IsOneOver ops budget) (are.same j) over) refused
 
@@ -227,15 +232,15 @@ less_makes t a b = record {
 
 pub makes_top : {T : Type 0} (t : Table) (op : Op) (row_of : Row) (a b : ℕ → Function) (first : Function) (bits : ℕ)
     → MakesTop t op row_of a b first bits → 1 ≤ bits
-    → (nodes : List Node) (budget : ℕ) (items : T → List ℕ) (result : Result T RowFault)
+    → (nodes : List Node) (budget : ℕ) (result : Result T RowFault) (items : T → List ℕ)
     → MatchResult result (λ v. AreFor nodes 1 (λ j. bit_at row_of a b first (bits - 1)) (items v))
     (IsRefusedAt (operations_at row_of a b first) bits budget)
     → MatchResult result (λ v. AreFor nodes (width_over t op) (bit_made t op) (items v))
     (IsRefusedAt (row t op) (row_bits t op) budget)
-makes_top t op row_of a b first bits are some nodes budget items (Ok v) made =
+makes_top t op row_of a b first bits are some nodes budget (Ok v) items made =
     for_same nodes (width_over t op) 1 (λ j. bit_at row_of a b first (bits - 1)) (bit_made t op) (items v) are.wide
     (λ j inside. are.its j some) made
-makes_top t op row_of a b first bits are some nodes budget items (Err e) refused =
+makes_top t op row_of a b first bits are some nodes budget (Err e) items refused =
     refused_row t op (operations_at row_of a b first) bits budget e are.row_wide
     (λ j over. subst (λ (ops : List Triple). IsOneOver ops budget) (are.same j) over) refused
 
@@ -302,6 +307,15 @@ overflow_over t a b c budget some over =
     ∙ row_is t (Ovf a b c) top (omega (arith, overflow_wide t a b c, below_top (term_width t a) some)))
     (over_behind (carry_row (bit t a top) (bit t b top) into)
     (xor_row into (bit_at rows.Carry (bit t a) (bit t b) (bit t c 0) top)) budget over)
+
+-- as a refusal at the top bit
+pub overflow_last : (t : Table) (a b c budget : ℕ) (e : DdFault) → 1 ≤ term_width t a
+    → IsRefused (xor_row (carried rows.Carry (bit t a) (bit t b) (bit t c 0) (term_width t a - 1))
+    (bit_at rows.Carry (bit t a) (bit t b) (bit t c 0) (term_width t a - 1))) budget e
+    → IsRefusedAt (row t (Ovf a b c)) (term_width t a) budget (fault_at (term_width t a - 1) e)
+overflow_last t a b c budget dd.OverBudget some over =
+    (below_top (term_width t a) some, overflow_over t a b c budget some over)
+overflow_last t a b c budget dd.NoMemory some refused = tt
 
 -- and what they make
 pub overflow_made : (t : Table) (a b c j : ℕ) → 1 ≤ term_width t a
@@ -374,15 +388,52 @@ unfolding operations
 entry_same t i n j count = ap (λ (k : ℕ). entry_row (bit t i) k t.map j) count
 
 pub entry_makes : {T : Type 0} (t : Table) (i n : ℕ) → n ≡ term_width t i
-    → (nodes : List Node) (budget : ℕ) (items : T → List ℕ) (result : Result T RowFault)
+    → (nodes : List Node) (budget : ℕ) (result : Result T RowFault) (items : T → List ℕ)
     → MatchResult result (λ v. AreFor nodes 12 (λ j. last_made (entry_row (bit t i) n t.map j)) (items v))
     (IsRefusedAt (entry_row (bit t i) n t.map) 12 budget)
     → MatchResult result (λ v. AreFor nodes (width_over t (Tab i)) (bit_made t (Tab i)) (items v))
     (IsRefusedAt (row t (Tab i)) (row_bits t (Tab i)) budget)
 unfolding op_width row_bits bit_made
-entry_makes t i n count nodes budget items (Ok v) are =
+entry_makes t i n count nodes budget (Ok v) items are =
     for_same nodes 12 12 (λ j. last_made (entry_row (bit t i) n t.map j)) (bit_made t (Tab i)) (items v) refl
     (λ j inside. ap last_made (entry_same t i n j count ∙ row_is t (Tab i) j inside)) are
-entry_makes t i n count nodes budget items (Err e) refused =
+entry_makes t i n count nodes budget (Err e) items refused =
     refused_row t (Tab i) (entry_row (bit t i) n t.map) 12 budget e refl
     (λ j over. subst (λ (ops : List Triple). IsOneOver ops budget) (entry_same t i n j count) over) refused
+
+-- ---- two terms that are ready
+
+pub ready_two : (t : Table) (nodes : List Node) (made : Made) (a b : ℕ) → ArePair (widths_of t.ops) a b
+    → AreMade made (a ∷ b ∷ []) → IsOf t nodes made → AreReady t nodes made a b
+ready_two t nodes made a b pair are of = record {
+  pair = pair;
+  first = are 0 0 (omega arith);
+  second = are 1 0 (omega arith);
+  of = of;
+}
+
+-- a node for a word of one bit
+pub one_stands : (nodes : List Node) (f : ℕ → Function) (xs : List ℕ) (x : ℕ) → xs ≡ x ∷ [] → StandsFor nodes x (f 0)
+    → AreFor nodes 1 f xs
+one_stands nodes f xs x is stands = rw is (record { count = refl; each = only }) where
+  only : (j : ℕ) → j < 1 → StandsFor nodes (slice_index (x ∷ []) j) (f j)
+  only zero inside = stands
+  only (suc j) inside = absurd (omega arith)
+
+-- ---- an op's bits are those of its term
+
+pub term_bits : (t : Table) (nodes : List Node) (term : ℕ) (op : Op) (xs : List ℕ) → IsTable t
+    → slice_get t.ops term ≡ Some op → AreFor nodes (width_over t op) (bit_made t op) xs → AreBits t nodes term xs
+term_bits t nodes term op xs table its are =
+    let has = terms_have_ops t term op table its in
+    record {
+      count = are.count ∙ sym has.is.width;
+      each = λ j inside.
+          let stands = are.each j inside in
+          let below : j < width_over t op = omega (arith, inside, are.count) in
+          record {
+            there = stands.there;
+            exact = λ given. stands.exact given
+                ∙ sym (ap (λ (v : ℕ). bit_of v j) (has.is.value given) ∙ rows_make_values t op table has.fits given j below);
+          };
+    }

@@ -2,7 +2,7 @@
 use Rattle.std.specs.Prelude.{◌≡◌, ℕ, ◌+◌, ◌-◌, ◌*◌, ◌<◌, ◌≤◌, List, [], ◌∷◌, length, slice_index, slice_index_or, Option, Some, None}
 use Rattle.std.specs.Prelude.{Bool, true, false, is_some, All}
 use Rattle.mw_term.specs.Rows.{bit}
-use Rattle.mw_term.specs.Table.{Table, Extends, term_width}
+use Rattle.mw_term.specs.Table.{Table, Extends, ArePair, widths_of, term_width}
 use Rattle.mw_dd.specs.declared.nodes.Node.{Node}
 use Rattle.mw_dd.specs.Diagrams.{Keeps}
 use Rattle.mw_blast.specs.Bits.{StandsFor}
@@ -48,6 +48,13 @@ StaysWithTerms = (old new : Table) (nodes : List Node) (made : Made) → Extends
 -- what is right for diagrams is right for diagrams that keep their functions
 abbrev pub StaysWithDiagrams : Type 0
 StaysWithDiagrams = (t : Table) (old new : List Node) (made : Made) → Keeps old new → IsOf t old made → IsOf t new made
+
+-- two terms of one width, whose bits were made
+pub record AreReady (t : Table) (nodes : List Node) (made : Made) (a b : ℕ) : Type 0 where
+  pub pair : ArePair (widths_of t.ops) a b
+  pub first : is_made made a ≡ true
+  pub second : is_made made b ≡ true
+  pub of : IsOf t nodes made
 
 -- ---- terms whose bits are waited for
 

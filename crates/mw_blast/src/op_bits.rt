@@ -2,13 +2,13 @@
 ghost use Rattle.std.specs.Prelude.{◌≡◌, ◌≤◌, ◌<◌, ◌-◌, ℕ, List, true, length, IfOk, MatchResult};
 ghost use Rattle.mw_term.specs.Functions.{Function};
 ghost use Rattle.mw_term.specs.Rows.{bit, bit_made, row, row_bits};
-ghost use Rattle.mw_term.specs.Table.{ArePair, IsBit, Fits, widths_of, term_width, width_over};
+ghost use Rattle.mw_term.specs.Table.{IsBit, Fits, widths_of, term_width, width_over};
 ghost use Rattle.mw_dd.specs.declared.nodes.Node as nodes;
 ghost use Rattle.mw_dd.specs.Nodes.{IsDd};
 ghost use Rattle.mw_dd.specs.Diagrams.{Keeps};
 ghost use Rattle.mw_blast.specs.Bits.{StandsFor, AreThere, StandEach, AreFor};
 ghost use Rattle.mw_blast.specs.Causes.{operands};
-ghost use Rattle.mw_blast.specs.Kept.{is_made, AreMade, IsOf};
+ghost use Rattle.mw_blast.specs.Kept.{is_made, AreMade, IsOf, AreReady};
 ghost use Rattle.mw_blast.specs.Rows.{carried, bit_at, operations_at, IsRefusedAt};
 
 use crate::blast::Blast;
@@ -58,10 +58,7 @@ impl Blast {
         first: Dd,
         budget: u32,
     ) -> Result<Vec<Dd>, RowFault>
-        requires pair { ArePair (widths_of terms.now.ops) a b }
-        requires a { is_made self.now a ≡ true }
-        requires b { is_made self.now b ≡ true }
-        requires of { IsOf terms.now dds.old self.now }
+        requires ready { AreReady terms.now dds.old self.now a b }
         requires first { IsDd dds.old first }
         ensures count { IfOk result (λ v. length v.items ≡ term_width terms.now a) }
         ensures there { IfOk result (λ v. AreThere dds.new v.items) }
@@ -70,11 +67,12 @@ impl Blast {
             (IsRefusedAt (operations_at row (bit terms.now a) (bit terms.now b) K) (term_width terms.now a) budget) }
         ensures keeps { Keeps dds.old dds.new }
     {
-        let (a, b) = (self.bits_of(terms, a), self.bits_of(terms, b));
+        let a = self.bits_of(terms, a);
+        let b = self.bits_of(terms, b);
         word(dds, alloc, row, a, b, first, budget)
     }
 
-    /// What a row makes at the top bit of two terms of one width.
+    /// What a row makes at the top bit of two terms of one width, which have one.
     fn top(
         &self,
         alloc: Global,
@@ -86,15 +84,13 @@ impl Blast {
         first: Dd,
         budget: u32,
     ) -> Result<Vec<Dd>, RowFault>
-        requires pair { ArePair (widths_of terms.now.ops) a b }
-        requires a { is_made self.now a ≡ true }
-        requires b { is_made self.now b ≡ true }
-        requires of { IsOf terms.now dds.old self.now }
+        requires ready { AreReady terms.now dds.old self.now a b }
         requires first { IsDd dds.old first }
         ensures made { (K : Function) → StandsFor dds.old first K
             → MatchResult result (λ v. AreFor dds.new 1
             (λ j. bit_at row (bit terms.now a) (bit terms.now b) K (term_width terms.now a - 1)) v.items)
             (IsRefusedAt (operations_at row (bit terms.now a) (bit terms.now b) K) (term_width terms.now a) budget) }
+        ensures some { 1 ≤ term_width terms.now a }
         ensures keeps { Keeps dds.old dds.new }
     {
         let top = terms.width(a) - 1;
@@ -113,10 +109,7 @@ impl Blast {
         first: Dd,
         budget: u32,
     ) -> Result<Vec<Dd>, RowFault>
-        requires pair { ArePair (widths_of terms.now.ops) a b }
-        requires a { is_made self.now a ≡ true }
-        requires b { is_made self.now b ≡ true }
-        requires of { IsOf terms.now dds.old self.now }
+        requires ready { AreReady terms.now dds.old self.now a b }
         requires first { IsDd dds.old first }
         ensures made { (c : ℕ) → StandsFor dds.old first (bit terms.now c 0)
             → MatchResult result (λ v. AreFor dds.new 1 (bit_made terms.now (Op.Ovf a b c)) v.items)

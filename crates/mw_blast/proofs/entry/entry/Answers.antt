@@ -22,7 +22,7 @@ loop-place-preserved c =
     let new = c.entry_bit.new.dds in
     let xs = c.loop-place.bits.items in
     let x = c.in-Ok.bit in
-    rw c.in_ok-append.ensures (record {
+    rw c.in_ok-append-in-Ok.ensures (record {
       keeps = keeps-then old now new c.loop-place.invariant.keeps c.entry_bit.ensures.keeps;
       made = λ F stand.
           let f = λ (j : ℕ). last_made (entry_row F (length c.args.index.now) c.args.map.now j) in
@@ -46,8 +46,8 @@ returns-in-Err-clause-made c = λ F stand.
 pub returns-in-Err-clause-keeps : goal.returns-in-Err-clause-keeps
 returns-in-Err-clause-keeps c = keeps-then _ _ _ c.loop-place.invariant.keeps c.entry_bit.ensures.keeps
 
-pub returns-in_err-append-clause-keeps : goal.returns-in_err-append-clause-keeps
-returns-in_err-append-clause-keeps c = keeps-then _ _ _ c.loop-place.invariant.keeps c.entry_bit.ensures.keeps
+pub returns-in_err-append-in-Ok-clause-keeps : goal.returns-in_err-append-in-Ok-clause-keeps
+returns-in_err-append-in-Ok-clause-keeps c = keeps-then _ _ _ c.loop-place.invariant.keeps c.entry_bit.ensures.keeps
 
 pub returns-clause-made : goal.returns-clause-made
 returns-clause-made c = λ F stand.
