@@ -202,3 +202,9 @@ pub first_missing : (made : Made) (xs : List ℕ) (x : ℕ) → find (λ a. not 
 first_missing made xs x is =
     let found = found_is (λ a. not (is_made made a)) xs x is in
     (found.among, not_false (is_made made x) found.passes)
+
+-- what begins where it began and has the same bits is as right
+pub same_of : (t : Table) (nodes : List Node) (old new : Made)
+    → ((other : ℕ) → start_of new other ≡ start_of old other) → new.bits ≡ old.bits → IsOf t nodes old → IsOf t nodes new
+same_of t nodes old new starts bits of term start at =
+    subst (λ (xs : List ℕ). AreKept t nodes xs term start) (sym bits) (of term start (sym (starts term) ∙ at))

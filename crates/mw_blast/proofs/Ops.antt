@@ -26,7 +26,7 @@ use Rattle.mw_blast.specs.declared.rows.Row.TheVariants as rows
 use Rattle.mw_blast.specs.Bits.{StandsFor, AreFor, AreBits}
 use Rattle.mw_blast.specs.Causes.{IsOneOver}
 use Rattle.mw_blast.specs.Entries.{entry_row}
-use Rattle.mw_blast.specs.Kept.{Made, AreMade, IsOf, AreReady}
+use Rattle.mw_blast.specs.Kept.{Made, is_made, AreMade, IsOf, AreReady}
 use Rattle.mw_blast.specs.Rows.{row_operations, carried, bit_at, operations_at, IsRefused, IsRefusedAt, fault_at}
 use Rattle.mw_blast.proofs.Operations.{over_before, over_behind}
 
@@ -437,3 +437,18 @@ term_bits t nodes term op xs table its are =
                 ∙ sym (ap (λ (v : ℕ). bit_of v j) (has.is.value given) ∙ rows_make_values t op table has.fits given j below);
           };
     }
+
+pub two_made : (made : Made) (a b : ℕ) → is_made made a ≡ true → is_made made b ≡ true → AreMade made (a ∷ b ∷ [])
+two_made made a b first second zero d inside = first
+two_made made a b first second (suc zero) d inside = second
+two_made made a b first second (suc (suc k)) d inside = absurd (omega arith)
+
+pub overflow_makes : {T : Type 0} (t : Table) (a b c : ℕ) (nodes : List Node) (budget : ℕ) (result : Result T RowFault)
+    (items : T → List ℕ)
+    → MatchResult result (λ v. AreFor nodes 1 (bit_made t (Ovf a b c)) (items v))
+    (IsRefusedAt (row t (Ovf a b c)) (term_width t a) budget)
+    → MatchResult result (λ v. AreFor nodes (width_over t (Ovf a b c)) (bit_made t (Ovf a b c)) (items v))
+    (IsRefusedAt (row t (Ovf a b c)) (row_bits t (Ovf a b c)) budget)
+unfolding op_width row_bits
+overflow_makes t a b c nodes budget (Ok v) items are = are
+overflow_makes t a b c nodes budget (Err e) items refused = refused

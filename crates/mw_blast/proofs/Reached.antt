@@ -1,21 +1,25 @@
 -- Terms that are reached through operands.
-use Rattle.std.proofs.Common.{◌≡◌, ℕ, zero, suc, ◌<◌, ◌≤◌, List, [], ◌∷◌, length, take, refl, sym, ◌∙◌, subst, arith}
+use Rattle.std.proofs.Common.{◌≡◌, ℕ, zero, suc, ◌<◌, ◌≤◌, List, [], ◌∷◌, length, take, refl, sym, ◌∙◌, subst, arith, inl, inr}
 use Rattle.std.specs.Prelude.{slice_get, slice_index_or, Some, All, Contains}
 use Rattle.std.proofs.lemmas.List.{length-take-le}
 use Rattle.std.proofs.lemmas.Option.{slice_get_within}
 use Rattle.mw_term.specs.declared.op.Op.{Op}
 use Rattle.mw_term.specs.declared.op.Op.TheVariants.{Con, Var, Not, And, Or, Xor, Sum, Cout, Ovf, Eq, Lt, Ite, Part}
 use Rattle.mw_term.specs.declared.op.Op.TheVariants.{Join, Tab}
-use Rattle.mw_term.specs.Rows.{row, row_bits}
+use Rattle.mw_term.specs.Functions.{Function}
+use Rattle.mw_term.specs.Rows.{bit, row, row_bits}
 use Rattle.mw_term.specs.Table.{Table, OpFits, IsTable, widths_of}
 use Rattle.mw_term.proofs.Tables.{widths_count}
+use Rattle.mw_dd.specs.declared.dd.DdFault.{DdFault}
+use Rattle.mw_dd.specs.declared.dd.DdFault.TheVariants as dd
 use Rattle.mw_blast.specs.declared.fault.BlastFault.{BlastFault}
 use Rattle.mw_blast.specs.declared.fault.BlastFault.TheVariants as blast
 use Rattle.mw_blast.specs.declared.fault.RowFault.{RowFault}
 use Rattle.mw_blast.specs.declared.fault.RowFault.TheVariants.{Over, NoMemory}
 use Rattle.mw_blast.specs.Causes.{operands, IsReached, IsOver, IsCause}
 use Rattle.mw_blast.specs.Causes.IsReached.{itself, through}
-use Rattle.mw_blast.specs.Rows.{IsRefusedAt, fault_of}
+use Rattle.mw_blast.specs.Rows.{IsRefused, IsRefusedAt, fault_at, fault_of}
+use Rattle.mw_blast.specs.Splits.{path_zero, path_one, IsSplitCause}
 
 -- through one operand more
 pub reached_on : (t : Table) (from term operand : ℕ) (op : Op) → IsReached t from term → slice_get t.ops term ≡ Some op
@@ -81,3 +85,18 @@ pub cause_on : (t : Table) (from term budget : ℕ) (e : BlastFault) → IsReach
     → IsCause t from budget e
 cause_on t from term budget (blast.Over named j) reached cause = (reached_through t from term named reached cause.0, cause.1)
 cause_on t from term budget blast.NoMemory reached cause = tt
+
+-- ---- paths
+
+-- a path that wasn't split because its bit wasn't made
+pub bit_cause : (t : Table) (path : Function) (term budget : ℕ) (e : BlastFault) → IsCause t term budget e
+    → IsSplitCause t path term budget e
+bit_cause t path term budget (blast.Over named j) cause = inl cause
+bit_cause t path term budget blast.NoMemory cause = tt
+
+-- and because a path operation is over the budget
+pub path_cause : (t : Table) (path : Function) (term budget : ℕ) (e : DdFault)
+    → IsRefused (path_zero path (bit t term 0) ∷ path_one path (bit t term 0) ∷ []) budget e
+    → IsSplitCause t path term budget (fault_of term (fault_at 0 e))
+path_cause t path term budget dd.OverBudget over = inr (refl, refl, over)
+path_cause t path term budget dd.NoMemory refused = tt

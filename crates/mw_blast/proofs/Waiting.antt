@@ -1,17 +1,18 @@
 -- Terms that wait for their operands.
 use Rattle.std.proofs.Common.{◌≡◌, ◌⊎◌, inl, inr, ℕ, zero, suc, ◌+◌, ◌-◌, ◌*◌, ◌<◌, ◌≤◌, List, [], ◌∷◌, ◌++◌, length, take}
 use Rattle.std.proofs.Common.{slice_index, refl, ap, sym, ◌∙◌, arith, subst, length-append}
-use Rattle.std.specs.Prelude.{Bool, true, false, Some, None, slice_get, slice_index_or, slice_set, is_some, Contains}
+use Rattle.std.specs.Prelude.{Bool, true, false, Some, None, slice_get, slice_index_or, slice_set, is_some, Contains, not, find}
 use Rattle.std.proofs.lemmas.Bool.{cases_lt, cases_eq}
 use Rattle.std.proofs.lemmas.List.{get_or_append_left, get_or_push, get_or-take, length-take-le, length-set}
 use Rattle.mw_term.specs.declared.op.Op.{Op}
 use Rattle.mw_term.specs.Table.{Table, IsTable}
-use Rattle.mw_blast.specs.Causes.{operands, IsReached}
+use Rattle.mw_blast.specs.declared.fault.BlastFault.{BlastFault}
+use Rattle.mw_blast.specs.Causes.{operands, IsReached, IsCause}
 use Rattle.mw_blast.specs.Causes.IsReached.{itself}
-use Rattle.mw_blast.specs.Kept.{Made, made_of, is_made, unmade, AreWaiting, IsOnTheWay}
+use Rattle.mw_blast.specs.Kept.{Made, made_of, is_made, AreMade, unmade, AreWaiting, IsOnTheWay, distance}
 use Rattle.mw_blast.proofs.Bits.{each_push}
-use Rattle.mw_blast.proofs.Kept.{made_same, made_other, unmade_fewer}
-use Rattle.mw_blast.proofs.Reached.{reached_on, operand_before}
+use Rattle.mw_blast.proofs.Kept.{made_same, made_other, unmade_fewer, all_made, first_missing}
+use Rattle.mw_blast.proofs.Reached.{reached_on, operand_before, cause_on}
 
 -- the one that waits last
 abbrev pub last : List ℕ → ℕ
@@ -162,3 +163,56 @@ module _ (t : Table) (made : Made) (whole : ℕ) (waiting : List ℕ) (way : IsO
       let more : unmade made.starts * (whole + 1) ≡ unmade new.starts * (whole + 1) + (whole + 1) =
       ap (λ (n : ℕ). n * (whole + 1)) (sym fewer) ∙ omega arith in
       omega (arith, more, later)
+
+-- ---- one step
+
+-- what a step leaves: terms on the way still, and nearer
+pub record IsNearer (t : Table) (whole : ℕ) (made new : Made) (waiting rest : List ℕ) : Type 0 where
+  pub way : IsOnTheWay t new whole rest
+  pub nearer : distance whole new rest < distance whole made waiting
+
+pub waits_inside : (t : Table) (made : Made) (whole x : ℕ) (waiting : List ℕ) → IsOnTheWay t made whole waiting
+    → 0 < length waiting → x ≡ last waiting → whole < length t.ops → x < length t.ops
+waits_inside t made whole x waiting way some at there =
+    omega (arith, at, there, way.terms.within (length waiting - 1) (omega (arith, some)))
+
+pub waits_room : (t : Table) (made : Made) (whole x : ℕ) (waiting : List ℕ) → IsOnTheWay t made whole waiting
+    → 0 < length waiting → x ≡ last waiting → x < length made.starts
+waits_room t made whole x waiting way some at = omega (arith, at, last_room t made whole waiting way some)
+
+pub waits_operands : (t : Table) (made : Made) (x : ℕ) (op other : Op) → slice_get t.ops x ≡ Some op
+    → find (λ a. not (is_made made a)) (operands op) ≡ None → slice_get t.ops x ≡ Some other → AreMade made (operands other)
+waits_operands t made x op other has none also =
+    let same : op ≡ other = cc in
+    subst (λ (o : Op). AreMade made (operands o)) same (all_made made (operands op) none)
+
+pub waits_cause : (t : Table) (made : Made) (whole x budget : ℕ) (waiting : List ℕ) (e : BlastFault)
+    → IsOnTheWay t made whole waiting → 0 < length waiting → x ≡ last waiting → IsCause t x budget e
+    → IsCause t whole budget e
+waits_cause t made whole x budget waiting e way some at cause =
+    cause_on t whole x budget e
+    (subst (λ (y : ℕ). IsReached t whole y) (sym at) (way.terms.reached (length waiting - 1) (omega (arith, some)))) cause
+
+pub operand_waits : (t : Table) (made : Made) (whole x operand : ℕ) (op : Op) (waiting new : List ℕ)
+    → IsOnTheWay t made whole waiting → 0 < length waiting → x ≡ last waiting → IsTable t → slice_get t.ops x ≡ Some op
+    → find (λ a. not (is_made made a)) (operands op) ≡ Some operand → new ≡ waiting ++ operand ∷ []
+    → IsNearer t whole made made waiting new
+operand_waits t made whole x operand op waiting new way some at table has found is =
+    let its = subst (λ (y : ℕ). slice_get t.ops y ≡ Some op) at has in
+    let first = first_missing made (operands op) operand found in
+    let earlier = pushed_nearer t made whole waiting way some op operand table its first.0 in
+    rw is (record {
+      way = pushed t made whole waiting way some op operand table its first.0 first.1;
+      nearer = omega (arith, earlier);
+    })
+
+pub term_made : (t : Table) (made new : Made) (whole x start : ℕ) (waiting rest : List ℕ)
+    → IsOnTheWay t made whole waiting → 0 < length waiting → x ≡ last waiting
+    → new.starts ≡ slice_set made.starts x (Some start) → rest ≡ take (length waiting - 1) waiting
+    → IsNearer t whole made new waiting rest
+term_made t made new whole x start waiting rest way some at set is =
+    let its = set ∙ ap (λ (y : ℕ). slice_set made.starts y (Some start)) at in
+    rw is (record {
+      way = popped t made whole waiting way some new start its;
+      nearer = popped_nearer t made whole waiting way some new start its;
+    })

@@ -1,5 +1,5 @@
 // The bits of terms, made when they are first asked for.
-ghost use Rattle.std.specs.Prelude.{◌≡◌, ◌<◌, ◌≤◌, ℕ, List, [], ◌∷◌, ◌++◌, true, not, length, find, slice_get, slice_set, Some, IfOk, IfErr, OnOk, OnErr};
+ghost use Rattle.std.specs.Prelude.{◌≡◌, ◌-◌, ◌<◌, ◌≤◌, ℕ, List, [], ◌∷◌, ◌++◌, true, not, length, find, slice_get, slice_index, slice_set, Some, IfOk, IfErr, OnOk, OnErr};
 ghost use Rattle.mw_term.specs.declared.op.Op as ops;
 ghost use Rattle.mw_term.specs.Rows.{bit};
 ghost use Rattle.mw_term.specs.Table.{Table, term_width};
@@ -42,6 +42,14 @@ fn wait(waiting: &mut Vec<Term>, term: Term) -> Result<(), NoMemory>
 {
     waiting.push(term)?;
     Ok(())
+}
+
+/// The term that waits last, where one does.
+fn last_of(waiting: &[Term]) -> Term
+    requires { 0 < length waiting.now }
+    ensures { result ≡ slice_index waiting.now (length waiting.now - 1) }
+{
+    waiting[waiting.len() - 1]
 }
 
 impl Blast {
@@ -203,7 +211,7 @@ impl Blast {
             → IsCause terms.now whole budget e) }
         ensures keeps { Keeps dds.old dds.new }
     {
-        let last = waiting[waiting.len() - 1];
+        let last = last_of(waiting);
         if let Some(operand) = self.unmade_operand(terms.op(last)) {
             wait(waiting, operand)?;
             return Ok(());

@@ -146,7 +146,8 @@ impl Blast {
             (IsRefusedAt (row terms.now op) (row_bits terms.now op) budget) }
         ensures keeps { Keeps dds.old dds.new }
     {
-        let (never, always) = (dds.constant(false), dds.constant(true));
+        let never = dds.constant(false);
+        let always = dds.constant(true);
         match op {
             Op::Con(number, width) => Ok(constants(dds, alloc, number, width)?),
             Op::Var(word, width) => Ok(variables(dds, alloc, word, width)?),
@@ -173,16 +174,18 @@ impl Blast {
                 self.pair(alloc, terms, dds, Row::Choice, a, b, chosen, budget)
             }
             Op::Part(a, low, width) => {
+                let bits = self.bits_of(terms, a);
                 let low = low as usize;
-                Ok(copied(alloc, &self.bits_of(terms, a)[low..low + width as usize])?)
+                Ok(copied(alloc, &bits[low..low + width as usize])?)
             }
             Op::Join(high, low) => {
-                let (high, low) = (self.bits_of(terms, high), self.bits_of(terms, low));
-                Ok(joined(alloc, low, high)?)
+                let above = self.bits_of(terms, high);
+                let below = self.bits_of(terms, low);
+                Ok(joined(alloc, below, above)?)
             }
             Op::Tab(index) => {
-                let index = self.bits_of(terms, index);
-                entry(dds, alloc, terms.map(), index, budget)
+                let chosen = self.bits_of(terms, index);
+                entry(dds, alloc, terms.map(), chosen, budget)
             }
         }
     }

@@ -8,7 +8,7 @@ use Rattle.mw_blast.specs.Bits.{StandsFor}
 use Rattle.mw_blast.specs.Rows.{bit_at}
 use Rattle.mw_blast.proofs.Operations.{handed_on}
 use Rattle.mw_blast.proofs.Ops.{one_stands}
-use Rattle.mw_blast.proofs.op_bits.Blast.top.Goals as goal
+use Rattle.mw_blast.proofs.blast.Blast.top.Goals as goal
 
 pub width-requires : goal.width-requires
 width-requires c = omega (arith, c.requires.ready.pair.0, widths_count c.args.terms.now.ops)

@@ -5,7 +5,7 @@ use Rattle.mw_term.specs.Rows.{bit}
 use Rattle.mw_term.proofs.Tables.{widths_count}
 use Rattle.mw_blast.specs.Bits.{AreFor}
 use Rattle.mw_blast.specs.Rows.{bit_at, operations_at, IsRefusedAt}
-use Rattle.mw_blast.proofs.op_bits.Blast.pair.Goals as goal
+use Rattle.mw_blast.proofs.blast.Blast.pair.Goals as goal
 
 pub bits_of-a-requires-clause-there : goal.bits_of-a-requires-clause-there
 bits_of-a-requires-clause-there c = omega (arith, c.requires.ready.pair.0, widths_count c.args.terms.now.ops)
