@@ -52,19 +52,19 @@ operands_fit : (map widths : List ℕ) (op : Op) → OpFits map widths op → Al
 unfolding operands
 operands_fit map widths (Con number w) fits k d inside = absurd (omega arith)
 operands_fit map widths (Var word w) fits k d inside = absurd (omega arith)
-operands_fit map widths (Not a) fits = one_of (λ x. x < length widths) a fits
-operands_fit map widths (And a b) fits = two_of (λ x. x < length widths) a b fits.0 fits.1
-operands_fit map widths (Or a b) fits = two_of (λ x. x < length widths) a b fits.0 fits.1
-operands_fit map widths (Xor a b) fits = two_of (λ x. x < length widths) a b fits.0 fits.1
-operands_fit map widths (Sum a b c) fits = three_of (λ x. x < length widths) a b c fits.0.0 fits.0.1 fits.1.0
-operands_fit map widths (Cout a b c) fits = three_of (λ x. x < length widths) a b c fits.0.0 fits.0.1 fits.1.0
-operands_fit map widths (Ovf a b c) fits = three_of (λ x. x < length widths) a b c fits.0.0 fits.0.1 fits.1.0
-operands_fit map widths (Eq a b) fits = two_of (λ x. x < length widths) a b fits.0 fits.1
-operands_fit map widths (Lt a b) fits = two_of (λ x. x < length widths) a b fits.0 fits.1
-operands_fit map widths (Ite c a b) fits = three_of (λ x. x < length widths) c a b fits.0.0 fits.1.0 fits.1.1
-operands_fit map widths (Part a low w) fits = one_of (λ x. x < length widths) a fits.0
-operands_fit map widths (Join high low) fits = two_of (λ x. x < length widths) high low fits.0 fits.1
-operands_fit map widths (Tab i) fits = one_of (λ x. x < length widths) i fits.0
+operands_fit map widths (Not a) fits k d inside = one_of (λ x. x < length widths) a fits k d inside
+operands_fit map widths (And a b) fits k d inside = two_of (λ x. x < length widths) a b fits.0 fits.1 k d inside
+operands_fit map widths (Or a b) fits k d inside = two_of (λ x. x < length widths) a b fits.0 fits.1 k d inside
+operands_fit map widths (Xor a b) fits k d inside = two_of (λ x. x < length widths) a b fits.0 fits.1 k d inside
+operands_fit map widths (Sum a b c) fits k d inside = three_of (λ x. x < length widths) a b c fits.0.0 fits.0.1 fits.1.0 k d inside
+operands_fit map widths (Cout a b c) fits k d inside = three_of (λ x. x < length widths) a b c fits.0.0 fits.0.1 fits.1.0 k d inside
+operands_fit map widths (Ovf a b c) fits k d inside = three_of (λ x. x < length widths) a b c fits.0.0 fits.0.1 fits.1.0 k d inside
+operands_fit map widths (Eq a b) fits k d inside = two_of (λ x. x < length widths) a b fits.0 fits.1 k d inside
+operands_fit map widths (Lt a b) fits k d inside = two_of (λ x. x < length widths) a b fits.0 fits.1 k d inside
+operands_fit map widths (Ite c a b) fits k d inside = three_of (λ x. x < length widths) c a b fits.0.0 fits.1.0 fits.1.1 k d inside
+operands_fit map widths (Part a low w) fits k d inside = one_of (λ x. x < length widths) a fits.0 k d inside
+operands_fit map widths (Join high low) fits k d inside = two_of (λ x. x < length widths) high low fits.0 fits.1 k d inside
+operands_fit map widths (Tab i) fits k d inside = one_of (λ x. x < length widths) i fits.0 k d inside
 
 pub operand_before : (t : Table) (term a : ℕ) (op : Op) → IsTable t → slice_get t.ops term ≡ Some op
     → Contains (operands op) a → a < term

@@ -4,7 +4,7 @@ use Rattle.mw_term.specs.declared.op.Op.TheVariants.{Tab}
 use Rattle.mw_term.specs.Functions.{never, always}
 use Rattle.mw_term.specs.Rows.{bit}
 use Rattle.mw_term.specs.Table.{term_width}
-use Rattle.mw_term.proofs.Tables.{widths_count}
+use Rattle.mw_term.proofs.Tables.{widths_count, widths_range}
 use Rattle.mw_blast.specs.declared.rows.Row.TheVariants as rows
 use Rattle.mw_blast.specs.declared.fault.RowFault.TheVariants.{NoMemory}
 use Rattle.mw_blast.specs.Bits.{StandsFor}
@@ -166,12 +166,88 @@ returns-in-Ite-clause-made c =
     c.pair-in-Ite.new.dds c.args.budget c.pair-in-Ite.result (λ v. v.items) (c.pair-in-Ite.ensures.made (bit t c.in-Ite.c 0)
     (c.bit-chosen.ensures c.args.dds.now c.requires.of)))
 
-pub returns-in-Con-clause-made : goal.returns-in-Con-clause-made
-returns-in-Con-clause-made c = rw c.in-Con.is
-    (constant_made c.args.terms.now c.args.dds.now c.in-Con.number c.in-Con.width c.in_ok-constants.field-0.items
-    c.in_ok-constants.ensures)
+pub bit-into-requires-clause-made : goal.bit-into-requires-clause-made
+unfolding operands
+bit-into-requires-clause-made c = (rw c.in-Sum.is at c.requires.made) 2 0 (omega arith)
 
-pub returns-in-Var-clause-made : goal.returns-in-Var-clause-made
-returns-in-Var-clause-made c = rw c.in-Var.is
-    (variable_made c.args.terms.now c.variables.new.dds c.in-Var.word c.in-Var.width c.in_ok-variables.field-0.items
-    c.in_ok-variables.ensures.made)
+pub bit-into-requires-in-Cout-clause-made : goal.bit-into-requires-in-Cout-clause-made
+unfolding operands
+bit-into-requires-in-Cout-clause-made c = (rw c.in-Cout.is at c.requires.made) 2 0 (omega arith)
+
+pub bit-into-requires-in-Ovf-clause-made : goal.bit-into-requires-in-Ovf-clause-made
+unfolding operands
+bit-into-requires-in-Ovf-clause-made c = (rw c.in-Ovf.is at c.requires.made) 2 0 (omega arith)
+
+pub bit-chosen-requires-clause-made : goal.bit-chosen-requires-clause-made
+unfolding operands
+bit-chosen-requires-clause-made c = (rw c.in-Ite.is at c.requires.made) 0 0 (omega arith)
+
+pub bits_of-bits-requires-clause-there : goal.bits_of-bits-requires-clause-there
+bits_of-bits-requires-clause-there c =
+    let fits = rw c.in-Part.is at c.requires.fits in
+    omega (arith, fits.0, widths_count c.args.terms.now.ops)
+
+pub bits_of-bits-requires-clause-made : goal.bits_of-bits-requires-clause-made
+unfolding operands
+bits_of-bits-requires-clause-made c = (rw c.in-Part.is at c.requires.made) 0 0 (omega arith)
+
+pub bits_of-above-requires-clause-there : goal.bits_of-above-requires-clause-there
+bits_of-above-requires-clause-there c =
+    let fits = rw c.in-Join.is at c.requires.fits in
+    omega (arith, fits.0, widths_count c.args.terms.now.ops)
+
+pub bits_of-above-requires-clause-made : goal.bits_of-above-requires-clause-made
+unfolding operands
+bits_of-above-requires-clause-made c = (rw c.in-Join.is at c.requires.made) 0 0 (omega arith)
+
+pub bits_of-below-requires-clause-there : goal.bits_of-below-requires-clause-there
+bits_of-below-requires-clause-there c =
+    let fits = rw c.in-Join.is at c.requires.fits in
+    omega (arith, fits.1, widths_count c.args.terms.now.ops)
+
+pub bits_of-below-requires-clause-made : goal.bits_of-below-requires-clause-made
+unfolding operands
+bits_of-below-requires-clause-made c = (rw c.in-Join.is at c.requires.made) 1 0 (omega arith)
+
+pub bits_of-chosen-requires-clause-there : goal.bits_of-chosen-requires-clause-there
+bits_of-chosen-requires-clause-there c =
+    let fits = rw c.in-Tab.is at c.requires.fits in
+    omega (arith, fits.0, widths_count c.args.terms.now.ops)
+
+pub bits_of-chosen-requires-clause-made : goal.bits_of-chosen-requires-clause-made
+unfolding operands
+bits_of-chosen-requires-clause-made c = (rw c.in-Tab.is at c.requires.made) 0 0 (omega arith)
+
+pub entry-requires-clause-some : goal.entry-requires-clause-some
+entry-requires-clause-some c =
+    let fits = rw c.in-Tab.is at c.requires.fits in
+    let wide = widths_range c.args.terms.now c.map.ensures.table c.in-Tab.index fits.0 in
+    omega (arith, wide.0, (c.bits_of-chosen.ensures.are c.args.dds.now c.requires.of).count)
+
+pub returns-in_ok-constants-in-Con-clause-made : goal.returns-in_ok-constants-in-Con-clause-made
+returns-in_ok-constants-in-Con-clause-made c = rw c.in-Con.is
+    (constant_made c.args.terms.now c.args.dds.now c.in-Con.number c.in-Con.width c.in_ok-constants-in-Con.field-0.items
+    c.in_ok-constants-in-Con.ensures)
+
+pub returns-in_ok-variables-in-Var-clause-made : goal.returns-in_ok-variables-in-Var-clause-made
+returns-in_ok-variables-in-Var-clause-made c = rw c.in-Var.is
+    (variable_made c.args.terms.now c.variables.new.dds c.in-Var.word c.in-Var.width
+    c.in_ok-variables-in-Var.field-0.items c.in_ok-variables-in-Var.ensures.made)
+
+pub returns-in_ok-copied-in-Part-clause-made : goal.returns-in_ok-copied-in-Part-clause-made
+returns-in_ok-copied-in-Part-clause-made c = let h = c.copied in let i = c.in_ok-copied-in-Part in ?
+
+pub returns-in_ok-joined-in-Join-clause-made : goal.returns-in_ok-joined-in-Join-clause-made
+returns-in_ok-joined-in-Join-clause-made c = rw (c.in-Join.is, c.in_ok-joined-in-Join.ensures)
+    (join_made c.args.terms.now c.args.dds.now c.in-Join.high c.in-Join.low c.bits_of-above.result.now
+    c.bits_of-below.result.now (c.bits_of-above.ensures.are c.args.dds.now c.requires.of)
+    (c.bits_of-below.ensures.are c.args.dds.now c.requires.of))
+
+pub returns-in-Tab-clause-made : goal.returns-in-Tab-clause-made
+returns-in-Tab-clause-made c =
+    let t = c.args.terms.now in
+    let are = c.bits_of-chosen.ensures.are c.args.dds.now c.requires.of in
+    rw c.in-Tab.is
+    (entry_makes t c.in-Tab.index (length c.bits_of-chosen.result.now) are.count c.entry.new.dds c.args.budget
+    c.entry.result (λ v. v.items)
+    (rw (← c.map.ensures.exact) (c.entry.ensures.made (bit t c.in-Tab.index) are.each)))

@@ -10,9 +10,6 @@ use Rattle.mw_blast.proofs.Operations.{handed_on}
 use Rattle.mw_blast.proofs.Ops.{one_stands}
 use Rattle.mw_blast.proofs.blast.Blast.top.Goals as goal
 
-pub width-requires : goal.width-requires
-width-requires c = omega (arith, c.requires.ready.pair.0, widths_count c.args.terms.now.ops)
-
 pub returns-in_err-bits-clause-made : goal.returns-in_err-bits-clause-made
 returns-in_err-bits-clause-made c = λ K k.
     handed_on c.from_residual.result _ _ _ c.from_residual.ensures.1 (c.in_err-bits.ensures.made K k)
@@ -27,9 +24,9 @@ returns-clause-made c = λ K k.
     let w = term_width t c.args.a in
     let xs = c.in_ok-bits.bits.items in
     let are = c.in_ok-bits.ensures.made K k in
-    let top : ℕ = c.width.result - 1 in
-    let same : top ≡ w - 1 = ap (λ (n : ℕ). n - 1) c.width.ensures.exact in
-    let inside : top < length xs = omega (arith, are.count, c.width.ensures.exact, c.width.ensures.range.0) in
+    let top : ℕ = c.width-top.result - 1 in
+    let same : top ≡ w - 1 = ap (λ (n : ℕ). n - 1) c.width-top.ensures.exact in
+    let inside : top < length xs = omega (arith, are.count, c.width-top.ensures.exact, c.width-top.ensures.range.0) in
     let at : c.index.result.now ≡ slice_index xs top = get_or_read xs top c.index.result.now inside c.index.ensures 0 in
     one_stands c.pair.new.dds (λ j. bit_at c.args.row (bit t c.args.a) (bit t c.args.b) K (w - 1))
     c.in_ok-single.field-0.items c.index.result.now c.in_ok-single.ensures
