@@ -1,9 +1,9 @@
 -- What rows over the bits of terms make of ops.
 use Rattle.std.proofs.Common.{◌≡◌, ℕ, zero, suc, ◌+◌, ◌-◌, ◌<◌, ◌≤◌, List, [], ◌∷◌, ◌++◌, length, slice_index, refl, ap}
-use Rattle.std.proofs.Common.{sym, ◌∙◌, arith, subst, inl, inr, length-append}
+use Rattle.std.proofs.Common.{sym, ◌∙◌, arith, subst, inl, inr, length-append, take, drop}
 use Rattle.std.specs.Prelude.{Bool, true, false, if◌then◌else◌, ◌==◌, nat_lt, Result, Ok, Err, MatchResult, slice_get, Some}
 use Rattle.std.proofs.lemmas.Bool.{lt-ltb, le-ltb, cases_lt}
-use Rattle.std.proofs.lemmas.List.{get_or_append_left, get_or-append-add}
+use Rattle.std.proofs.lemmas.List.{get_or_append_left, get_or-append-add, get_or-take, get_or-drop, length-take-le, length-drop}
 use Rattle.std.proofs.lemmas.Bool.Decides.{nat_tests}
 use Rattle.mw_term.specs.declared.op.Op.{Op}
 use Rattle.mw_term.specs.declared.op.Op.TheVariants.{Con, Var, Not, And, Or, Xor, Sum, Cout, Ovf, Eq, Lt, Ite, Part}
@@ -341,6 +341,18 @@ pub variable_made : (t : Table) (nodes : List Node) (word w : ℕ) (xs : List �
     → AreFor nodes (width_over t (Var word w)) (bit_made t (Var word w)) xs
 unfolding op_width bit_made
 variable_made t nodes word w xs are = are
+
+-- so many items from a place on
+pub part_slice : (xs ys : List ℕ) (low w : ℕ) → low + w ≤ length xs → ys ≡ take (low + w - low) (drop low xs)
+    → (length ys ≡ w) × ((j : ℕ) → j < w → slice_index ys j ≡ slice_index xs (low + j))
+part_slice xs ys low w within is =
+    let many : low + w - low ≡ w = omega arith in
+    let rest : length (drop low xs) ≡ length xs - low = length-drop low xs in (
+      ap length is ∙ length-take-le (low + w - low) (drop low xs) (omega (arith, many, rest, within)) ∙ many,
+      λ j inside. ap (λ zs. slice_index zs j) is
+          ∙ get_or-take (low + w - low) (drop low xs) j 0 (omega (arith, many, inside))
+          ∙ get_or-drop low xs j 0,
+    )
 
 pub part_made : (t : Table) (nodes : List Node) (a low w : ℕ) (xs ys : List ℕ) → AreBits t nodes a xs
     → length ys ≡ w → low + w ≤ length xs

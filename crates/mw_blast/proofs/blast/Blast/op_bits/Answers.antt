@@ -1,18 +1,21 @@
-use Rattle.std.proofs.Common.{◌≡◌, ℕ, ◌+◌, ◌<◌, [], ◌∷◌, length, refl, ap, sym, ◌∙◌, arith, subst}
+use Rattle.std.proofs.Common.{◌≡◌, ℕ, ◌+◌, ◌<◌, ◌≤◌, List, [], ◌∷◌, length, refl, ap, sym, ◌∙◌, arith, subst}
 use Rattle.mw_term.specs.declared.op.Op.TheVariants.{Con, Var, Not, And, Or, Xor, Sum, Cout, Ovf, Eq, Lt, Ite, Part, Join}
 use Rattle.mw_term.specs.declared.op.Op.TheVariants.{Tab}
 use Rattle.mw_term.specs.Functions.{never, always}
-use Rattle.mw_term.specs.Rows.{bit}
+use Rattle.std.specs.Prelude.{MatchResult}
+use Rattle.mw_term.specs.Rows.{bit, last_made}
 use Rattle.mw_term.specs.Table.{term_width}
 use Rattle.mw_term.proofs.Tables.{widths_count, widths_range}
 use Rattle.mw_blast.specs.declared.rows.Row.TheVariants as rows
 use Rattle.mw_blast.specs.declared.fault.RowFault.TheVariants.{NoMemory}
-use Rattle.mw_blast.specs.Bits.{StandsFor}
+use Rattle.mw_blast.specs.Bits.{AreFor}
+use Rattle.mw_blast.specs.Entries.{entry_row}
+use Rattle.mw_blast.specs.Rows.{IsRefusedAt}
 use Rattle.mw_blast.specs.Causes.{operands}
 use Rattle.mw_blast.proofs.Operations.{handed_on}
 use Rattle.mw_blast.proofs.Ops.{ready_two, two_made, makes, not_makes, and_makes, or_makes, xor_makes, sum_makes, choice_makes}
 use Rattle.mw_blast.proofs.Ops.{makes_top, out_makes, equal_makes, less_makes, overflow_makes, constant_made}
-use Rattle.mw_blast.proofs.Ops.{variable_made, part_made, join_made, entry_makes}
+use Rattle.mw_blast.proofs.Ops.{variable_made, part_slice, part_made, join_made, entry_makes}
 use Rattle.mw_blast.proofs.blast.Blast.op_bits.Goals as goal
 
 pub pair-requires-clause-ready : goal.pair-requires-clause-ready
@@ -235,7 +238,17 @@ returns-in_ok-variables-in-Var-clause-made c = rw c.in-Var.is
     c.in_ok-variables-in-Var.field-0.items c.in_ok-variables-in-Var.ensures.made)
 
 pub returns-in_ok-copied-in-Part-clause-made : goal.returns-in_ok-copied-in-Part-clause-made
-returns-in_ok-copied-in-Part-clause-made c = let h = c.copied in let i = c.in_ok-copied-in-Part in ?
+returns-in_ok-copied-in-Part-clause-made c =
+    let t = c.args.terms.now in
+    let fits = rw c.in-Part.is at c.requires.fits in
+    let xs = c.bits_of-bits.result.now in
+    let are = c.bits_of-bits.ensures.are c.args.dds.now c.requires.of in
+    let within : c.in-Part.low + c.in-Part.width ≤ length xs = omega (arith, fits.2, are.count) in
+    let cut = part_slice xs c.in_ok-copied-in-Part.field-0.items c.in-Part.low c.in-Part.width within
+    c.in_ok-copied-in-Part.ensures in
+    rw c.in-Part.is
+    (part_made t c.args.dds.now c.in-Part.a c.in-Part.low c.in-Part.width xs c.in_ok-copied-in-Part.field-0.items are
+    cut.0 within cut.1)
 
 pub returns-in_ok-joined-in-Join-clause-made : goal.returns-in_ok-joined-in-Join-clause-made
 returns-in_ok-joined-in-Join-clause-made c = rw (c.in-Join.is, c.in_ok-joined-in-Join.ensures)
@@ -247,7 +260,10 @@ pub returns-in-Tab-clause-made : goal.returns-in-Tab-clause-made
 returns-in-Tab-clause-made c =
     let t = c.args.terms.now in
     let are = c.bits_of-chosen.ensures.are c.args.dds.now c.requires.of in
+    let n = length c.bits_of-chosen.result.now in
+    let index = bit t c.in-Tab.index in
     rw c.in-Tab.is
-    (entry_makes t c.in-Tab.index (length c.bits_of-chosen.result.now) are.count c.entry.new.dds c.args.budget
-    c.entry.result (λ v. v.items)
-    (rw (← c.map.ensures.exact) (c.entry.ensures.made (bit t c.in-Tab.index) are.each)))
+    (entry_makes t c.in-Tab.index n are.count c.entry.new.dds c.args.budget c.entry.result (λ v. v.items)
+    (subst (λ (numbers : List ℕ). MatchResult c.entry.result
+    (λ v. AreFor c.entry.new.dds 12 (λ j. last_made (entry_row index n numbers j)) v.items)
+    (IsRefusedAt (entry_row index n numbers) 12 c.args.budget)) c.map.ensures.exact (c.entry.ensures.made index are.each)))
