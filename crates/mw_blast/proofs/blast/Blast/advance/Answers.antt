@@ -1,4 +1,4 @@
-use Rattle.std.proofs.Common.{◌≡◌, ℕ, ◌-◌, ◌<◌, ◌≤◌, List, length, slice_index, ap, sym, ◌∙◌, arith, subst}
+use Rattle.std.proofs.Common.{◌≡◌, ℕ, ◌-◌, ◌<◌, ◌≤◌, List, length, take, slice_index, ap, sym, ◌∙◌, arith, subst}
 use Rattle.mw_blast.specs.declared.fault.BlastFault.TheVariants.{NoMemory}
 use Rattle.mw_blast.specs.Causes.{IsCause}
 use Rattle.mw_blast.proofs.Bits.{keeps-itself}
@@ -67,7 +67,8 @@ returns-clause-way c = λ whole way.
     c.last_of-last.ensures ∙ ap last c.deref.ensures.value in
     (term_made c.args.terms.now c.args.self.now c.make.new.self whole c.last_of-last.result c.in_ok-make.ensures.made.0
     c.args.waiting.now.items c.pop.new.self.items way c.requires.some at c.in_ok-make.ensures.made.1
-    c.pop.ensures.rest).way
+    (c.pop.ensures.rest ∙ ap (λ (n : ℕ). take (n - 1) c.args.waiting.now.items)
+    (sym c.deref.ensures.len ∙ ap length c.deref.ensures.value))).way
 
 pub returns-clause-nearer : goal.returns-clause-nearer
 returns-clause-nearer c = λ whole way.
@@ -75,4 +76,5 @@ returns-clause-nearer c = λ whole way.
     c.last_of-last.ensures ∙ ap last c.deref.ensures.value in
     (term_made c.args.terms.now c.args.self.now c.make.new.self whole c.last_of-last.result c.in_ok-make.ensures.made.0
     c.args.waiting.now.items c.pop.new.self.items way c.requires.some at c.in_ok-make.ensures.made.1
-    c.pop.ensures.rest).nearer
+    (c.pop.ensures.rest ∙ ap (λ (n : ℕ). take (n - 1) c.args.waiting.now.items)
+    (sym c.deref.ensures.len ∙ ap length c.deref.ensures.value))).nearer
