@@ -7,6 +7,7 @@ use Rattle.std.proofs.lemmas.Bool.{cases_eq}
 use Rattle.std.proofs.lemmas.List.{get_or_append_left, get_or-append-add, get_or-set_same, get_or-set_other}
 use Rattle.std.proofs.lemmas.List.{take-append-drop}
 use Rattle.mw_term.specs.declared.op.Op.{Op}
+use Rattle.mw_base.specs.Words.{bit_of}
 use Rattle.mw_term.specs.Assigned.{Given}
 use Rattle.mw_term.specs.Functions.{Function}
 use Rattle.mw_term.specs.Rows.{bit}
@@ -24,13 +25,15 @@ use Rattle.mw_blast.proofs.Bits.{stays}
 -- ---- laws
 
 pub stays_with_diagrams : StaysWithDiagrams
-stays_with_diagrams t old new made keeps of term start at =
-    let are = of term start at in
-    record {
-      there = are.there;
-      within = are.within;
-      each = λ j inside. stays old new (slice_index made.bits (start + j)) (bit t term j) keeps (are.each j inside);
-    }
+stays_with_diagrams t old new made keeps of = record {
+  kept = λ term start at.
+      let are = of.kept term start at in
+      record {
+        there = are.there;
+        within = are.within;
+        each = λ j inside. stays old new (slice_index made.bits (start + j)) (bit t term j) keeps (are.each j inside);
+      };
+}
 
 -- a term of a table has the width and the value that it has with more terms
 pub record IsSame (old new : Table) (term : ℕ) : Type 0 where
@@ -58,71 +61,58 @@ same_term old new term extends inside =
     }
 
 pub stays_with_terms : StaysWithTerms
-stays_with_terms old new nodes made extends of term start at =
-    let are = of term start at in
-    let same = same_term old new term extends are.there in
-    record {
-      there = omega (arith, are.there, extends.more);
-      within = omega (arith, are.within, same.width);
-      each = λ j inside.
-          let stands = are.each j (omega (arith, inside, same.width)) in
-          record {
-            there = stands.there;
-            exact = λ given. stands.exact given ∙ ap (λ v. v / 2 ^ j % 2 == 1) (sym (same.value given));
-          };
-    }
+stays_with_terms old new nodes made extends of = record {
+  kept = λ term start at.
+      let are = of.kept term start at in
+      let same = same_term old new term extends are.there in
+      record {
+        there = omega (arith, are.there, extends.more);
+        within = omega (arith, are.within, same.width);
+        each = λ j inside.
+            let stands = are.each j (omega (arith, inside, same.width)) in
+            record {
+              there = stands.there;
+              exact = λ given. stands.exact given ∙ ap (λ v. bit_of v j) (sym (same.value given));
+            };
+      };
+}
 
 -- ---- what was made of one term
-
-pub none_made : (t : Table) (nodes : List Node) → IsOf t nodes (made_of [] [])
-none_made t nodes term start at = absurd cc
-
--- the bits of a term that was made
-pub bits_are : (t : Table) (nodes : List Node) (made : Made) (term start : ℕ) (xs : List ℕ) → IsOf t nodes made
-    → start_of made term ≡ Some start
-    → length xs ≡ term_width t term
-    → ((j : ℕ) → j < length xs → slice_index xs j ≡ slice_index made.bits (start + j))
-    → AreBits t nodes term xs
-bits_are t nodes made term start xs of at count same =
-    let are = of term start at in
-    record {
-      count = count;
-      each = λ j inside. subst (λ x. StandsFor nodes x (bit t term j)) (sym (same j inside))
-          (are.each j (omega (arith, inside, count)));
-    }
 
 -- with one more made
 pub made_more : (t : Table) (nodes : List Node) (made : Made) (term : ℕ) (xs : List ℕ) → IsOf t nodes made
     → term < length t.ops → term < length made.starts → AreBits t nodes term xs
     → IsOf t nodes (made_of (slice_set made.starts term (Some (length made.bits))) (made.bits ++ xs))
-made_more t nodes made term xs of there room are other start at = elim (cases_eq other term) [
-  | inl same ↦
-      let here : Some (length made.bits) ≡ Some start =
-      sym (ap (λ (k : ℕ). slice_index_or (slice_set made.starts term (Some (length made.bits))) k None) same
-      ∙ get_or-set_same made.starts term (Some (length made.bits)) None room) ∙ at in
-      let begins : start ≡ length made.bits = cc in
-      record {
-        there = omega (arith, there, same);
-        within = subst (λ (k : ℕ). start + term_width t k ≤ length (made.bits ++ xs)) (sym same)
-            (omega (arith, begins, are.count, length-append made.bits xs));
-        each = λ j inside.
-            let wide : j < length xs = omega (arith, are.count, ap (λ (k : ℕ). term_width t k) same, inside) in
-            let at_xs : slice_index (made.bits ++ xs) (start + j) ≡ slice_index xs j =
-            ap (λ (k : ℕ). slice_index (made.bits ++ xs) (k + j)) begins ∙ get_or-append-add made.bits xs j 0 in
-            subst (λ x. StandsFor nodes x (bit t other j)) (sym at_xs)
-            (subst (λ (k : ℕ). StandsFor nodes (slice_index xs j) (bit t k j)) (sym same) (are.each j wide));
-      }
-  | inr differ ↦
-      let before : start_of made other ≡ Some start =
-      sym (get_or-set_other made.starts term other (Some (length made.bits)) None differ) ∙ at in
-      let kept = of other start before in
-      record {
-        there = kept.there;
-        within = omega (arith, kept.within, length-append made.bits xs);
-        each = λ j inside. subst (λ x. StandsFor nodes x (bit t other j))
-            (sym (get_or_append_left made.bits xs 0 (start + j) (omega (arith, kept.within, inside)))) (kept.each j inside);
-      }
-]
+made_more t nodes made term xs of there room are = record {
+  kept = λ other start at. elim (cases_eq other term) [
+    | inl same ↦
+        let here : Some (length made.bits) ≡ Some start =
+        sym (ap (λ (k : ℕ). slice_index_or (slice_set made.starts term (Some (length made.bits))) k None) same
+        ∙ get_or-set_same made.starts term (Some (length made.bits)) None room) ∙ at in
+        let begins : start ≡ length made.bits = cc in
+        record {
+          there = omega (arith, there, same);
+          within = subst (λ (k : ℕ). start + term_width t k ≤ length (made.bits ++ xs)) (sym same)
+              (omega (arith, begins, are.count, length-append made.bits xs));
+          each = λ j inside.
+              let wide : j < length xs = omega (arith, are.count, ap (λ (k : ℕ). term_width t k) same, inside) in
+              let at_xs : slice_index (made.bits ++ xs) (start + j) ≡ slice_index xs j =
+              ap (λ (k : ℕ). slice_index (made.bits ++ xs) (k + j)) begins ∙ get_or-append-add made.bits xs j 0 in
+              subst (λ x. StandsFor nodes x (bit t other j)) (sym at_xs)
+              (subst (λ (k : ℕ). StandsFor nodes (slice_index xs j) (bit t k j)) (sym same) (are.each j wide));
+        }
+    | inr differ ↦
+        let before : start_of made other ≡ Some start =
+        sym (get_or-set_other made.starts term other (Some (length made.bits)) None differ) ∙ at in
+        let kept = of.kept other start before in
+        record {
+          there = kept.there;
+          within = omega (arith, kept.within, length-append made.bits xs);
+          each = λ j inside. subst (λ x. StandsFor nodes x (bit t other j))
+              (sym (get_or_append_left made.bits xs 0 (start + j) (omega (arith, kept.within, inside)))) (kept.each j inside);
+        }
+  ];
+}
 
 -- ---- whether a term was made
 
@@ -206,5 +196,7 @@ first_missing made xs x is =
 -- what begins where it began and has the same bits is as right
 pub same_of : (t : Table) (nodes : List Node) (old new : Made)
     → ((other : ℕ) → start_of new other ≡ start_of old other) → new.bits ≡ old.bits → IsOf t nodes old → IsOf t nodes new
-same_of t nodes old new starts bits of term start at =
-    subst (λ (xs : List ℕ). AreKept t nodes xs term start) (sym bits) (of term start (sym (starts term) ∙ at))
+same_of t nodes old new starts bits of = record {
+  kept = λ term start at. subst (λ (xs : List ℕ). AreKept t nodes xs term start) (sym bits)
+      (of.kept term start (sym (starts term) ∙ at));
+}

@@ -37,8 +37,8 @@ pub record AreKept (t : Table) (nodes : List Node) (bits : List ℕ) (term start
   pub each : (j : ℕ) → j < term_width t term → StandsFor nodes (slice_index bits (start + j)) (bit t term j)
 
 -- what was made is right for a table of terms and for diagrams
-abbrev pub IsOf : Table → List Node → Made → Type 0
-IsOf t nodes made = (term start : ℕ) → start_of made term ≡ Some start → AreKept t nodes made.bits term start
+pub record IsOf (t : Table) (nodes : List Node) (made : Made) : Type 0 where
+  pub kept : (term start : ℕ) → start_of made term ≡ Some start → AreKept t nodes made.bits term start
 
 -- what is right for a table is right for one with more terms
 abbrev pub StaysWithTerms : Type 0

@@ -15,3 +15,6 @@ pub use blast::Blast;
 pub use fault::BlastFault;
 pub use laws::{stays_with_diagrams, stays_with_terms};
 pub use split::Split;
+
+#[cfg(test)]
+mod tests;
