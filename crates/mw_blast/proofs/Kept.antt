@@ -1,23 +1,19 @@
 -- What was made, along terms and diagrams that grow, and with more made.
-use Rattle.std.proofs.Common.{◌≡◌, ◌⊎◌, inl, inr, ℕ, zero, suc, ◌+◌, ◌-◌, ◌<◌, ◌≤◌, List, [], ◌∷◌, ◌++◌, length, take, drop}
-use Rattle.std.proofs.Common.{◌/◌, ◌%◌, ◌^◌, slice_index, refl, ap, sym, ◌∙◌, arith, subst, length-append}
-use Rattle.std.specs.Prelude.{Bool, true, false, ◌==◌, Option, Some, None, slice_index_or, slice_set, not, find, cond}
+use Rattle.std.proofs.Common.{◌≡◌, inl, inr, ℕ, zero, suc, ◌+◌, ◌<◌, ◌≤◌, List, [], ◌∷◌, ◌++◌, length, drop}
+use Rattle.std.proofs.Common.{slice_index, refl, ap, sym, ◌∙◌, arith, subst, length-append}
+use Rattle.std.specs.Prelude.{Bool, true, false, Option, Some, None, slice_index_or, slice_set, not, find, cond}
 use Rattle.std.specs.Prelude.{is_some, Contains, All}
 use Rattle.std.proofs.lemmas.Bool.{cases_eq}
 use Rattle.std.proofs.lemmas.List.{get_or_append_left, get_or-append-add, get_or-set_same, get_or-set_other}
 use Rattle.std.proofs.lemmas.List.{take-append-drop}
-use Rattle.mw_term.specs.declared.op.Op.{Op}
 use Rattle.mw_base.specs.Words.{bit_of}
 use Rattle.mw_term.specs.Assigned.{Given}
-use Rattle.mw_term.specs.Functions.{Function}
 use Rattle.mw_term.specs.Rows.{bit}
-use Rattle.mw_term.specs.Table.{Table, Extends, widths_after, widths_of, term_width}
-use Rattle.mw_term.specs.Values.{values_after, values_of, term_value}
+use Rattle.mw_term.specs.Table.{Table, Extends, widths_of, term_width}
+use Rattle.mw_term.specs.Values.{values_of, term_value}
 use Rattle.mw_term.proofs.Tables.{widths_append, widths_begin, values_append, values_begin, widths_count, values_count}
 use Rattle.mw_dd.specs.declared.nodes.Node.{Node}
-use Rattle.mw_dd.specs.Nodes.{IsDd}
-use Rattle.mw_dd.specs.Diagrams.{Keeps}
-use Rattle.mw_blast.specs.Bits.{StandsFor, AreThere, AreFor, AreBits}
+use Rattle.mw_blast.specs.Bits.{StandsFor, AreBits}
 use Rattle.mw_blast.specs.Kept.{Made, made_of, start_of, is_made, AreMade, AreKept, IsOf, StaysWithTerms}
 use Rattle.mw_blast.specs.Kept.{StaysWithDiagrams, unmade}
 use Rattle.mw_blast.proofs.Bits.{stays}

@@ -2,12 +2,12 @@
 use Rattle.std.proofs.Common.{◌≡◌, ℕ, zero, suc, ◌+◌, ◌<◌, List, [], ◌∷◌, ◌++◌, length, refl, ap, sym, ◌∙◌, arith, length-append, subst}
 use Rattle.std.specs.Prelude.{slice_index_or, Bool, if◌then◌else◌, Result, Ok, Err, IfOk, IsErrOf, IsErrAnd, MatchResult}
 use Rattle.std.proofs.lemmas.List.{get_or_append_left, get_or-append-add}
-use Rattle.mw_term.specs.Cofactors.{Agree, HasMoreCofactors, HasAtMostCofactors, AreSame}
+use Rattle.mw_term.specs.Cofactors.{Agree, HasMoreCofactors, AreSame}
 use Rattle.mw_term.specs.Functions.{Function, Triple, ite, made}
 use Rattle.mw_dd.specs.declared.dd.DdFault.{DdFault}
 use Rattle.mw_dd.specs.declared.dd.DdFault.TheVariants.{OverBudget, NoMemory}
 use Rattle.mw_dd.specs.declared.nodes.Node.{Node}
-use Rattle.mw_dd.specs.Nodes.{value_at, function_of, IsDd}
+use Rattle.mw_dd.specs.Nodes.{function_of, IsDd}
 use Rattle.mw_dd.specs.Diagrams.{functions_of}
 use Rattle.mw_dd.proofs.Cofactors.{more-same}
 use Rattle.mw_blast.specs.Bits.{StandsFor}

@@ -1,7 +1,7 @@
 -- What rows over the bits of terms make of ops.
 use Rattle.std.proofs.Common.{◌≡◌, ℕ, zero, suc, ◌+◌, ◌-◌, ◌<◌, ◌≤◌, List, [], ◌∷◌, ◌++◌, length, slice_index, refl, ap}
 use Rattle.std.proofs.Common.{sym, ◌∙◌, arith, subst, inl, inr, length-append, take, drop}
-use Rattle.std.specs.Prelude.{Bool, true, false, if◌then◌else◌, ◌==◌, nat_lt, Result, Ok, Err, MatchResult, slice_get, Some}
+use Rattle.std.specs.Prelude.{Bool, true, if◌then◌else◌, ◌==◌, nat_lt, Result, Ok, Err, MatchResult, slice_get, Some}
 use Rattle.std.proofs.lemmas.Bool.{lt-ltb, le-ltb, cases_lt}
 use Rattle.std.proofs.lemmas.List.{get_or_append_left, get_or-append-add, get_or-take, get_or-drop, length-take-le, length-drop}
 use Rattle.std.proofs.lemmas.Bool.Decides.{nat_tests}
@@ -10,7 +10,7 @@ use Rattle.mw_term.specs.declared.op.Op.TheVariants.{Con, Var, Not, And, Or, Xor
 use Rattle.mw_term.specs.declared.op.Op.TheVariants.{Join, Tab}
 use Rattle.mw_base.specs.Words.{bit_of}
 use Rattle.mw_term.specs.Cofactors.{variable, value_of}
-use Rattle.mw_term.specs.Functions.{Function, never, always, Triple, ite, made}
+use Rattle.mw_term.specs.Functions.{Function, never, always, Triple, made}
 use Rattle.mw_term.specs.Rows.{bit, difference, next_carry, next_equal, next_less, carry_into, equal_before, less_before, xor_row}
 use Rattle.mw_term.specs.Rows.{carry_row, operations, row_bits, row, last_made, fourth_made, bit_made}
 use Rattle.mw_term.specs.Table.{Table, IsTable, ArePair, op_width, widths_of, term_width, width_over}

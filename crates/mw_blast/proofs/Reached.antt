@@ -1,6 +1,6 @@
 -- Terms that are reached through operands.
-use Rattle.std.proofs.Common.{◌≡◌, ℕ, zero, suc, ◌<◌, ◌≤◌, List, [], ◌∷◌, length, take, refl, sym, ◌∙◌, subst, arith, inl, inr}
-use Rattle.std.specs.Prelude.{slice_get, slice_index_or, Some, All, Contains}
+use Rattle.std.proofs.Common.{◌≡◌, ℕ, zero, suc, ◌<◌, List, [], ◌∷◌, length, take, refl, subst, arith, inl, inr}
+use Rattle.std.specs.Prelude.{slice_get, Some, All, Contains}
 use Rattle.std.proofs.lemmas.List.{length-take-le}
 use Rattle.std.proofs.lemmas.Option.{slice_get_within}
 use Rattle.mw_term.specs.declared.op.Op.{Op}
@@ -16,7 +16,7 @@ use Rattle.mw_blast.specs.declared.fault.BlastFault.{BlastFault}
 use Rattle.mw_blast.specs.declared.fault.BlastFault.TheVariants as blast
 use Rattle.mw_blast.specs.declared.fault.RowFault.{RowFault}
 use Rattle.mw_blast.specs.declared.fault.RowFault.TheVariants.{Over, NoMemory}
-use Rattle.mw_blast.specs.Causes.{operands, IsReached, IsOver, IsCause}
+use Rattle.mw_blast.specs.Causes.{operands, IsReached, IsCause}
 use Rattle.mw_blast.specs.Causes.IsReached.{itself, through}
 use Rattle.mw_blast.specs.Rows.{IsRefused, IsRefusedAt, fault_at, fault_of}
 use Rattle.mw_blast.specs.Splits.{path_zero, path_one, IsSplitCause}

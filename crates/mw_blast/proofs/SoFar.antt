@@ -1,5 +1,5 @@
 -- What a row made at the bits before one.
-use Rattle.std.proofs.Common.{◌≡◌, ℕ, zero, suc, ◌+◌, ◌<◌, List, [], ◌∷◌, ◌++◌, length, slice_index, refl, ap, arith}
+use Rattle.std.proofs.Common.{◌≡◌, ℕ, suc, ◌+◌, ◌<◌, List, [], ◌∷◌, ◌++◌, length, slice_index, refl, arith}
 use Rattle.std.proofs.Common.{length-append, subst, sym}
 use Rattle.mw_term.specs.Functions.{Function, Triple}
 use Rattle.mw_dd.specs.declared.dd.DdFault.{DdFault}
@@ -9,7 +9,7 @@ use Rattle.mw_dd.specs.Nodes.{IsDd}
 use Rattle.mw_dd.specs.Diagrams.{Keeps}
 use Rattle.mw_blast.specs.declared.rows.Row.{Row}
 use Rattle.mw_blast.specs.declared.rows.Step.{Step}
-use Rattle.mw_blast.specs.Bits.{StandsFor, AreThere, StandEach}
+use Rattle.mw_blast.specs.Bits.{StandsFor, StandEach}
 use Rattle.mw_blast.specs.Rows.{row_operations, carried, bit_at, operations_at, IsStep, IsRefused, IsRefusedAt, fault_at, IsSoFar}
 use Rattle.mw_blast.proofs.Bits.{operand, stay_each, stay_there, keeps-itself, keeps-then, each_push}
 

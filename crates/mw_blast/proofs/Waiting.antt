@@ -1,15 +1,15 @@
 -- Terms that wait for their operands.
-use Rattle.std.proofs.Common.{◌≡◌, ◌⊎◌, inl, inr, ℕ, zero, suc, ◌+◌, ◌-◌, ◌*◌, ◌<◌, ◌≤◌, List, [], ◌∷◌, ◌++◌, length, take}
+use Rattle.std.proofs.Common.{◌≡◌, inl, inr, ℕ, zero, suc, ◌+◌, ◌-◌, ◌*◌, ◌<◌, ◌≤◌, List, [], ◌∷◌, ◌++◌, length, take}
 use Rattle.std.proofs.Common.{slice_index, refl, ap, sym, ◌∙◌, arith, subst, length-append}
-use Rattle.std.specs.Prelude.{Bool, true, false, Some, None, slice_get, slice_index_or, slice_set, is_some, Contains, not, find}
-use Rattle.std.proofs.lemmas.Bool.{cases_lt, cases_eq}
+use Rattle.std.specs.Prelude.{false, Some, None, slice_get, slice_index_or, slice_set, is_some, Contains, not, find}
+use Rattle.std.proofs.lemmas.Bool.{cases_lt}
 use Rattle.std.proofs.lemmas.List.{get_or_append_left, get_or_push, get_or-take, length-take-le, length-set}
 use Rattle.mw_term.specs.declared.op.Op.{Op}
 use Rattle.mw_term.specs.Table.{Table, IsTable}
 use Rattle.mw_blast.specs.declared.fault.BlastFault.{BlastFault}
 use Rattle.mw_blast.specs.Causes.{operands, IsReached, IsCause}
 use Rattle.mw_blast.specs.Causes.IsReached.{itself}
-use Rattle.mw_blast.specs.Kept.{Made, made_of, is_made, AreMade, unmade, AreWaiting, IsOnTheWay, distance}
+use Rattle.mw_blast.specs.Kept.{Made, is_made, AreMade, unmade, IsOnTheWay, distance}
 use Rattle.mw_blast.proofs.Bits.{each_push}
 use Rattle.mw_blast.proofs.Kept.{made_same, made_other, unmade_fewer, all_made, first_missing}
 use Rattle.mw_blast.proofs.Reached.{reached_on, operand_before, cause_on}

@@ -5,7 +5,6 @@ use Rattle.mw_term.specs.Functions.{Function, never, Triple, ite, made}
 use Rattle.mw_term.specs.Rows.{bit}
 use Rattle.mw_term.specs.Table.{Table}
 use Rattle.mw_dd.specs.declared.nodes.Node.{Node}
-use Rattle.mw_dd.specs.Nodes.{function_of}
 use Rattle.mw_blast.specs.declared.split.Split.{Split}
 use Rattle.mw_blast.specs.declared.fault.BlastFault.{BlastFault}
 use Rattle.mw_blast.specs.declared.fault.BlastFault.TheVariants.{Over, NoMemory}

@@ -1,4 +1,4 @@
-use Rattle.std.proofs.Common.{◌≡◌, ℕ, ◌+◌, ◌<◌, [], ◌∷◌, length, slice_index, refl, ap, sym, ◌∙◌, arith, subst, length-append}
+use Rattle.std.proofs.Common.{◌≡◌, ℕ, [], ◌∷◌, length, refl, sym, arith, subst, length-append}
 use Rattle.mw_term.specs.Rows.{last_made}
 use Rattle.mw_blast.specs.Bits.{StandsFor, AreFor}
 use Rattle.mw_blast.specs.Entries.{entry_row}

@@ -1,9 +1,9 @@
-use Rattle.std.proofs.Common.{◌≡◌, ℕ, ◌+◌, ◌-◌, ◌^◌, ◌<◌, ◌/◌, List, length, slice_index, refl, ap, sym, ◌∙◌, arith, subst}
+use Rattle.std.proofs.Common.{◌≡◌, ℕ, ◌-◌, ◌<◌, ◌/◌, List, length, ap, ◌∙◌, arith, subst}
 use Rattle.std.proofs.lemmas.Nat.{pow_pos}
 use Rattle.std.proofs.lemmas.List.{get_or_read}
 use Rattle.mw_dd.specs.declared.dd.DdFault.TheVariants.{NoMemory}
-use Rattle.mw_blast.specs.Entries.{bits_at, entry_row}
-use Rattle.mw_blast.proofs.Bits.{keeps-itself, keeps-then}
+use Rattle.mw_blast.specs.Entries.{bits_at}
+use Rattle.mw_blast.proofs.Bits.{keeps-then}
 use Rattle.mw_blast.proofs.Choices.{begin_left, pairs_left, Halves, next_left, RefusesHalves, refused_left, end_left}
 use Rattle.mw_blast.proofs.Operations.{handed_on}
 use Rattle.mw_blast.proofs.entry.entry_bit.Goals as goal

@@ -1,7 +1,6 @@
 use Rattle.std.proofs.Common.{◌≡◌, ℕ, ◌+◌, ◌*◌, ◌/◌, ◌<◌, length, slice_index, refl, ap, sym, ◌∙◌, arith, subst}
 use Rattle.std.proofs.Common.{[], ◌∷◌, length-append}
 use Rattle.std.proofs.lemmas.List.{get_or_read}
-use Rattle.mw_term.specs.Functions.{ite, made}
 use Rattle.mw_dd.specs.declared.dd.DdFault.TheVariants.{NoMemory}
 use Rattle.mw_dd.specs.Nodes.{IsDd}
 use Rattle.mw_blast.specs.Bits.{StandsFor, AreFor}

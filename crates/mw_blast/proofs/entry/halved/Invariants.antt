@@ -1,4 +1,4 @@
-use Rattle.std.proofs.Common.{◌≡◌, ℕ, List, length}
+use Rattle.std.proofs.Common.{◌≡◌, List, length}
 use Rattle.mw_term.specs.Functions.{Function}
 use Rattle.mw_dd.specs.Diagrams.{Keeps}
 use Rattle.mw_blast.specs.Bits.{StandsFor, AreThere, AreFor}

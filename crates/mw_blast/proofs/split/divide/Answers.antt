@@ -1,6 +1,5 @@
 use Rattle.std.proofs.Common.{[], ◌∷◌}
 use Rattle.mw_term.specs.Functions.{never, made}
-use Rattle.mw_dd.specs.Diagrams.{Keeps}
 use Rattle.mw_blast.specs.Bits.{StandsFor}
 use Rattle.mw_blast.specs.Splits.{path_zero, path_one}
 use Rattle.mw_blast.proofs.Bits.{stays}

@@ -1,4 +1,4 @@
-use Rattle.std.proofs.Common.{length, ◌<◌, arith, take_all}
+use Rattle.std.proofs.Common.{length, ◌<◌, arith}
 use Rattle.std.proofs.lemmas.List.{get_or_read}
 use Rattle.mw_blast.proofs.Bits.{keeps-then}
 use Rattle.mw_blast.proofs.SoFar.{none_so_far, one_more, step_refused}

@@ -1,4 +1,3 @@
-use Rattle.std.proofs.Common.{sym}
 use Rattle.mw_blast.specs.declared.fault.BlastFault.TheVariants.{NoMemory}
 use Rattle.mw_blast.specs.Causes.{IsCause}
 use Rattle.mw_blast.proofs.Operations.{handed_on}

@@ -1,4 +1,4 @@
-use Rattle.std.proofs.Common.{◌≡◌, ◌<◌, length, slice_index, sym, ◌∙◌, arith}
+use Rattle.std.proofs.Common.{◌≡◌, ◌<◌, length, slice_index, arith}
 use Rattle.std.proofs.lemmas.List.{get_or_read}
 use Rattle.mw_term.specs.Rows.{bit}
 use Rattle.mw_dd.specs.Nodes.{function_of}

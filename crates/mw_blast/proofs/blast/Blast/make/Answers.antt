@@ -1,4 +1,4 @@
-use Rattle.std.proofs.Common.{◌≡◌, ℕ, ◌<◌, List, length, ap, sym, ◌∙◌, arith, subst}
+use Rattle.std.proofs.Common.{length, ap}
 use Rattle.mw_blast.specs.declared.fault.BlastFault.TheVariants.{NoMemory}
 use Rattle.mw_blast.specs.Causes.{IsCause}
 use Rattle.mw_blast.proofs.Kept.{stays_with_diagrams, made_more}

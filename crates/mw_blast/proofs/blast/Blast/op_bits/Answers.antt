@@ -1,18 +1,15 @@
-use Rattle.std.proofs.Common.{◌≡◌, ℕ, ◌+◌, ◌<◌, ◌≤◌, List, [], ◌∷◌, length, refl, ap, sym, ◌∙◌, arith, subst}
-use Rattle.mw_term.specs.declared.op.Op.TheVariants.{Con, Var, Not, And, Or, Xor, Sum, Cout, Ovf, Eq, Lt, Ite, Part, Join}
-use Rattle.mw_term.specs.declared.op.Op.TheVariants.{Tab}
+use Rattle.std.proofs.Common.{ℕ, ◌+◌, ◌≤◌, List, length, refl, arith, subst}
+use Rattle.mw_term.specs.declared.op.Op.TheVariants.{Not, And, Or, Xor, Sum, Cout, Eq, Lt, Ite}
 use Rattle.mw_term.specs.Functions.{never, always}
 use Rattle.std.specs.Prelude.{MatchResult}
 use Rattle.mw_term.specs.Rows.{bit, last_made}
 use Rattle.mw_term.specs.Table.{term_width}
 use Rattle.mw_term.proofs.Tables.{widths_count, widths_range}
 use Rattle.mw_blast.specs.declared.rows.Row.TheVariants as rows
-use Rattle.mw_blast.specs.declared.fault.RowFault.TheVariants.{NoMemory}
 use Rattle.mw_blast.specs.Bits.{AreFor}
 use Rattle.mw_blast.specs.Entries.{entry_row}
 use Rattle.mw_blast.specs.Rows.{IsRefusedAt}
 use Rattle.mw_blast.specs.Causes.{operands}
-use Rattle.mw_blast.proofs.Operations.{handed_on}
 use Rattle.mw_blast.proofs.Ops.{ready_two, two_made, makes, not_makes, and_makes, or_makes, xor_makes, sum_makes, choice_makes}
 use Rattle.mw_blast.proofs.Ops.{makes_top, out_makes, equal_makes, less_makes, overflow_makes, constant_made}
 use Rattle.mw_blast.proofs.Ops.{variable_made, part_slice, part_made, join_made, entry_makes}

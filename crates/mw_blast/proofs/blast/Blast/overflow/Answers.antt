@@ -1,4 +1,4 @@
-use Rattle.std.proofs.Common.{◌≡◌, ℕ, ◌-◌, ◌<◌, ◌≤◌, List, length, slice_index, ap, sym, ◌∙◌, arith, subst}
+use Rattle.std.proofs.Common.{◌≡◌, ℕ, ◌-◌, ◌<◌, ◌≤◌, List, length, slice_index, ap, sym, arith, subst}
 use Rattle.std.proofs.lemmas.List.{get_or_read}
 use Rattle.mw_term.specs.declared.op.Op.TheVariants.{Ovf}
 use Rattle.mw_term.specs.Functions.{Function, made}

@@ -1,4 +1,4 @@
-use Rattle.std.proofs.Common.{ℕ, ◌<◌, length, sym, ◌∙◌, arith, subst}
+use Rattle.std.proofs.Common.{ℕ, sym, ◌∙◌, arith, subst}
 use Rattle.std.specs.Prelude.{MatchResult}
 use Rattle.std.proofs.lemmas.Result.{IfOk-weaker}
 use Rattle.mw_term.specs.Rows.{bit}

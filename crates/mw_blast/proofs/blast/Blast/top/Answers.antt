@@ -1,8 +1,7 @@
-use Rattle.std.proofs.Common.{◌≡◌, ℕ, ◌-◌, ◌<◌, ◌≤◌, length, slice_index, ap, sym, ◌∙◌, arith, subst}
+use Rattle.std.proofs.Common.{◌≡◌, ℕ, ◌-◌, ◌<◌, length, slice_index, ap, arith, subst}
 use Rattle.std.proofs.lemmas.List.{get_or_read}
 use Rattle.mw_term.specs.Rows.{bit}
 use Rattle.mw_term.specs.Table.{term_width}
-use Rattle.mw_term.proofs.Tables.{widths_count}
 use Rattle.mw_blast.specs.declared.fault.RowFault.TheVariants.{NoMemory}
 use Rattle.mw_blast.specs.Bits.{StandsFor}
 use Rattle.mw_blast.specs.Rows.{bit_at}

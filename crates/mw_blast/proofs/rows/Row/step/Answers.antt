@@ -1,5 +1,4 @@
 use Rattle.mw_term.specs.Functions.{never, always}
-use Rattle.mw_blast.specs.declared.rows.Row.{Row}
 use Rattle.mw_blast.specs.declared.rows.Row.TheVariants.{Not, And, Or, Xor, Carry, Equal, Less, Choice}
 use Rattle.mw_blast.proofs.Bits.{stays}
 use Rattle.mw_blast.proofs.Operations.{alone_step, along_step}
