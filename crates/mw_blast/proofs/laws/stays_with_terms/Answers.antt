@@ -1,0 +1,5 @@
+use Rattle.mw_blast.proofs.Kept.{stays_with_terms}
+use Rattle.mw_blast.proofs.laws.stays_with_terms.Goals as goal
+
+pub returns : goal.returns
+returns c = stays_with_terms

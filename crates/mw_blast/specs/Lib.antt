@@ -1,0 +1,6 @@
+pub mod Bits
+pub mod Causes
+pub mod Entries
+pub mod Kept
+pub mod Rows
+pub mod Splits

@@ -1,0 +1,20 @@
+//! The bits of terms as Boolean functions, made by the rows of the term table within a budget.
+#![tactic(auto)]
+
+mod blast;
+mod entry;
+mod fault;
+mod functions;
+mod laws;
+mod op_bits;
+mod rows;
+mod split;
+mod words;
+
+pub use blast::Blast;
+pub use fault::BlastFault;
+pub use laws::{stays_with_diagrams, stays_with_terms};
+pub use split::Split;
+
+#[cfg(test)]
+mod tests;

@@ -1,0 +1,41 @@
+// A path in two.
+ghost use Rattle.std.specs.Prelude.{[], ◌∷◌, MatchResult};
+ghost use Rattle.mw_term.specs.Functions.{Function};
+ghost use Rattle.mw_dd.specs.Nodes.{IsDd};
+ghost use Rattle.mw_dd.specs.Diagrams.{Keeps};
+ghost use Rattle.mw_blast.specs.Bits.{StandsFor};
+ghost use Rattle.mw_blast.specs.Rows.{IsRefused};
+ghost use Rattle.mw_blast.specs.Splits.{path_zero, path_one, IsSplit};
+
+use crate::rows::operate;
+use mw_dd::{Dd, DdFault, Diagrams};
+use std::alloc::Global;
+
+/// A path of a run, split by a bit.
+#[derive(Clone, Copy, Debug, PartialEq, Eq)]
+pub struct Split {
+    /// The path where the bit is 0.
+    pub zero: Dd,
+    /// The path where the bit is 1.
+    pub one: Dd,
+}
+
+/// A path in two: where a bit is 0, and where it is 1.
+pub(crate) fn divide(
+    dds: &mut Diagrams,
+    alloc: Global,
+    path: Dd,
+    bit: Dd,
+    budget: u32,
+) -> Result<Split, DdFault>
+    requires path { IsDd dds.old path }
+    requires bit { IsDd dds.old bit }
+    ensures made { (P B : Function) → StandsFor dds.old path P → StandsFor dds.old bit B
+        → MatchResult result (IsSplit dds.new P B budget) (IsRefused (path_zero P B ∷ path_one P B ∷ []) budget) }
+    ensures keeps { Keeps dds.old dds.new }
+{
+    let never = dds.constant(false);
+    let zero = operate(dds, alloc, bit, never, path, budget)?;
+    let one = operate(dds, alloc, bit, path, never, budget)?;
+    Ok(Split { zero, one })
+}
