@@ -1,5 +1,5 @@
 // The table of terms.
-ghost use Rattle.std.specs.Prelude.{◌≡◌, ℕ, ◌<◌, ◌^◌, ◌↔◌, [], length, slice_get, IsTrue, IfOk, OnOk, OnErr};
+ghost use Rattle.std.specs.Prelude.{◌≡◌, ℕ, ◌++◌, ◌∷◌, ◌<◌, ◌^◌, ◌↔◌, [], length, slice_get, IsTrue, IfOk, OnOk, OnErr};
 ghost use Rattle.mw_term.specs.Assigned.{given_by};
 ghost use Rattle.mw_term.specs.Table.{table_of, term_width, widths_of, width_over, AreWidths, Extends, Fits, IsMap};
 ghost use Rattle.mw_term.specs.Table.{IsTable, IsWidth};
@@ -87,6 +87,8 @@ impl Terms {
     pub fn build(&mut self, _alloc: Global, op: Op) -> Result<Term, NoMemory>
         requires { Fits self.old op }
         ensures made { IfOk result (λ term. IsTermOf self.old self.new op term) }
+        ensures place { IfOk result (λ term. term ≡ length self.old.ops) }
+        ensures appends { OnOk result (self.new ≡ table_of (self.old.ops ++ op ∷ []) self.old.map) }
         ensures extends { Extends self.old self.new }
         ensures keeps { Keeps self.old self.new }
         ensures table { IsTable self.new }
