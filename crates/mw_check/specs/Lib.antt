@@ -1,1 +1,3 @@
+pub mod Comparison
+pub mod Made
 pub mod Question

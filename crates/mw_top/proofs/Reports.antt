@@ -1,16 +1,19 @@
 -- From what the files of a request come to, to the report that its status permits.
 use Rattle.std.proofs.Common.{◌≡◌, ℕ, List, true, Some, refl, ap, subst}
+use Rattle.mw_check.specs.declared.equality.Equality.{Equality}
+use Rattle.mw_check.specs.declared.equality.Equality.TheVariants as equalities
 use Rattle.mw_plan.specs.Files.{FilesRead, IsLeft}
 use Rattle.mw_plan.specs.Plan.{done}
 use Rattle.mw_top.specs.declared.commands.Work.{Work}
 use Rattle.mw_top.specs.declared.commands.Work.TheVariants as works
-use Rattle.mw_top.specs.declared.commands.compare.Compared.{Compared}
-use Rattle.mw_top.specs.declared.commands.compare.Compared.TheVariants as compared
+use Rattle.mw_check.specs.declared.comparison.Compared.{Compared}
+use Rattle.mw_check.specs.declared.comparison.Compared.TheVariants as compared
 use Rattle.mw_top.specs.declared.status.Status.{Status}
 use Rattle.mw_top.specs.declared.status.Status.TheVariants.{Done, Differs, Unknown, Usage, Refused, ReadFault, WriteFault, NoMemory}
 use Rattle.mw_top.specs.Answer.{is_worked, IsWorked, IsReport}
 use Rattle.mw_top.specs.Call.{Call}
 use Rattle.mw_top.specs.Commands.Compare.{compare_status}
+use Rattle.mw_top.specs.Commands.Equal.{equality_status}
 use Rattle.mw_top.specs.Commands.Table.{plan_of, IsAnswer}
 use Rattle.mw_top.specs.Request.{RequestData, request_of, files_of}
 
@@ -20,6 +23,11 @@ compared_is_worked : (shown : Compared) → is_worked (compare_status shown) ≡
 compared_is_worked compared.Same = refl
 compared_is_worked (compared.Differs step difference) = refl
 
+equality_is_worked : (equality : Equality) → is_worked (equality_status equality) ≡ true
+equality_is_worked equalities.Yes = refl
+equality_is_worked (equalities.No values) = refl
+equality_is_worked (equalities.Unknown word bit) = refl
+
 answer_is_worked : (request : RequestData) (work : Work) (status : Status) (report : List ℕ)
     → IsAnswer request work status report → is_worked status ≡ true
 answer_is_worked request (works.Comparison comparison) status report answer =
@@ -27,6 +35,8 @@ answer_is_worked request (works.Comparison comparison) status report answer =
 answer_is_worked request (works.Assembly program) status report answer = rw answer.status_is refl
 answer_is_worked request (works.Run prepared) status report answer = rw answer.status_is refl
 answer_is_worked request (works.Trace trace) status report answer = rw answer.status_is refl
+answer_is_worked request (works.Question question) status report answer =
+    rw answer.status_is (equality_is_worked answer.equality)
 
 -- the report of work that was done
 worked_is_report : (call : Call) (status : Status) (report : List ℕ) → is_worked status ≡ true

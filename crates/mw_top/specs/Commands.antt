@@ -2,6 +2,7 @@
 pub mod Asm
 pub mod Compare
 pub mod Debug
+pub mod Equal
 pub mod Prepared
 pub mod Run
 pub mod Table

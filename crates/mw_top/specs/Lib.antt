@@ -5,7 +5,6 @@ pub mod Commands
 pub mod Laws
 pub mod Line
 pub mod LineRead
-pub mod Made
 pub mod Options
 pub mod Report
 pub mod Request

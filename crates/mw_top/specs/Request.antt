@@ -6,7 +6,7 @@ use Rattle.clap.specs.Kinds.{Kinds}
 use Rattle.clap.specs.Words.{Row, all_of, fault_of, first_of, matches_of}
 use Rattle.mw_plan.specs.Files.{FilesRead}
 use Rattle.mw_top.specs.declared.request.Command.{Command}
-use Rattle.mw_top.specs.declared.request.Command.TheVariants.{Asm, Compare, Debug, Run}
+use Rattle.mw_top.specs.declared.request.Command.TheVariants.{Asm, Compare, Debug, Equal, Run}
 use Rattle.mw_top.specs.declared.request.Request.{Request}
 use Rattle.mw_top.specs.declared.request.options.Number.{Number}
 use Rattle.mw_top.specs.declared.request.options.Number.TheVariants.{Nodes, Paths, Steps, Cycles}
@@ -54,10 +54,11 @@ row_of Compare = record { word = codes "compare"; files = 5; numbers = Steps ∷
 row_of Asm = record { word = codes "asm"; files = 2; numbers = []; parts = false }
 row_of Run = record { word = codes "run"; files = 3; numbers = Cycles ∷ []; parts = true }
 row_of Debug = record { word = codes "debug"; files = 4; numbers = []; parts = false }
+row_of Equal = record { word = codes "equal"; files = 1; numbers = Nodes ∷ []; parts = false }
 
 -- the commands
 abbrev pub commands : List Command
-commands = Compare ∷ Asm ∷ Run ∷ Debug ∷ []
+commands = Compare ∷ Asm ∷ Run ∷ Debug ∷ Equal ∷ []
 
 -- the command of a word
 abbrev pub command_of : List ℕ → Option Command

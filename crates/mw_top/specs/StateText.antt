@@ -8,10 +8,11 @@ use Rattle.mw_board.specs.Elements.{element_count, element_name, stack_pointer_n
 use Rattle.mw_cycle.specs.Elements.{element}
 use Rattle.mw_cycle.specs.State.{BoardState}
 use Rattle.mw_sim.specs.Texts.{line}
+use Rattle.mw_top.specs.Report.{value_line}
 
 -- the line that sets an element with a name; none where its value is 0
-unfoldable pub set_line : List ℕ → ℕ → List ℕ
-set_line name value = if value == 0 then [] else line (codes "set b." ++ name ++ 32 ∷ hex value)
+abbrev pub set_line : List ℕ → ℕ → List ℕ
+set_line name value = value_line (codes "set b.") name value
 
 -- the line of the element with a number
 abbrev pub element_line : BoardParts → BoardState → ℕ → List ℕ

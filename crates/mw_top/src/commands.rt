@@ -8,11 +8,13 @@ ghost use Rattle.mw_top.specs.Request.{data_of, row_of};
 mod asm;
 mod compare;
 mod debug;
+mod equal;
 mod microprogram;
 mod prepared;
 mod run;
 
 use self::compare::Comparison;
+use self::equal::Asked;
 use self::microprogram::Program;
 use self::prepared::Prepared;
 use crate::fault::Fault;
@@ -34,6 +36,8 @@ pub(crate) enum Work {
     Run(Prepared),
     /// The trace of a script.
     Trace(Items<u8>),
+    /// A question.
+    Question(Asked),
 }
 
 /// Reads the files of a command, and makes of them what its plan says.
@@ -54,6 +58,7 @@ pub(crate) fn read_files<S: Shelf>(
         Command::Asm => asm::read(alloc, shelf, files),
         Command::Run => run::read(alloc, shelf, files),
         Command::Debug => debug::read(alloc, shelf, files),
+        Command::Equal => equal::read(alloc, shelf, files),
     }
 }
 
@@ -68,5 +73,6 @@ pub(crate) fn answer_with(alloc: Global, request: &Request, work: Work) -> Resul
         Work::Assembly(program) => asm::report(alloc, &program),
         Work::Run(prepared) => run::report(alloc, prepared, request.cycles, request.parts),
         Work::Trace(trace) => Ok(debug::report(trace)),
+        Work::Question(asked) => equal::report(alloc, &asked, request.nodes),
     }
 }

@@ -25,6 +25,8 @@ pub enum Command {
     Run,
     /// Runs a script: a board file, a microprogram for its board, an environment, and the script.
     Debug,
+    /// Says whether two expressions agree for all values of their variables: a question.
+    Equal,
 }
 
 /// A command with its files and options. An option that isn't the command's own stands as it does where it isn't given.
@@ -34,8 +36,7 @@ pub struct Request {
     pub command: Command,
     /// The names of its files, in the order of the words.
     pub files: Vec<String>,
-    /// The most joint cofactors of an operation: 1 to 16,000,000, and 1,000,000 where it isn't given. No command reads it
-    /// yet.
+    /// The most joint cofactors of an operation: 1 to 16,000,000, and 1,000,000 where it isn't given.
     pub nodes: u32,
     /// The most cases of a boundary: 1 to 65,536, and 4,096 where it isn't given. No command reads it yet.
     pub paths: u32,
@@ -62,7 +63,13 @@ struct Row {
 
 impl Command {
     /// The commands.
-    const ALL: [Command; 4] = [Command::Compare, Command::Asm, Command::Run, Command::Debug];
+    const ALL: [Command; 5] = [
+        Command::Compare,
+        Command::Asm,
+        Command::Run,
+        Command::Debug,
+        Command::Equal,
+    ];
 
     /// The row of the command.
     fn row(self) -> Row
@@ -94,6 +101,12 @@ impl Command {
                 word: "debug",
                 files: 4,
                 numbers: &[],
+                parts: false,
+            },
+            Command::Equal => Row {
+                word: "equal",
+                files: 1,
+                numbers: &[Number::Nodes],
                 parts: false,
             },
         }

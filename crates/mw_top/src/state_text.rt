@@ -4,6 +4,7 @@ ghost use Rattle.mw_board.specs.Elements.{element_count};
 ghost use Rattle.mw_cycle.specs.State.{Fits};
 ghost use Rattle.mw_top.specs.StateText.{element_line, element_lines, memory_lines, set_line, state_text, word_line};
 
+use crate::report::append_value_line;
 use mw_base::{NoMemory, append_hex};
 use mw_board::Board;
 use mw_cycle::State;
@@ -11,16 +12,10 @@ use mw_sim::append_hex_line;
 use std::alloc::Global;
 
 /// Appends the line that sets an element with a name; none where its value is 0.
-#[tactic(auto, unfolding(crate::specs::StateText::set_line))]
 fn append_set(alloc: Global, report: &mut Vec<u8>, name: &[u8], value: u32) -> Result<(), NoMemory>
     ensures { OnOk result (report.new.items ≡ report.old.items ++ set_line name.now value) }
 {
-    if value != 0 {
-        report.extend_from_slice(b"set b.")?;
-        report.extend_from_slice(name)?;
-        append_hex_line(alloc, report, b" ", value)?;
-    }
-    Ok(())
+    append_value_line(alloc, report, b"set b.", name, value)
 }
 
 /// Appends the line of the element with a number.

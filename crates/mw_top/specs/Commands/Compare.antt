@@ -1,23 +1,22 @@
 -- compare: a board file, a microprogram for its board, a described machine, a relation between both, and a start of it.
-use Rattle.std.specs.Prelude.{◌≡◌, ℕ, ◌≤◌, List, ◌++◌, codes}
+use Rattle.std.specs.Prelude.{◌≡◌, ℕ, List, ◌++◌, codes}
 use Rattle.mw_base.specs.Numbers.{decimal}
 use Rattle.mw_asm.specs.declared.assembled.Label.{Label}
 use Rattle.mw_asm.specs.Microprogram.{store_of}
 use Rattle.mw_boardfile.specs.Board.{board_of}
+use Rattle.mw_check.specs.declared.comparison.Compared.{Compared}
+use Rattle.mw_check.specs.declared.comparison.Compared.TheVariants as compared
+use Rattle.mw_check.specs.Comparison.{Shows}
 use Rattle.mw_descfile.specs.Machine.{machine_of}
 use Rattle.mw_descfile.specs.Relation.{relation_of}
 use Rattle.mw_plan.specs.Plan.{Plan, done, ◌>>=◌, next_by}
-use Rattle.mw_rel.specs.Differs.{DiffersAt}
 use Rattle.mw_rel.specs.Job.{Job, IsJob, job_with}
 use Rattle.mw_rel.specs.Start.{Start}
 use Rattle.mw_replay.specs.Counter.{IsCounter, IsStartOf}
 use Rattle.mw_replay.specs.CounterText.{counter_of}
-use Rattle.mw_replay.specs.Replay.{IsReached}
 use Rattle.mw_sim.specs.Texts.{line}
 use Rattle.mw_top.specs.declared.commands.Work.{Work}
 use Rattle.mw_top.specs.declared.commands.Work.TheVariants as works
-use Rattle.mw_top.specs.declared.commands.compare.Compared.{Compared}
-use Rattle.mw_top.specs.declared.commands.compare.Compared.TheVariants as compared
 use Rattle.mw_top.specs.declared.fault.Fault.{Fault}
 use Rattle.mw_top.specs.declared.fault.Fault.TheVariants.{Board, Text}
 use Rattle.mw_top.specs.declared.status.Status.{Status}
@@ -40,11 +39,6 @@ unfoldable pub compare_plan : Plan Fault Work
 compare_plan = job_plan (λ job labels.
     next_by Text (counter_of job labels) >>= λ counter.
     done (works.Comparison (record { job = job; counter = counter })))
-
--- so many steps from a start show this: no difference, or at one of them, counted from 1, the first
-abbrev pub Shows : Job → Start → ℕ → Compared → Type 0
-Shows job start steps compared.Same = (here : Start) × IsReached job start steps here
-Shows job start steps (compared.Differs step difference) = (step ≤ steps) × DiffersAt job start step difference
 
 -- the status of a comparison
 abbrev pub compare_status : Compared → Status

@@ -1,5 +1,5 @@
 // compare: a board file, a microprogram for its board, a described machine, a relation between both, and a start of it.
-ghost use Rattle.std.specs.Prelude.{◌≡◌, ◌+◌, ◌<◌, ◌≤◌, ◌^◌, ◌++◌, List, [], IfOk, None, OnOk, length, true};
+ghost use Rattle.std.specs.Prelude.{◌≡◌, ◌+◌, ◌<◌, ◌≤◌, ◌^◌, ◌++◌, List, [], IfOk, OnOk, length, true};
 ghost use Rattle.mw_base.specs.Reading.{Gives};
 ghost use Rattle.mw_descfile.specs.Machine.{machine_of};
 ghost use Rattle.mw_descfile.specs.Relation.{relation_of};
@@ -8,14 +8,9 @@ ghost use Rattle.mw_outside.specs.Views.{IsLater, ShelfView, shelf_shown};
 ghost use Rattle.mw_plan.specs.Files.{IsLeft};
 ghost use Rattle.mw_plan.specs.Plan.{Plan};
 ghost use Rattle.mw_plan.specs.Steps.{Ends, Follows};
-ghost use Rattle.mw_rel.specs.Differs.{difference_of};
-ghost use Rattle.mw_rel.specs.Job.{AreForEachOther, IsJob, Job as JobOf, job_with, memories_agree};
-ghost use Rattle.mw_rel.specs.Start.{Start};
+ghost use Rattle.mw_rel.specs.Job.{AreForEachOther, Job as JobOf, job_with, memories_agree};
 ghost use Rattle.mw_rel.specs.Views.{job_of};
-ghost use Rattle.mw_replay.specs.Counter.{IsCounter, IsStartOf};
-ghost use Rattle.mw_replay.specs.Replay.{Follows as IsNext, IsReplay, next_start};
-ghost use Rattle.mw_top.specs.Commands.Compare.{compare_plan, compare_status, compare_report, job_plan, IsComparison, Shows};
-ghost use Rattle.mw_top.specs.Made.{HasMade};
+ghost use Rattle.mw_top.specs.Commands.Compare.{compare_plan, compare_status, compare_report, job_plan, IsComparison};
 ghost use Rattle.mw_top.specs.declared.commands.Work.{Work};
 ghost use Rattle.mw_top.specs.declared.fault.Fault.{Fault};
 
@@ -27,14 +22,14 @@ use crate::report::{append_decimal_line, append_difference};
 use crate::status::Status;
 use mw_asm::{Assembled, Label};
 use mw_base::{Items, NoMemory, Refusal};
-use mw_cycle::{Datapath, Whole};
+use mw_check::{Compared, compare};
 use mw_descfile::{read_machine, read_relation};
 use mw_macro::Machine;
 use mw_outside::Shelf;
 use mw_plan::{Files, Stop};
 use mw_rel::{Job, Relation};
-use mw_replay::{Counter, Difference, Replay, read_counter};
-use mw_sim::{Parts, append_line};
+use mw_replay::{Counter, read_counter};
+use mw_sim::append_line;
 use std::alloc::Global;
 use std::marker::Model;
 
@@ -195,87 +190,6 @@ pub(super) fn read<S: Shelf>(
         read_counter(alloc, &labelled.job, labelled.labels.as_slice(), bytes)
     })?;
     Ok(Work::Comparison(Comparison { labelled, counter }))
-}
-
-/// What steps from a start show.
-#[derive(Clone, Copy, Debug, PartialEq, Eq)]
-enum Compared {
-    /// None of them shows a difference.
-    Same,
-    /// One of them does.
-    Differs {
-        /// Which it is, counted from 1.
-        step: u32,
-        /// The first difference that it shows.
-        difference: Difference,
-    },
-}
-
-/// One step of a replay, before which there were so many.
-fn next_step<A: Datapath>(
-    part: &A,
-    job: &Job,
-    replay: &mut Replay,
-    steps: u32,
-) -> Option<Difference>
-    requires stands { IsReplay (job_of job.now) replay.old }
-    requires few { HasMade steps replay.old }
-    ensures shown { result ≡ difference_of (job_of job.now) (next_start (job_of job.now) replay.old) }
-    ensures follows { result ≡ None → IsNext (job_of job.now) (next_start (job_of job.now) replay.old)
-        (next_start (job_of job.now) replay.new) }
-    ensures stands { result ≡ None → IsReplay (job_of job.now) replay.new }
-    ensures few { HasMade (steps + 1) replay.new }
-    ensures valid { IsJob (job_of job.now) }
-{
-    // A call for the proof: its clause `valid` says what holds of every job.
-    let _ = job.shape();
-    replay.step(part, job)
-}
-
-/// Compares so many steps of a replay that has made none.
-fn compare_steps<A: Datapath>(part: &A, job: &Job, replay: &mut Replay, steps: u32) -> Compared
-    requires stands { IsReplay (job_of job.now) replay.old }
-    requires none { HasMade 0 replay.old }
-    ensures { Shows (job_of job.now) (next_start (job_of job.now) replay.old) steps result }
-{
-    for made in 0..steps {
-        if let Some(difference) = next_step(part, job, replay, made) {
-            return Compared::Differs {
-                step: made + 1,
-                difference,
-            };
-        }
-    }
-    Compared::Same
-}
-
-/// The same on a board that works as its parts, or as a whole.
-fn compare_by(parts: bool, job: &Job, replay: &mut Replay, steps: u32) -> Compared
-    requires stands { IsReplay (job_of job.now) replay.old }
-    requires none { HasMade 0 replay.old }
-    ensures { Shows (job_of job.now) (next_start (job_of job.now) replay.old) steps result }
-{
-    if parts {
-        compare_steps(&Parts, job, replay, steps)
-    } else {
-        compare_steps(&Whole, job, replay, steps)
-    }
-}
-
-/// Compares so many steps from a start of a job.
-fn compare(
-    alloc: Global,
-    job: &Job,
-    counter: &Counter,
-    steps: u32,
-    parts: bool,
-) -> Result<Compared, NoMemory>
-    requires { IsCounter (job_of job.now) counter.now }
-    ensures { IfOk result (λ compared. (start : Start) × IsStartOf (job_of job.now) counter.now start
-        × Shows (job_of job.now) start steps compared) }
-{
-    let mut replay = Replay::start(alloc, job, counter)?;
-    Ok(compare_by(parts, job, &mut replay, steps))
 }
 
 /// The status of what a comparison shows.

@@ -1,6 +1,6 @@
 use Rattle.mw_rel.specs.Views.{job_of}
 use Rattle.mw_replay.specs.Replay.{next_start}
-use Rattle.mw_top.proofs.commands.compare.compare.Goals as goal
+use Rattle.mw_check.proofs.comparison.compare.Goals as goal
 
 pub returns : goal.returns
 returns c =

@@ -2,7 +2,7 @@ use Rattle.std.proofs.Common.{◌≡◌, ℕ, refl, sym, subst, arith}
 use Rattle.mw_rel.specs.Views.{job_of}
 use Rattle.mw_replay.specs.Replay.{IsReached, next_start}
 use Rattle.mw_replay.proofs.Steps.{steps_differ}
-use Rattle.mw_top.proofs.commands.compare.compare_steps.Goals as goal
+use Rattle.mw_check.proofs.comparison.compare_steps.Goals as goal
 
 pub loop-made-init : goal.loop-made-init
 loop-made-init g c =

@@ -3,7 +3,7 @@ use Rattle.mw_macro.specs.Described.{description_of}
 use Rattle.mw_macro.proofs.Accepted.{accepted_few}
 use Rattle.mw_rel.specs.Views.{job_of}
 use Rattle.mw_rel.proofs.Relations.{solved_at}
-use Rattle.mw_top.proofs.commands.compare.next_step.Goals as goal
+use Rattle.mw_check.proofs.comparison.next_step.Goals as goal
 
 pub step-requires-clause-cycles : goal.step-requires-clause-cycles
 step-requires-clause-cycles g c =

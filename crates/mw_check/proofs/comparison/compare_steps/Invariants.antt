@@ -1,7 +1,7 @@
 use Rattle.mw_rel.specs.Views.{job_of}
 use Rattle.mw_replay.specs.Replay.{IsReached, IsReplay, next_start}
-use Rattle.mw_top.specs.Made.{HasMade}
-use Rattle.mw_top.proofs.commands.compare.compare_steps.Given as goal
+use Rattle.mw_check.specs.Made.{HasMade}
+use Rattle.mw_check.proofs.comparison.compare_steps.Given as goal
 
 -- so many steps were made, and they show no difference
 abbrev pub invariant-loop-made : goal.invariant-loop-made
