@@ -5,7 +5,7 @@
                             several of them is a set
     rows.py count FILE..    how many rows these files have
 
-Where the stdout of a case is null, its `lines` are what the report begins with.
+Where the stdout of a case is null, its `lines` are what the report's first lines are; the last one may go on.
 """
 import json
 import re
@@ -84,7 +84,7 @@ def case_lines(case, sets):
     for file in case["files"].items():
         given += [f"with {sets[file]}"] if file in sets else file_lines(file[0], contents_of(file[1]))
     if case["stdout"] is None:
-        return row_lines(case["name"], given, f"begins {case['status']}", case["lines"].encode())
+        return row_lines(case["name"], given, f"begins {case['status']}", "\n".join(case["lines"]).encode())
     return row_lines(case["name"], given, f"status {case['status']}", case["stdout"].encode())
 
 
