@@ -14,8 +14,8 @@ import sys
 from itertools import product
 
 from cofactor_table import Tables
-from description_table import counted_lines, lines_of
-from expression_table import Over, Reader, judged, shown, valued
+from description_table import counted_lines, lines_of, many
+from expression_table import Over, Reader, judged, valued
 from microprogram_table import Refused
 from rows import read, words_line
 
@@ -108,7 +108,7 @@ TRUTHS = {"==": "eq", "!=": "eq", "<": "lt"}
 
 
 class Words:
-    """The list of a question: the variables, what the left side makes, what the right side makes, and whether they are equal."""
+    """The list of a question: its variables, what the left side makes, what the right one makes, and whether they are equal."""
 
     def __init__(self, question):
         self.list = []
@@ -199,7 +199,7 @@ class OverBudget(Exception):
 
 
 class Nodes:
-    """Functions, each once: 0 is never, 1 always, and the others have a variable, what is left where it is 0, and where it is 1."""
+    """Functions, each once: 0 is never, 1 always; the others have a variable, what is left where it is 0, and where it is 1."""
 
     always = 1
 
@@ -291,8 +291,8 @@ def differing(question, ones):
     """The lines of an answer no."""
     left, right = question.values(ones)
     assert left != right
-    values = [(name, value) for name, (_, value) in question.over.elements.items() if value]
-    return "".join(["no\n"] + [f"set {name} 0x{value:X}\n" for name, value in values] + [f"left 0x{left:X} right 0x{right:X}\n"])
+    sets = [f"set {name} 0x{value:X}\n" for name, (_, value) in question.over.elements.items() if value]
+    return "".join(["no\n"] + sets + [f"left 0x{left:X} right 0x{right:X}\n"])
 
 
 def tried(question):
@@ -340,9 +340,10 @@ def answer_words(words, text):
 # ---- rows
 
 QUESTIONS = """\
-# Questions: whether two expressions agree for all values of their variables, by `equal`. tools/question_table.py prints the rows up to
-# those that are called cases, and works out the answers from the formats, without the crates; it reads all rows anew. The first
-# six are worked by hand. The answers of the cases come from a second implementation, which shares no code with either.
+# Questions: whether two expressions agree for all values of their variables, by `equal`. tools/question_table.py prints the
+# rows up to identity-0, and works out the answers from the formats, without the crates; it reads all rows anew. The first six
+# are worked by hand. The answers of the rows from identity-0 on come from a second implementation, which shares no code with
+# either.
 """
 
 
@@ -358,8 +359,8 @@ WORKED = [
     ("equal-sum-commutes", "x 8, y 8", "x + y", "y + x", None, "yes\n"),
     # Where bit 0 of x is 0, a sum with 1 and an or with 1 are the same; where it is 1 alone, 2 and 1.
     ("equal-sum-vs-or", "x 8", "x + 1#8", "x | 1#8", None, "no\nset x 0x1\nleft 0x2 right 0x1\n"),
-    # Words 1 and 2 are the variables. The first bit of the sum, word 3, is ite(x xor y, not 0, 0): itself, and where x is fixed y and
-    # not y, which choose between 1 and 0.
+    # Words 1 and 2 are the variables. The first bit of the sum, word 3, is ite(x xor y, not 0, 0): itself, and where x is
+    # fixed y and not y, which choose between 1 and 0.
     ("equal-over-budget", "x 8, y 8", "x + y", "y + x", 1, "unknown word 3 bit 0\n"),
     # Each operation has x alone, and so itself.
     ("equal-x-x", "x 1", "x", "x", 1, "yes\n"),
@@ -403,7 +404,8 @@ SIDES = [
     ("x 8", "{x[3:0], x[7:4]}", "{x[3:0], 0#4} | zext(x[7:4], 8)"),
     ("x 8", "{x[0], x[7:1]}[6:0]", "x[7:1]"),
     ("x 8", "zext(x, 8)[7:0]", "x"),
-    ("x 3", "zext(x[2:2], 32) + zext(x[1:1], 32) + zext(x[0:0], 32)", "{0#30, x[2] & x[1] | x[0] & (x[2] ^ x[1]), x[2] ^ x[1] ^ x[0]}"),
+    ("x 3", "zext(x[2:2], 32) + zext(x[1:1], 32) + zext(x[0:0], 32)",
+     "{0#30, x[2] & x[1] | x[0] & (x[2] ^ x[1]), x[2] ^ x[1] ^ x[0]}"),
     ("a 8, b 8, c 8, d 8", "(a + b) + (c + d)", "(a + d) + (c + b)"),
     ("a 4, b 4, c 4", "a - b - c", "a - (b + c)"),
     ("", "1#4 - 2#4", "0xF#4"),
@@ -442,8 +444,8 @@ SIDES = [
     ("", "0#32", "0xFFFFFFFF#32"),
 ]
 
-# Variables, left side, right side: of each the least budget under which it is answered, the one below, and some budgets where other
-# operations are over. No operation has a constant as its operand, or the same word twice: a rule could spare it.
+# Variables, left side, right side: of each the least budget under which it is answered, the one below, and some budgets where
+# other operations are over. No operation has a constant as its operand, or the same word twice: a rule could spare it.
 LADDERS = [
     ("x 1, y 1", "~(x & y)", "~x | ~y"),
     ("x 1, y 1", "x | y", "y | x"),
@@ -458,7 +460,8 @@ LADDERS = [
     ("x 4, y 4", "{x[1:0] + y[1:0], x[3:2] ^ y[3:2]}", "{x, y}[3:0] ^ x"),
     ("x 6, y 6", "x[2:0] & y[5:3]", "y[5:3] & x[2:0]"),
     ("x 4, y 2", "x + zext(y, 4)", "zext(y, 4) + x"),
-    ("x 8, y 8", "x & {y[0], y[1], y[2], y[3], y[4], y[5], y[6], y[7]}", "~(~x | ~{y[0], y[1], y[2], y[3], y[4], y[5], y[6], y[7]})"),
+    ("x 8, y 8", "x & {y[0], y[1], y[2], y[3], y[4], y[5], y[6], y[7]}",
+     "~(~x | ~{y[0], y[1], y[2], y[3], y[4], y[5], y[6], y[7]})"),
     ("a 4, b 4, c 4", "(a + b) + c", "a + (b + c)"),
     ("x 32, y 32", "x + y", "(x | y) + (x & y)"),
     ("x 12, y 12", "{x[0], x[1], x[2], x[3], x[4], x[5], x[6], x[7], x[8], x[9], x[10], x[11]} == y",
@@ -490,30 +493,40 @@ RIGHT_LINES = [
     "var z 8", "right " + "~" * 64 + "x", "right " + "~" * 64 + "n",
 ]
 TEXTS = [
-    ("a text without bytes", b""), ("a line feed alone", b"\n"), ("a comment alone", b"; note"), ("variables alone", b"var x 8\n"),
-    ("a left side alone", b"var x 8\nleft x ; note\n\n"), ("a left side alone, with a carriage return", b"left 1#1\r\n"),
+    ("a text without bytes", b""), ("a line feed alone", b"\n"), ("a comment alone", b"; note"),
+    ("variables alone", b"var x 8\n"), ("a left side alone", b"var x 8\nleft x ; note\n\n"),
+    ("a left side alone, with a carriage return", b"left 1#1\r\n"),
     ("a right side alone", b"right 1#1\n"), ("the right side first", b"right 1#1\nleft 1#1\n"),
     ("two left sides", b"left 1#1\nleft 1#1\nright 1#1\n"), ("two right sides", b"left 1#1\nright 1#1\nright 1#1\n"),
-    ("a variable behind the left side", b"left 1#1\nvar x 1\nright 1#1\n"), ("a variable behind the right side", b"left 1#1\nright 1#1\nvar x 1\n"),
-    ("a fault behind the right side", b"left 1#1\nright 1#1\n@"), ("blank lines, blanks and comments", b"\n ; a\n\tvar  x\t8;b\n\r\nleft\tx\n;\xC3\xA4\n  right x ;c"),
-    ("no variable", b"left 1#1\nright 1#1"), ("carriage returns", b"var x 8\r\nleft x\r\nright x\r\n"), ("a carriage return at the end", b"left 1#1\nright 1#1\r"),
-    ("a number of every base", b"var x 0b100\nleft x + 0o17#0x4\nright x - 0X1#4\n"), ("numbers of every base", b"var x 0b100\nleft x + 0o17#0x4\nright x - 0x1#4\n"),
-    ("names that differ in case", b"var x 4\nvar X 4\nleft x\nright X\n"), ("variables called as words of the format", b"var left 4\nvar right 4\nvar var 4\nleft left + right + var\nright var + right + left\n"),
-    ("a byte of a later line first", b"var x 0\nleft !\nright x\n"), ("a number of a later line first", b"var x 0\nleft 0xg#1\nright x\n"),
+    ("a variable behind the left side", b"left 1#1\nvar x 1\nright 1#1\n"),
+    ("a variable behind the right side", b"left 1#1\nright 1#1\nvar x 1\n"),
+    ("a fault behind the right side", b"left 1#1\nright 1#1\n@"),
+    ("blank lines, blanks and comments", b"\n ; a\n\tvar  x\t8;b\n\r\nleft\tx\n;\xC3\xA4\n  right x ;c"),
+    ("no variable", b"left 1#1\nright 1#1"), ("carriage returns", b"var x 8\r\nleft x\r\nright x\r\n"),
+    ("a carriage return at the end", b"left 1#1\nright 1#1\r"),
+    ("numbers of every base", b"var x 0b100\nleft x + 0o17#0x4\nright x - 0x1#4\n"),
+    ("a base in a capital letter", b"var x 0b100\nleft x + 0o17#0x4\nright x - 0X1#4\n"),
+    ("names that differ in case", b"var x 4\nvar X 4\nleft x\nright X\n"),
+    ("variables called as words of the format",
+     b"var left 4\nvar right 4\nvar var 4\nleft left + right + var\nright var + right + left\n"),
+    ("a byte of a later line first", b"var x 0\nleft !\nright x\n"),
+    ("a number of a later line first", b"var x 0\nleft 0xg#1\nright x\n"),
     ("a width of 2^128", b"var x 340282366920938463463374607431768211456\nleft x\nright x\n"),
-    ("a fault in both sides", HEAD + b"left n + x\nright u\n"), ("a line of grammar behind a width", HEAD + b"left n + x\nright u u\n"),
-    ("64 variables", b"".join(b"var v%d 32\n" % number for number in range(64)) + b"left v0 ^ v63\nright v63 ^ v0\n"),
-    ("64 variables, the last one alone", b"".join(b"var v%d 32\n" % number for number in range(64)) + b"left v0\nright v0 ^ (v63 & 0x80000000#32)\n"),
-    ("65 variables", b"".join(b"var v%d 1\n" % number for number in range(65)) + b"left v0\nright v0\n"),
-    ("65 variables, the last one there already", b"".join(b"var v%d 1\n" % number for number in range(64)) + b"var v0 0\nleft v0\nright v0\n"),
-    ("65 variables, of which one is too wide", b"".join(b"var v%d 33\n" % number for number in range(65)) + b"left v0\nright v0\n"),
-    ("the longest line", b"left 1#1;" + b"x" * 4087 + b"\nright 1#1\n"), ("a line too long", b"left 1#1;" + b"x" * 4088 + b"\nright 1#1\n"),
+    ("a fault in both sides", HEAD + b"left n + x\nright u\n"),
+    ("a line that is none behind a fault", HEAD + b"left n + x\nright u u\n"),
+    ("64 variables", many(64, b"var v@ 32") + b"left v0 ^ v63\nright v63 ^ v0\n"),
+    ("64 variables, the last one alone", many(64, b"var v@ 32") + b"left v0\nright v0 ^ (v63 & 0x80000000#32)\n"),
+    ("65 variables", many(65, b"var v@ 1") + b"left v0\nright v0\n"),
+    ("65 variables, the last one there already", many(64, b"var v@ 1") + b"var v0 0\nleft v0\nright v0\n"),
+    ("65 variables, which are too wide", many(65, b"var v@ 33") + b"left v0\nright v0\n"),
+    ("the longest line", b"left 1#1;" + b"x" * 4087 + b"\nright 1#1\n"),
+    ("a line too long", b"left 1#1;" + b"x" * 4088 + b"\nright 1#1\n"),
     ("the longest file", b"left 1#1\nright 1#1\n" + b";" * 44 + b"\n" + (b";" * 63 + b"\n") * (2**14 - 1)),
     ("a file too long", b"left 1#1\nright 1#1\n" + b";" * 45 + b"\n" + (b";" * 63 + b"\n") * (2**14 - 1)),
 ]
 # Words behind `equal q`.
-OPTIONS = [["--nodes", "0"], ["--nodes", "16000000"], ["--nodes", "16000001"], ["--nodes", "01"], ["--nodes", "1x"], ["--nodes"], ["--paths", "1"], ["--parts"],
-           ["--steps", "1"], ["q"]]
+OPTIONS = [["--nodes", "0"], ["--nodes", "16000000"], ["--nodes", "16000001"], ["--nodes", "01"], ["--nodes", "1x"],
+           ["--nodes"], ["--paths", "1"], ["--parts"], ["--steps", "1"], ["q"]]
 
 
 def row_of(name, text, words, report):
@@ -536,7 +549,7 @@ def ladder_rows(variables, left, right):
     question = Question(text)
     budgets = over_first(worked(Words(question), Nodes(BUDGET))[1])
     for nodes in sorted(set(budgets[:4] + budgets[-2:])):
-        yield f"{nodes} nodes for {left} and {right}", text, ["--nodes", str(nodes)]
+        yield f"--nodes {nodes} for {left} and {right}", text, ["--nodes", str(nodes)]
 
 
 def question_rows():
