@@ -1,1 +1,5 @@
 pub mod Question
+pub mod QuestionExamples
+pub mod QuestionKept
+pub mod QuestionText
+pub mod QuestionViews

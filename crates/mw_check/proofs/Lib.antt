@@ -1,0 +1,2 @@
+pub mod QuestionLines
+pub mod Sides
