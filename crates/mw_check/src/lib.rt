@@ -5,8 +5,17 @@ mod comparison;
 mod equality;
 mod laws;
 mod question;
+mod question_text;
+mod side;
+mod variables;
 
 pub use comparison::{Compared, compare};
 pub use equality::Equality;
 pub use laws::steps_show_one_thing;
 pub use question::Question;
+pub use question_text::{read_question, texts_ask_questions};
+
+#[cfg(test)]
+mod computed_questions;
+#[cfg(test)]
+mod tests;
