@@ -1,8 +1,10 @@
 //! Questions: whether two expressions agree for all values of their variables.
 #![tactic(auto)]
 
+mod answer;
 mod equality;
 mod question;
 
+pub use answer::equal;
 pub use equality::Equality;
 pub use question::Question;
