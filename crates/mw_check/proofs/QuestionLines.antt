@@ -94,6 +94,7 @@ right_kept h line next kept is =
       variables = kept.variables;
       question = record {
         counted = kept.variables.counted;
+        range = kept.variables.widths;
         left = record { wide = rw kept.left.wide refl; free = kept.left.free };
         right = record { wide = rw read.wide.wide refl; free = read.wide.free };
         same = kept.left.wide ∙ sym (read.wide.wide ∙ ap Ok same);

@@ -1,7 +1,9 @@
 pub mod Comparison
+pub mod Equal
 pub mod Made
 pub mod Question
 pub mod QuestionExamples
 pub mod QuestionKept
 pub mod QuestionText
 pub mod QuestionViews
+pub mod QuestionWords

@@ -1,5 +1,5 @@
 -- Questions: whether two expressions over variables agree for all values of these.
-use Rattle.std.specs.Prelude.{◌≡◌, ℕ, List, [], length, false, IsOk}
+use Rattle.std.specs.Prelude.{◌≡◌, ℕ, ◌≤◌, List, [], length, false, IsOk, All}
 use Rattle.mw_check.specs.declared.question.Question.{Question}
 use Rattle.mw_expr.specs.declared.shape.Shape.{Shape}
 use Rattle.mw_expr.specs.Tree.{Tree, view}
@@ -22,9 +22,10 @@ pub record IsSide (s : Shape) (side : Tree) : Type 0 where
   pub wide : IsOk (width_of s side)
   pub free : reads_memory side ≡ false
 
--- what a question is: a width for each variable, and two sides that are equally wide
+-- what a question is: a width for each variable, 1 to 32 bits, and two sides that are equally wide
 pub record IsQuestion (q : Asked) : Type 0 where
   pub counted : length q.shape.widths ≡ length q.names
+  pub range : All (λ w. (1 ≤ w) × (w ≤ 32)) q.shape.widths
   pub left : IsSide q.shape q.left
   pub right : IsSide q.shape q.right
   pub same : width_of q.shape q.left ≡ width_of q.shape q.right

@@ -1,6 +1,7 @@
 //! What the bench decides: comparisons of steps, and questions.
 #![tactic(auto)]
 
+mod answer;
 mod comparison;
 mod equality;
 mod laws;
@@ -9,6 +10,7 @@ mod question_text;
 mod side;
 mod variables;
 
+pub use answer::equal;
 pub use comparison::{Compared, compare};
 pub use equality::Equality;
 pub use laws::steps_show_one_thing;
