@@ -1,3 +1,3 @@
-pub mod Comparison
 pub mod QuestionLines
+pub mod Shown
 pub mod Sides

@@ -4,7 +4,7 @@ use Rattle.mw_asm.specs.Microprogram.{store_of}
 use Rattle.mw_boardfile.specs.Board.{board_of}
 use Rattle.mw_check.specs.declared.comparison.Compared.{Compared}
 use Rattle.mw_check.specs.Comparison.{Shows}
-use Rattle.mw_check.proofs.Comparison.{shows_one}
+use Rattle.mw_check.proofs.Shown.{shows_one}
 use Rattle.mw_descfile.specs.Machine.{machine_of}
 use Rattle.mw_descfile.specs.Relation.{relation_of}
 use Rattle.mw_plan.specs.declared.fault.FileFault.TheVariants.{TooLong}

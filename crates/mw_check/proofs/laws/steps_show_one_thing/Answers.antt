@@ -1,4 +1,4 @@
-use Rattle.mw_check.proofs.Comparison.{shows_one}
+use Rattle.mw_check.proofs.Shown.{shows_one}
 use Rattle.mw_check.proofs.laws.steps_show_one_thing.Goals as goal
 
 pub returns : goal.returns
