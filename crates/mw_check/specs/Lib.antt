@@ -1,3 +1,4 @@
 pub mod Equal
 pub mod Question
 pub mod QuestionWords
+pub mod WordCounts

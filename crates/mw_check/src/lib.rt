@@ -3,8 +3,12 @@
 
 mod answer;
 mod equality;
+mod laws;
+mod nodes;
 mod question;
+mod word_list;
 
 pub use answer::equal;
 pub use equality::Equality;
+pub use laws::nodes_have_values;
 pub use question::Question;

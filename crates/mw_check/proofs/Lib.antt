@@ -1,0 +1,10 @@
+pub mod Answered
+pub mod Counts
+pub mod Differences
+pub mod Grown
+pub mod Loops
+pub mod Meanings
+pub mod Questions
+pub mod Reached
+pub mod Signs
+pub mod Steps
