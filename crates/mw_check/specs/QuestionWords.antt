@@ -78,6 +78,10 @@ abbrev pub joins_of : List ℕ → List Op → Nodes
 joins_of [] ops = ended_at 0 ops
 joins_of (first ∷ rest) ops = joined_nodes first rest ops
 
+-- the joins of the parts, after the nodes of all of them
+abbrev pub all_joined : PartNodes → Nodes
+all_joined parts = joins_of parts.terms parts.ops
+
 -- The nodes of an expression, over terms for its elements: those of its parts from left to right, and then its own. A
 -- question reads no memory.
 abbrev mutual
@@ -97,9 +101,7 @@ abbrev mutual
   nodes s elements (part e high low) ops =
       let whole = nodes s elements e ops in
       part_nodes (bits s e) whole.term high low whole.ops
-  nodes s elements (join parts) ops =
-      let all = nodes_of_parts s elements parts ops in
-      joins_of all.terms all.ops
+  nodes s elements (join parts) ops = all_joined (nodes_of_parts s elements parts ops)
   nodes s elements (widened e w) ops =
       let narrow = nodes s elements e ops in
       widened_nodes (bits s e) w narrow.term narrow.ops
