@@ -1,5 +1,5 @@
 -- Why the answers to a question are right.
-use Rattle.std.proofs.Common.{◌≡◌, ℕ, ◌+◌, ◌<◌, List, [], ◌∷◌, length, take, refl, ap, sym, ◌∙◌, arith, subst}
+use Rattle.std.proofs.Common.{◌≡◌, ℕ, ◌+◌, ◌<◌, List, [], ◌∷◌, length, take, get_or, slice_index, refl, ap, sym, ◌∙◌, arith, subst}
 use Rattle.std.specs.Prelude.{Bool, true, false, not, ◌==◌, nat_lt, if◌then◌else◌, slice_get, Some}
 use Rattle.std.proofs.lemmas.Bool.{false≢true}
 use Rattle.std.proofs.lemmas.Bool.Decides.{nat_tests}
@@ -15,11 +15,16 @@ use Rattle.mw_term.specs.Table.{Table}
 use Rattle.mw_dd.specs.Diagrams.{IsFirst}
 use Rattle.mw_dd.specs.declared.nodes.Node.{Node}
 use Rattle.mw_dd.specs.Nodes.{function_of}
-use Rattle.mw_blast.specs.Bits.{StandsFor}
-use Rattle.mw_blast.specs.Causes.{IsOneOver, IsOver}
+use Rattle.mw_blast.specs.Bits.{StandsFor, AreBits}
+use Rattle.mw_blast.specs.declared.fault.BlastFault.{BlastFault}
+use Rattle.mw_blast.specs.declared.fault.BlastFault.TheVariants as blast
+use Rattle.mw_blast.specs.Causes.{IsOneOver, IsOver, IsCause}
 use Rattle.mw_check.specs.Question.{Asked, IsQuestion, AgreeUnder, AlwaysAgree}
 use Rattle.mw_check.specs.QuestionWords.{question_nodes, words_of, is_constant, word_count}
-use Rattle.mw_check.specs.Equal.{given_values, values_from, IsFirstDifference, IsOverBudget}
+use Rattle.mw_check.specs.Equal.{given_values, values_from, IsFirstDifference, IsOverBudget, IsAnswer}
+use Rattle.mw_check.specs.declared.equality.Equality.{Equality}
+use Rattle.mw_check.specs.declared.equality.Equality.TheVariants as equality
+use Rattle.std.proofs.lemmas.List.{get_or_read}
 use Rattle.mw_check.proofs.Differences.{values_of_given, values_are_words, agrees_with_values, no_later_cut}
 use Rattle.mw_check.proofs.Questions.{side_value, leads_to_end}
 
@@ -119,3 +124,27 @@ over_budget q term j budget over = record {
   its = record { op = over.op; its = over.its; kind = is_word (words_of q) over.op j budget over.over; count = refl };
   over = over;
 }
+
+-- the answer of a cause
+pub cause_answer : (q : Asked) (fault : BlastFault) (budget : ℕ) → IsCause (words_of q) (question_nodes q).term budget fault
+    → (e : Equality)
+    → ((term : ℕ) × (j : ℕ) × (fault ≡ blast.Over term j)
+    × (e ≡ equality.Unknown (word_count (take (term + 1) (words_of q).ops)) j))
+    → IsAnswer q budget e
+cause_answer q fault budget cause e is =
+    let over = rw is.2 at cause in
+    rw is.3 (over_budget q is.0 is.1 budget over.1)
+
+-- ---- the bit itself
+
+pub one_bit : (q : Asked) (nodes : List Node) (xs : List ℕ) → IsQuestion q
+    → AreBits (words_of q) nodes (question_nodes q).term xs → length xs ≡ 1
+one_bit q nodes xs is bits = bits.count ∙ (leads_to_end q is).is.width
+
+pub end_stands : (q : Asked) (nodes : List Node) (xs : List ℕ) (x : ℕ) → IsQuestion q
+    → AreBits (words_of q) nodes (question_nodes q).term xs → x ≡ get_or xs 0 x
+    → StandsFor nodes x (bit (words_of q) (question_nodes q).term 0)
+end_stands q nodes xs x is bits read =
+    let one = one_bit q nodes xs is bits in
+    let at : x ≡ slice_index xs 0 = get_or_read xs 0 x (omega (arith, one)) read 0 in
+    rw at (bits.each 0 (omega (arith, one)))

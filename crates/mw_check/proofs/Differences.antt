@@ -44,7 +44,7 @@ pub values_of_given : (widths values : List ℕ) → AreWords widths values
 unfolding given_values
 values_of_given widths values are =
     values_are 1 widths values (given_values values) are.count are.each
-    (λ i inside. ap (λ n. slice_index (0 ∷ values) n) (omega arith))
+    (λ i inside. let next : 1 + i ≡ suc i = omega arith in ap (λ n. slice_index (0 ∷ values) n) next)
 
 values_count : (number : ℕ) (widths : List ℕ) (given : Given) → length (values_from number widths given) ≡ length widths
 values_count number [] given = refl

@@ -2,6 +2,7 @@ pub mod Answered
 pub mod Counts
 pub mod Differences
 pub mod Grown
+pub mod Joining
 pub mod Loops
 pub mod Meanings
 pub mod Questions

@@ -56,3 +56,13 @@ reached s t new elements tree term table are some free is map =
 -- a term is among the widths
 pub among_widths : (t : Table) (term : ℕ) → term < length t.ops → term < length (widths_of t.ops)
 among_widths t term inside = omega (arith, widths_count t.ops)
+
+-- ---- the parts of what has a width
+
+-- a sign's operands
+pub record ArePairSides (s : Shape) (a b : Tree) : Type 0 where
+  pub first : IsSome (width s a)
+  pub second : IsSome (width s b)
+  pub same : width s a ≡ width s b
+  pub first_free : reads_memory a ≡ false
+  pub second_free : reads_memory b ≡ false

@@ -23,7 +23,7 @@ pair_after ops op a b pair =
     rw (widths_push ops op) (fits_more [] (widths_of ops) (op_width (widths_of ops) op ∷ []) (And a b) pair)
 
 -- a term that was there keeps its width
-width_after : (ops : List Op) (op : Op) (a : ℕ) → a < length (widths_of ops)
+pub width_after : (ops : List Op) (op : Op) (a : ℕ) → a < length (widths_of ops)
     → slice_index (widths_of (ops ++ op ∷ [])) a ≡ slice_index (widths_of ops) a
 width_after ops op a inside = ap (λ ws. slice_index ws a) (widths_push ops op)
     ∙ stays (widths_of ops) (op_width (widths_of ops) op ∷ []) a inside
@@ -56,3 +56,11 @@ join_fits ops map number w narrow inside most =
       omega (arith, inside, widths_count (ops ++ op ∷ []), length-append ops (op ∷ [])),
       rw (last_width ops op, width_after ops op narrow there) most,
     )
+
+-- a join of two terms fits where both together have at most 32 bits
+pub beside : (ops : List Op) (whole term : ℕ) → whole < length ops → term < length ops
+    → slice_index (widths_of ops) whole + slice_index (widths_of ops) term ≤ 32
+    → (whole < length (widths_of ops)) × (term < length (widths_of ops))
+    × (slice_index (widths_of ops) whole + slice_index (widths_of ops) term ≤ 32)
+beside ops whole term first second most =
+    (omega (arith, first, widths_count ops), omega (arith, second, widths_count ops), most)
