@@ -6,6 +6,5 @@ pub mod Joining
 pub mod Loops
 pub mod Meanings
 pub mod Questions
-pub mod Reached
+pub mod Sided
 pub mod Signs
-pub mod Steps

@@ -1,6 +1,6 @@
 -- What the list of a question stands for.
 use Rattle.std.proofs.Common.{◌≡◌, inl, ℕ, zero, suc, ◌+◌, ◌%◌, ◌^◌, ◌<◌, ◌≤◌, List, [], ◌∷◌, ◌++◌, length, slice_index, refl, ap, sym, ◌∙◌, arith, subst, length-append, append_assoc, append-nil}
-use Rattle.std.specs.Prelude.{◌==◌, Bool, true, false, Option, Some, None, Result, Ok, Err, IsOk, All}
+use Rattle.std.specs.Prelude.{◌==◌, Bool, true, false, Option, Some, None, Result, Ok, Err, IsOk, IsSome, All}
 use Rattle.std.proofs.lemmas.Bool.{false≢true}
 use Rattle.mw_base.specs.Words as words
 use Rattle.mw_base.specs.declared.cause.Cause.{Cause}
@@ -103,6 +103,12 @@ elements_are q is i inside =
 ok_width : (r : Result ℕ Cause) → IsOk r → (w : ℕ) × (r ≡ Ok w)
 ok_width (Ok w) is = (w, refl)
 ok_width (Err e) is = absurd (false≢true is)
+
+-- a side that is accepted has a width
+pub side_wide : (s : Shape) (tree : Tree) → IsOk (width_of s tree) → IsSome (width s tree)
+side_wide s tree is =
+    let ok = ok_width (width_of s tree) is in
+    rw (widths_are_by_rule s tree ok.0 ok.1) refl
 
 -- the value of a side where the variables' words have an assignment's values
 abbrev pub side_value : Asked → Tree → Given → ℕ

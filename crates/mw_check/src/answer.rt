@@ -10,10 +10,10 @@ ghost use Rattle.mw_dd.specs.Nodes.{IsDd, function_of};
 ghost use Rattle.mw_check.specs.declared.equality.Equality.TheVariants as equality;
 ghost use Rattle.mw_check.specs.Equal.{values_from, IsFirstDifference, IsOverBudget, IsAnswer};
 ghost use Rattle.mw_check.specs.Question.{asked_of, IsQuestion, AlwaysAgree};
-ghost use Rattle.mw_check.specs.QuestionWords.{variables_from, places_from, words_of, question_nodes, word_count};
+ghost use Rattle.mw_check.specs.QuestionWords.{ended_at, variables_from, places_from, words_of, question_nodes, word_count};
 
 use crate::equality::Equality;
-use crate::nodes::expression_nodes;
+use crate::nodes::{nodes, push};
 use crate::question::Question;
 use crate::word_list::WordList;
 use mw_base::{Items, NoMemory};
@@ -23,19 +23,41 @@ use mw_term::{Assignment, Op, Term};
 use std::alloc::Global;
 
 /// One variable for each of some widths, as words with numbers from 1, at the head of a list.
-fn variables(words: &mut WordList, alloc: Global, widths: &[u8]) -> Result<Vec<Term>, NoMemory>
-    requires none { words.old ≡ table_of [] [] }
-    requires table { IsTable words.old }
-    requires range { All (λ w. (1 ≤ w) × (w ≤ 32)) widths.now }
-    ensures table { OnOk result (IsTable words.new) }
-    ensures words { OnOk result (words.new ≡ table_of (variables_from 1 widths.now) []) }
+fn variables(alloc: Global, ops: &mut Vec<Op>, widths: &[u8]) -> Result<Vec<Term>, NoMemory>
+    requires { ops.old.items ≡ [] }
+    ensures ops { OnOk result (ops.new.items ≡ variables_from 1 widths.now) }
     ensures elements { IfOk result (λ terms. terms.items ≡ places_from 0 widths.now) }
 {
     let mut terms = Vec::new(alloc);
     for i in 0..widths.len() {
-        terms.push(words.build(alloc, Op::Var(i as u64 + 1, widths[i]))?)?;
+        terms.push(push(ops, Op::Var(i as u64 + 1, widths[i]))?)?;
     }
     Ok(terms)
+}
+
+/// The ops of the list of a question, and the term at its end, which is 1 where both sides are equal.
+fn question_nodes(alloc: Global, ops: &mut Vec<Op>, question: &Question) -> Result<Term, NoMemory>
+    requires none { ops.old.items ≡ [] }
+    requires question { IsQuestion (asked_of question.now) }
+    ensures { IfOk result (λ term. ended_at term ops.new.items ≡ question_nodes (asked_of question.now)) }
+{
+    let shape = &question.shape;
+    let elements = variables(alloc, ops, shape.widths.as_slice())?;
+    let left = nodes(ops, alloc, shape, &elements, &question.left)?;
+    let right = nodes(ops, alloc, shape, &elements, &question.right)?;
+    push(ops, Op::Eq(left, right))
+}
+
+/// The list of these ops, each of which fits those before it.
+fn listed(alloc: Global, ops: &[Op]) -> Result<WordList, NoMemory>
+    requires { IsTable (table_of ops.now []) }
+    ensures { IfOk result (λ words. words ≡ table_of ops.now []) }
+{
+    let mut words = WordList::new(alloc)?;
+    for op in ops {
+        words.build(alloc, *op)?;
+    }
+    Ok(words)
 }
 
 /// The list of a question, and the term at its end, which is 1 where both sides are equal.
@@ -44,13 +66,9 @@ fn question_words(alloc: Global, question: &Question) -> Result<(WordList, Term)
     ensures words { IfOk result (λ pair. pair.0 ≡ words_of (asked_of question.now)) }
     ensures end { IfOk result (λ pair. pair.1 ≡ (question_nodes (asked_of question.now)).term) }
 {
-    let mut words = WordList::new(alloc)?;
-    let shape = &question.shape;
-    let elements = variables(&mut words, alloc, shape.widths.as_slice())?;
-    let left = expression_nodes(&mut words, alloc, shape, &elements, &question.left)?;
-    let right = expression_nodes(&mut words, alloc, shape, &elements, &question.right)?;
-    let same = words.build(alloc, Op::Eq(left, right))?;
-    Ok((words, same))
+    let mut ops = Vec::new(alloc);
+    let same = question_nodes(alloc, &mut ops, question)?;
+    Ok((listed(alloc, &ops)?, same))
 }
 
 /// The first assignment under which a function doesn't hold; none where it always holds.

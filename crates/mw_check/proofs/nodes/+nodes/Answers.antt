@@ -1,43 +1,46 @@
-use Rattle.std.proofs.Common.{◌≡◌, arith, rules, ap, sym, ◌∙◌}
+use Rattle.std.proofs.Common.{◌≡◌, arith, rules, refl, slice_index}
+use Rattle.std.proofs.lemmas.List.{get_or_read}
 use Rattle.mw_expr.specs.declared.expr.Expr.{the_lemmas}
-use Rattle.mw_expr.specs.Tree.{view, complement, pair, choice, part, widened, element}
-use Rattle.mw_check.proofs.Reached.{reached, among_widths}
+use Rattle.mw_expr.specs.Tree.{view, choice, part, element}
+use Rattle.mw_expr.proofs.Parts.{element_there}
+use Rattle.mw_check.proofs.Sided.{last_wide, last_free, part_few}
 use Rattle.mw_check.proofs.nodes.+nodes.Goals as goal
 
-pub expression_nodes-build-requires-in-Not : goal.expression_nodes-build-requires-in-Not
-expression_nodes-build-requires-in-Not t c =
-    let seen : view c.args.expr.now ≡ complement (view c.in-Not.e.value) = rw c.in-Not.is (search (rules, the_lemmas)) in
+pub nodes-bounds-elements-element : goal.nodes-bounds-elements-element
+nodes-bounds-elements-element t c =
+    let seen : view c.args.expr.now ≡ element c.in-Element.element = rw c.in-Element.is (search (rules, the_lemmas)) in
     let some = rw seen at c.requires.wide in
-    let free = rw seen at c.requires.free in
-    let r = reached c.args.shape.now c.args.words.now c.expression_nodes.new.words c.args.elements.now
-    (view c.deref.result.now) c.in_ok-operand-in-Not.operand c.requires.table c.requires.elements
-    (rw c.deref.ensures some) (rw c.deref.ensures free) c.in_ok-operand-in-Not.ensures.nodes
-    c.in_ok-operand-in-Not.ensures.map in
-    among_widths c.expression_nodes.new.words c.in_ok-operand-in-Not.operand r.there
+    omega (arith, element_there c.args.shape.now.widths c.in-Element.element some, c.requires.elements)
 
-pub expression_nodes-part-requires-clause-table : goal.expression_nodes-part-requires-clause-table
-expression_nodes-part-requires-clause-table t c = ?
+pub nodes-returns-in-Element : goal.nodes-returns-in-Element
+nodes-returns-in-Element t c =
+    let seen : view c.args.expr.now ≡ element c.in-Element.element = rw c.in-Element.is (search (rules, the_lemmas)) in
+    let some = rw seen at c.requires.wide in
+    let there = element_there c.args.shape.now.widths c.in-Element.element some in
+    let read : c.index-elements-element.result ≡ slice_index c.args.elements.now c.in-Element.element =
+    get_or_read c.args.elements.now c.in-Element.element c.index-elements-element.result
+    (omega (arith, there, c.requires.elements)) c.index-elements-element.is 0 in
+    rw (seen, read) refl
 
-pub expression_nodes-widened-requires-clause-table : goal.expression_nodes-widened-requires-clause-table
-expression_nodes-widened-requires-clause-table t c = ?
+pub nodes-nodes-requires-in-Choose-3 : goal.nodes-nodes-requires-in-Choose-3
+nodes-nodes-requires-in-Choose-3 t c =
+    let seen : view c.args.expr.now ≡ choice (view c.in-Choose.condition.value) (view c.in-Choose.a.value)
+    (view c.in-Choose.b.value) = rw c.in-Choose.is (search (rules, the_lemmas)) in
+    let some = rw seen at c.requires.wide in
+    let free = rw seen at c.requires.free in (
+      search (rules, the_lemmas),
+      (
+        c.requires.elements,
+        (
+          rw c.deref-in-Choose-3.ensures (last_wide _ _ _ some),
+          rw c.deref-in-Choose-3.ensures (last_free _ _ _ free),
+        ),
+      ),
+    )
 
-pub part_terms-loop-part-preserved : goal.part_terms-loop-part-preserved
-part_terms-loop-part-preserved t c = ?
-
-pub part_terms-joined-requires-clause-there : goal.part_terms-joined-requires-clause-there
-part_terms-joined-requires-clause-there t c = ?
-
-pub part_terms-joined-requires-clause-most : goal.part_terms-joined-requires-clause-most
-part_terms-joined-requires-clause-most t c = ?
-
-pub expression_nodes-build-requires-in-Choose : goal.expression_nodes-build-requires-in-Choose
-expression_nodes-build-requires-in-Choose t c = ?
-
-pub expression_nodes-returns-in-Element-clause-nodes : goal.expression_nodes-returns-in-Element-clause-nodes
-expression_nodes-returns-in-Element-clause-nodes t c = ?
-
-pub expression_nodes-returns-in_ok-whole-in-Part-clause-nodes : goal.expression_nodes-returns-in_ok-whole-in-Part-clause-nodes
-expression_nodes-returns-in_ok-whole-in-Part-clause-nodes t c = ?
-
-pub expression_nodes-returns-in_ok-narrow-in-Widen-clause-nodes : goal.expression_nodes-returns-in_ok-narrow-in-Widen-clause-nodes
-expression_nodes-returns-in_ok-narrow-in-Widen-clause-nodes t c = ?
+pub nodes-part_nodes-requires-clause-most : goal.nodes-part_nodes-requires-clause-most
+nodes-part_nodes-requires-clause-most t c =
+    let seen : view c.args.expr.now ≡ part (view c.in-Part.e.value) c.in-Part.high c.in-Part.low = rw c.in-Part.is
+    (search (rules, the_lemmas)) in
+    let some = rw seen at c.requires.wide in
+    part_few c.in-Part.high c.in-Part.low _ some
