@@ -1,6 +1,6 @@
 -- Why the answers to a question are right.
-use Rattle.std.proofs.Common.{◌≡◌, ℕ, ◌+◌, ◌<◌, List, [], ◌∷◌, length, take, get_or, slice_index, refl, ap, sym, ◌∙◌, arith, subst}
-use Rattle.std.specs.Prelude.{Bool, true, false, not, ◌==◌, nat_lt, if◌then◌else◌, slice_get, Some}
+use Rattle.std.proofs.Common.{◌≡◌, ℕ, ◌+◌, List, [], length, take, get_or, slice_index, refl, ap, sym, ◌∙◌, arith, subst}
+use Rattle.std.specs.Prelude.{Bool, true, false, not, ◌==◌, nat_lt, if◌then◌else◌}
 use Rattle.std.proofs.lemmas.Bool.{false≢true}
 use Rattle.std.proofs.lemmas.Bool.Decides.{nat_tests}
 use Rattle.mw_base.specs.Words.{bit_of, num}
@@ -9,7 +9,7 @@ use Rattle.mw_term.specs.declared.op.Op.{Op}
 use Rattle.mw_term.specs.declared.op.Op.TheVariants.{Con, Var, Not, And, Or, Xor, Sum, Cout, Ovf, Eq, Lt, Ite, Part, Join, Tab}
 use Rattle.mw_term.specs.Assigned.{Given, Numbers, given_by}
 use Rattle.mw_term.specs.Cofactors.{Agree}
-use Rattle.mw_term.specs.Functions.{Function, Triple, always}
+use Rattle.mw_term.specs.Functions.{Function, always}
 use Rattle.mw_term.specs.Rows.{bit, row, operations, row_bits}
 use Rattle.mw_term.specs.Table.{Table}
 use Rattle.mw_dd.specs.Diagrams.{IsFirst}

@@ -1,7 +1,7 @@
 -- The first assignment under which the sides of a question differ, and the values that it gives to the variables.
-use Rattle.std.proofs.Common.{◌≡◌, inl, inr, ℕ, zero, suc, ◌+◌, ◌*◌, ◌/◌, ◌%◌, ◌^◌, ◌<◌, ◌≤◌, List, [], ◌∷◌, length, slice_index, refl, ap, ap₂, sym, ◌∙◌, arith, subst}
+use Rattle.std.proofs.Common.{◌≡◌, inl, inr, ℕ, zero, suc, ◌+◌, ◌*◌, ◌/◌, ◌%◌, ◌^◌, ◌<◌, ◌≤◌, List, [], ◌∷◌, length, slice_index, refl, ap, ap₂, sym, ◌∙◌, arith}
 use Rattle.std.specs.Prelude.{Bool, true, false, ◌==◌, ◌&&◌, ◌||◌, nat_lt}
-use Rattle.std.proofs.lemmas.Bool.{cases_order, cases_lt, false≢true}
+use Rattle.std.proofs.lemmas.Bool.{cases_lt, false≢true}
 use Rattle.std.proofs.lemmas.Bool.Decides.{nat_tests}
 use Rattle.std.proofs.lemmas.Nat.{mod_below, mod_low, pow_pos, div_below}
 use Rattle.std.proofs.Math.Nat.{pow-le-pow_right}
@@ -9,7 +9,7 @@ use Rattle.mw_base.specs.Words.{bit_of}
 use Rattle.mw_base.proofs.Bits.{bit_of-low}
 use Rattle.mw_expr.specs.Values.{AreWords}
 use Rattle.mw_term.specs.Assigned.{Given}
-use Rattle.mw_term.specs.Cofactors.{Variable, variable, value_of, is_before}
+use Rattle.mw_term.specs.Cofactors.{Variable, value_of}
 use Rattle.mw_dd.specs.Diagrams.{AgreeBefore, IsNoLater}
 use Rattle.mw_check.specs.Equal.{given_values, values_from}
 

@@ -1,5 +1,5 @@
 -- Tables to which ops are added, and what their last terms stand for.
-use Rattle.std.proofs.Common.{◌≡◌, ℕ, ◌+◌, ◌<◌, ◌≤◌, List, [], ◌∷◌, ◌++◌, length, take, take_all, take-take, refl, ap, arith, sym, ◌∙◌, length-append}
+use Rattle.std.proofs.Common.{◌≡◌, ℕ, ◌<◌, ◌≤◌, [], ◌∷◌, length, take, take_all, take-take, refl, ap, arith, sym, ◌∙◌, length-append}
 use Rattle.std.specs.Prelude.{◌^◌}
 use Rattle.std.proofs.Math.Seq.{take-append_seam}
 use Rattle.mw_term.specs.declared.op.Op.{Op}

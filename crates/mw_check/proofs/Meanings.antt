@@ -1,6 +1,6 @@
 -- What the nodes of an expression stand for: an induction over its tree.
-use Rattle.std.proofs.Common.{◌≡◌, ℕ, zero, suc, ◌+◌, ◌-◌, ◌*◌, ◌^◌, ◌<◌, ◌≤◌, List, [], ◌∷◌, ◌++◌, length, map, slice_index, refl, ap, ap₂, arith, sym, ◌∙◌}
-use Rattle.std.specs.Prelude.{Bool, true, false, not, ◌==◌, ◌&&◌, ◌||◌, nat_le, nat_lt, if◌then◌else◌, Option, Some, None, unwrap_or, slice_get}
+use Rattle.std.proofs.Common.{◌≡◌, ℕ, zero, suc, ◌+◌, ◌-◌, ◌*◌, ◌^◌, ◌<◌, ◌≤◌, List, [], ◌∷◌, length, slice_index, refl, ap, ap₂, arith, sym, ◌∙◌}
+use Rattle.std.specs.Prelude.{Bool, true, false, ◌==◌, ◌&&◌, ◌||◌, nat_le, nat_lt, if◌then◌else◌, Option, Some, None, unwrap_or, slice_get}
 use Rattle.std.proofs.lemmas.Bool.Decides.{nat_tests}
 use Rattle.std.proofs.Math.Nat.{add-mul, mul_assoc}
 use Rattle.std.proofs.lemmas.Nat.{pow-add}
@@ -10,13 +10,12 @@ use Rattle.mw_expr.specs.declared.shape.Shape.{Shape}
 use Rattle.mw_expr.specs.Tree.{Tree, element, constant, complement, pair, choice, part, join, widened, memory, Trees, none, more}
 use Rattle.mw_expr.specs.Values.{value, joined, pair_value, reads_memory, read_memory}
 use Rattle.mw_expr.specs.Widths.{width, total_width, width_if, element_width, width_after, pair_width, choice_width, part_width, added, join_width, widened_width, count}
-use Rattle.mw_term.specs.declared.op.Op.{Op}
-use Rattle.mw_term.specs.declared.op.Op.TheVariants.{Con, Not, Ite, Join}
+use Rattle.mw_term.specs.declared.op.Op.TheVariants.{Con, Ite, Join}
 use Rattle.mw_term.specs.Assigned.{Given}
 use Rattle.mw_term.specs.Table.{Table, op_width, table_of, IsTable, Extends}
 use Rattle.mw_term.specs.Values.{term_value, op_value, Keeps}
 use Rattle.mw_check.specs.QuestionWords.{Nodes, PartNodes, ended_at, with_op, turned_over, sign_nodes, part_nodes, widened_nodes, joined_nodes, joins_of, nodes, nodes_of_parts, AreElements, values_at, NodesHaveValues}
-use Rattle.mw_check.proofs.Grown.{after, IsTerm, Leads, leads_nowhere, leads_to_op, leads_on, leads_alike, is_still, is_after, are_pair, has_width, extends_itself, keeps_itself, extends-trans, keeps-trans}
+use Rattle.mw_check.proofs.Grown.{after, IsTerm, Leads, leads_nowhere, leads_to_op, leads_on, leads_alike, is_still, is_after, are_pair, extends_itself, keeps_itself, extends-trans, keeps-trans}
 use Rattle.mw_check.proofs.Signs.{constant_leads, not_leads, sign_leads, choice_leads, part_leads, widened_leads}
 
 -- ---- what widths say of the parts of an expression

@@ -1,6 +1,6 @@
 -- What the list of a question stands for.
-use Rattle.std.proofs.Common.{◌≡◌, inl, ℕ, zero, suc, ◌+◌, ◌%◌, ◌^◌, ◌<◌, ◌≤◌, List, [], ◌∷◌, ◌++◌, length, slice_index, refl, ap, sym, ◌∙◌, arith, subst, length-append, append_assoc, append-nil}
-use Rattle.std.specs.Prelude.{◌==◌, Bool, true, false, Option, Some, None, Result, Ok, Err, IsOk, IsSome, All}
+use Rattle.std.proofs.Common.{◌≡◌, inl, ℕ, zero, suc, ◌+◌, ◌%◌, ◌^◌, ◌<◌, ◌≤◌, List, [], ◌∷◌, ◌++◌, length, slice_index, refl, sym, ◌∙◌, arith, subst, length-append, append_assoc, append-nil}
+use Rattle.std.specs.Prelude.{◌==◌, Some, Result, Ok, Err, IsOk, IsSome}
 use Rattle.std.proofs.lemmas.Bool.{false≢true}
 use Rattle.mw_base.specs.Words as words
 use Rattle.mw_base.specs.declared.cause.Cause.{Cause}
@@ -9,13 +9,12 @@ use Rattle.mw_expr.specs.Tree.{Tree}
 use Rattle.mw_expr.specs.Values.{value}
 use Rattle.mw_expr.specs.Widths.{width, width_of}
 use Rattle.mw_expr.proofs.Accepted.{widths_are_by_rule}
-use Rattle.mw_term.specs.declared.op.Op.{Op}
 use Rattle.mw_term.specs.declared.op.Op.TheVariants.{Var, Eq}
 use Rattle.mw_term.specs.Assigned.{Given}
-use Rattle.mw_term.specs.Table.{Table, table_of, op_width, IsTable, IsMap, Extends}
+use Rattle.mw_term.specs.Table.{Table, table_of, op_width, IsTable, Extends}
 use Rattle.mw_term.specs.Values.{op_value, Keeps}
-use Rattle.mw_check.specs.Question.{Asked, IsQuestion, IsSide}
-use Rattle.mw_check.specs.QuestionWords.{Nodes, with_op, variables_from, places_from, variables, elements_of, left_nodes, right_nodes, question_nodes, words_of}
+use Rattle.mw_check.specs.Question.{Asked, IsQuestion}
+use Rattle.mw_check.specs.QuestionWords.{with_op, variables_from, places_from, variables, elements_of, left_nodes, right_nodes, question_nodes}
 use Rattle.mw_check.specs.Equal.{values_from}
 use Rattle.mw_check.proofs.Grown.{after, IsTerm, Leads, leads_to_op, leads_on, is_still, is_after, extends_itself, keeps_itself, extends-trans, keeps-trans}
 use Rattle.mw_check.proofs.Signs.{equal_leads}

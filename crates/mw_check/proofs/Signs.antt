@@ -1,5 +1,5 @@
 -- What the nodes of signs, parts and wider words stand for.
-use Rattle.std.proofs.Common.{◌≡◌, ℕ, zero, ◌+◌, ◌-◌, ◌*◌, ◌/◌, ◌%◌, ◌^◌, ◌<◌, ◌≤◌, List, [], ◌∷◌, ◌++◌, length, refl, ap, ap₂, arith, sym, ◌∙◌}
+use Rattle.std.proofs.Common.{◌≡◌, ℕ, ◌+◌, ◌-◌, ◌%◌, ◌^◌, ◌<◌, ◌≤◌, refl, ap, ap₂, arith, sym, ◌∙◌}
 use Rattle.std.specs.Prelude.{Bool, true, false, not, ◌==◌, nat_lt, bit_and, bit_or, bit_xor, if◌then◌else◌}
 use Rattle.std.proofs.lemmas.Bool.Decides.{nat_tests}
 use Rattle.std.proofs.lemmas.Nat.{pow_pos}
@@ -8,12 +8,11 @@ use Rattle.mw_expr.specs.declared.expr.Pair2.{Pair2}
 use Rattle.mw_expr.specs.declared.expr.Pair2.TheVariants as sign
 use Rattle.mw_expr.specs.Values.{pair_value}
 use Rattle.mw_expr.specs.Widths.{width_after}
-use Rattle.mw_term.specs.declared.op.Op.{Op}
 use Rattle.mw_term.specs.declared.op.Op.TheVariants.{Con, Not, And, Or, Xor, Sum, Eq, Lt, Ite, Part, Join}
 use Rattle.mw_term.specs.Assigned.{Given}
 use Rattle.mw_term.specs.Table.{Table, op_width, IsTable, IsWidth}
 use Rattle.mw_term.specs.Values.{op_value}
-use Rattle.mw_check.specs.QuestionWords.{Nodes, ended_at, with_op, over_constant, turned_over, sign_nodes, part_nodes, widened_nodes}
+use Rattle.mw_check.specs.QuestionWords.{ended_at, with_op, over_constant, turned_over, sign_nodes, part_nodes, widened_nodes}
 use Rattle.mw_check.proofs.Grown.{after, IsTerm, Leads, leads_nowhere, leads_to_op, leads_on, leads_alike, is_after, are_pair, is_bit, has_width, has_word}
 
 -- ---- single ops

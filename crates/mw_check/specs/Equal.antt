@@ -1,5 +1,5 @@
 -- What the answers to a question mean.
-use Rattle.std.specs.Prelude.{◌≡◌, ℕ, ◌+◌, ◌%◌, ◌^◌, List, [], ◌∷◌, slice_index}
+use Rattle.std.specs.Prelude.{ℕ, ◌+◌, ◌%◌, ◌^◌, List, [], ◌∷◌, slice_index}
 use Rattle.mw_expr.specs.Values.{AreWords}
 use Rattle.mw_term.specs.Assigned.{Given}
 use Rattle.mw_dd.specs.Diagrams.{IsNoLater}

@@ -1,7 +1,7 @@
 -- The word list of a question: its variables, the nodes of the left side, those of the right one, and whether both are
 -- equal. The list is a table of terms, in which a constant stands just before what it is needed for. A constant is no
 -- word, so the words are the ops of the table that are no constants, and have numbers from 1.
-use Rattle.std.specs.Prelude.{◌≡◌, ℕ, ◌+◌, ◌-◌, ◌<◌, List, [], ◌∷◌, ◌++◌, length, map, Bool, true, false, ◌&&◌, ◌==◌, if◌then◌else◌, slice_index, slice_get, take, Some, IsOk}
+use Rattle.std.specs.Prelude.{◌≡◌, ℕ, ◌+◌, ◌-◌, ◌<◌, List, [], ◌∷◌, ◌++◌, length, map, Bool, true, false, ◌==◌, if◌then◌else◌, slice_index, slice_get, take, Some}
 use Rattle.mw_expr.specs.declared.expr.Pair2.{Pair2}
 use Rattle.mw_expr.specs.declared.expr.Pair2.TheVariants as sign
 use Rattle.mw_expr.specs.declared.shape.Shape.{Shape}
@@ -13,7 +13,7 @@ use Rattle.mw_term.specs.declared.op.Op.TheVariants.{Con, Var, Not, And, Or, Xor
 use Rattle.mw_term.specs.Assigned.{Given}
 use Rattle.mw_term.specs.Table.{Table, table_of, term_width, IsTable, Extends}
 use Rattle.mw_term.specs.Values.{term_value, Keeps}
-use Rattle.mw_check.specs.Question.{Asked, IsQuestion}
+use Rattle.mw_check.specs.Question.{Asked}
 
 -- ---- the nodes of an expression
 

@@ -143,7 +143,11 @@ fn answer(
     };
     match first_without(alloc, &mut dds, bits[0])? {
         None => Ok(Equality::Yes),
-        Some(given) => Ok(Equality::No(values_of(alloc, &given, question.shape.widths.as_slice())?)),
+        Some(given) => Ok(Equality::No(values_of(
+            alloc,
+            &given,
+            question.shape.widths.as_slice(),
+        )?)),
     }
 }
 

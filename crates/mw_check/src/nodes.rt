@@ -53,13 +53,7 @@ fn sign_nodes(ops: &mut Vec<Op>, sign: Pair2, a: Term, b: Term) -> Result<Term, 
 }
 
 /// The nodes of a part of a term of so many bits, and the term at which they end: all bits of a term are that term itself.
-fn part_nodes(
-    ops: &mut Vec<Op>,
-    bits: u8,
-    whole: Term,
-    high: u8,
-    low: u8,
-) -> Result<Term, NoMemory>
+fn part_nodes(ops: &mut Vec<Op>, bits: u8, whole: Term, high: u8, low: u8) -> Result<Term, NoMemory>
     requires order { low ≤ high }
     requires most { high - low < 32 }
     ensures { IfOk result (λ term. ended_at term ops.new.items ≡ part_nodes bits whole high low ops.old.items) }

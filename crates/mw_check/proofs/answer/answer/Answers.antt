@@ -1,9 +1,6 @@
-use Rattle.std.proofs.Common.{◌≡◌, ◌+◌, ◌<◌, length, slice_index, arith, sym, ap, ◌∙◌, rules}
-use Rattle.std.proofs.lemmas.List.{get_or_read}
+use Rattle.std.proofs.Common.{arith}
 use Rattle.std.proofs.lemmas.Result.{IfOk-weaker}
-use Rattle.mw_term.specs.Assigned.{given_by}
 use Rattle.mw_dd.specs.Nodes.{function_of}
-use Rattle.mw_check.specs.QuestionWords.{question_nodes, words_of}
 use Rattle.mw_check.specs.Equal.{IsAnswer}
 use Rattle.mw_check.specs.Question.{asked_of}
 use Rattle.mw_check.proofs.Answered.{holds_where_same, always_agree, first_difference, cause_answer, end_stands, one_bit}
