@@ -1,3 +1,13 @@
+pub mod Answered
+pub mod Counts
+pub mod Differences
+pub mod Grown
+pub mod Joining
+pub mod Loops
+pub mod Meanings
 pub mod QuestionLines
+pub mod Questions
 pub mod Shown
+pub mod Sided
 pub mod Sides
+pub mod Signs

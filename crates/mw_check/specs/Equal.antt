@@ -1,5 +1,5 @@
 -- What the answers to a question mean.
-use Rattle.std.specs.Prelude.{◌≡◌, ℕ, List, [], ◌∷◌, slice_index}
+use Rattle.std.specs.Prelude.{ℕ, ◌+◌, ◌%◌, ◌^◌, List, [], ◌∷◌, slice_index}
 use Rattle.mw_expr.specs.Values.{AreWords}
 use Rattle.mw_term.specs.Assigned.{Given}
 use Rattle.mw_dd.specs.Diagrams.{IsNoLater}
@@ -12,6 +12,11 @@ use Rattle.mw_check.specs.QuestionWords.{words_of, IsWord}
 -- the assignment that gives the variables these values: they are the words with numbers from 1
 unfoldable pub given_values : (values : List ℕ) → Given
 given_values values word = slice_index (0 ∷ values) word
+
+-- the values that an assignment gives to variables of these widths, which are words with numbers from one on
+abbrev pub values_from : (number : ℕ) → (widths : List ℕ) → Given → List ℕ
+values_from number [] given = []
+values_from number (w ∷ rest) given = given number % 2 ^ w ∷ values_from (number + 1) rest given
 
 -- The first values under which the sides of a question differ: words of the variables' widths, and no other such values
 -- are before them in the order of variables, which goes by bit and then by number, with 0 before 1.

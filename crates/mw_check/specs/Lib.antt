@@ -7,3 +7,4 @@ pub mod QuestionKept
 pub mod QuestionText
 pub mod QuestionViews
 pub mod QuestionWords
+pub mod WordCounts

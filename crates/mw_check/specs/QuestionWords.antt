@@ -1,7 +1,7 @@
 -- The word list of a question: its variables, the nodes of the left side, those of the right one, and whether both are
 -- equal. The list is a table of terms, in which a constant stands just before what it is needed for. A constant is no
 -- word, so the words are the ops of the table that are no constants, and have numbers from 1.
-use Rattle.std.specs.Prelude.{◌≡◌, ℕ, ◌+◌, ◌-◌, ◌<◌, List, [], ◌∷◌, ◌++◌, length, map, Bool, true, false, ◌&&◌, ◌==◌, if◌then◌else◌, slice_index, slice_get, take, Some, IsOk}
+use Rattle.std.specs.Prelude.{◌≡◌, ℕ, ◌+◌, ◌-◌, ◌<◌, List, [], ◌∷◌, ◌++◌, length, map, Bool, true, false, ◌==◌, if◌then◌else◌, slice_index, slice_get, take, Some}
 use Rattle.mw_expr.specs.declared.expr.Pair2.{Pair2}
 use Rattle.mw_expr.specs.declared.expr.Pair2.TheVariants as sign
 use Rattle.mw_expr.specs.declared.shape.Shape.{Shape}
@@ -13,7 +13,7 @@ use Rattle.mw_term.specs.declared.op.Op.TheVariants.{Con, Var, Not, And, Or, Xor
 use Rattle.mw_term.specs.Assigned.{Given}
 use Rattle.mw_term.specs.Table.{Table, table_of, term_width, IsTable, Extends}
 use Rattle.mw_term.specs.Values.{term_value, Keeps}
-use Rattle.mw_check.specs.Question.{Asked, IsQuestion}
+use Rattle.mw_check.specs.Question.{Asked}
 
 -- ---- the nodes of an expression
 
@@ -78,6 +78,10 @@ abbrev pub joins_of : List ℕ → List Op → Nodes
 joins_of [] ops = ended_at 0 ops
 joins_of (first ∷ rest) ops = joined_nodes first rest ops
 
+-- the joins of the parts, after the nodes of all of them
+abbrev pub all_joined : PartNodes → Nodes
+all_joined parts = joins_of parts.terms parts.ops
+
 -- The nodes of an expression, over terms for its elements: those of its parts from left to right, and then its own. A
 -- question reads no memory.
 abbrev mutual
@@ -97,9 +101,7 @@ abbrev mutual
   nodes s elements (part e high low) ops =
       let whole = nodes s elements e ops in
       part_nodes (bits s e) whole.term high low whole.ops
-  nodes s elements (join parts) ops =
-      let all = nodes_of_parts s elements parts ops in
-      joins_of all.terms all.ops
+  nodes s elements (join parts) ops = all_joined (nodes_of_parts s elements parts ops)
   nodes s elements (widened e w) ops =
       let narrow = nodes s elements e ops in
       widened_nodes (bits s e) w narrow.term narrow.ops

@@ -1,13 +1,155 @@
 // Whether the sides of a question are equal.
-ghost use Rattle.std.specs.Prelude.{◌≡◌, ℕ, List, IfOk};
+ghost use Rattle.std.specs.Prelude.{◌≡◌, ◌+◌, ◌<◌, ◌≤◌, ℕ, List, [], All, None, length, not, take, IfOk, IfSome, OnOk};
+ghost use Rattle.mw_blast.specs.declared.fault.BlastFault.TheVariants as blast;
+ghost use Rattle.mw_term.specs.Assigned.{given_by};
+ghost use Rattle.mw_term.specs.Cofactors.{Agree};
+ghost use Rattle.mw_term.specs.Functions.{always};
+ghost use Rattle.mw_term.specs.Table.{table_of, IsTable};
+ghost use Rattle.mw_dd.specs.Diagrams.{IsFirst};
+ghost use Rattle.mw_dd.specs.Nodes.{IsDd, function_of};
 ghost use Rattle.mw_check.specs.declared.equality.Equality.TheVariants as equality;
-ghost use Rattle.mw_check.specs.Equal.{IsFirstDifference, IsOverBudget};
+ghost use Rattle.mw_check.specs.Equal.{values_from, IsFirstDifference, IsOverBudget, IsAnswer};
 ghost use Rattle.mw_check.specs.Question.{asked_of, IsQuestion, AlwaysAgree};
+ghost use Rattle.mw_check.specs.QuestionWords.{ended_at, variables_from, places_from, words_of, question_nodes, word_count};
 
 use crate::equality::Equality;
+use crate::nodes::{nodes, push};
 use crate::question::Question;
-use mw_base::NoMemory;
+use crate::word_list::WordList;
+use mw_base::{Items, NoMemory};
+use mw_blast::{Blast, BlastFault};
+use mw_dd::{Dd, Diagrams};
+use mw_term::{Assignment, Op, Term};
 use std::alloc::Global;
+
+/// One variable for each of some widths, as words with numbers from 1, at the head of a list.
+fn variables(alloc: Global, ops: &mut Vec<Op>, widths: &[u8]) -> Result<Vec<Term>, NoMemory>
+    requires { ops.old.items ≡ [] }
+    ensures ops { OnOk result (ops.new.items ≡ variables_from 1 widths.now) }
+    ensures elements { IfOk result (λ terms. terms.items ≡ places_from 0 widths.now) }
+{
+    let mut terms = Vec::new(alloc);
+    for i in 0..widths.len() {
+        terms.push(push(ops, Op::Var(i as u64 + 1, widths[i]))?)?;
+    }
+    Ok(terms)
+}
+
+/// The ops of the list of a question, and the term at its end, which is 1 where both sides are equal.
+fn question_nodes(alloc: Global, ops: &mut Vec<Op>, question: &Question) -> Result<Term, NoMemory>
+    requires none { ops.old.items ≡ [] }
+    requires question { IsQuestion (asked_of question.now) }
+    ensures { IfOk result (λ term. ended_at term ops.new.items ≡ question_nodes (asked_of question.now)) }
+{
+    let shape = &question.shape;
+    let elements = variables(alloc, ops, shape.widths.as_slice())?;
+    let left = nodes(ops, alloc, shape, &elements, &question.left)?;
+    let right = nodes(ops, alloc, shape, &elements, &question.right)?;
+    push(ops, Op::Eq(left, right))
+}
+
+/// The list of these ops, each of which fits those before it.
+fn listed(alloc: Global, ops: &[Op]) -> Result<WordList, NoMemory>
+    requires { IsTable (table_of ops.now []) }
+    ensures { IfOk result (λ words. words ≡ table_of ops.now []) }
+{
+    let mut words = WordList::new(alloc)?;
+    for op in ops {
+        words.build(alloc, *op)?;
+    }
+    Ok(words)
+}
+
+/// The list of a question, and the term at its end, which is 1 where both sides are equal.
+fn question_words(alloc: Global, question: &Question) -> Result<(WordList, Term), NoMemory>
+    requires { IsQuestion (asked_of question.now) }
+    ensures words { IfOk result (λ pair. pair.0 ≡ words_of (asked_of question.now)) }
+    ensures end { IfOk result (λ pair. pair.1 ≡ (question_nodes (asked_of question.now)).term) }
+{
+    let mut ops = Vec::new(alloc);
+    let same = question_nodes(alloc, &mut ops, question)?;
+    Ok((listed(alloc, &ops)?, same))
+}
+
+/// The first assignment under which a function doesn't hold; none where it always holds.
+fn first_without(
+    alloc: Global,
+    dds: &mut Diagrams,
+    same: Dd,
+) -> Result<Option<Assignment>, NoMemory>
+    requires { IsDd dds.old same }
+    ensures first { IfOk result (λ o. IfSome o (IsFirst (λ given. not (function_of dds.old same given)))) }
+    ensures none { IfOk result (λ o. o ≡ None → Agree (function_of dds.old same) always) }
+{
+    let never = dds.constant(false);
+    let always = dds.constant(true);
+    // No row of the term table has this operation, so the caller's budget isn't asked. There can't be more nodes than this.
+    match dds.ite(alloc, same, never, always, u32::MAX) {
+        Ok(differ) => dds.some_assignment(alloc, differ),
+        Err(_) => Err(NoMemory),
+    }
+}
+
+/// The values that an assignment gives to variables of these widths.
+fn values_of(alloc: Global, given: &Assignment, widths: &[u8]) -> Result<Items<u32>, NoMemory>
+    requires { All (λ w. (1 ≤ w) × (w ≤ 32)) widths.now }
+    ensures { IfOk result (λ values. values ≡ values_from 1 widths.now (given_by given.now)) }
+{
+    let mut values = Vec::new(alloc);
+    for i in 0..widths.len() {
+        let value = u64::from(given.number(i as u64 + 1)) % (1 << widths[i]);
+        values.push(value as u32)?;
+    }
+    Ok(Items::from_vec(values))
+}
+
+/// The answer where bits weren't made.
+///
+/// # Errors
+///
+/// Memory ran out.
+fn unknown(words: &WordList, fault: BlastFault) -> Result<Equality, NoMemory>
+    requires { (term bit : ℕ) → fault ≡ blast.Over term bit → term < length words.now.ops }
+    ensures { IfOk result (λ e. (term : ℕ) × (bit : ℕ) × (fault ≡ blast.Over term bit)
+        × (e ≡ equality.Unknown (word_count (take (term + 1) words.now.ops)) bit)) }
+{
+    match fault {
+        BlastFault::Over(term, bit) => Ok(Equality::Unknown {
+            word: words.number(term),
+            bit,
+        }),
+        BlastFault::NoMemory => Err(NoMemory),
+    }
+}
+
+/// The answer to a question, by its list and the term at the end of that.
+fn answer(
+    alloc: Global,
+    question: &Question,
+    words: &WordList,
+    same: Term,
+    budget: u32,
+) -> Result<Equality, NoMemory>
+    requires question { IsQuestion (asked_of question.now) }
+    requires words { words.now ≡ words_of (asked_of question.now) }
+    requires end { same ≡ (question_nodes (asked_of question.now)).term }
+    ensures { IfOk result (IsAnswer (asked_of question.now) budget) }
+{
+    let mut dds = Diagrams::new(alloc)?;
+    let mut blast = Blast::new(alloc);
+    let bits = match blast.bits(alloc, words.terms(), &mut dds, same, budget) {
+        Ok(bits) => bits,
+        Err(fault) => return unknown(words, fault),
+    };
+    match first_without(alloc, &mut dds, bits[0])? {
+        None => Ok(Equality::Yes),
+        Some(given) => Ok(Equality::No(values_of(
+            alloc,
+            &given,
+            question.shape.widths.as_slice(),
+        )?)),
+    }
+}
 
 /// Whether the sides of a question are equal for all values of its variables, asked within a budget of joint cofactors for
 /// each operation.
@@ -21,7 +163,7 @@ use std::alloc::Global;
 /// # Errors
 ///
 /// Memory ran out.
-pub fn equal(_alloc: Global, question: &Question, nodes: u32) -> Result<Equality, NoMemory>
+pub fn equal(alloc: Global, question: &Question, nodes: u32) -> Result<Equality, NoMemory>
     requires { IsQuestion (asked_of question.now) }
     ensures yes { IfOk result (λ e. e ≡ equality.Yes → AlwaysAgree (asked_of question.now)) }
     ensures no { IfOk result (λ e. (values : List ℕ) → e ≡ equality.No values
@@ -29,7 +171,6 @@ pub fn equal(_alloc: Global, question: &Question, nodes: u32) -> Result<Equality
     ensures unknown { IfOk result (λ e. (word bit : ℕ) → e ≡ equality.Unknown word bit
         → IsOverBudget (asked_of question.now) word bit nodes) }
 {
-    let _ = question;
-    let _ = nodes;
-    Err(NoMemory)
+    let (words, same) = question_words(alloc, question)?;
+    answer(alloc, question, &words, same, nodes)
 }

@@ -20,8 +20,8 @@ impl Model for Term {
 impl Term {
     ghost use Rattle.std.specs.Prelude.{◌≡◌, ◌<◌, ◌^◌};
 
-    /// The term at a position.
-    pub(crate) fn at(position: u32) -> Term
+    /// The term at a position of a table, from 0.
+    pub fn at(position: u32) -> Term
         ensures { result ≡ position }
     {
         Term { position }
