@@ -74,13 +74,13 @@ fn earlier(place: u32, other: u32) -> u32
 }
 
 impl<K: Key> Table<K> {
-    /// No keys, room for some, and so many buckets.
-    fn with_buckets(alloc: Global, room: usize, count: usize) -> Result<Table<K>, NoMemory>
+    /// No keys, and so many buckets.
+    fn with_buckets(alloc: Global, count: usize) -> Result<Table<K>, NoMemory>
         requires { 0 < count }
         ensures { IfOk result (λ table. table ≡ []) }
     {
         Ok(Table {
-            entries: Vec::with_capacity(alloc, room)?,
+            entries: Vec::new(alloc),
             heads: vec![in alloc; NOWHERE; count]?,
         })
     }
@@ -89,7 +89,7 @@ impl<K: Key> Table<K> {
     pub(crate) fn new(alloc: Global) -> Result<Table<K>, NoMemory>
         ensures { IfOk result (λ table. table ≡ []) }
     {
-        Table::with_buckets(alloc, 0, FIRST_BUCKETS)
+        Table::with_buckets(alloc, FIRST_BUCKETS)
     }
 
     /// How many keys there are.
@@ -144,12 +144,11 @@ impl<K: Key> Table<K> {
         Ok(place)
     }
 
-    /// The same keys in four times as many buckets, and room for as many keys again.
+    /// The same keys in four times as many buckets.
     fn grown(&self, alloc: Global) -> Result<Table<K>, NoMemory>
         ensures { IfOk result (λ table. table ≡ self.now) }
     {
-        let room = self.entries.len().saturating_mul(2);
-        let mut grown = Table::with_buckets(alloc, room, self.heads.len().saturating_mul(4))?;
+        let mut grown = Table::with_buckets(alloc, self.heads.len().saturating_mul(4))?;
         for place in 0..self.entries.len() {
             grown.link(self.entries[place].key)?;
         }
