@@ -31,7 +31,12 @@ impl Key for Node {
     fn hash(&self) -> u32 {
         let high = self.high.position();
         let distance = u64::from(self.low.position()) + (1 << 32) - u64::from(high);
-        scatter_near(self.variable.word, u64::from(self.variable.bit), distance, high)
+        scatter_near(
+            self.variable.word,
+            u64::from(self.variable.bit),
+            distance,
+            high,
+        )
     }
 
     fn is(&self, other: &Node) -> bool {

@@ -166,7 +166,8 @@ impl<K: Key> Table<K> {
         ensures items { OnOk result (self.new ≡ self.old ++ key ∷ []) }
         ensures err { OnErr result (self.new ≡ self.old) }
     {
-        if self.entries.len() >= self.heads.len() {
+        // At most one key for two buckets, so that mostly no other key than the right one is looked at.
+        if self.entries.len() >= self.heads.len() / 2 {
             *self = self.grown(alloc)?;
         }
         self.link(key)
