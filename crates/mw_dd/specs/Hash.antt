@@ -6,6 +6,6 @@ use Rattle.mw_dd.specs.declared.hash.TheConstants.{FIRST, SECOND, THIRD, FOURTH,
 unfoldable pub scattered : (a b c d : ℕ) → ℕ
 scattered a b c d = (a * FIRST + b * SECOND + c * THIRD + d * FOURTH) % 2 ^ 64 / 2 ^ 32
 
--- the same, where last numbers of one group stay together
+-- four numbers scattered, where last numbers of one group stay in one
 unfoldable pub scattered_near : (a b c near : ℕ) → ℕ
 scattered_near a b c near = bit_xor (scattered a b c (near / GROUP)) (near % GROUP)
