@@ -1,7 +1,11 @@
 -- Numbers for buckets.
-use Rattle.std.specs.Prelude.{ℕ, ◌+◌, ◌*◌, ◌/◌, ◌%◌, ◌^◌}
-use Rattle.mw_dd.specs.declared.hash.TheConstants.{FIRST, SECOND, THIRD, FOURTH}
+use Rattle.std.specs.Prelude.{ℕ, ◌+◌, ◌*◌, ◌/◌, ◌%◌, ◌^◌, bit_xor}
+use Rattle.mw_dd.specs.declared.hash.TheConstants.{FIRST, SECOND, THIRD, FOURTH, GROUP}
 
 -- four numbers scattered over 32 bits
 unfoldable pub scattered : (a b c d : ℕ) → ℕ
 scattered a b c d = (a * FIRST + b * SECOND + c * THIRD + d * FOURTH) % 2 ^ 64 / 2 ^ 32
+
+-- four numbers scattered, where last numbers of one group stay in one
+unfoldable pub scattered_near : (a b c near : ℕ) → ℕ
+scattered_near a b c near = bit_xor (scattered a b c (near / GROUP)) (near % GROUP)

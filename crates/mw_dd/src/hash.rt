@@ -1,6 +1,6 @@
 // Numbers for buckets.
 ghost use Rattle.std.specs.Prelude.{◌≡◌};
-ghost use Rattle.mw_dd.specs.Hash.{scattered};
+ghost use Rattle.mw_dd.specs.Hash.{scattered, scattered_near};
 
 // What each of four numbers is multiplied by: 2^64 over the golden ratio, and primes that xxHash has.
 const FIRST: u64 = 0x9e37_79b9_7f4a_7c15;
@@ -22,4 +22,17 @@ pub(crate) fn scatter(a: u64, b: u64, c: u64, d: u64) -> u32
         .wrapping_add(c.wrapping_mul(THIRD))
         .wrapping_add(d.wrapping_mul(FOURTH));
     (sum >> 32) as u32
+}
+
+/// How many numbers make a group whose buckets lie together: as many as heads fill a page of memory.
+const GROUP: u32 = 1024;
+
+/// A number that depends on each bit of four others. Where these differ in the last alone, and the two are of one group,
+/// so are the results, and they differ too. An operation goes through nodes about in the order in which they were made, so
+/// that buckets that lie together are asked one soon after another, and are still in the cache.
+#[tactic(auto, unfolding(crate::specs::Hash::scattered_near))]
+pub(crate) fn scatter_near(a: u64, b: u64, c: u64, near: u32) -> u32
+    ensures { result ≡ scattered_near a b c near }
+{
+    scatter(a, b, c, u64::from(near / GROUP)) ^ near % GROUP
 }

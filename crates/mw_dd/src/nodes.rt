@@ -7,7 +7,7 @@ ghost use Rattle.mw_dd.specs.Nodes.{value_at, IsDd, IsFrom, IsReduced, after};
 ghost use Rattle.mw_dd.specs.Steps.{Grows, AreDds, AreFrom, HasVariable, IsTop, size};
 
 use crate::dd::Dd;
-use crate::hash::scatter;
+use crate::hash::scatter_near;
 use crate::table::{Key, Table};
 use crate::variable::Variable;
 use mw_base::NoMemory;
@@ -22,14 +22,21 @@ pub(crate) struct Node {
 }
 
 impl Key for Node {
-    ghost use Rattle.mw_dd.specs.Hash.{scattered};
+    ghost use Rattle.std.specs.Prelude.{◌+◌, ◌^◌};
+    ghost use Rattle.mw_dd.specs.Hash.{scattered_near};
 
-    ghost hash_of = { λ n. scattered n.variable.word n.variable.bit n.low n.high };
+    ghost hash_of = { λ n. scattered_near n.variable.word n.variable.bit (n.low + 2 ^ 32 - n.high) n.high };
 
+    // Branches of one variable's nodes are mostly as far from each other as those of the node before.
     fn hash(&self) -> u32 {
-        let low = u64::from(self.low.position());
-        let high = u64::from(self.high.position());
-        scatter(self.variable.word, u64::from(self.variable.bit), low, high)
+        let high = self.high.position();
+        let distance = u64::from(self.low.position()) + (1 << 32) - u64::from(high);
+        scatter_near(
+            self.variable.word,
+            u64::from(self.variable.bit),
+            distance,
+            high,
+        )
     }
 
     fn is(&self, other: &Node) -> bool {
@@ -46,15 +53,14 @@ pub(crate) struct Triple {
 }
 
 impl Key for Triple {
-    ghost use Rattle.mw_dd.specs.Hash.{scattered};
+    ghost use Rattle.mw_dd.specs.Hash.{scattered_near};
 
-    ghost hash_of = { λ t. scattered t.f t.g t.h 0 };
+    ghost hash_of = { λ t. scattered_near t.f t.h 0 t.g };
 
     fn hash(&self) -> u32 {
         let f = u64::from(self.f.position());
-        let g = u64::from(self.g.position());
         let h = u64::from(self.h.position());
-        scatter(f, g, h, 0)
+        scatter_near(f, h, 0, self.g.position())
     }
 
     fn is(&self, other: &Triple) -> bool {

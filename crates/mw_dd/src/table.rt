@@ -27,8 +27,9 @@ const NOWHERE: u32 = 0xffff_ffff;
 /// The most keys that a table can have: less than `NOWHERE`, with room for the numbers that users put before places.
 const MOST: usize = 0xffff_fff0;
 
-/// How many buckets a new table has: a power of two, as they always are, so that a mask finds a hash's bucket.
-const FIRST_BUCKETS: usize = 64;
+/// How many buckets a new table has: a power of two, as they always are, so that a mask finds a hash's bucket, and enough
+/// for the diagrams of a few words.
+const FIRST_BUCKETS: usize = 2048;
 
 /// A key, and the place of an earlier one of the same bucket.
 #[derive(Clone, Copy)]
@@ -166,7 +167,8 @@ impl<K: Key> Table<K> {
         ensures items { OnOk result (self.new ≡ self.old ++ key ∷ []) }
         ensures err { OnErr result (self.new ≡ self.old) }
     {
-        if self.entries.len() >= self.heads.len() {
+        // At most one key for two buckets, so that mostly no other key than the right one is looked at.
+        if self.entries.len() >= self.heads.len() / 2 {
             *self = self.grown(alloc)?;
         }
         self.link(key)
