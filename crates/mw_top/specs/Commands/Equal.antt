@@ -31,12 +31,12 @@ equality_status (equalities.No values) = Differs
 equality_status (equalities.Unknown word bit) = Unknown
 
 -- the line of the variable with a number, from 0; none where its value is 0
-abbrev pub variable_line : Asked → (values : List ℕ) → ℕ → List ℕ
-variable_line q values i = value_line (codes "set ") (slice_index_or q.names i []) (slice_index values i)
+abbrev pub variable_line : (names : List (List ℕ)) → (values : List ℕ) → ℕ → List ℕ
+variable_line names values i = value_line (codes "set ") (slice_index_or names i []) (slice_index values i)
 
 -- the lines of the variables, in the order of the question
-abbrev pub variable_lines : Asked → (values : List ℕ) → List ℕ
-variable_lines q values = flat_map (variable_line q values) (range_with_len 0 (length q.names))
+abbrev pub variable_lines : (names : List (List ℕ)) → (values : List ℕ) → List ℕ
+variable_lines names values = flat_map (variable_line names values) (range_with_len 0 (length names))
 
 -- what the two sides are under these values
 unfoldable pub sides_line : Asked → (values : List ℕ) → List ℕ
@@ -46,7 +46,7 @@ sides_line q values =
 -- the report of an answer
 unfoldable pub equality_report : Asked → Equality → List ℕ
 equality_report q equalities.Yes = line (codes "yes")
-equality_report q (equalities.No values) = line (codes "no") ++ variable_lines q values ++ sides_line q values
+equality_report q (equalities.No values) = line (codes "no") ++ variable_lines q.names values ++ sides_line q values
 equality_report q (equalities.Unknown word bit) =
     line (codes "unknown word " ++ decimal word ++ codes " bit " ++ decimal bit)
 

@@ -1,7 +1,8 @@
 // equal: a question.
 ghost use Rattle.std.specs.Prelude.{◌≡◌, ◌<◌, ◌^◌, ◌++◌, ℕ, List, [], IfOk, OnOk, length};
 ghost use Rattle.mw_base.specs.Reading.{Gives};
-ghost use Rattle.mw_check.specs.declared.equality.Equality.TheVariants.{No};
+ghost use Rattle.mw_check.specs.declared.equality.Equality.TheVariants.{No, Unknown};
+ghost use Rattle.mw_check.specs.Question.{Asked as AskedOf};
 ghost use Rattle.mw_check.specs.QuestionText.{question_of};
 ghost use Rattle.mw_expr.specs.Values.{AreWords};
 ghost use Rattle.mw_outside.specs.Views.{IsLater, shelf_shown};
@@ -13,7 +14,7 @@ use crate::fault::Fault;
 use crate::outcome::Outcome;
 use crate::report::append_value_line;
 use crate::status::Status;
-use mw_base::{NoMemory, Refusal, append_decimal, append_hex};
+use mw_base::{Name, NoMemory, Refusal, append_decimal, append_hex};
 use mw_check::{Equality, Question, equal, read_question};
 use mw_expr::value;
 use mw_outside::Shelf;
@@ -83,14 +84,14 @@ fn status_of(equality: &Equality) -> Status
 fn append_variable(
     alloc: Global,
     report: &mut Vec<u8>,
-    asked: &Asked,
+    names: &[Name],
     values: &[u32],
     number: usize,
 ) -> Result<(), NoMemory>
     requires { number < length values.now }
-    ensures { OnOk result (report.new.items ≡ report.old.items ++ variable_line asked.now values.now number) }
+    ensures { OnOk result (report.new.items ≡ report.old.items ++ variable_line names.now values.now number) }
 {
-    let name = match asked.question.names.as_slice().get(number) {
+    let name = match names.get(number) {
         Some(name) => name.as_slice(),
         None => b"",
     };
@@ -101,14 +102,14 @@ fn append_variable(
 fn append_variables(
     alloc: Global,
     report: &mut Vec<u8>,
-    asked: &Asked,
+    names: &[Name],
     values: &[u32],
 ) -> Result<(), NoMemory>
-    requires { length values.now ≡ length asked.now.names }
-    ensures { OnOk result (report.new.items ≡ report.old.items ++ variable_lines asked.now values.now) }
+    requires { length values.now ≡ length names.now }
+    ensures { OnOk result (report.new.items ≡ report.old.items ++ variable_lines names.now values.now) }
 {
     for number in 0..values.len() {
-        append_variable(alloc, report, asked, values, number)?;
+        append_variable(alloc, report, names, values, number)?;
     }
     Ok(())
 }
@@ -134,6 +135,39 @@ fn append_sides(
     append_line(report, b"")
 }
 
+/// Appends that the sides differ under these values.
+#[tactic(auto, unfolding(crate::specs::Commands::Equal::equality_report))]
+fn append_no(
+    alloc: Global,
+    report: &mut Vec<u8>,
+    asked: &Asked,
+    values: &[u32],
+) -> Result<(), NoMemory>
+    requires { AreWords asked.now.shape.widths values.now }
+    ensures { OnOk result (report.new.items ≡ report.old.items ++ equality_report asked.now (No values.now)) }
+{
+    append_line(report, b"no")?;
+    append_variables(alloc, report, asked.question.names.as_slice(), values)?;
+    append_sides(alloc, report, asked, values)
+}
+
+/// Appends that an operation at a bit of a word is over the budget.
+#[tactic(auto, unfolding(crate::specs::Commands::Equal::equality_report))]
+fn append_unknown(
+    alloc: Global,
+    report: &mut Vec<u8>,
+    word: u64,
+    bit: u8,
+) -> Result<(), NoMemory>
+    ensures { OnOk result ((q : AskedOf) → report.new.items ≡ report.old.items ++ equality_report q (Unknown word bit)) }
+{
+    report.extend_from_slice(b"unknown word ")?;
+    append_decimal(alloc, report, word)?;
+    report.extend_from_slice(b" bit ")?;
+    append_decimal(alloc, report, u64::from(bit))?;
+    append_line(report, b"")
+}
+
 /// Appends an answer to a question.
 #[tactic(auto, unfolding(crate::specs::Commands::Equal::equality_report))]
 fn append_equality(
@@ -147,18 +181,8 @@ fn append_equality(
 {
     match equality {
         Equality::Yes => append_line(report, b"yes"),
-        Equality::No(values) => {
-            append_line(report, b"no")?;
-            append_variables(alloc, report, asked, values.as_slice())?;
-            append_sides(alloc, report, asked, values.as_slice())
-        }
-        Equality::Unknown { word, bit } => {
-            report.extend_from_slice(b"unknown word ")?;
-            append_decimal(alloc, report, *word)?;
-            report.extend_from_slice(b" bit ")?;
-            append_decimal(alloc, report, u64::from(*bit))?;
-            append_line(report, b"")
-        }
+        Equality::No(values) => append_no(alloc, report, asked, values.as_slice()),
+        Equality::Unknown { word, bit } => append_unknown(alloc, report, *word, *bit),
     }
 }
 

@@ -5,4 +5,4 @@ use Rattle.mw_top.proofs.commands.equal.append_variables.Given as goal
 
 abbrev pub invariant-loop-number : goal.invariant-loop-number
 invariant-loop-number l =
-    l.report.items ≡ l.fn.report.items ++ flat_map (variable_line l.asked l.values) (range_with_len 0 l.number)
+    l.report.items ≡ l.fn.report.items ++ flat_map (variable_line l.names l.values) (range_with_len 0 l.number)
