@@ -43,12 +43,19 @@ unfoldable pub sides_line : Asked → (values : List ℕ) → List ℕ
 sides_line q values =
     line (codes "left " ++ hex (value q.shape values [] q.left) ++ codes " right " ++ hex (value q.shape values [] q.right))
 
+-- a word and a bit of it
+abbrev pub word_text : (word bit : ℕ) → List ℕ
+word_text word bit = codes " word " ++ decimal word ++ codes " bit " ++ decimal bit
+
+-- an operation at a bit of a word is over the budget
+abbrev pub unknown_line : (word bit : ℕ) → List ℕ
+unknown_line word bit = line (codes "unknown" ++ word_text word bit)
+
 -- the report of an answer
 unfoldable pub equality_report : Asked → Equality → List ℕ
 equality_report q equalities.Yes = line (codes "yes")
 equality_report q (equalities.No values) = line (codes "no") ++ variable_lines q.names values ++ sides_line q values
-equality_report q (equalities.Unknown word bit) =
-    line (codes "unknown word " ++ decimal word ++ codes " bit " ++ decimal bit)
+equality_report q (equalities.Unknown word bit) = unknown_line word bit
 
 -- a question is answered so within a budget, and that is what status and report say
 pub record IsEquality (nodes : ℕ) (question : Asked) (status : Status) (report : List ℕ) : Type 0 where

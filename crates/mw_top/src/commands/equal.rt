@@ -1,13 +1,12 @@
 // equal: a question.
 ghost use Rattle.std.specs.Prelude.{◌≡◌, ◌<◌, ◌^◌, ◌++◌, ℕ, List, [], IfOk, OnOk, length};
 ghost use Rattle.mw_base.specs.Reading.{Gives};
-ghost use Rattle.mw_check.specs.declared.equality.Equality.TheVariants.{No, Unknown};
-ghost use Rattle.mw_check.specs.Question.{Asked as AskedOf};
+ghost use Rattle.mw_check.specs.declared.equality.Equality.TheVariants.{No};
 ghost use Rattle.mw_check.specs.QuestionText.{question_of};
 ghost use Rattle.mw_expr.specs.Values.{AreWords};
 ghost use Rattle.mw_outside.specs.Views.{IsLater, shelf_shown};
 ghost use Rattle.mw_plan.specs.Steps.{Ends};
-ghost use Rattle.mw_top.specs.Commands.Equal.{equal_plan, equality_report, equality_status, sides_line, variable_line, variable_lines, IsEquality};
+ghost use Rattle.mw_top.specs.Commands.Equal.{equal_plan, equality_report, equality_status, sides_line, unknown_line, variable_line, variable_lines, word_text, IsEquality};
 
 use super::Work;
 use crate::fault::Fault;
@@ -126,7 +125,10 @@ fn append_sides(
     ensures { OnOk result (report.new.items ≡ report.old.items ++ sides_line asked.now values.now) }
 {
     let Question {
-        shape, left, right, ..
+        shape,
+        left,
+        right,
+        ..
     } = &asked.question;
     report.extend_from_slice(b"left ")?;
     append_hex(alloc, report, u128::from(value(left, shape, values, &[])))?;
@@ -151,20 +153,22 @@ fn append_no(
     append_sides(alloc, report, asked, values)
 }
 
-/// Appends that an operation at a bit of a word is over the budget.
-#[tactic(auto, unfolding(crate::specs::Commands::Equal::equality_report))]
-fn append_unknown(
-    alloc: Global,
-    report: &mut Vec<u8>,
-    word: u64,
-    bit: u8,
-) -> Result<(), NoMemory>
-    ensures { OnOk result ((q : AskedOf) → report.new.items ≡ report.old.items ++ equality_report q (Unknown word bit)) }
+/// Appends a word and a bit of it.
+fn append_word(alloc: Global, report: &mut Vec<u8>, word: u64, bit: u8) -> Result<(), NoMemory>
+    ensures { OnOk result (report.new.items ≡ report.old.items ++ word_text word bit) }
 {
-    report.extend_from_slice(b"unknown word ")?;
+    report.extend_from_slice(b" word ")?;
     append_decimal(alloc, report, word)?;
     report.extend_from_slice(b" bit ")?;
-    append_decimal(alloc, report, u64::from(bit))?;
+    append_decimal(alloc, report, u64::from(bit))
+}
+
+/// Appends that an operation at a bit of a word is over the budget.
+fn append_unknown(alloc: Global, report: &mut Vec<u8>, word: u64, bit: u8) -> Result<(), NoMemory>
+    ensures { OnOk result (report.new.items ≡ report.old.items ++ unknown_line word bit) }
+{
+    report.extend_from_slice(b"unknown")?;
+    append_word(alloc, report, word, bit)?;
     append_line(report, b"")
 }
 
