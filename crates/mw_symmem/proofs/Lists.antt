@@ -1,5 +1,5 @@
 -- Words of a list with one more.
-use Rattle.std.proofs.Common.{◌≡◌, ◌⊎◌, inl, inr, ℕ, zero, suc, ◌+◌, ◌<◌, List, [], ◌∷◌, ◌++◌, length, refl, ap, arith, sym, ◌∙◌}
+use Rattle.std.proofs.Common.{◌≡◌, ◌⊎◌, inl, inr, ℕ, zero, suc, ◌+◌, ◌<◌, List, [], ◌∷◌, ◌++◌, length, map, refl, ap, arith, sym, ◌∙◌}
 use Rattle.std.specs.HashMap.{HashMap, get, get_by}
 use Rattle.std.specs.Prelude.{OnOk, OnErr, Result, Ok, Err, Bool, true, false, ◌==◌, nat_eq, Option, Some, None, slice_get, unwrap_or, cond, if◌then◌else◌}
 use Rattle.std.proofs.lemmas.Option.{same_Some}
@@ -225,3 +225,60 @@ after_variable (Ok done) words more old new before after term own absent kept is
     rw is (kept_variable words old new before after term own absent kept given put)
 after_variable (Err fault) words more old new before after term own absent kept is given put same numbers terms =
     rw same (kept_same words old new before after kept numbers terms)
+
+-- ---- words that are no variables behind a list
+
+plain_none : (xs : List ℕ) (kind : WordKind) → term_of (map plain xs) kind ≡ None
+plain_none [] kind = refl
+plain_none (x ∷ xs) kind = plain_none xs kind
+
+pub plain_behind : (words : List Word) (xs : List ℕ) (kind : WordKind)
+    → term_of (words ++ map plain xs) kind ≡ term_of words kind
+plain_behind [] xs kind = plain_none xs kind
+plain_behind (w ∷ words) xs kind =
+    ap (λ found. if is_of w.kind kind then Some w.term else found) (plain_behind words xs kind)
+
+abbrev word_of_kind : (term : ℕ) → Option WordKind → Word
+word_of_kind term kind = record { term = term; kind = kind }
+
+never_true : (b : Bool) → (b ≡ true → ⊥) → b ≡ false
+never_true true never = absurd (never refl)
+never_true false never = refl
+
+other_kind : (term : ℕ) (own : Option WordKind) (kind : WordKind) → (own ≡ Some kind → ⊥) → is_of own kind ≡ false
+other_kind term None kind never = refl
+other_kind term (Some own) kind never =
+    never_true (same_kind own kind) (λ same. never (ap (λ k. Some k) (kind_is own kind same)))
+
+-- where no word is a variable of a kind, it is missing
+pub absent : (words : List Word) (kind : WordKind) → ((place term : ℕ) → IsVariable words place term kind → ⊥)
+    → term_of words kind ≡ None
+absent [] kind never = refl
+absent (w ∷ rest) kind never =
+    ap (λ (b : Bool). if b then Some w.term else term_of rest kind)
+    (other_kind w.term w.kind kind
+    (λ is. never 0 w.term (ap (λ own. Some (word_of_kind w.term own)) is)))
+    ∙ absent rest kind (λ place term is. never (suc place) term is)
+
+-- an item of two lists is one of the first or one of the second
+pub among : {X : Type 0} (xs ys : List X) (i : ℕ) (found : X) → slice_get (xs ++ ys) i ≡ Some found
+    → (slice_get xs i ≡ Some found) ⊎ ((j : ℕ) × (slice_get ys j ≡ Some found))
+among [] ys i found is = inr (i, is)
+among (x ∷ xs) ys zero found is = inl is
+among (x ∷ xs) ys (suc i) found is = among xs ys i found is
+
+-- and one behind a list is there
+pub seam : {X : Type 0} (xs : List X) (x : X) (ys : List X) → slice_get (xs ++ x ∷ ys) (length xs) ≡ Some x
+seam [] x ys = refl
+seam (y ∷ xs) x ys = seam xs x ys
+
+pub no_variable : (xs : List ℕ) (i a : ℕ) (kind : WordKind) → IsVariable (map plain xs) i a kind → ⊥
+no_variable [] i a kind is = absurd cc
+no_variable (x ∷ xs) zero a kind is = none_is (ap (λ (w : Word). w.kind) (same_Some (plain x) (variable a kind) is))
+no_variable (x ∷ xs) (suc i) a kind is = no_variable xs i a kind is
+
+-- the one variable in front of others
+pub only_variable : (base : ℕ) (own : WordKind) (xs : List ℕ) (i a : ℕ) (kind : WordKind)
+    → IsVariable (variable base own ∷ map plain xs) i a kind → own ≡ kind
+only_variable base own xs zero a kind is = kind_of (same_Some (variable base own) (variable a kind) is)
+only_variable base own xs (suc i) a kind is = absurd (no_variable xs i a kind is)
