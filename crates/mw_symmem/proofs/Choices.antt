@@ -1,10 +1,8 @@
 -- The parts of a memory read: which ops fit, and what is made of one more.
-use Rattle.std.proofs.Common.{◌≡◌, ℕ, zero, suc, ◌+◌, ◌<◌, List, [], ◌∷◌, ◌++◌, length, take, drop, drop-cons, get_or, slice_index, map, refl, ap, arith, sym, ◌∙◌}
-use Rattle.std.specs.Prelude.{Some, slice_get}
-use Rattle.std.specs.List.{AllZip}
-use Rattle.mw_term.specs.declared.op.Op.TheVariants.{Var, Eq, Ite}
+use Rattle.std.proofs.Common.{◌≡◌, ℕ, suc, ◌+◌, ◌<◌, List, [], ◌∷◌, ◌++◌, length, drop, drop-cons, get_or, refl, ap, arith, sym, ◌∙◌}
+use Rattle.mw_term.specs.declared.op.Op.TheVariants.{Eq, Ite}
 use Rattle.mw_term.specs.MemoryRead.{Held}
-use Rattle.mw_term.specs.Table.{Table, Extends, Fits, ArePair, IsBit, widths_of, term_width, op_width}
+use Rattle.mw_term.specs.Table.{Table, Extends, ArePair, IsBit, widths_of, op_width}
 use Rattle.mw_term.specs.Values.{Keeps}
 use Rattle.mw_term.proofs.Tables.{widths_count}
 use Rattle.mw_symmem.specs.Words.{IsNoVariable}
@@ -97,7 +95,7 @@ side_push t address (first ∷ newer) base (x ∷ []) value write s next is same
 side_push t address (first ∷ newer) base (x ∷ y ∷ made) value write s next is same has =
     (is.0, is.1, side_push t address newer y made value write s next is.2 same has)
 
-dropped : {X : Type 0} (xs : List X) (i : ℕ) (x : X) → i < length xs → x ≡ get_or xs i x
+pub dropped : {X : Type 0} (xs : List X) (i : ℕ) (x : X) → i < length xs → x ≡ get_or xs i x
     → drop i xs ≡ x ∷ drop (i + 1) xs
 dropped xs i x inside is =
     let next : suc i ≡ i + 1 = omega arith in

@@ -1,11 +1,11 @@
 -- Tables that grow, and the terms in them.
-use Rattle.std.proofs.Common.{◌≡◌, ℕ, ◌+◌, ◌<◌, ◌≤◌, List, [], ◌∷◌, ◌++◌, length, take, drop, slice_index, map, refl, ap, arith, sym, ◌∙◌}
-use Rattle.std.proofs.Common.{append-nil, append_assoc, length-append, subst}
+use Rattle.std.proofs.Common.{◌≡◌, ℕ, ◌≤◌, List, [], ◌∷◌, ◌++◌, length, take, drop, map, refl, ap, arith, sym, ◌∙◌}
+use Rattle.std.proofs.Common.{append-nil, append_assoc}
 use Rattle.std.proofs.lemmas.List.{take-append-drop, take-append-le, take_all}
 use Rattle.mw_term.specs.declared.op.Op.{Op}
 use Rattle.mw_term.specs.Assigned.{Given}
-use Rattle.mw_term.specs.Table.{Table, Extends, Fits, IsTable, term_width, width_over, widths_of}
-use Rattle.mw_term.specs.Values.{IsTermOf, Keeps, term_value, value_over, values_of}
+use Rattle.mw_term.specs.Table.{Table, Extends, Fits, IsTable, width_over, widths_of}
+use Rattle.mw_term.specs.Values.{IsTermOf, Keeps, value_over, values_of}
 use Rattle.mw_term.proofs.Fitting.{fits_more, width_more, value_more}
 use Rattle.mw_term.proofs.Tables.{widths_append, widths_begin, values_append, values_begin, widths_count, values_count}
 use Rattle.mw_symmem.specs.declared.word.Word.{Word}

@@ -6,8 +6,8 @@ use Rattle.mw_term.specs.declared.op.Op.{Op}
 use Rattle.mw_term.specs.declared.op.Op.TheVariants.{Var}
 use Rattle.mw_term.specs.Table.{Table, table_of}
 use Rattle.mw_symmem.specs.declared.word.Word.{Word}
-use Rattle.mw_symmem.specs.Words.{plain, variable, IsVariable, IsListed, AreOf, IsNoVariable}
-use Rattle.mw_symmem.proofs.Lists.{pushed, behind, pushed_there, none_is, kind_of}
+use Rattle.mw_symmem.specs.Words.{plain, variable, IsListed, AreOf, IsNoVariable}
+use Rattle.mw_symmem.proofs.Lists.{pushed, behind, pushed_there, none_is}
 
 -- the table with one op more
 abbrev pub with_op : Table → Op → Table

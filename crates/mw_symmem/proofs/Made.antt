@@ -1,23 +1,22 @@
 -- What a memory read makes of a memory.
-use Rattle.std.proofs.Common.{◌≡◌, ◌⊎◌, inl, inr, ℕ, zero, suc, ◌+◌, ◌<◌, ◌≤◌, ◌^◌, ◌%◌, List, [], ◌∷◌, ◌++◌, length, length-append, append_assoc, take, drop, slice_index, map, refl, ap, arith, sym, subst, ◌∙◌}
-use Rattle.std.specs.Prelude.{Some, None, slice_get}
+use Rattle.std.proofs.Common.{◌≡◌, inl, inr, ℕ, zero, suc, ◌+◌, ◌<◌, ◌^◌, ◌%◌, List, [], ◌∷◌, ◌++◌, length, length-append, append_assoc, drop, slice_index, map, refl, ap, arith, sym, subst, ◌∙◌}
+use Rattle.std.specs.Prelude.{Some, slice_get}
 use Rattle.std.proofs.lemmas.List.{take-append-drop}
 use Rattle.std.proofs.lemmas.Option.{slice_get_within}
 use Rattle.std.proofs.Math.Seq.{take-append_seam}
 use Rattle.mw_term.specs.declared.kinds.WordKind.TheVariants.{Base}
-use Rattle.mw_term.specs.declared.kinds.WordKind.{WordKind}
 use Rattle.mw_term.specs.declared.op.Op.{Op}
-use Rattle.mw_term.specs.declared.op.Op.TheVariants.{Var, Eq, Ite}
+use Rattle.mw_term.specs.declared.op.Op.TheVariants.{Var, Ite}
 use Rattle.mw_term.specs.Assigned.{Given}
 use Rattle.mw_term.specs.MemoryRead.{Held, held}
-use Rattle.mw_term.specs.Table.{Table, Extends, IsTable, IsWidth, ArePair, IsBit, widths_of, term_width, op_width}
-use Rattle.mw_term.specs.Values.{Keeps, IsTermOf, term_value, values_after, values_of, op_value}
+use Rattle.mw_term.specs.Table.{Table, Extends, IsTable, IsWidth, ArePair, IsBit, widths_of, op_width}
+use Rattle.mw_term.specs.Values.{Keeps, IsTermOf, term_value, values_after, op_value}
 use Rattle.mw_term.proofs.Tables.{widths_count, words_of}
 use Rattle.mw_symmem.specs.declared.side.Side.{Side}
 use Rattle.mw_symmem.specs.declared.side.Side.TheVariants.{Board, Machine}
 use Rattle.mw_symmem.specs.declared.word.Word.{Word}
 use Rattle.mw_symmem.specs.Words.{plain, variable, IsVariable, AreOf}
-use Rattle.mw_symmem.specs.Memory.{Memory, writes_of, with_read, valued, first_at, after, IsImage, FitImage, IsRead, Has, AddsRead}
+use Rattle.mw_symmem.specs.Memory.{Memory, writes_of, with_read, valued, first_at, IsRead, Has, AddsRead}
 use Rattle.mw_symmem.specs.Memory.{IsOfWidth, IsHeld, AreHeld, op_number, variable_number, DependsBefore, IsBaseRead, IsMemory}
 use Rattle.mw_symmem.specs.Steps.{Grows, AreSame, IsBaseValue, IsSideValue, IsMade}
 use Rattle.mw_symmem.proofs.Lists.{pushed, behind, pushed_there, among, seam, no_variable, only_variable}
@@ -82,7 +81,7 @@ words_join w1 w2 w3 w4 v made over second third fourth =
     ∙ ap (λ ws. w1 ++ v ∷ ws) (sym (map_both made over))
 
 -- what was there is there still
-op_stays : (old new : Table) (i : ℕ) (op : Op) → Extends old new → slice_get old.ops i ≡ Some op
+pub op_stays : (old new : Table) (i : ℕ) (op : Op) → Extends old new → slice_get old.ops i ≡ Some op
     → slice_get new.ops i ≡ Some op
 op_stays old new i op extends is =
     let n = length old.ops in
@@ -171,7 +170,7 @@ held_stays told t a w h extends keeps is = record {
   word = width_stays told t w h.word extends keeps is.word;
 }
 
-all_stay : (told t : Table) (a w : ℕ) (hs : List Held) → Extends told t → Keeps told t → AreHeld told a w hs
+pub all_stay : (told t : Table) (a w : ℕ) (hs : List Held) → Extends told t → Keeps told t → AreHeld told a w hs
     → AreHeld t a w hs
 all_stay told t a w hs extends keeps are k h is = held_stays told t a w h extends keeps (are k h is)
 
@@ -180,7 +179,7 @@ pub base_number : (t : Table) (words : List Word) (w k : ℕ) (read : Held) (is 
 base_number t words w k read is = ap op_number is.op
 
 -- a base read is one still
-read_stays : (told t : Table) (old more : List Word) (a w k : ℕ) (read : Held) → Extends told t → Keeps told t
+pub read_stays : (told t : Table) (old more : List Word) (a w k : ℕ) (read : Held) → Extends told t → Keeps told t
     → IsHeld told a w read → IsBaseRead told old w k read → IsBaseRead t (old ++ more) w k read
 read_stays told t old more a w k read extends keeps held_is is = record {
   place = is.place;

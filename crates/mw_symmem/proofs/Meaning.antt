@@ -1,5 +1,5 @@
 -- What a memory read means.
-use Rattle.std.proofs.Common.{◌≡◌, ◌≢◌, inl, inr, ℕ, zero, suc, ◌+◌, ◌<◌, ◌^◌, List, [], ◌∷◌, ◌++◌, length, take, slice_index, map, refl, ap, arith, sym, ◌∙◌}
+use Rattle.std.proofs.Common.{◌≡◌, inl, inr, ℕ, suc, ◌<◌, List, [], ◌∷◌, length, slice_index, map, refl, ap, arith, sym, ◌∙◌}
 use Rattle.std.specs.Prelude.{Bool, true, false, Some, ◌==◌, if◌then◌else◌, slice_get, slice_set}
 use Rattle.std.proofs.lemmas.Bool.Decides.{eqb_tells}
 use Rattle.std.proofs.lemmas.List.{get_or-set_same, get_or-set_other, length-set}
@@ -48,7 +48,7 @@ base_meaning t given address (read ∷ newer) (s ∷ same) base made value are i
     (base_meaning t given address newer same base is.0 is.1 are.1 is.3)
 
 -- a place of a list that was written
-set_at : (xs : List ℕ) (i v j : ℕ) → i < length xs
+pub set_at : (xs : List ℕ) (i v j : ℕ) → i < length xs
     → slice_index (slice_set xs i v) j ≡ (if j == i then v else slice_index xs j)
 set_at xs i v j inside = elim (eqb_tells j i) [
   | inl h ↦ ap (slice_index (slice_set xs i v)) h.1 ∙ get_or-set_same xs i v 0 inside

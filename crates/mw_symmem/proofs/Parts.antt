@@ -1,9 +1,9 @@
 -- The words of a memory read are those of its definition.
-use Rattle.std.proofs.Common.{◌≡◌, ℕ, zero, suc, ◌+◌, ◌-◌, ◌<◌, ◌≤◌, List, [], ◌∷◌, ◌++◌, length, length-append, slice_index, refl, ap, arith, sym, ◌∙◌}
+use Rattle.std.proofs.Common.{◌≡◌, ℕ, zero, suc, ◌+◌, ◌-◌, ◌<◌, List, [], ◌∷◌, ◌++◌, length, length-append, slice_index, refl, ap, arith, sym, ◌∙◌}
 use Rattle.std.specs.List.{AllZip}
 use Rattle.std.proofs.lemmas.List.{get_or_append_left, get_or-append-add}
 use Rattle.mw_term.specs.declared.op.Op.{Op}
-use Rattle.mw_term.specs.declared.op.Op.TheVariants.{Var, Eq, Ite}
+use Rattle.mw_term.specs.declared.op.Op.TheVariants.{Var, Ite}
 use Rattle.mw_term.specs.MemoryRead.{Held, same_words, base_words, side_words, read_words}
 use Rattle.mw_term.specs.Table.{Table}
 use Rattle.mw_symmem.specs.Memory.{Has}

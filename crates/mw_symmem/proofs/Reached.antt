@@ -1,19 +1,17 @@
 -- Every image is reached.
-use Rattle.std.proofs.Common.{◌≡◌, ◌≢◌, inl, inr, ℕ, zero, suc, ◌+◌, ◌<◌, ◌≤◌, ◌%◌, ◌^◌, List, [], ◌∷◌, length, take, slice_index, map, refl, ap, arith, sym, ◌∙◌}
+use Rattle.std.proofs.Common.{◌≡◌, ◌≢◌, inl, inr, ℕ, zero, suc, ◌<◌, ◌%◌, ◌^◌, List, [], ◌∷◌, take, slice_index, map, refl, ap, arith, sym, ◌∙◌}
 use Rattle.std.specs.Prelude.{Bool, Some, ◌==◌, if◌then◌else◌, slice_get}
 use Rattle.std.proofs.lemmas.Bool.Decides.{eqb_tells}
 use Rattle.std.proofs.lemmas.Option.{same_Some}
 use Rattle.std.proofs.Math.Nat.{mod-eq_of_lt}
-use Rattle.mw_term.specs.declared.kinds.WordKind.TheVariants.{Base}
 use Rattle.mw_term.specs.declared.op.Op.TheVariants.{Var}
 use Rattle.mw_term.specs.Assigned.{Given}
 use Rattle.mw_term.specs.MemoryRead.{Held}
 use Rattle.mw_term.specs.Table.{Table, IsTable}
 use Rattle.mw_term.specs.Values.{term_value, op_value}
 use Rattle.mw_term.proofs.Tables.{terms_have_ops}
-use Rattle.mw_symmem.specs.declared.word.Word.{Word}
-use Rattle.mw_symmem.specs.Memory.{Memory, valued, first_at, IsImage, FitImage, variable_number, DependsBefore}
-use Rattle.mw_symmem.specs.Memory.{IsBaseRead, IsMemory, IsBaseNumber, ImagesAreReached}
+use Rattle.mw_symmem.specs.Memory.{valued, first_at, variable_number, DependsBefore}
+use Rattle.mw_symmem.specs.Memory.{ImagesAreReached}
 use Rattle.mw_symmem.proofs.Made.{base_number}
 
 by_same : (m n x y : ℕ) → m ≡ n → (if m == n then x else y) ≡ x

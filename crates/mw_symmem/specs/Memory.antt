@@ -1,14 +1,14 @@
 -- One base image under the writes of two sides.
-use Rattle.std.specs.Prelude.{◌≡◌, ℕ, ◌+◌, ◌<◌, ◌^◌, List, [], ◌∷◌, ◌++◌, length, map, take, Some, slice_get, slice_index}
-use Rattle.std.specs.Prelude.{slice_set, Option, None, ◌==◌, if◌then◌else◌}
+use Rattle.std.specs.Prelude.{◌≡◌, ℕ, ◌+◌, ◌<◌, ◌≤◌, ◌^◌, List, [], ◌∷◌, ◌++◌, length, map, take, Some, slice_get, slice_index}
+use Rattle.std.specs.Prelude.{slice_set, Option, ◌==◌, if◌then◌else◌}
 use Rattle.std.specs.List.{AllZip}
 use Rattle.mw_term.specs.declared.kinds.WordKind.TheVariants.{Base}
 use Rattle.mw_term.specs.declared.op.Op.{Op}
 use Rattle.mw_term.specs.declared.op.Op.TheVariants.{Var}
 use Rattle.mw_term.specs.Assigned.{Given}
 use Rattle.mw_term.specs.MemoryRead.{Held, held, read_words}
-use Rattle.mw_term.specs.Table.{Table, IsTable, IsWidth, Fits, term_width}
-use Rattle.mw_term.specs.Values.{IsTermOf, term_value}
+use Rattle.mw_term.specs.Table.{Table, Extends, IsTable, IsWidth, Fits, term_width}
+use Rattle.mw_term.specs.Values.{IsTermOf, Keeps, term_value}
 use Rattle.mw_symmem.specs.declared.side.Side.{Side}
 use Rattle.mw_symmem.specs.declared.side.Side.TheVariants.{Board, Machine}
 use Rattle.mw_symmem.specs.declared.word.Word.{Word}
@@ -131,7 +131,7 @@ pub record IsBaseRead (t : Table) (words : List Word) (word_width k : ℕ) (read
 
 -- What holds between a table, the words of its terms, and a memory over them.
 pub record IsMemory (t : Table) (words : List Word) (m : Memory) : Type 0 where
-  pub address : IsWidth m.address
+  pub address : (1 ≤ m.address) × (m.address ≤ 16)
   pub word : IsWidth m.word
   pub reads : AreHeld t m.address m.word m.reads
   pub board : AreHeld t m.address m.word m.board
@@ -179,3 +179,25 @@ ImagesAreReached =
     → IsImage m image
     → (other : Given) × FitImage t other m.reads image
     × ((n : ℕ) → ¬ IsBaseNumber words n → other n ≡ given n)
+
+-- ---- what is kept stays
+
+-- A memory is one over a table that has grown and a list with more words, of which none is a base read's variable.
+abbrev pub StaysWithWords : Type 0
+StaysWithWords =
+    (told tnew : Table) (words more : List Word) (m : Memory) → Extends told tnew → Keeps told tnew
+    → ((place term k : ℕ) → ¬ IsVariable more place term (Base k)) → IsMemory told words m
+    → IsMemory tnew (words ++ more) m
+
+-- A memory with one write more is one still, where the address and the value have its widths.
+abbrev pub StaysWithWrites : Type 0
+StaysWithWrites =
+    (t : Table) (words : List Word) (m : Memory) (side : Side) (write : Held) → IsMemory t words m
+    → IsHeld t m.address m.word write → IsMemory t words (with_write m side write)
+
+-- A memory that wasn't read or written is one over each table and each list without base variables.
+abbrev pub IsMemoryAtFirst : Type 0
+IsMemoryAtFirst =
+    (t : Table) (words : List Word) (address word : ℕ) → (1 ≤ address) × (address ≤ 16) → IsWidth word
+    → ((place term k : ℕ) → ¬ IsVariable words place term (Base k))
+    → IsMemory t words (memory_of address word [] [] [])

@@ -2,6 +2,7 @@
 #![tactic(auto)]
 
 mod held;
+mod image;
 mod key;
 mod laws;
 mod memory;
@@ -11,7 +12,7 @@ mod turn;
 mod word;
 mod words;
 
-pub use laws::images_are_reached;
+pub use laws::{images_are_reached, is_memory_at_first, stays_with_words, stays_with_writes};
 pub use memory::SymMemory;
 pub use side::Side;
 pub use turn::{SymEvent, Turn};

@@ -1,18 +1,22 @@
 // Symbolic memory.
-ghost use Rattle.std.specs.Prelude.{◌≡◌, ℕ, ◌<◌, ◌^◌, [], length, IfOk, OnOk, OnErr};
+ghost use Rattle.std.specs.Prelude.{◌≡◌, ℕ, ◌<◌, ◌^◌, List, [], length, slice_index, IfOk, OnOk, OnErr};
+ghost use Rattle.mw_term.specs.Assigned.{given_by};
 ghost use Rattle.mw_term.specs.MemoryRead.{held};
 ghost use Rattle.mw_term.specs.Table.{Extends, IsTable};
 ghost use Rattle.mw_term.specs.Values.{Keeps};
+ghost use Rattle.mw_symmem.specs.declared.word.Word.{Word};
+ghost use Rattle.mw_symmem.specs.Memory.{base_word, FitImage, IsImage};
 ghost use Rattle.mw_symmem.specs.Memory.{memory_of, writes_of, with_read, with_write, AddsRead, IsMemory, IsOfWidth, IsRead};
 ghost use Rattle.mw_symmem.specs.Steps.{IsMade};
 ghost use Rattle.mw_symmem.specs.Words.{AreOf};
 
 use crate::held::Held;
+use crate::image::image;
 use crate::read::{base_value, same, side_value};
 use crate::side::Side;
 use crate::words::Words;
 use mw_base::NoMemory;
-use mw_term::{Term, Terms, WordKind};
+use mw_term::{Assignment, Term, Terms, WordKind};
 use std::alloc::Global;
 use std::marker::Model;
 
@@ -144,5 +148,28 @@ impl SymMemory {
             Side::Machine => self.machine.push(write)?,
         }
         Ok(())
+    }
+
+    /// An image that the base reads fit under an assignment: at each address the word of the oldest read there, and 0
+    /// elsewhere. The memory is one over this table.
+    ///
+    /// # Errors
+    ///
+    /// Memory ran out.
+    pub fn image_of(
+        &self,
+        alloc: Global,
+        terms: &Terms,
+        given: &Assignment,
+    ) -> Result<Vec<u32>, NoMemory>
+        requires table { IsTable terms.now }
+        requires memory { (words : List Word) × IsMemory terms.now words self.now }
+        ensures words { IfOk result (λ v. (address : ℕ) → slice_index v.items address
+            ≡ base_word terms.now (given_by given.now) self.now.reads address) }
+        ensures fit { IfOk result (λ v. FitImage terms.now (given_by given.now) self.now.reads v.items) }
+        ensures image { IfOk result (λ v. IsImage self.now v.items) }
+    {
+        let image = image(alloc, self.address, &self.reads, terms, given)?;
+        Ok(image)
     }
 }

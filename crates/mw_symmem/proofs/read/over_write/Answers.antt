@@ -1,5 +1,5 @@
 use Rattle.std.proofs.Common.{[], ◌∷◌}
-use Rattle.mw_term.specs.declared.op.Op.TheVariants.{Eq, Ite}
+use Rattle.mw_term.specs.declared.op.Op.TheVariants.{Eq}
 use Rattle.mw_symmem.proofs.Growth.{grows_then, has_stays}
 use Rattle.mw_symmem.proofs.Choices.{no_eq, no_ite, bit_of_same, pair_stays}
 use Rattle.mw_symmem.proofs.read.over_write.Goals as goal

@@ -1,6 +1,6 @@
-use Rattle.std.proofs.Common.{◌≡◌, ap, sym, ◌∙◌}
+use Rattle.std.proofs.Common.{ap, sym, ◌∙◌}
 use Rattle.std.specs.HashMap.{get_by}
-use Rattle.mw_symmem.specs.Kinds.{same_kind, kind_is, kind_own}
+use Rattle.mw_symmem.specs.Kinds.{same_kind, kind_is}
 use Rattle.mw_symmem.proofs.Lists.{undone}
 use Rattle.mw_symmem.proofs.words.push_variable.Goals as goal
 
