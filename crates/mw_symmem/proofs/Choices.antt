@@ -46,9 +46,10 @@ pub same_stays : (old new : Table) (address : ℕ) (reads : List Held) (same : L
 same_stays old new address [] [] extends keeps are = are
 same_stays old new address [] (s ∷ same) extends keeps are = are
 same_stays old new address (read ∷ reads) [] extends keeps are = are
-same_stays old new address (read ∷ reads) (s ∷ same) extends keeps are =
-    (has_stays old new (Eq address read.address) s extends keeps are.0,
-    same_stays old new address reads same extends keeps are.1)
+same_stays old new address (read ∷ reads) (s ∷ same) extends keeps are = (
+  has_stays old new (Eq address read.address) s extends keeps are.0,
+  same_stays old new address reads same extends keeps are.1,
+)
 
 pub base_stays : (old new : Table) (reads : List Held) (same : List ℕ) (base : ℕ) (made : List ℕ) (value : ℕ)
     → Extends old new → Keeps old new → IsBaseValue old reads same base made value
@@ -56,9 +57,13 @@ pub base_stays : (old new : Table) (reads : List Held) (same : List ℕ) (base :
 base_stays old new [] [] base made value extends keeps is = is
 base_stays old new [] (s ∷ same) base made value extends keeps is = is
 base_stays old new (read ∷ newer) [] base made value extends keeps is = is
-base_stays old new (read ∷ newer) (s ∷ same) base made value extends keeps is =
-    (is.0, is.1, is.2, base_stays old new newer same base is.0 is.1 extends keeps is.3,
-    has_stays old new (Ite s read.word is.1) value extends keeps is.4)
+base_stays old new (read ∷ newer) (s ∷ same) base made value extends keeps is = (
+  is.0,
+  is.1,
+  is.2,
+  base_stays old new newer same base is.0 is.1 extends keeps is.3,
+  has_stays old new (Ite s read.word is.1) value extends keeps is.4,
+)
 
 pub side_stays : (old new : Table) (address : ℕ) (writes : List Held) (base : ℕ) (made : List ℕ) (value : ℕ)
     → Extends old new → Keeps old new → IsSideValue old address writes base made value
@@ -67,10 +72,11 @@ side_stays old new address [] base [] value extends keeps is = is
 side_stays old new address [] base (s ∷ made) value extends keeps is = is
 side_stays old new address (write ∷ newer) base [] value extends keeps is = is
 side_stays old new address (write ∷ newer) base (s ∷ []) value extends keeps is = is
-side_stays old new address (write ∷ newer) base (s ∷ next ∷ made) value extends keeps is =
-    (has_stays old new (Eq address write.address) s extends keeps is.0,
-    has_stays old new (Ite s write.word base) next extends keeps is.1,
-    side_stays old new address newer next made value extends keeps is.2)
+side_stays old new address (write ∷ newer) base (s ∷ next ∷ made) value extends keeps is = (
+  has_stays old new (Eq address write.address) s extends keeps is.0,
+  has_stays old new (Ite s write.word base) next extends keeps is.1,
+  side_stays old new address newer next made value extends keeps is.2,
+)
 
 -- ---- one more
 

@@ -62,18 +62,18 @@ of_variable t words own width of =
       there = terms_there t words op (variable (length t.ops) own) of refl;
       variables = λ place term kind is.
           elim (pushed words (variable (length t.ops) own) place (variable term kind) is) [
-        | inl h ↦ let found = of.variables place term kind h.1 in
-            (found.0, behind t.ops (op ∷ []) term (Var (place + 1) found.0) found.1)
-        | inr h ↦ let at : length t.ops ≡ term = ap (λ (w : Word). w.term) h.1 in
-            (width, rw (← at, h.0) (pushed_there t.ops op))
-      ];
+            | inl h ↦ let found = of.variables place term kind h.1 in
+                (found.0, behind t.ops (op ∷ []) term (Var (place + 1) found.0) found.1)
+            | inr h ↦ let at : length t.ops ≡ term = ap (λ (w : Word). w.term) h.1 in
+                (width, rw (← at, h.0) (pushed_there t.ops op))
+          ];
       listed = λ term number w is. elim (pushed t.ops op term (Var number w) is) [
         | inl h ↦ still_listed words (variable (length t.ops) own) term number (of.listed term number w h.1)
         | inr h ↦ record {
-            place = length words;
-            kind = own;
-            number = number_is (length words + 1) number width w h.1;
-            is = rw h.0 (pushed_there words (variable (length t.ops) own));
-          }
+          place = length words;
+          kind = own;
+          number = number_is (length words + 1) number width w h.1;
+          is = rw h.0 (pushed_there words (variable (length t.ops) own));
+        }
       ];
     }

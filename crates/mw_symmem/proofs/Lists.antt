@@ -119,27 +119,27 @@ kind_of {a} {b} {new} {kind} is = same_Some new kind (ap (λ (w : Word). w.kind)
 pub own_plain : (words : List Word) (term : ℕ) → HaveOwnKinds words → HaveOwnKinds (words ++ plain term ∷ [])
 own_plain words term own kind i j a b first second =
     elim (pushed words (plain term) i (variable a kind) first) [
-  | inl h ↦ elim (pushed words (plain term) j (variable b kind) second) [
-      | inl k ↦ own kind i j a b h.1 k.1
-      | inr k ↦ absurd (none_is (ap (λ (w : Word). w.kind) k.1))
+      | inl h ↦ elim (pushed words (plain term) j (variable b kind) second) [
+        | inl k ↦ own kind i j a b h.1 k.1
+        | inr k ↦ absurd (none_is (ap (λ (w : Word). w.kind) k.1))
+      ]
+      | inr h ↦ absurd (none_is (ap (λ (w : Word). w.kind) h.1))
     ]
-  | inr h ↦ absurd (none_is (ap (λ (w : Word). w.kind) h.1))
-]
 
 -- with a variable of a kind that wasn't there
 pub own_variable : (words : List Word) (term : ℕ) (new : WordKind) → term_of words new ≡ None → HaveOwnKinds words
     → HaveOwnKinds (words ++ variable term new ∷ [])
 own_variable words term new absent own kind i j a b first second =
     elim (pushed words (variable term new) i (variable a kind) first) [
-  | inl h ↦ elim (pushed words (variable term new) j (variable b kind) second) [
-      | inl k ↦ own kind i j a b h.1 k.1
-      | inr k ↦ absurd (missing words kind i a (ap (term_of words) (sym (kind_of k.1)) ∙ absent) h.1)
+      | inl h ↦ elim (pushed words (variable term new) j (variable b kind) second) [
+        | inl k ↦ own kind i j a b h.1 k.1
+        | inr k ↦ absurd (missing words kind i a (ap (term_of words) (sym (kind_of k.1)) ∙ absent) h.1)
+      ]
+      | inr h ↦ elim (pushed words (variable term new) j (variable b kind) second) [
+        | inl k ↦ absurd (missing words kind j b (ap (term_of words) (sym (kind_of h.1)) ∙ absent) k.1)
+        | inr k ↦ h.0 ∙ sym k.0
+      ]
     ]
-  | inr h ↦ elim (pushed words (variable term new) j (variable b kind) second) [
-      | inl k ↦ absurd (missing words kind j b (ap (term_of words) (sym (kind_of h.1)) ∙ absent) k.1)
-      | inr k ↦ h.0 ∙ sym k.0
-    ]
-]
 
 -- ---- what the maps answer
 

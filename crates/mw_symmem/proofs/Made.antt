@@ -28,9 +28,11 @@ use Rattle.mw_symmem.proofs.Parts.{read_are, read_last}
 -- ---- widths
 
 pub pair_of : (t : Table) (w a b : ℕ) → IsOfWidth t w a → IsOfWidth t w b → ArePair (widths_of t.ops) a b
-pair_of t w a b first second =
-    (omega (arith, first.there, widths_count t.ops), omega (arith, second.there, widths_count t.ops),
-    first.width_is ∙ sym second.width_is)
+pair_of t w a b first second = (
+  omega (arith, first.there, widths_count t.ops),
+  omega (arith, second.there, widths_count t.ops),
+  first.width_is ∙ sym second.width_is,
+)
 
 pub variable_width : (t : Table) (n w v : ℕ) → Has t (Var n w) v → IsOfWidth t w v
 unfolding op_width
@@ -253,9 +255,9 @@ module _ (told t : Table) (old new : List Word) (m : Memory) (side : Side) (addr
       length-append m.reads (held address base ∷ []) in
       elim (among front back place (variable a (Base k)) (subst (λ ws. IsVariable ws place a (Base k)) made.words is)) [
         | inl h ↦ elim (among old (map plain made.same) place (variable a (Base k)) h) [
-            | inl h' ↦ omega (arith, memory.all k place a h', more)
-            | inr h' ↦ absurd (no_variable made.same h'.0 a (Base k) h'.1)
-          ]
+          | inl h' ↦ omega (arith, memory.all k place a h', more)
+          | inr h' ↦ absurd (no_variable made.same h'.0 a (Base k) h'.1)
+        ]
         | inr h ↦ let at : length m.reads ≡ k = base_kind (length m.reads) k
             (only_variable base (Base (length m.reads)) (made.made ++ made.over) h.0 a (Base k) h.1) in
             omega (arith, at, more)
@@ -277,18 +279,22 @@ module _ (told t : Table) (old new : List Word) (m : Memory) (side : Side) (addr
     ];
     rising = λ i k first last is_first is_last before.
         elim (pushed m.reads (held address base) i first is_first) [
-      | inl p ↦ elim (pushed m.reads (held address base) k last is_last) [
-          | inl q ↦ omega (arith, (old_number i first p.1).0, (old_number k last q.1).0,
-            memory.rising i k first last p.1 q.1 before)
-          | inr q ↦ let is : variable_number t last.word ≡ length front + 1 =
-              ap (λ (h : Held). variable_number t h.word) (sym q.1) ∙ new_number in
-              omega (arith, is, (old_number i first p.1).1)
-        ]
-      | inr p ↦ elim (pushed m.reads (held address base) k last is_last) [
-          | inl q ↦ absurd (omega (arith, p.0, q.0, before))
-          | inr q ↦ absurd (omega (arith, p.0, q.0, before))
-        ]
-    ];
+          | inl p ↦ elim (pushed m.reads (held address base) k last is_last) [
+            | inl q ↦ omega (
+              arith,
+              (old_number i first p.1).0,
+              (old_number k last q.1).0,
+              memory.rising i k first last p.1 q.1 before,
+            )
+            | inr q ↦ let is : variable_number t last.word ≡ length front + 1 =
+                ap (λ (h : Held). variable_number t h.word) (sym q.1) ∙ new_number in
+                omega (arith, is, (old_number i first p.1).1)
+          ]
+          | inr p ↦ elim (pushed m.reads (held address base) k last is_last) [
+            | inl q ↦ absurd (omega (arith, p.0, q.0, before))
+            | inr q ↦ absurd (omega (arith, p.0, q.0, before))
+          ]
+        ];
     all = kind_within;
   }
 

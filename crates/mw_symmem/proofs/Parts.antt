@@ -134,10 +134,12 @@ read_are t address number width reads writes same made over base middle value ar
     both t (same_words address reads)
     (Var number width ∷ base_words name n 0 reads ++ side_words name address (n + n) writes)
     same (base ∷ made ++ over)
-    (same_are t address reads same are)
-    (variable, both t (base_words name n 0 reads) (side_words name address (n + n) writes) made over
-    (base_are t name n 0 reads same base made middle (omega arith) first second base_is)
-    (side_are t name address (n + n) writes middle over value third side_is))
+    (same_are t address reads same are) (
+      variable,
+      both t (base_words name n 0 reads) (side_words name address (n + n) writes) made over
+          (base_are t name n 0 reads same base made middle (omega arith) first second base_is)
+          (side_are t name address (n + n) writes middle over value third side_is),
+    )
 
 -- the last of the words of the writes is the value
 side_last : (t : Table) (address : ℕ) (writes : List Held) (base : ℕ) (over : List ℕ) (value : ℕ)

@@ -117,11 +117,11 @@ first_fits t given image (h ∷ rest) address otherwise hold is =
     let rest_is = first_fits t given image rest address otherwise (λ k other at. hold (suc k) other at) is in
     elim (eqb_tells address (term_value t given h.address)) [
       | inl e ↦ by_same address (term_value t given h.address) (term_value t given h.word)
-        (first_at (map (valued t given) rest) address otherwise) e.1
-        ∙ hold 0 h refl ∙ ap (slice_index image) (sym e.1)
+          (first_at (map (valued t given) rest) address otherwise) e.1
+          ∙ hold 0 h refl ∙ ap (slice_index image) (sym e.1)
       | inr e ↦ by_other address (term_value t given h.address) (term_value t given h.word)
-        (first_at (map (valued t given) rest) address otherwise) e.1
-        ∙ rest_is
+          (first_at (map (valued t given) rest) address otherwise) e.1
+          ∙ rest_is
     ]
 
 taken : (hs : List Held) (n k : ℕ) (h : Held) → slice_get (take n hs) k ≡ Some h → slice_get hs k ≡ Some h
@@ -138,19 +138,20 @@ images_are_reached t words m image given table memory is_image =
     let number = base_number t words m.word k read base in
     record { op = rw number base.op; depends = rw number base.depends }) in
     let hold = all_hold t m.word image given m.reads table is_image.words good memory.rising in
-    let other : Given = second t image given m.reads in
-    (other,
-    λ k read is. first_fits t other image (take k m.reads) (term_value t other read.address)
-    (term_value t other read.word) (λ i h at. hold i h (taken m.reads k i h at)) (hold k read is),
-    λ n none. second_keeps t image given m.reads n (λ k read is same.
-    (let base = memory.bases k read is in
-    none (record {
-      place = base.place;
-      term = read.word;
-      k = k;
-      number = same ∙ base_number t words m.word k read base;
-      is = base.is;
-    }))))
+    let other : Given = second t image given m.reads in (
+      other,
+      λ k read is. first_fits t other image (take k m.reads) (term_value t other read.address)
+          (term_value t other read.word) (λ i h at. hold i h (taken m.reads k i h at)) (hold k read is),
+      λ n none. second_keeps t image given m.reads n (λ k read is same.
+          (let base = memory.bases k read is in
+          none (record {
+            place = base.place;
+            term = read.word;
+            k = k;
+            number = same ∙ base_number t words m.word k read base;
+            is = base.is;
+          }))),
+    )
 
 -- ---- the image of base reads
 

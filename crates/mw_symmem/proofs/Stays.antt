@@ -30,9 +30,12 @@ stays_with_words told t words more m extends keeps none memory = record {
   bases = λ k read is. read_stays told t words more m.address m.word k read extends keeps (memory.reads k read is)
       (memory.bases k read is);
   rising = λ i k first later is_first is_later before.
-      omega (arith, number_stays told t words m extends memory i first is_first,
-      number_stays told t words m extends memory k later is_later,
-      memory.rising i k first later is_first is_later before);
+      omega (
+        arith,
+        number_stays told t words m extends memory i first is_first,
+        number_stays told t words m extends memory k later is_later,
+        memory.rising i k first later is_first is_later before,
+      );
   all = λ k place term is. elim (among words more place (variable term (Base k)) is) [
     | inl h ↦ memory.all k place term h
     | inr h ↦ absurd (none h.0 term k h.1)

@@ -29,6 +29,7 @@ number_in Probe = 0
 
 -- ---- kinds are told apart
 
+-- kinds that are one are equal
 pub kind_is : (a b : WordKind) → same_kind a b ≡ true → a ≡ b
 kind_is (Element m) (Element n) same = ap Element (eqb-true m n same)
 kind_is (Line m) (Line n) same = ap Line (eqb-true m n same)
@@ -38,6 +39,7 @@ kind_is (Input m) (Input n) same = ap Input (eqb-true m n same)
 kind_is Probe Probe same = refl
 kind_is a b same = absurd (bool.both_ways false refl same)
 
+-- each kind is one with itself
 pub kind_own : (a : WordKind) → same_kind a a ≡ true
 kind_own (Element m) = eq-eqb m m refl
 kind_own (Line m) = eq-eqb m m refl

@@ -14,12 +14,7 @@ use mw_term::{Op, Term, Terms};
 use std::alloc::Global;
 
 /// One word more, of an op that is no variable.
-fn add(
-    alloc: Global,
-    op: Op,
-    terms: &mut Terms,
-    words: &mut Words,
-) -> Result<Term, NoMemory>
+fn add(alloc: Global, op: Op, terms: &mut Terms, words: &mut Words) -> Result<Term, NoMemory>
     requires fits { Fits terms.old op }
     requires none { IsNoVariable op }
     ensures grows { IfOk result (λ term. Grows terms.old terms.new words.old words.new (term ∷ [])) }

@@ -39,11 +39,7 @@ impl Model for Words {
 }
 
 /// Gives a term a number, where it has none.
-fn number(
-    numbers: &mut HashMap<usize, u64>,
-    term: Term,
-    number: u64,
-) -> Result<(), NoMemory>
+fn number(numbers: &mut HashMap<usize, u64>, term: Term, number: u64) -> Result<(), NoMemory>
     ensures ok { OnOk result ((other : ℕ) → get nat_eq numbers.new other
         ≡ with_number (get nat_eq numbers.old) term number other) }
     ensures err { OnErr result ((other : ℕ) → get nat_eq numbers.new other ≡ get nat_eq numbers.old other) }

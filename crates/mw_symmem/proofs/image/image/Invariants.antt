@@ -8,7 +8,7 @@ invariant-loop-place l = record {
   within : l.place ≤ length l.reads;
   size : length l.image.items ≡ 2 ^ l.fn.width;
   words : (address : ℕ) → slice_index l.image.items address
-      ≡ base_word l.terms (given_by l.given) (drop l.place l.reads) address
+      ≡ base_word l.terms (given_by l.given) (drop l.place l.reads) address;
 }
 
 abbrev pub decreases-loop-place : goal.decreases-loop-place

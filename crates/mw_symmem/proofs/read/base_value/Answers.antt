@@ -20,10 +20,11 @@ add-requires-clause-fits c =
     let here : slice_get reads i ≡ Some c.index-reads-place.result =
     slice_get_read reads (length reads) i c.index-reads-place.result refl inside c.index-reads-place.is in
     let s : c.index-same-place.result ≡ slice_index same i =
-    get_or_read same i c.index-same-place.result beside c.index-same-place.is 0 in
-    (rw s (bit_stays c.args.terms.now c.loop-place.terms (slice_index same i) grows.extends grows.keeps
-    (c.requires.bits i beside)),
-    rw c.word.ensures (c.loop-place.invariant.pairs i c.index-reads-place.result here))
+    get_or_read same i c.index-same-place.result beside c.index-same-place.is 0 in (
+      rw s (bit_stays c.args.terms.now c.loop-place.terms (slice_index same i) grows.extends grows.keeps
+          (c.requires.bits i beside)),
+      rw c.word.ensures (c.loop-place.invariant.pairs i c.index-reads-place.result here),
+    )
 
 pub loop-place-preserved : goal.loop-place-preserved
 loop-place-preserved c =
@@ -42,15 +43,17 @@ loop-place-preserved c =
     let last : c.loop-place.place ≡ i + 1 = omega (arith, c.loop-place-test.true) in
     record {
       within = omega (arith, before.within);
-      made = (before.made.0 ++ c.in_ok-value.value ∷ [],
-          grows_then c.args.terms.now old new c.args.words.now c.loop-place.words c.add.new.words before.made.0
-          (c.in_ok-value.value ∷ []) before.made.1 e.grows,
-          base_push new reads same i read s c.args.base before.made.0 c.loop-place.value c.in_ok-value.value inside
-          beside c.index-reads-place.is c.index-same-place.is
-          (rw (← last)
-          (base_stays old new (drop c.loop-place.place reads) (drop c.loop-place.place same) c.args.base before.made.0
-          c.loop-place.value e.grows.extends e.grows.keeps before.made.2))
-          has);
+      made = (
+        before.made.0 ++ c.in_ok-value.value ∷ [],
+        grows_then c.args.terms.now old new c.args.words.now c.loop-place.words c.add.new.words before.made.0
+            (c.in_ok-value.value ∷ []) before.made.1 e.grows,
+        base_push new reads same i read s c.args.base before.made.0 c.loop-place.value c.in_ok-value.value inside
+            beside c.index-reads-place.is c.index-same-place.is
+            (rw (← last)
+            (base_stays old new (drop c.loop-place.place reads) (drop c.loop-place.place same) c.args.base before.made.0
+            c.loop-place.value e.grows.extends e.grows.keeps before.made.2))
+            has,
+      );
       pairs = λ k other is. pair_next new s read.word c.loop-place.value c.in_ok-value.value other.word has
           (pair_stays old new other.word c.loop-place.value e.grows.extends (before.pairs k other is));
     }

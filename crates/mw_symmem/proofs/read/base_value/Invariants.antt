@@ -10,7 +10,7 @@ invariant-loop-place l = record {
   within : l.place ≤ length l.reads;
   made : (made : List ℕ) × Grows l.fn.terms l.terms l.fn.words l.words made
       × IsBaseValue l.terms (drop l.place l.reads) (drop l.place l.same) l.fn.base made l.value;
-  pairs : (k : ℕ) (read : Held) → slice_get l.reads k ≡ Some read → ArePair (widths_of l.terms.ops) read.word l.value
+  pairs : (k : ℕ) (read : Held) → slice_get l.reads k ≡ Some read → ArePair (widths_of l.terms.ops) read.word l.value;
 }
 
 abbrev pub decreases-loop-place : goal.decreases-loop-place

@@ -37,15 +37,17 @@ loop-write-preserved c =
     let next : take (i + 1) writes ≡ take i writes ++ write ∷ [] =
     take_more writes i write c.loop-write-test.true ∙ ap (λ x. take i writes ++ x ∷ []) (sym c.write-item.is) in
     record {
-      made = (before.made.0 ++ e.0 ∷ c.in_ok-value.value ∷ [],
-          grows_then c.args.terms.now old new c.args.words.now c.loop-write.words c.over_write.new.words before.made.0
-          (e.0 ∷ c.in_ok-value.value ∷ []) before.made.1 e.1,
-          rw next
-          (side_push new c.args.address (take i writes) c.args.base before.made.0 c.loop-write.value write e.0
-          c.in_ok-value.value
-          (side_stays old new c.args.address (take i writes) c.args.base before.made.0 c.loop-write.value e.1.extends
-          e.1.keeps before.made.2)
-          e.2 e.3));
+      made = (
+        before.made.0 ++ e.0 ∷ c.in_ok-value.value ∷ [],
+        grows_then c.args.terms.now old new c.args.words.now c.loop-write.words c.over_write.new.words before.made.0
+            (e.0 ∷ c.in_ok-value.value ∷ []) before.made.1 e.1,
+        rw next
+            (side_push new c.args.address (take i writes) c.args.base before.made.0 c.loop-write.value write e.0
+            c.in_ok-value.value
+            (side_stays old new c.args.address (take i writes) c.args.base before.made.0 c.loop-write.value e.1.extends
+            e.1.keeps before.made.2)
+            e.2 e.3),
+      );
       pairs = λ k w is. pair_next new e.0 write.word c.loop-write.value c.in_ok-value.value w.word e.3
           (pair_stays old new w.word c.loop-write.value e.1.extends (before.pairs k w is));
     }

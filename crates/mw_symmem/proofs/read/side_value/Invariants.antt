@@ -9,5 +9,5 @@ abbrev pub invariant-loop-write : goal.invariant-loop-write
 invariant-loop-write l = record {
   made : (made : List ℕ) × Grows l.fn.terms l.terms l.fn.words l.words made
       × IsSideValue l.terms l.address (take l.write-index l.writes) l.fn.base made l.value;
-  pairs : (k : ℕ) (write : Held) → slice_get l.writes k ≡ Some write → ArePair (widths_of l.terms.ops) write.word l.value
+  pairs : (k : ℕ) (write : Held) → slice_get l.writes k ≡ Some write → ArePair (widths_of l.terms.ops) write.word l.value;
 }
