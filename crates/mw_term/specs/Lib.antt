@@ -3,6 +3,7 @@ pub mod Cofactors
 pub mod Examples
 pub mod Functions
 pub mod Laws
+pub mod MemoryRead
 pub mod Rows
 pub mod Table
 pub mod Values

@@ -1,0 +1,10 @@
+pub mod Choices
+pub mod Growth
+pub mod Images
+pub mod Listed
+pub mod Lists
+pub mod Made
+pub mod Meaning
+pub mod Parts
+pub mod Reached
+pub mod Stays

@@ -1,0 +1,32 @@
+use Rattle.std.proofs.Common.{[], ◌∷◌}
+use Rattle.mw_term.specs.declared.op.Op.TheVariants.{Eq}
+use Rattle.mw_symmem.proofs.Growth.{grows_then, has_stays}
+use Rattle.mw_symmem.proofs.Choices.{no_eq, no_ite, bit_of_same, pair_stays}
+use Rattle.mw_symmem.proofs.read.over_write.Goals as goal
+
+pub add-requires-clause-none : goal.add-requires-clause-none
+add-requires-clause-none c = no_eq c.args.address c.address.result
+
+pub add-requires-2-clause-none : goal.add-requires-2-clause-none
+add-requires-2-clause-none c = no_ite c.in_ok-same.same c.word.result c.args.value
+
+pub add-requires-2-clause-fits : goal.add-requires-2-clause-fits
+add-requires-2-clause-fits c =
+    let e = c.in_ok-same.ensures in (
+      bit_of_same c.add.new.terms c.args.address c.address.result c.in_ok-same.same e.has,
+      rw c.word.ensures (pair_stays c.args.terms.now c.add.new.terms c.args.write.word c.args.value e.grows.extends c.requires.pair),
+    )
+
+pub returns : goal.returns
+returns c =
+    let one = c.in_ok-same.ensures in
+    let two = c.in_ok-next.ensures in
+    let same = rw c.address.ensures at one.has in
+    let chosen = rw c.word.ensures at two.has in (
+      c.in_ok-same.same,
+      grows_then c.args.terms.now c.add.new.terms c.add-2.new.terms c.args.words.now c.add.new.words c.add-2.new.words
+          (c.in_ok-same.same ∷ []) (c.in_ok-next.next ∷ []) one.grows two.grows,
+      has_stays c.add.new.terms c.add-2.new.terms (Eq c.args.address c.args.write.address) c.in_ok-same.same
+          two.grows.extends two.grows.keeps same,
+      chosen,
+    )

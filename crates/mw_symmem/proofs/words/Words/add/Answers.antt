@@ -1,0 +1,7 @@
+use Rattle.mw_symmem.proofs.Listed.{of_plain}
+use Rattle.mw_symmem.proofs.words.Words.add.Goals as goal
+
+pub returns-clause-of : goal.returns-clause-of
+returns-clause-of c = λ none of.
+    rw (c.in_ok-push_plain.ensures, c.in_ok-term.ensures.appends, c.in_ok-term.ensures.place)
+    (of_plain c.args.terms.now c.args.self.now c.args.op none of)

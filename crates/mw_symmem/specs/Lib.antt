@@ -1,0 +1,5 @@
+pub mod Kept
+pub mod Kinds
+pub mod Memory
+pub mod Steps
+pub mod Words

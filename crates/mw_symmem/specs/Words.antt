@@ -1,0 +1,68 @@
+-- The words of a case, in their order.
+use Rattle.std.specs.Prelude.{◌≡◌, ℕ, ◌+◌, ◌<◌, List, [], ◌∷◌, length, Option, Some, None, Bool, false, ◌==◌, slice_get}
+use Rattle.std.specs.Prelude.{if◌then◌else◌}
+use Rattle.mw_term.specs.declared.kinds.WordKind.{WordKind}
+use Rattle.mw_term.specs.declared.op.Op.{Op}
+use Rattle.mw_term.specs.declared.op.Op.TheVariants.{Var}
+use Rattle.mw_term.specs.Table.{Table}
+use Rattle.mw_symmem.specs.declared.word.Word.{Word}
+use Rattle.mw_symmem.specs.Kinds.{same_kind}
+
+-- a word that is no variable
+abbrev pub plain : (term : ℕ) → Word
+plain term = record { term = term; kind = None }
+
+-- a variable
+abbrev pub variable : (term : ℕ) → WordKind → Word
+variable term kind = record { term = term; kind = Some kind }
+
+-- ---- what a list answers
+
+-- the number of the first word with a term, where words are numbered from `number` on
+abbrev pub number_from : (number : ℕ) → List Word → (term : ℕ) → Option ℕ
+number_from number [] term = None
+number_from number (w ∷ rest) term = if w.term == term then Some number else number_from (number + 1) rest term
+
+-- the least number of a word with a term
+abbrev pub number_of : List Word → (term : ℕ) → Option ℕ
+number_of words term = number_from 1 words term
+
+-- whether a word is a variable of a kind
+abbrev pub is_of : Option WordKind → WordKind → Bool
+is_of None kind = false
+is_of (Some own) kind = same_kind own kind
+
+-- the term of the first variable of a kind
+abbrev pub term_of : List Word → WordKind → Option ℕ
+term_of [] kind = None
+term_of (w ∷ rest) kind = if is_of w.kind kind then Some w.term else term_of rest kind
+
+-- a word of this place, from 0, is a variable with this term and of this kind
+abbrev pub IsVariable : List Word → (place term : ℕ) → WordKind → Type 0
+IsVariable words place term kind = slice_get words place ≡ Some (variable term kind)
+
+-- no two variables of a list have one kind
+abbrev pub HaveOwnKinds : List Word → Type 0
+HaveOwnKinds words =
+    (kind : WordKind) (i j a b : ℕ) → IsVariable words i a kind → IsVariable words j b kind → i ≡ j
+
+-- ---- words of a table
+
+-- a variable of a table is a word of a list, by its number
+pub record IsListed (words : List Word) (term n : ℕ) : Type 0 where
+  pub place : ℕ
+  pub kind : WordKind
+  pub number : n ≡ place + 1
+  pub is : IsVariable words place term kind
+
+-- What holds between a table and the words of its terms: each word's term is one of the table; a variable of the list
+-- is the table's variable of its number; and each variable of the table is a word of the list.
+pub record AreOf (t : Table) (words : List Word) : Type 0 where
+  pub there : (place : ℕ) (w : Word) → slice_get words place ≡ Some w → w.term < length t.ops
+  pub variables : (place term : ℕ) (kind : WordKind) → IsVariable words place term kind
+      → (width : ℕ) × (slice_get t.ops term ≡ Some (Var (place + 1) width))
+  pub listed : (term number width : ℕ) → slice_get t.ops term ≡ Some (Var number width) → IsListed words term number
+
+-- an op that is no variable
+abbrev pub IsNoVariable : Op → Type 0
+IsNoVariable op = (number width : ℕ) → ¬ (op ≡ Var number width)

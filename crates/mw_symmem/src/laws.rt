@@ -1,0 +1,24 @@
+// Laws of symbolic memory.
+ghost use Rattle.mw_symmem.specs.Memory.{ImagesAreReached, IsMemoryAtFirst, StaysWithWords, StaysWithWrites};
+
+/// The law of images: for every assignment and every image there is a second assignment under which the base reads fit
+/// that image, and which differs from the first in the variables of base reads alone.
+pub fn images_are_reached()
+    ensures { ImagesAreReached }
+{}
+
+/// The law of new memories: one that wasn't read or written is a memory over each table and each list without
+/// variables of base reads.
+pub fn is_memory_at_first()
+    ensures { IsMemoryAtFirst }
+{}
+
+/// The law of words: a memory is one over a table that has grown, and with more words that are no base reads' variables.
+pub fn stays_with_words()
+    ensures { StaysWithWords }
+{}
+
+/// The law of writes: a memory with one write more is one still.
+pub fn stays_with_writes()
+    ensures { StaysWithWrites }
+{}

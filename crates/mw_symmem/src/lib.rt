@@ -1,0 +1,20 @@
+//! Symbolic memory: the words of a case in their order, and one base image under the writes of two sides.
+#![tactic(auto)]
+
+mod held;
+mod image;
+mod key;
+mod laws;
+mod memory;
+mod read;
+mod side;
+mod turn;
+mod word;
+mod words;
+
+pub use laws::{images_are_reached, is_memory_at_first, stays_with_words, stays_with_writes};
+pub use memory::SymMemory;
+pub use side::Side;
+pub use turn::{SymEvent, Turn};
+pub use word::Word;
+pub use words::Words;
