@@ -107,6 +107,7 @@ abbrev mutual
       widened_nodes (bits s e) w narrow.term narrow.ops
   nodes s elements (memory address) ops = ended_at 0 ops
 
+  -- those of the parts of a join, one after another
   pub nodes_of_parts : Shape → (elements : List ℕ) → Trees → List Op → PartNodes
   nodes_of_parts s elements none ops = record { ops = ops; terms = [] }
   nodes_of_parts s elements (more tree rest) ops =
