@@ -6,7 +6,7 @@ use Rattle.mw_term.specs.declared.op.Op.{Op}
 use Rattle.mw_term.specs.declared.op.Op.TheVariants.{Var}
 use Rattle.mw_term.specs.Table.{Table, table_of}
 use Rattle.mw_symmem.specs.declared.word.Word.{Word}
-use Rattle.mw_symmem.specs.Words.{plain, variable, IsListed, AreOf, IsNoVariable}
+use Rattle.mw_symmem.specs.Words.{plain, variable, IsListed, AreOf, IsNoVariable, AreOfAtFirst}
 use Rattle.mw_symmem.proofs.Lists.{pushed, behind, pushed_there, none_is}
 
 -- the table with one op more
@@ -77,3 +77,10 @@ of_variable t words own width of =
         }
       ];
     }
+
+pub are_of_at_first : AreOfAtFirst
+are_of_at_first map = record {
+  there = λ place w is. absurd cc;
+  variables = λ place term kind is. absurd cc;
+  listed = λ term number width is. absurd cc;
+}

@@ -4,7 +4,7 @@ use Rattle.std.specs.Prelude.{if◌then◌else◌}
 use Rattle.mw_term.specs.declared.kinds.WordKind.{WordKind}
 use Rattle.mw_term.specs.declared.op.Op.{Op}
 use Rattle.mw_term.specs.declared.op.Op.TheVariants.{Var}
-use Rattle.mw_term.specs.Table.{Table}
+use Rattle.mw_term.specs.Table.{Table, table_of}
 use Rattle.mw_symmem.specs.declared.word.Word.{Word}
 use Rattle.mw_symmem.specs.Kinds.{same_kind}
 
@@ -66,3 +66,7 @@ pub record AreOf (t : Table) (words : List Word) : Type 0 where
 -- an op that is no variable
 abbrev pub IsNoVariable : Op → Type 0
 IsNoVariable op = (number width : ℕ) → ¬ (op ≡ Var number width)
+
+-- no words are those of a table without terms
+abbrev pub AreOfAtFirst : Type 0
+AreOfAtFirst = (map : List ℕ) → AreOf (table_of [] map) []

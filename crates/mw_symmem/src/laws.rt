@@ -1,5 +1,11 @@
 // Laws of symbolic memory.
 ghost use Rattle.mw_symmem.specs.Memory.{ImagesAreReached, IsMemoryAtFirst, StaysWithWords, StaysWithWrites};
+ghost use Rattle.mw_symmem.specs.Words.{AreOfAtFirst};
+
+/// The law of no words: they are those of a table without terms.
+pub fn are_of_at_first()
+    ensures { AreOfAtFirst }
+{}
 
 /// The law of images: for every assignment and every image there is a second assignment under which the base reads fit
 /// that image, and which differs from the first in the variables of base reads alone.

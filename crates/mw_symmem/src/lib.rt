@@ -12,9 +12,14 @@ mod turn;
 mod word;
 mod words;
 
-pub use laws::{images_are_reached, is_memory_at_first, stays_with_words, stays_with_writes};
+pub use laws::{
+    are_of_at_first, images_are_reached, is_memory_at_first, stays_with_words, stays_with_writes,
+};
 pub use memory::SymMemory;
 pub use side::Side;
 pub use turn::{SymEvent, Turn};
 pub use word::Word;
 pub use words::Words;
+
+#[cfg(test)]
+mod tests;
