@@ -3,3 +3,4 @@ pub mod Kinds
 pub mod Memory
 pub mod Steps
 pub mod Words
+pub mod Workspace

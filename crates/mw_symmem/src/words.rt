@@ -202,6 +202,7 @@ impl Words {
     pub fn add(&mut self, alloc: Global, terms: &mut Terms, op: Op) -> Result<Term, NoMemory>
         requires { Fits terms.old op }
         ensures words { IfOk result (λ term. self.new ≡ self.old ++ plain term ∷ []) }
+        ensures op { IfOk result (λ term. slice_get terms.new.ops term ≡ Some op) }
         ensures made { IfOk result (λ term. IsTermOf terms.old terms.new op term) }
         ensures of { OnOk result (IsNoVariable op → AreOf terms.old self.old → AreOf terms.new self.new) }
         ensures extends { Extends terms.old terms.new }
