@@ -139,10 +139,13 @@ loaded board loads.Invert old answer s given = not old
 loaded board loads.XorCarry old answer s given = differ old (carry_net answer given)
 loaded board (loads.Take bit) old answer s given = bit_value board bit answer s given
 
--- what flip-flop n takes: its control chooses one of its loads
+-- which of its loads a flip-flop's control chooses
+abbrev pub load_of : BoardParts → Microword → FlipFlop → Load
+load_of board m f = chosen loads.Hold f.load (value_at board.fields m.word f.control)
+
+-- what flip-flop n takes
 abbrev pub flip_of : BoardParts → Microword → ℕ → FlipFlop → AluOut → BoardState → CycleIn → Bool
-flip_of board m n f answer s given =
-    loaded board (chosen loads.Hold f.load (value_at board.fields m.word f.control)) (bit_of s.flips n) answer s given
+flip_of board m n f answer s given = loaded board (load_of board m f) (bit_of s.flips n) answer s given
 
 -- the flip-flops from flip-flop n on, which is the lowest bit; each takes what it does from the old values of all
 unfoldable pub flips_from : BoardParts → Microword → AluOut → BoardState → CycleIn → ℕ → List FlipFlop → ℕ

@@ -6,3 +6,4 @@ pub mod Environment
 pub mod Cycle
 pub mod Run
 pub mod Boundary
+pub mod Decided

@@ -31,11 +31,12 @@ pub enum Element {
     StackWord(u8),
 }
 
-/// The element with a number.
+/// The element of a board with a number, from 0, in the order of the table of elements ([`Board::element_name`]).
 #[tactic(auto, unfolding(crate::specs::Elements::element_of))]
-fn element_of(board: &Board, number: usize) -> Element
+pub fn element_of(board: &Board, number: usize) -> Element
     requires there { number < element_count board.now }
-    ensures { result ≡ element_of board.now number }
+    ensures exact { result ≡ element_of board.now number }
+    ensures there { IsElement board.now result }
 {
     let pc = 19 + board.parts().flipflop.as_slice().len();
     if number < 16 {

@@ -5,7 +5,6 @@ ghost use Rattle.mw_board.specs.Valid.{IsFlipFlop, IsLoad};
 ghost use Rattle.mw_cycle.specs.Cycle.{loaded, flip_of, flips_after};
 
 use crate::bits::{bit_value, carry_net, flip, number_of};
-use crate::control::{chosen, value_at};
 use crate::microword::Microword;
 use crate::state::{CycleIn, State};
 use mw_alu::AluOut;
@@ -45,8 +44,7 @@ fn taken(
     requires valid { IsFlipFlop board.now flipflop.now }
     ensures { result ≡ flip_of board.now microword.now number flipflop.now answer.now state.now given }
 {
-    let entry = value_at(board, microword.word, flipflop.control);
-    let load = chosen(Load::Hold, flipflop.load.as_slice(), entry);
+    let load = microword.load(board, flipflop);
     loaded(board, load, flip(state, number), answer, state, given)
 }
 

@@ -13,6 +13,7 @@ mod one_cycle;
 mod state;
 
 pub use datapath::{Datapath, Whole};
+pub use elements::{Element, element_of};
 pub use environment::{Clock, Env};
 pub use laws::{boundaries_go_on, rests_are_environments, runs_go_on, segments_end_at_boundaries};
 pub use microword::Microword;

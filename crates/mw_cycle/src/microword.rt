@@ -1,11 +1,12 @@
 // A microword, decoded.
-ghost use Rattle.std.specs.Prelude.{◌≡◌, ◌<◌};
-ghost use Rattle.mw_board.specs.Valid.{IsPoint};
-ghost use Rattle.mw_cycle.specs.Control.{value_at};
+ghost use Rattle.std.specs.Prelude.{◌≡◌, ◌<◌, ◌%◌, ◌^◌, length, slice_get};
+ghost use Rattle.mw_board.specs.Valid.{IsFlipFlop, IsLoad, IsPoint};
+ghost use Rattle.mw_cycle.specs.Control.{in_field, value_at};
+ghost use Rattle.mw_cycle.specs.Cycle.{load_of};
 ghost use Rattle.mw_cycle.specs.Microword.{instruction_of, points_of, IsMicroword};
 
-use crate::control::{chosen, is_on, point, value_at};
-use mw_board::{Bit, Board, Control, DFrom, DSource};
+use crate::control::{chosen, in_field, is_on, low_bits, point, value_at};
+use mw_board::{Bit, Board, Control, DFrom, DSource, FlipFlop, Load};
 
 /// A microword, and what it has at each control point of its board.
 #[derive(Clone, Copy, Debug)]
@@ -120,5 +121,26 @@ impl Microword {
             memory_write: is_on(board, word, control.memory_write),
             out: is_on(board, word, control.out),
         }
+    }
+
+    /// The low bits, as many as the board's width, of what a field of the board has.
+    pub fn field(&self, board: &Board, number: u8) -> u32
+        ensures exact { result ≡ in_field (slice_get board.now.fields number) self.now.word % 2 ^ board.now.width }
+        ensures below { result < 2 ^ board.now.width }
+    {
+        low_bits(
+            u128::from(in_field(board, number, self.word)),
+            board.width().bits(),
+        )
+    }
+
+    /// Which of its loads a flip-flop of the board takes.
+    pub fn load(&self, board: &Board, flipflop: &FlipFlop) -> Load
+        requires { IsFlipFlop board.now flipflop.now }
+        ensures exact { result ≡ load_of board.now self.now flipflop.now }
+        ensures valid { IsLoad board.now.width (length board.now.flipflop) result }
+    {
+        let entry = value_at(board, self.word, flipflop.control);
+        chosen(Load::Hold, flipflop.load.as_slice(), entry)
     }
 }

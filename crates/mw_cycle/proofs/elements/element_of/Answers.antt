@@ -9,3 +9,10 @@ overflow_cast-result-else-number-pc-3 c =
     let flipflops : c.as_slice.result.now ≡ c.args.board.now.flipflop = search rules in
     let count = count_is c.args.board.now in
     rw flipflops (omega arith)
+
+pub returns-else-number-pc-3-clause-there : goal.returns-else-number-pc-3-clause-there
+unfolding depth_of
+returns-else-number-pc-3-clause-there c =
+    let flipflops : c.as_slice.result.now ≡ c.args.board.now.flipflop = search rules in
+    let count = count_is c.args.board.now in
+    rw flipflops (omega arith)
