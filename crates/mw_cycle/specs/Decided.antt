@@ -5,15 +5,11 @@ use Rattle.mw_base.specs.Words.{bit_of}
 use Rattle.mw_board.specs.declared.parts.BoardParts.{BoardParts}
 use Rattle.mw_term.specs.declared.kinds.DecidedKind.{DecidedKind}
 use Rattle.mw_term.specs.declared.kinds.DecidedKind.TheVariants.{Pass, CounterZero, Next}
+use Rattle.mw_cycle.specs.declared.decided.Decided.{Decided}
 use Rattle.mw_cycle.specs.declared.microword.Microword.{Microword}
 use Rattle.mw_cycle.specs.declared.state.CycleIn.{CycleIn}
 use Rattle.mw_cycle.specs.Cycle.{microword_at, answer_of, pass_of, next_address}
 use Rattle.mw_cycle.specs.State.{BoardState}
-
--- what a bit says, and its value
-pub record Decided : Type 0 where
-  pub kind : DecidedKind
-  pub value : Bool
 
 -- a bit that says this, with this value
 abbrev pub decided : DecidedKind → Bool → Decided

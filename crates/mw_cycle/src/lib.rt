@@ -4,6 +4,7 @@
 mod bits;
 mod control;
 mod datapath;
+mod decided;
 mod elements;
 mod environment;
 mod flipflops;
@@ -13,6 +14,7 @@ mod one_cycle;
 mod state;
 
 pub use datapath::{Datapath, Whole};
+pub use decided::Decided;
 pub use elements::{Element, element_of};
 pub use environment::{Clock, Env};
 pub use laws::{boundaries_go_on, rests_are_environments, runs_go_on, segments_end_at_boundaries};
