@@ -1,6 +1,7 @@
 pub mod Choices
 pub mod Growth
 pub mod Images
+pub mod Later
 pub mod Listed
 pub mod Lists
 pub mod Made

@@ -51,6 +51,20 @@ of_plain t words op none of = record {
   ];
 }
 
+-- a term that is neither a variable nor a word of the list
+pub of_without_word : (t : Table) (words : List Word) (op : Op) → IsNoVariable op → AreOf t words
+    → AreOf (with_op t op) words
+of_without_word t words op none of = record {
+  there = λ place w is. inside_more t op w.term (of.there place w is);
+  variables = λ place term kind is.
+      (let found = of.variables place term kind is in
+      (found.0, behind t.ops (op ∷ []) term (Var (place + 1) found.0) found.1));
+  listed = λ term number width is. elim (pushed t.ops op term (Var number width) is) [
+    | inl h ↦ of.listed term number width h.1
+    | inr h ↦ absurd (none number width h.1)
+  ];
+}
+
 number_is : (m n v w : ℕ) → Var m v ≡ Var n w → n ≡ m
 number_is m n v w is = cc
 

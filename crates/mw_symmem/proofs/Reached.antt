@@ -124,7 +124,7 @@ first_fits t given image (h ∷ rest) address otherwise hold is =
           ∙ rest_is
     ]
 
-taken : (hs : List Held) (n k : ℕ) (h : Held) → slice_get (take n hs) k ≡ Some h → slice_get hs k ≡ Some h
+pub taken : (hs : List Held) (n k : ℕ) (h : Held) → slice_get (take n hs) k ≡ Some h → slice_get hs k ≡ Some h
 taken [] zero k h is = is
 taken [] (suc n) k h is = is
 taken (x ∷ hs) zero k h is = absurd cc

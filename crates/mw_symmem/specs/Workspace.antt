@@ -1,14 +1,14 @@
 -- What a symbolic run works on: a table of terms, the words of a case, and a memory over them.
-use Rattle.std.specs.Prelude.{◌≡◌, ℕ, ◌<◌, List, ◌++◌, length, Some, slice_get}
+use Rattle.std.specs.Prelude.{◌≡◌, ℕ, ◌<◌, List, ◌++◌, length}
 use Rattle.mw_term.specs.declared.kinds.WordKind.{WordKind}
 use Rattle.mw_term.specs.Assigned.{Given}
 use Rattle.mw_term.specs.MemoryRead.{Held}
 use Rattle.mw_term.specs.Table.{Table, Extends, IsTable}
-use Rattle.mw_term.specs.Values.{Keeps, term_value}
+use Rattle.mw_term.specs.Values.{Keeps}
 use Rattle.mw_symmem.specs.declared.side.Side.{Side}
 use Rattle.mw_symmem.specs.declared.word.Word.{Word}
 use Rattle.mw_symmem.specs.Words.{IsVariable, AreOf}
-use Rattle.mw_symmem.specs.Memory.{Memory, IsMemory, IsImage, IsRead, FitImage, writes_of}
+use Rattle.mw_symmem.specs.Memory.{Memory, IsMemory, IsRead, FitImage, writes_of}
 
 -- a table that is the old one, or has grown from it
 pub record IsLater (old new : Table) : Type 0 where

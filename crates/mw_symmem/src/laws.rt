@@ -1,6 +1,7 @@
 // Laws of symbolic memory.
 ghost use Rattle.mw_symmem.specs.Memory.{ImagesAreReached, IsMemoryAtFirst, StaysWithWords, StaysWithWrites};
 ghost use Rattle.mw_symmem.specs.Words.{AreOfAtFirst};
+ghost use Rattle.mw_symmem.specs.Workspace.{ImagesFitBefore, ReadsStay};
 
 /// The law of no words: they are those of a table without terms.
 pub fn are_of_at_first()
@@ -27,4 +28,14 @@ pub fn stays_with_words()
 /// The law of writes: a memory with one write more is one still.
 pub fn stays_with_writes()
     ensures { StaysWithWrites }
+{}
+
+/// The law of later images: an image that the base reads fit later is one that those before fitted.
+pub fn images_fit_before()
+    ensures { ImagesFitBefore }
+{}
+
+/// The law of earlier reads: what was read before is what a side's memory holds still, while nothing is written.
+pub fn reads_stay()
+    ensures { ReadsStay }
 {}

@@ -13,7 +13,8 @@ mod word;
 mod words;
 
 pub use laws::{
-    are_of_at_first, images_are_reached, is_memory_at_first, stays_with_words, stays_with_writes,
+    are_of_at_first, images_are_reached, images_fit_before, is_memory_at_first, reads_stay,
+    stays_with_words, stays_with_writes,
 };
 pub use memory::SymMemory;
 pub use side::Side;
