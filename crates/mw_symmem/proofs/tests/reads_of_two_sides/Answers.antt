@@ -1,4 +1,4 @@
-use Rattle.std.proofs.Common.{arith, sym}
+use Rattle.std.proofs.Common.{arith}
 use Rattle.mw_symmem.proofs.tests.reads_of_two_sides.Goals as goal
 
 pub read-requires-clause-memory : goal.read-requires-clause-memory
