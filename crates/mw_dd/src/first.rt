@@ -1,5 +1,5 @@
 // The first assignment under which a function holds.
-ghost use Rattle.std.specs.Prelude.{◌≡◌, ◌<◌, ◌≤◌, ℕ, true, IfOk, OnOk};
+ghost use Rattle.std.specs.Prelude.{◌≡◌, ◌<◌, ◌≤◌, ℕ, ◌↔◌, true, IsTrue, IfOk, OnOk};
 ghost use Rattle.mw_term.specs.Assigned.{given_by};
 ghost use Rattle.mw_term.specs.Cofactors.{value_of};
 ghost use Rattle.mw_term.specs.Cofactors as cofactors;
@@ -26,6 +26,13 @@ fn raise(assignment: &mut Assignment, alloc: Global, variable: Variable) -> Resu
     assignment.set(alloc, variable.word, number)
 }
 
+/// Whether the first assignment raises a node's variable: where its low branch holds never.
+fn raises(node: &Node) -> bool
+    ensures { IsTrue result ↔ (node.now.low ≡ 0) }
+{
+    node.low.position() == 0
+}
+
 /// The branch of a node that the first assignment takes: the low one, unless it holds never.
 fn taken(
     nodes: &Table<Node>,
@@ -41,11 +48,11 @@ fn taken(
         → Walks nodes.now whole assignment.new y) }
 {
     let node = inner(nodes, x);
-    if node.low.position() != 0 {
-        return Ok(node.low);
+    if raises(&node) {
+        raise(assignment, alloc, node.variable)?;
+        return Ok(node.high);
     }
-    raise(assignment, alloc, node.variable)?;
-    Ok(node.high)
+    Ok(node.low)
 }
 
 /// The first assignment under which a function holds that isn't the first constant.

@@ -1,5 +1,5 @@
 // Nodes, ordered and reduced.
-ghost use Rattle.std.specs.Prelude.{◌≡◌, ◌⊎◌, ◌-◌, ◌<◌, ◌≤◌, ◌↔◌, ℕ, Bool, false, Some, slice_get, IfOk, if◌then◌else◌};
+ghost use Rattle.std.specs.Prelude.{◌≡◌, ◌⊎◌, ◌-◌, ◌<◌, ◌≤◌, ◌↔◌, ℕ, Bool, false, Some, slice_get, IsTrue, IfOk, if◌then◌else◌};
 ghost use Rattle.mw_term.specs.Assigned.{Given};
 ghost use Rattle.mw_term.specs.Cofactors.{value_of, is_before};
 ghost use Rattle.mw_term.specs.Cofactors as cofactors;
@@ -19,6 +19,15 @@ pub(crate) struct Node {
     pub variable: Variable,
     pub low: Dd,
     pub high: Dd,
+}
+
+impl Node {
+    /// Whether its branches are one, so that it stands for what they do.
+    fn is_redundant(&self) -> bool
+        ensures { IsTrue result ↔ (self.now.low ≡ self.now.high) }
+    {
+        self.low == self.high
+    }
 }
 
 impl Key for Node {
@@ -161,7 +170,7 @@ pub(crate) fn make(nodes: &mut Table<Node>, alloc: Global, node: Node) -> Result
         ≡ (if value_of node.variable given then value_at given nodes.old node.high else value_at given nodes.old node.low)) }
     ensures from { IfOk result (λ r. IsFrom nodes.new node.variable r) }
 {
-    if node.low == node.high {
+    if node.is_redundant() {
         return Ok(node.low);
     }
     if let Some(place) = nodes.find(&node) {

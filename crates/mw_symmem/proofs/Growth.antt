@@ -1,6 +1,7 @@
 -- Tables that grow, and the terms in them.
 use Rattle.std.proofs.Common.{◌≡◌, ℕ, ◌≤◌, List, [], ◌∷◌, ◌++◌, length, take, drop, map, refl, ap, arith, sym, ◌∙◌}
 use Rattle.std.proofs.Common.{append-nil, append_assoc}
+use Rattle.std.specs.Prelude.{Some, slice_get}
 use Rattle.std.proofs.lemmas.List.{take-append-drop, take-append-le, take_all}
 use Rattle.mw_term.specs.declared.op.Op.{Op}
 use Rattle.mw_term.specs.Assigned.{Given}
@@ -12,6 +13,7 @@ use Rattle.mw_symmem.specs.declared.word.Word.{Word}
 use Rattle.mw_symmem.specs.Words.{plain, AreOf, IsNoVariable}
 use Rattle.mw_symmem.specs.Memory.{Has, IsOfWidth}
 use Rattle.mw_symmem.specs.Steps.{Grows}
+use Rattle.mw_symmem.proofs.Lists.{behind}
 
 -- ---- one table beside one with more terms
 
@@ -42,10 +44,19 @@ same_op old new op extends fits =
           (values_count old.map given old.ops ∙ sym (widths_count old.ops)));
     }
 
+-- what was there is there still
+pub op_stays : (old new : Table) (i : ℕ) (op : Op) → Extends old new → slice_get old.ops i ≡ Some op
+    → slice_get new.ops i ≡ Some op
+op_stays old new i op extends is =
+    let n = length old.ops in
+    let parted : new.ops ≡ old.ops ++ drop n new.ops =
+    sym (take-append-drop n new.ops) ∙ ap (λ ops. ops ++ drop n new.ops) extends.ops in
+    rw parted (behind old.ops (drop n new.ops) i op is)
+
 -- a new term has its op over the new table
 pub has_made : (old new : Table) (op : Op) (term : ℕ) → Extends old new → Fits old op → IsTermOf old new op term
-    → Has new op term
-has_made old new op term extends fits made =
+    → slice_get new.ops term ≡ Some op → Has new op term
+has_made old new op term extends fits made op_is =
     let same = same_op old new op extends fits in
     record {
       fits = same.fits;
@@ -54,6 +65,7 @@ has_made old new op term extends fits made =
         width = made.width ∙ sym same.width;
         value = λ given. made.value given ∙ sym (same.value given);
       };
+      op_is = op_is;
     }
 
 -- and keeps it
@@ -68,6 +80,7 @@ has_stays old new op term extends keeps has =
         width = keeps.widths term has.is.there ∙ has.is.width ∙ sym same.width;
         value = λ given. keeps.values given term has.is.there ∙ has.is.value given ∙ sym (same.value given);
       };
+      op_is = op_stays old new term op extends has.op_is;
     }
 
 pub width_stays : (old new : Table) (width term : ℕ) → Extends old new → Keeps old new → IsOfWidth old width term

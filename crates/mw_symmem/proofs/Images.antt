@@ -1,5 +1,5 @@
 -- The image of base reads.
-use Rattle.std.proofs.Common.{◌≡◌, ℕ, zero, suc, ◌+◌, ◌<◌, ◌^◌, List, [], ◌∷◌, length, drop, get_or, slice_index, map, replicate, refl, ap, arith, sym, ◌∙◌}
+use Rattle.std.proofs.Common.{◌≡◌, ℕ, zero, suc, ◌+◌, ◌<◌, ◌^◌, List, [], ◌∷◌, ◌++◌, length, take, drop, get_or, slice_index, map, replicate, refl, ap, arith, sym, ◌∙◌}
 use Rattle.std.specs.Prelude.{Bool, true, false, ◌==◌, if◌then◌else◌, slice_set}
 use Rattle.mw_term.specs.Assigned.{Given}
 use Rattle.mw_term.specs.MemoryRead.{Held}
@@ -10,6 +10,7 @@ use Rattle.mw_symmem.specs.Memory.{Memory, valued, first_at, base_word, FitImage
 use Rattle.mw_symmem.proofs.Choices.{dropped}
 use Rattle.mw_symmem.proofs.Meaning.{set_at}
 use Rattle.mw_symmem.proofs.Reached.{first_take}
+use Rattle.std.proofs.lemmas.List.{take-append-le, take_all}
 use Rattle.std.proofs.lemmas.Nat.{pow_pos}
 
 pub zeros : (n place : ℕ) → slice_index (replicate n 0) place ≡ 0
@@ -23,6 +24,12 @@ pub value_within : (t : Table) (given : Given) (w term : ℕ) → IsTable t → 
 value_within t given w term table is =
     let inside : term < length (widths_of t.ops) = omega (arith, is.there, widths_count t.ops) in
     rw (← is.width_is) ((words_of t given table).words term inside)
+
+-- a list of this length that is written whole is what was written
+pub written : (n : ℕ) (old new is : List ℕ) → length old ≡ n → length is ≡ length old → new ≡ is
+    → take n (new ++ drop (length new) old) ≡ is
+written n old new is all same whole =
+    rw whole (take-append-le n is (drop (length is) old) (omega (arith, all, same)) ∙ take_all n is (omega (arith, all, same)))
 
 -- one read more, from the newest to the oldest
 pub image_next : (t : Table) (given : Given) (reads : List Held) (place : ℕ) (read : Held) (image : List ℕ)

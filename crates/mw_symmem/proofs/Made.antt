@@ -1,7 +1,6 @@
 -- What a memory read makes of a memory.
-use Rattle.std.proofs.Common.{◌≡◌, inl, inr, ℕ, zero, suc, ◌+◌, ◌<◌, ◌^◌, ◌%◌, List, [], ◌∷◌, ◌++◌, length, length-append, append_assoc, drop, slice_index, map, refl, ap, arith, sym, subst, ◌∙◌}
+use Rattle.std.proofs.Common.{◌≡◌, inl, inr, ℕ, zero, suc, ◌+◌, ◌<◌, ◌^◌, ◌%◌, List, [], ◌∷◌, ◌++◌, length, length-append, append_assoc, slice_index, map, refl, ap, arith, sym, subst, ◌∙◌}
 use Rattle.std.specs.Prelude.{Some, slice_get}
-use Rattle.std.proofs.lemmas.List.{take-append-drop}
 use Rattle.std.proofs.lemmas.Option.{slice_get_within}
 use Rattle.std.proofs.Math.Seq.{take-append_seam}
 use Rattle.mw_term.specs.declared.kinds.WordKind.TheVariants.{Base}
@@ -20,7 +19,7 @@ use Rattle.mw_symmem.specs.Memory.{Memory, writes_of, with_read, valued, first_a
 use Rattle.mw_symmem.specs.Memory.{IsOfWidth, IsHeld, AreHeld, op_number, variable_number, DependsBefore, IsBaseRead, IsMemory}
 use Rattle.mw_symmem.specs.Steps.{Grows, AreSame, IsBaseValue, IsSideValue, IsMade}
 use Rattle.mw_symmem.proofs.Lists.{pushed, behind, pushed_there, among, seam, no_variable, only_variable}
-use Rattle.mw_symmem.proofs.Growth.{extends_then, keeps_then, has_made, has_stays, width_stays, map_both}
+use Rattle.mw_symmem.proofs.Growth.{extends_then, keeps_then, op_stays, has_made, has_stays, width_stays, map_both}
 use Rattle.mw_symmem.proofs.Choices.{same_stays, base_stays, bit_of_same}
 use Rattle.mw_symmem.proofs.Meaning.{base_meaning, side_meaning}
 use Rattle.mw_symmem.proofs.Parts.{read_are, read_last}
@@ -82,15 +81,6 @@ words_join w1 w2 w3 w4 v made over second third fourth =
     ∙ append_assoc w1 (v ∷ map plain made) (map plain over)
     ∙ ap (λ ws. w1 ++ v ∷ ws) (sym (map_both made over))
 
--- what was there is there still
-pub op_stays : (old new : Table) (i : ℕ) (op : Op) → Extends old new → slice_get old.ops i ≡ Some op
-    → slice_get new.ops i ≡ Some op
-op_stays old new i op extends is =
-    let n = length old.ops in
-    let parted : new.ops ≡ old.ops ++ drop n new.ops =
-    sym (take-append-drop n new.ops) ∙ ap (λ ops. ops ++ drop n new.ops) extends.ops in
-    rw parted (behind old.ops (drop n new.ops) i op is)
-
 pub done : (told t1 t2 t3 t4 : Table) (old w1 w2 w3 w4 : List Word) (m : Memory) (side : Side)
     (address base middle value number : ℕ) (same made over : List ℕ)
     → Grows told t1 old w1 same → AreSame t1 address m.reads same
@@ -110,7 +100,7 @@ done told t1 t2 t3 t4 old w1 w2 w3 w4 m side address base middle value number sa
     let named : w2 ≡ w1 ++ v ∷ [] = new ∙ ap (λ n. w1 ++ variable base (Base n) ∷ []) number_is in
     let joined = words_join w1 w2 w3 w4 v made over named two.words three.words in
     let is_op = rw one.words at op in
-    let has = rw one.words at (has_made t1 t2 (Var (length w1 + 1) m.word) base extends width made_op) in
+    let has = rw one.words at (has_made t1 t2 (Var (length w1 + 1) m.word) base extends width made_op op) in
     record {
       same = same;
       made = made;

@@ -11,7 +11,8 @@ use Rattle.mw_symmem.specs.Words.{variable}
 use Rattle.mw_symmem.specs.Memory.{Memory, IsHeld, AreHeld, IsMemory, StaysWithWords, StaysWithWrites, IsMemoryAtFirst}
 use Rattle.mw_symmem.specs.Memory.{variable_number, op_number}
 use Rattle.mw_symmem.proofs.Lists.{pushed, among}
-use Rattle.mw_symmem.proofs.Made.{all_stay, op_stays, read_stays, base_number}
+use Rattle.mw_symmem.proofs.Made.{all_stay, read_stays, base_number}
+use Rattle.mw_symmem.proofs.Growth.{op_stays}
 
 number_stays : (told t : Table) (words : List Word) (m : Memory) → Extends told t → IsMemory told words m → (k : ℕ)
     (read : Held) → slice_get m.reads k ≡ Some read → variable_number t read.word ≡ variable_number told read.word

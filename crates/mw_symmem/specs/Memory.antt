@@ -143,13 +143,14 @@ pub record IsMemory (t : Table) (words : List Word) (m : Memory) : Type 0 where
 
 -- ---- the words of a read
 
--- a term has the width and, under every assignment, the value of an op that fits the table
+-- a term is that of an op that fits the table, and has the op's width and, under every assignment, its value
 pub record Has (t : Table) (op : Op) (term : ℕ) : Type 0 where
   pub fits : Fits t op
   pub is : IsTermOf t t op term
+  pub op_is : slice_get t.ops term ≡ Some op
 
 -- The words that a memory read adds to a list: those of (a), then the variable of the next base read, then the others;
--- and each has, in the new table, the width and value of its op.
+-- and each is, in the new table, the term of its op, with its width and value.
 pub record AddsRead (t : Table) (old new : List Word) (m : Memory) (side : Side) (address : ℕ) (term : ℕ) : Type 0 where
   pub same : List ℕ
   pub base : ℕ

@@ -1,5 +1,5 @@
 // The image of base reads.
-ghost use Rattle.std.specs.Prelude.{◌≡◌, ℕ, ◌≤◌, ◌^◌, Some, slice_get, slice_index, length, IfOk};
+ghost use Rattle.std.specs.Prelude.{◌≡◌, ℕ, ◌<◌, ◌≤◌, ◌^◌, Some, slice_get, slice_index, slice_set, length, IfOk};
 ghost use Rattle.mw_term.specs.Assigned.{given_by};
 ghost use Rattle.mw_term.specs.MemoryRead as kept;
 ghost use Rattle.mw_symmem.specs.Memory.{IsOfWidth, AreHeld, base_word};
@@ -8,6 +8,14 @@ use crate::held::Held;
 use mw_base::NoMemory;
 use mw_term::{Assignment, Terms};
 use std::alloc::Global;
+
+/// Writes a word at an address of an image.
+fn put(image: &mut [u32], address: u32, word: u32)
+    requires { address < length image.old }
+    ensures { image.new ≡ slice_set image.old address word }
+{
+    image[address as usize] = word;
+}
 
 /// At each address of so many bits the word of the oldest read there, and 0 elsewhere.
 pub(crate) fn image(
@@ -30,7 +38,7 @@ pub(crate) fn image(
         let read = reads[place];
         let address = terms.value(alloc, read.address(), given)?;
         let word = terms.value(alloc, read.word(), given)?;
-        image[address as usize] = word;
+        put(&mut image, address, word);
     }
     Ok(image)
 }

@@ -130,6 +130,13 @@ impl Words {
         self.words.len() as u64 + 1
     }
 
+    /// The op of a variable of the next number.
+    fn next_variable(&self, width: u8) -> Op
+        ensures { result ≡ Var (length self.now + 1) width }
+    {
+        Op::Var(self.next_number(), width)
+    }
+
     /// The least number of a word with a term, if there is one.
     pub fn word_of(&self, term: Term) -> Option<u64>
         ensures { result ≡ number_of self.now term }
@@ -189,7 +196,7 @@ impl Words {
         ensures keeps { Keeps terms.old terms.new }
         ensures table { IsTable terms.new }
     {
-        let term = terms.build(alloc, Op::Var(self.next_number(), width))?;
+        let term = terms.build(alloc, self.next_variable(width))?;
         self.push_variable(term, kind)?;
         Ok(term)
     }

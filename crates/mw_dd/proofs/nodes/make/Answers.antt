@@ -1,13 +1,13 @@
-use Rattle.std.proofs.Common.{◌≡◌, ◌+◌, ◌∙◌, ap, ℕ, length, arith, refl}
-use Rattle.std.proofs.lemmas.Bool.Decides.{nat_tests}
+use Rattle.std.proofs.Common.{◌≡◌, ◌+◌, ◌∙◌, ap, ℕ, length, refl}
+use Rattle.std.proofs.lemmas.Bool.{false≢true}
 use Rattle.mw_dd.proofs.Order.{not_before_itself}
 use Rattle.mw_dd.proofs.Values.{grows-push}
 use Rattle.mw_dd.proofs.From.{from-after}
 use Rattle.mw_dd.proofs.Made.{CanBeMade, reduced-push, found_value, made_value, made_from}
 use Rattle.mw_dd.proofs.nodes.make.Goals as goal
 
-pub returns-then-eq-clause-from : goal.returns-then-eq-clause-from
-returns-then-eq-clause-from c =
+pub returns-then-is_redundant-clause-from : goal.returns-then-is_redundant-clause-from
+returns-then-is_redundant-clause-from c =
     from-after c.args.nodes.now c.args.node.variable c.args.node.variable c.args.node.low c.requires.low_later
     (not_before_itself c.args.node.variable)
 
@@ -29,7 +29,7 @@ pub returns-clause-reduced : goal.returns-clause-reduced
 returns-clause-reduced c =
     rw c.in_ok-place.ensures.items
     (reduced-push c.args.nodes.now c.requires.reduced c.args.node (can c)
-    (λ same. let e = c.if-eq.ensures in grind (arith, nat_tests)) (c.in_default.ensures.absent refl))
+    (λ same. false≢true (c.if-is_redundant.ensures.1 same)) (c.in_default.ensures.absent refl))
 
 pub returns-clause-grows : goal.returns-clause-grows
 returns-clause-grows c = rw c.in_ok-place.ensures.items (grows-push c.args.nodes.now c.args.node)

@@ -1,10 +1,10 @@
 use Rattle.std.proofs.Common.{◌≡◌, ◌<◌, ◌+◌, ◌-◌, ◌^◌, ◌∙◌, Some, length, refl, arith}
-use Rattle.std.specs.Prelude.{slice_get}
+use Rattle.std.specs.Prelude.{slice_get, slice_set}
 use Rattle.std.proofs.lemmas.List.{length-set}
 use Rattle.std.proofs.lemmas.Option.{slice_get_read}
 use Rattle.mw_term.specs.Assigned.{given_by}
 use Rattle.mw_term.specs.Values.{term_value}
-use Rattle.mw_symmem.proofs.Images.{image_next}
+use Rattle.mw_symmem.proofs.Images.{image_next, written}
 use Rattle.mw_symmem.proofs.image.image.Goals as goal
 
 pub value-requires : goal.value-requires
@@ -25,8 +25,8 @@ value-requires-in-loop-place c =
     slice_get_read reads (length reads) i c.index-reads-place.result refl inside c.index-reads-place.is in
     rw c.word.ensures (c.requires.held.1 i c.index-reads-place.result here).word.there
 
-pub index_mut-requires : goal.index_mut-requires
-index_mut-requires c =
+pub put-requires : goal.put-requires
+put-requires c =
     let reads = c.args.reads.now in
     let i = c.loop-place.place - 1 in
     let inside : i < length reads = omega (arith, c.loop-place-test.true, c.loop-place.invariant.within) in
@@ -56,10 +56,12 @@ loop-place-preserved c =
     rw (c.address.ensures, width) at c.in_ok-address.ensures.below in
     let within : term_value c.args.terms.now given read.address < length items =
     omega (arith, below, address, c.loop-place.invariant.size) in
+    let whole = written c.loop-place.image.len items c.put.new.image (slice_set items c.in_ok-address.address c.in_ok-word.word)
+    (omega (arith, c.loop-place.image.ok.0)) (length-set items c.in_ok-address.address c.in_ok-word.word) (rw c.deref_mut.ensures.value at c.put.ensures) in
     record {
       within = omega (arith, c.loop-place.invariant.within);
-      size = length-set items c.in_ok-address.address c.in_ok-word.word ∙ c.loop-place.invariant.size;
-      words = rw (address, word)
+      size = rw whole (length-set items c.in_ok-address.address c.in_ok-word.word ∙ c.loop-place.invariant.size);
+      words = rw (whole, address, word)
           (image_next c.args.terms.now given reads i read items inside c.index-reads-place.is
           (rw (← last) c.loop-place.invariant.words) within);
     }

@@ -10,4 +10,4 @@ returns-clause-grows c =
 pub returns-clause-has : goal.returns-clause-has
 returns-clause-has c =
     let e = c.in_ok-term.ensures in
-    has_made c.args.terms.now c.add.new.terms c.args.op c.in_ok-term.term e.extends c.requires.fits e.made
+    has_made c.args.terms.now c.add.new.terms c.args.op c.in_ok-term.term e.extends c.requires.fits e.made e.op

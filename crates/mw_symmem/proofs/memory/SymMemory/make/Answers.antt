@@ -57,7 +57,7 @@ base_value-requires-clause-pairs c = λ k read is.
     let keeps = keeps_then told t1 t2 one.extends.more one.keeps e.keeps in
     let number : ℕ = length c.same.new.words + 1 in
     let w = c.self.inside.word in
-    let has = has_made t1 t2 (Var number w) c.in_ok-base.base e.extends memory.word e.made in
+    let has = has_made t1 t2 (Var number w) c.in_ok-base.base e.extends memory.word e.made e.op in
     pair_of t2 w read.word c.in_ok-base.base
     (width_stays told t2 w read.word extends keeps (memory.reads k read there).word)
     (variable_width t2 number w c.in_ok-base.base has)
@@ -98,7 +98,7 @@ side_value-requires-clause-pairs c = λ k write is.
     let keeps = keeps_then told t1 t3 one.extends.more one.keeps (keeps_then t1 t2 t3 e.extends.more e.keeps two.keeps) in
     let number : ℕ = length c.same.new.words + 1 in
     let w = c.self.inside.word in
-    let has = has_made t1 t2 (Var number w) c.in_ok-base.base e.extends memory.word e.made in
+    let has = has_made t1 t2 (Var number w) c.in_ok-base.base e.extends memory.word e.made e.op in
     let base = variable_width t2 number w c.in_ok-base.base has in
     pair_of t3 w write.word c.in_ok-middle.middle
     (width_stays told t3 w write.word extends keeps (side_held told c.args.words.now _ c.args.side memory k write there).word)
