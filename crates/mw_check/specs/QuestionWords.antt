@@ -1,6 +1,6 @@
 -- The word list of a question: its variables, the nodes of the left side, those of the right one, and whether both are
--- equal. The list is a table of terms, in which a constant stands just before what it is needed for. A constant is no
--- word, so the words are the ops of the table that are no constants, and have numbers from 1.
+-- equal. The list is a table of terms, in which a constant stands before what it is needed for. A constant is no word,
+-- so the words are the ops of the table that are no constants, and have numbers from 1.
 use Rattle.std.specs.Prelude.{◌≡◌, ℕ, ◌+◌, ◌-◌, ◌<◌, List, [], ◌∷◌, ◌++◌, length, map, Bool, true, false, ◌==◌, if◌then◌else◌, slice_index, slice_get, take, Some}
 use Rattle.mw_expr.specs.declared.expr.Pair2.{Pair2}
 use Rattle.mw_expr.specs.declared.expr.Pair2.TheVariants as sign
@@ -185,20 +185,7 @@ words_of q = table_of (question_nodes q).ops []
 -- a constant is no word
 abbrev pub is_constant : Op → Bool
 is_constant (Con number w) = true
-is_constant (Var word w) = false
-is_constant (Not a) = false
-is_constant (And a b) = false
-is_constant (Or a b) = false
-is_constant (Xor a b) = false
-is_constant (Sum a b c) = false
-is_constant (Cout a b c) = false
-is_constant (Ovf a b c) = false
-is_constant (Eq a b) = false
-is_constant (Lt a b) = false
-is_constant (Ite c a b) = false
-is_constant (Part a low w) = false
-is_constant (Join high low) = false
-is_constant (Tab i) = false
+is_constant op = false
 
 -- how many of some ops are words
 abbrev pub word_count : List Op → ℕ

@@ -1,5 +1,7 @@
 // Whether the sides of a question are equal.
-ghost use Rattle.std.specs.Prelude.{◌≡◌, ◌+◌, ◌<◌, ◌≤◌, ℕ, List, [], All, None, length, not, take, IfOk, IfSome, OnOk};
+ghost use Rattle.std.specs.Prelude.{◌≡◌, ◌+◌, ◌<◌, ◌≤◌, ◌%◌, ◌^◌, ℕ, List, [], All, None, length, not, take, IfOk, IfErr, IfSome, OnOk};
+ghost use Rattle.mw_blast.specs.Bits.{AreBits};
+ghost use Rattle.mw_blast.specs.Causes.{IsCause};
 ghost use Rattle.mw_blast.specs.declared.fault.BlastFault.TheVariants as blast;
 ghost use Rattle.mw_term.specs.Assigned.{given_by};
 ghost use Rattle.mw_term.specs.Cofactors.{Agree};
@@ -90,6 +92,14 @@ fn first_without(
     }
 }
 
+/// The value that an assignment gives to the variable of this number, of 1 to 32 bits.
+fn value_at(given: &Assignment, number: u64, width: u8) -> u32
+    requires { (1 ≤ width) × (width ≤ 32) }
+    ensures { result ≡ given_by given.now number % 2 ^ width }
+{
+    (u64::from(given.number(number)) % (1 << width)) as u32
+}
+
 /// The values that an assignment gives to variables of these widths.
 fn values_of(alloc: Global, given: &Assignment, widths: &[u8]) -> Result<Items<u32>, NoMemory>
     requires { All (λ w. (1 ≤ w) × (w ≤ 32)) widths.now }
@@ -97,10 +107,30 @@ fn values_of(alloc: Global, given: &Assignment, widths: &[u8]) -> Result<Items<u
 {
     let mut values = Vec::new(alloc);
     for i in 0..widths.len() {
-        let value = u64::from(given.number(i as u64 + 1)) % (1 << widths[i]);
-        values.push(value as u32)?;
+        values.push(value_at(given, i as u64 + 1, widths[i]))?;
     }
     Ok(Items::from_vec(values))
+}
+
+/// The functions of the bits of a term of a list, where each operation is asked within a budget.
+///
+/// # Errors
+///
+/// - `Over`: an operation at the bit that is named, of a term that is this one or is reached from it, is over the budget.
+/// - `NoMemory`: memory ran out.
+fn bits_within(
+    alloc: Global,
+    words: &WordList,
+    dds: &mut Diagrams,
+    term: Term,
+    budget: u32,
+) -> Result<Vec<Dd>, BlastFault>
+    requires { term < length words.now.ops }
+    ensures bits { IfOk result (λ bits. AreBits words.now dds.new term bits.items) }
+    ensures over { IfErr result (IsCause words.now term budget) }
+{
+    let mut blast = Blast::new(alloc);
+    blast.bits(alloc, words.terms(), dds, term, budget)
 }
 
 /// The answer where bits weren't made.
@@ -136,8 +166,7 @@ fn answer(
     ensures { IfOk result (IsAnswer (asked_of question.now) budget) }
 {
     let mut dds = Diagrams::new(alloc)?;
-    let mut blast = Blast::new(alloc);
-    let bits = match blast.bits(alloc, words.terms(), &mut dds, same, budget) {
+    let bits = match bits_within(alloc, words, &mut dds, same, budget) {
         Ok(bits) => bits,
         Err(fault) => return unknown(words, fault),
     };

@@ -50,6 +50,17 @@ fn variable_line(alloc: Global, mut variables: Variables, line: &Cursor) -> Resu
     Ok(Known::Declaring(variables))
 }
 
+/// What expressions are over: variables of these widths, and no memory.
+fn shape_over(widths: Vec<u8>) -> Shape
+    ensures { result ≡ shape_over widths.items }
+{
+    Shape {
+        widths: Items::from_vec(widths),
+        address: 0,
+        word: 0,
+    }
+}
+
 /// left E: the side's own causes.
 #[tactic(auto, unfolding(crate::specs::QuestionText::left_line), using(crate::proofs::Sides::proper))]
 fn left_line(
@@ -62,11 +73,7 @@ fn left_line(
     ensures { Gives known_seen result (left_line (variables_seen variables) word line.now) }
 {
     let names = Items::from_vec(variables.names);
-    let shape = Shape {
-        widths: Items::from_vec(variables.widths),
-        address: 0,
-        word: 0,
-    };
+    let shape = shape_over(variables.widths);
     let left = side_of(alloc, names.as_slice(), &shape, None, word, &line.after(1))?;
     Ok(Known::Halved(Half { names, shape, left }))
 }

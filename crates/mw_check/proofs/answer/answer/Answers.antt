@@ -9,38 +9,38 @@ use Rattle.mw_check.proofs.answer.answer.Goals as goal
 pub returns-in-Err : goal.returns-in-Err
 returns-in-Err c =
     let q = asked_of c.args.question.now in
-    let over = rw (c.terms.ensures, c.requires.words, c.requires.end) at c.in-Err.ensures.over in
+    let over = rw (c.requires.words, c.requires.end) at c.in-Err.ensures.over in
     let is = rw c.requires.words at c.unknown.ensures in
     IfOk-weaker c.unknown.result _ (IsAnswer q c.args.budget) (cause_answer q c.in-Err.fault c.args.budget over) is
 
 pub index-requires : goal.index-requires
 index-requires c =
     let q = asked_of c.args.question.now in
-    let bits = rw (c.terms.ensures, c.requires.words, c.requires.end) at c.in-Ok.ensures.bits in
-    let one = one_bit q c.bits.new.dds c.in-Ok.bits.items c.requires.question bits in
+    let bits = rw (c.requires.words, c.requires.end) at c.in-Ok.ensures.bits in
+    let one = one_bit q c.bits_within.new.dds c.in-Ok.bits.items c.requires.question bits in
     omega (arith, one, c.in-Ok.bits.ok)
 
 pub first_without-requires : goal.first_without-requires
 first_without-requires c =
     let q = asked_of c.args.question.now in
-    let bits = rw (c.terms.ensures, c.requires.words, c.requires.end) at c.in-Ok.ensures.bits in
-    (end_stands q c.bits.new.dds c.in-Ok.bits.items c.index.result.now c.requires.question bits c.index.ensures).there
+    let bits = rw (c.requires.words, c.requires.end) at c.in-Ok.ensures.bits in
+    (end_stands q c.bits_within.new.dds c.in-Ok.bits.items c.index.result.now c.requires.question bits c.index.ensures).there
 
 pub returns-in-None : goal.returns-in-None
 returns-in-None c =
     let q = asked_of c.args.question.now in
-    let bits = rw (c.terms.ensures, c.requires.words, c.requires.end) at c.in-Ok.ensures.bits in
-    let stands = end_stands q c.bits.new.dds c.in-Ok.bits.items c.index.result.now c.requires.question bits c.index.ensures in
-    always_agree q (function_of c.bits.new.dds c.index.result.now)
-    (holds_where_same q c.bits.new.dds c.index.result.now c.requires.question stands)
+    let bits = rw (c.requires.words, c.requires.end) at c.in-Ok.ensures.bits in
+    let stands = end_stands q c.bits_within.new.dds c.in-Ok.bits.items c.index.result.now c.requires.question bits c.index.ensures in
+    always_agree q (function_of c.bits_within.new.dds c.index.result.now)
+    (holds_where_same q c.bits_within.new.dds c.index.result.now c.requires.question stands)
     (c.in_ok-first_without.ensures.none c.in-None.is)
 
 pub returns : goal.returns
 returns c =
     let q = asked_of c.args.question.now in
-    let bits = rw (c.terms.ensures, c.requires.words, c.requires.end) at c.in-Ok.ensures.bits in
-    let stands = end_stands q c.bits.new.dds c.in-Ok.bits.items c.index.result.now c.requires.question bits c.index.ensures in
+    let bits = rw (c.requires.words, c.requires.end) at c.in-Ok.ensures.bits in
+    let stands = end_stands q c.bits_within.new.dds c.in-Ok.bits.items c.index.result.now c.requires.question bits c.index.ensures in
     let first = rw c.in-Some.is at c.in_ok-first_without.ensures.first in
     let values = rw c.as_slice.ensures at c.in_ok-values_of-in-Some.ensures in
-    rw values (first_difference q (function_of c.bits.new.dds c.index.result.now) c.in-Some.given
-    (holds_where_same q c.bits.new.dds c.index.result.now c.requires.question stands) first)
+    rw values (first_difference q (function_of c.bits_within.new.dds c.index.result.now) c.in-Some.given
+    (holds_where_same q c.bits_within.new.dds c.index.result.now c.requires.question stands) first)
