@@ -5,7 +5,9 @@
 // that aren't free at that boundary; both states, or that this is no choice there; and the boundaries at which the pair
 // is in relation, by the job and, where there is a file `other`, by the one with the relation of that file.
 ghost use Rattle.std.specs.Prelude.{◌<◌, ◌^◌, IfOk, IsTrue, length};
-ghost use Rattle.mw_rel.specs.Views.{job_of};
+ghost use Rattle.mw_macro.specs.Described.{description_of};
+ghost use Rattle.mw_rel.specs.Job.{AreForEachOther};
+ghost use Rattle.mw_rel.specs.Views.{job_of, relation_of};
 
 use super::cycles::file_words;
 use super::runs::{Machine, machine_of};
@@ -13,14 +15,13 @@ use super::{contents, texts};
 use crate::fault::{Fault, wrong};
 use crate::named::{hexadecimal, number_of, set_word, word};
 use crate::row::{File, contents_in};
-use mw_asm::Assembled;
 use mw_cycle::Env;
 use mw_descfile::{read_machine, read_relation};
-use mw_rel::{Begin, Job, Pair, complete, free, holds};
+use mw_rel::{Begin, Job, Pair, Relation, complete, free, holds};
 use std::alloc::Global;
 
 /// The text of a file that a reader takes.
-fn text_of<'a>(files: &'a [File], name: &str) -> Result<&'a [u8], Fault>
+pub(super) fn text_of<'a>(files: &'a [File], name: &str) -> Result<&'a [u8], Fault>
     ensures { IfOk result (λ text. length text.now < 2 ^ 32) }
 {
     let text = contents(files, name)?;
@@ -30,21 +31,63 @@ fn text_of<'a>(files: &'a [File], name: &str) -> Result<&'a [u8], Fault>
     Ok(text)
 }
 
-/// The job of the files `b`, `m` and `k`, and of the relation of another one.
-fn read_job(alloc: Global, files: &[File], name: &str) -> Result<Job, Fault> {
-    let Machine { board, made } = machine_of(alloc, files)?;
+/// The machine of the file `k`.
+pub(super) fn described(alloc: Global, files: &[File]) -> Result<mw_macro::Machine, Fault> {
+    let text = text_of(files, "k")?;
+    match read_machine(alloc, text) {
+        Ok(machine) => Ok(machine),
+        Err(_) => Err(wrong("the machine is refused")),
+    }
+}
+
+/// The relation of a file between a board with its microprogram and a machine.
+fn related(
+    alloc: Global,
+    micro: &Machine,
+    machine: &mw_macro::Machine,
+    files: &[File],
+    name: &str,
+) -> Result<Relation, Fault>
+    ensures { IfOk result (λ relation. AreForEachOther micro.now.board (description_of machine.now) (relation_of relation)) }
+{
     let text = text_of(files, name)?;
-    let described = text_of(files, "k")?;
-    let Ok(machine) = read_machine(alloc, described) else {
-        return Err(wrong("the machine is refused"));
-    };
-    let Ok(relation) = read_relation(alloc, &board, &made, &machine, text) else {
-        return Err(wrong("the relation is refused"));
-    };
-    let Assembled { store, .. } = made;
-    match Job::new(board, store, machine, relation) {
+    match read_relation(alloc, &micro.board, &micro.made, machine, text) {
+        Ok(relation) => Ok(relation),
+        Err(_) => Err(wrong("the relation is refused")),
+    }
+}
+
+/// The job of these parts.
+fn joined(micro: Machine, machine: mw_macro::Machine, relation: Relation) -> Result<Job, Fault>
+    requires { AreForEachOther micro.board (description_of machine) (relation_of relation) }
+{
+    let Machine { board, made } = micro;
+    match Job::new(board, made.store, machine, relation) {
         Ok(job) => Ok(job),
         Err(_) => Err(wrong("the job is refused")),
+    }
+}
+
+/// The job of these parts and of the relation of a file.
+fn job_with(
+    alloc: Global,
+    micro: Machine,
+    machine: mw_macro::Machine,
+    files: &[File],
+    name: &str,
+) -> Result<Job, Fault> {
+    match related(alloc, &micro, &machine, files, name) {
+        Ok(relation) => joined(micro, machine, relation),
+        Err(fault) => Err(fault),
+    }
+}
+
+/// The job of the files `b`, `m` and `k`, and of the relation of another one.
+fn read_job(alloc: Global, files: &[File], name: &str) -> Result<Job, Fault> {
+    let micro = machine_of(alloc, files)?;
+    match described(alloc, files) {
+        Ok(machine) => job_with(alloc, micro, machine, files, name),
+        Err(fault) => Err(fault),
     }
 }
 
@@ -188,28 +231,70 @@ fn boundary_number(given: &[String]) -> Result<usize, Fault> {
     }
 }
 
+/// Appends the pair that is chosen, or that this is no choice.
+fn push_completed(
+    alloc: Global,
+    report: &mut Vec<u8>,
+    job: &Job,
+    boundary: usize,
+    begin: &Begin,
+    files: &[File],
+) -> Result<(), Fault>
+    requires there { boundary < length (job_of job.now).relation.boundaries }
+{
+    if !begin.fits(job, boundary) {
+        report.extend_from_slice(b"no choice\n")?;
+        return Ok(());
+    }
+    let pair = complete(alloc, job, boundary, begin)?;
+    push_made(alloc, report, job, &pair, files)
+}
+
+/// Appends how many elements a job has, and those that aren't free at a boundary.
+fn push_elements(
+    alloc: Global,
+    report: &mut Vec<u8>,
+    job: &Job,
+    boundary: usize,
+) -> Result<(), Fault>
+    requires there { boundary < length (job_of job.now).relation.boundaries }
+{
+    report.extend_from_slice(b"elements")?;
+    push_number(alloc, report, job.element_count() as u32)?;
+    report.push(b'\n')?;
+    push_bound(alloc, report, job, boundary)
+}
+
+/// What a choice gives.
+fn reported(
+    alloc: Global,
+    job: &Job,
+    boundary: usize,
+    begin: &Begin,
+    files: &[File],
+) -> Result<Vec<u8>, Fault> {
+    if !has(job, boundary) {
+        return Err(wrong("no such boundary"));
+    }
+    let mut report = Vec::new(alloc);
+    push_elements(alloc, &mut report, job, boundary)?;
+    push_completed(alloc, &mut report, job, boundary, begin, files)?;
+    Ok(report)
+}
+
+/// What the choice of these words gives.
+fn chosen(alloc: Global, given: &[String], files: &[File], job: &Job) -> Result<Vec<u8>, Fault> {
+    let boundary = boundary_number(given)?;
+    let begin = begin_of(alloc, given, files)?;
+    reported(alloc, job, boundary, &begin, files)
+}
+
 /// The lines of the pair that these words and files give.
 ///
 /// # Errors
 ///
 /// Words or files that aren't what the call reads, and want of memory.
 pub fn read(alloc: Global, given: &[String], files: &[File]) -> Result<Vec<u8>, Fault> {
-    let boundary = boundary_number(given)?;
     let job = read_job(alloc, files, "text")?;
-    let begin = begin_of(alloc, given, files)?;
-    if !has(&job, boundary) {
-        return Err(wrong("no such boundary"));
-    }
-    let mut report = Vec::new(alloc);
-    report.extend_from_slice(b"elements")?;
-    push_number(alloc, &mut report, job.element_count() as u32)?;
-    report.push(b'\n')?;
-    push_bound(alloc, &mut report, &job, boundary)?;
-    if begin.fits(&job, boundary) {
-        let pair = complete(alloc, &job, boundary, &begin)?;
-        push_made(alloc, &mut report, &job, &pair, files)?;
-    } else {
-        report.extend_from_slice(b"no choice\n")?;
-    }
-    Ok(report)
+    chosen(alloc, given, files, &job)
 }

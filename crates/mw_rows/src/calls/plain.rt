@@ -13,12 +13,12 @@ ghost use Rattle.mw_rel.specs.Seen.{line_of, lines_of, boundary_of, boundaries_o
 
 use super::contents;
 use super::cycles::board_of;
+use super::pairs::described;
 use crate::fault::{Fault, wrong};
 use crate::named::{address, hexadecimal, word};
 use crate::row::File;
 use mw_base::{Cause, Items};
 use mw_board::{Board, Store};
-use mw_descfile::read_machine;
 use mw_expr::{Expr, Shape};
 use mw_macro::Machine;
 use mw_rel::{Boundary, Job, Line, Relation, shape_of};
@@ -110,17 +110,6 @@ fn read_boundaries(alloc: Global, text: &[u8]) -> Result<Vec<Boundary>, Fault> {
     Ok(boundaries)
 }
 
-/// The machine of the file `k`.
-fn described(alloc: Global, files: &[File]) -> Result<Machine, Fault> {
-    let text = contents(files, "k")?;
-    if text.len() > 1_048_576 {
-        return Err(wrong("a text that is too long"));
-    }
-    match read_machine(alloc, text) {
-        Ok(machine) => Ok(machine),
-        Err(_) => Err(wrong("the machine is refused")),
-    }
-}
 /// Whether the right side is one of the first elements, a constant, or the memory word at the address in an element.
 fn is_plain(right: &Expr, count: usize) -> bool
     ensures known { IsTrue result → is_known count (view right.now) ≡ true }
@@ -215,6 +204,37 @@ fn refusal(
     }
 }
 
+/// The line of a cause, or of none.
+fn cause_line(alloc: Global, refusal: Option<Cause>) -> Result<Vec<u8>, Fault> {
+    let line = match refusal {
+        None => String::from_str(alloc, "a job\n")?,
+        Some(cause) => format!(in alloc; "refused cause {}\n", cause.number())?,
+    };
+    Ok(Vec::from_slice(alloc, line.as_bytes())?)
+}
+
+/// Why there is no job of a board, a machine and the boundaries of a text.
+fn refusal_in(
+    alloc: Global,
+    board: Board,
+    machine: Machine,
+    text: &[u8],
+) -> Result<Option<Cause>, Fault> {
+    match read_boundaries(alloc, text) {
+        Ok(boundaries) => refusal(alloc, board, machine, boundaries),
+        Err(fault) => Err(fault),
+    }
+}
+
+/// Why there is no job of a board and of these files.
+fn refusal_with(alloc: Global, board: Board, files: &[File]) -> Result<Option<Cause>, Fault> {
+    let text = contents(files, "text")?;
+    match described(alloc, files) {
+        Ok(machine) => refusal_in(alloc, board, machine, text),
+        Err(fault) => Err(fault),
+    }
+}
+
 /// Whether there is a job of these files: `a job`, or its cause.
 ///
 /// # Errors
@@ -222,11 +242,6 @@ fn refusal(
 /// Files that aren't what the call reads, and want of memory.
 pub fn read(alloc: Global, files: &[File]) -> Result<Vec<u8>, Fault> {
     let board = board_of(alloc, files, "b")?;
-    let machine = described(alloc, files)?;
-    let boundaries = read_boundaries(alloc, contents(files, "text")?)?;
-    let line = match refusal(alloc, board, machine, boundaries)? {
-        None => String::from_str(alloc, "a job\n")?,
-        Some(cause) => format!(in alloc; "refused cause {}\n", cause.number())?,
-    };
-    Ok(Vec::from_slice(alloc, line.as_bytes())?)
+    let refusal = refusal_with(alloc, board, files)?;
+    cause_line(alloc, refusal)
 }
