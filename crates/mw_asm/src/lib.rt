@@ -17,6 +17,3 @@ pub use assembled::{Assembled, Label};
 pub use labels::address_of;
 pub use listed::listing;
 pub use microprogram::assemble;
-
-#[cfg(test)]
-mod computed_examples;

@@ -30,6 +30,3 @@ pub use rules::{
     vector_rule, width_rule, word_rule,
 };
 pub use store::Store;
-
-#[cfg(test)]
-mod tests;

@@ -18,6 +18,3 @@ mod values;
 
 pub use fault::{BoardRefusal, KeyFault};
 pub use reader::read_board;
-
-#[cfg(test)]
-mod tests;

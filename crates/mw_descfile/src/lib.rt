@@ -16,6 +16,3 @@ mod uses;
 
 pub use machine::read_machine;
 pub use relation::read_relation;
-
-#[cfg(test)]
-mod computed_examples;

@@ -22,6 +22,3 @@ pub use text::parse_expr;
 pub use values::value;
 pub use width::{DEEPEST, is_known, is_within_depth, width_by_rules, width_of};
 pub use written::Written;
-
-#[cfg(test)]
-mod tests;

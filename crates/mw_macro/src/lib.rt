@@ -16,6 +16,3 @@ pub use one_step::step;
 pub use rules::{Fault, is_reserved};
 pub use state::MacState;
 pub use statement::Statement;
-
-#[cfg(test)]
-mod tests;

@@ -29,10 +29,3 @@ pub use laws::{
 pub use line::Line;
 pub use pair::{Pair, holds};
 pub use relation::Relation;
-
-#[cfg(test)]
-mod computed_examples;
-#[cfg(test)]
-mod tests;
-#[cfg(test)]
-mod tests_pairs;

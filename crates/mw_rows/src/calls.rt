@@ -4,7 +4,9 @@ mod diagrams;
 mod expressions;
 mod machines;
 mod numbers;
+mod pairs;
 mod parts;
+mod plain;
 mod relations;
 mod runs;
 mod texts;
@@ -33,6 +35,8 @@ pub fn made(alloc: Global, words: &[String], files: &[File]) -> Result<Vec<u8>, 
         "expression" => expressions::read(alloc, given, contents(files, "text")?),
         "machine" => machines::read(alloc, contents(files, "text")?),
         "relation" => relations::read(alloc, files),
+        "pair" => pairs::read(alloc, given, files),
+        "plain" => plain::read(alloc, files),
         "number" => numbers::read(alloc, given),
         "diagrams" => diagrams::read(alloc, contents(files, "text")?),
         "alu" => parts::alu_table(alloc, given),

@@ -18,6 +18,3 @@ pub use laws::{
 };
 pub use op::{Op, Term};
 pub use terms::Terms;
-
-#[cfg(test)]
-mod tests;

@@ -14,15 +14,16 @@ use mw_cycle::{CycleIn, State, Whole, cycle};
 use std::alloc::Global;
 
 /// The words of a file.
-fn file_words(alloc: Global, files: &[File], name: &str) -> Result<Vec<String>, Fault> {
+pub(super) fn file_words(alloc: Global, files: &[File], name: &str) -> Result<Vec<String>, Fault> {
     match str::from_utf8(contents(files, name)?) {
         Ok(text) => words_of(alloc, text),
         Err(_) => Err(wrong("a file that is no text")),
     }
 }
 
-fn board_of(alloc: Global, files: &[File]) -> Result<Board, Fault> {
-    match read_board(alloc, contents(files, "board")?) {
+/// The board of a file.
+pub(super) fn board_of(alloc: Global, files: &[File], name: &str) -> Result<Board, Fault> {
+    match read_board(alloc, contents(files, name)?) {
         Ok(board) => Ok(board),
         Err(_) => Err(wrong("the board is refused")),
     }
@@ -130,16 +131,36 @@ fn cycled(
     Ok(format!(in alloc; "{after}\n{made}\n")?)
 }
 
+/// The same from the state of the file `state`, with these microwords.
+fn from_state(
+    alloc: Global,
+    board: &Board,
+    store: &Store,
+    files: &[File],
+    given: CycleIn,
+) -> Result<String, Fault> {
+    let mut state = state_of(alloc, board, files)?;
+    cycled(alloc, board, store, &mut state, given)
+}
+
+/// The same of this board.
+fn on_board(alloc: Global, board: &Board, files: &[File], given: CycleIn) -> Result<String, Fault> {
+    let store = store_of(alloc, files)?;
+    from_state(alloc, board, &store, files, given)
+}
+
+/// The same of the board of the file `board`.
+fn lines_of(alloc: Global, files: &[File], given: CycleIn) -> Result<String, Fault> {
+    let board = board_of(alloc, files, "board")?;
+    on_board(alloc, &board, files, given)
+}
+
 /// The state after the cycle of the words `noise=`, `line=` and `input=`, and its nets, a line each.
 ///
 /// # Errors
 ///
 /// Words or files that aren't what the call reads, a state or an input that doesn't fit the board, and want of memory.
 pub fn run(alloc: Global, given: &[String], files: &[File]) -> Result<Vec<u8>, Fault> {
-    let given = given_of(given)?;
-    let board = board_of(alloc, files)?;
-    let store = store_of(alloc, files)?;
-    let mut state = state_of(alloc, &board, files)?;
-    let lines = cycled(alloc, &board, &store, &mut state, given)?;
+    let lines = lines_of(alloc, files, given_of(given)?)?;
     Ok(Vec::from_slice(alloc, lines.as_bytes())?)
 }

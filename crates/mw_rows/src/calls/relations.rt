@@ -1,15 +1,17 @@
 // `call relation`: reads the file `text` as a relation between the board of the file `b` with the microprogram of the
 // file `m` and the machine of the file `k`. Its relation: each boundary with its address, bound and stack pointer, and
 // its lines, in which expressions are trees; or one line has the first fault.
-use super::contents;
-use super::runs::machine_of;
+ghost use Rattle.std.specs.Prelude.{◌<◌, ◌^◌, length};
+
+use super::pairs::{described, text_of};
+use super::runs::{Machine as Micro, machine_of};
 use super::texts::push_refusal;
 use super::trees::push_tree;
 use crate::fault::{Fault, wrong};
 use crate::row::File;
-use mw_base::Name;
+use mw_base::{Name, Refusal};
 use mw_board::Board;
-use mw_descfile::{read_machine, read_relation};
+use mw_descfile::read_relation;
 use mw_macro::Machine;
 use mw_rel::{Boundary, Line};
 use std::alloc::Global;
@@ -69,6 +71,56 @@ fn push_boundary(
     Ok(())
 }
 
+/// Appends the boundaries of a relation.
+fn push_boundaries(
+    alloc: Global,
+    report: &mut Vec<u8>,
+    names: &[Name],
+    boundaries: &[Boundary],
+) -> Result<(), Fault> {
+    for boundary in boundaries {
+        push_boundary(alloc, report, names, boundary)?;
+    }
+    Ok(())
+}
+
+/// The lines of some boundaries over the elements of both sides.
+fn lines_of(
+    alloc: Global,
+    board: &Board,
+    machine: &Machine,
+    boundaries: &[Boundary],
+) -> Result<Vec<u8>, Fault> {
+    let names = names_of(alloc, board, machine)?;
+    let mut report = Vec::new(alloc);
+    push_boundaries(alloc, &mut report, &names, boundaries)?;
+    Ok(report)
+}
+
+/// The line of a fault.
+fn refused(alloc: Global, refusal: Refusal) -> Result<Vec<u8>, Fault> {
+    let mut report = Vec::new(alloc);
+    push_refusal(alloc, &mut report, refusal)?;
+    Ok(report)
+}
+
+/// The same between a board with its microprogram and a machine.
+fn between(alloc: Global, micro: &Micro, machine: &Machine, text: &[u8]) -> Result<Vec<u8>, Fault>
+    requires { length text.now < 2 ^ 32 }
+{
+    match read_relation(alloc, &micro.board, &micro.made, machine, text) {
+        Ok(relation) => lines_of(alloc, &micro.board, machine, relation.boundaries()),
+        Err(refusal) => refused(alloc, refusal),
+    }
+}
+
+/// The same between a board with its microprogram and the machine of the file `k`.
+fn of_micro(alloc: Global, micro: &Micro, files: &[File]) -> Result<Vec<u8>, Fault> {
+    let text = text_of(files, "text")?;
+    let machine = described(alloc, files)?;
+    between(alloc, micro, &machine, text)
+}
+
 /// The lines of the relation of a text, or of its first fault.
 ///
 /// # Errors
@@ -77,22 +129,5 @@ fn push_boundary(
 /// read has, and want of memory.
 pub fn read(alloc: Global, files: &[File]) -> Result<Vec<u8>, Fault> {
     let micro = machine_of(alloc, files)?;
-    let (text, described) = (contents(files, "text")?, contents(files, "k")?);
-    if text.len() > 1_048_576 || described.len() > 1_048_576 {
-        return Err(wrong("a text that is too long"));
-    }
-    let Ok(machine) = read_machine(alloc, described) else {
-        return Err(wrong("the machine is refused"));
-    };
-    let mut report = Vec::new(alloc);
-    match read_relation(alloc, &micro.board, &micro.made, &machine, text) {
-        Ok(relation) => {
-            let names = names_of(alloc, &micro.board, &machine)?;
-            for boundary in relation.boundaries() {
-                push_boundary(alloc, &mut report, &names, boundary)?;
-            }
-        }
-        Err(refusal) => push_refusal(alloc, &mut report, refusal)?,
-    }
-    Ok(report)
+    of_micro(alloc, &micro, files)
 }

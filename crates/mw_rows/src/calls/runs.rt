@@ -5,6 +5,7 @@
 ghost use Rattle.mw_cycle.specs.Environment.{IsEnvironment};
 ghost use Rattle.mw_cycle.specs.State.{Fits};
 
+use super::cycles::board_of;
 use super::{contents, texts};
 use crate::fault::{Fault, wrong};
 use crate::named::{address, bit_of, number_of};
@@ -12,7 +13,6 @@ use crate::row::File;
 use mw_asm::{Assembled, assemble};
 use mw_base::{Event, append_hex};
 use mw_board::Board;
-use mw_boardfile::read_board;
 use mw_cycle::{Clock, Datapath, State, Whole};
 use mw_sim::{Late, Parts, Start, read_start, run_cycles, run_to_boundary};
 use std::alloc::Global;
@@ -29,9 +29,7 @@ pub(super) struct Machine {
 
 /// The board of the file `b` with the microprogram of the file `m`.
 pub(super) fn machine_of(alloc: Global, files: &[File]) -> Result<Machine, Fault> {
-    let Ok(board) = read_board(alloc, contents(files, "b")?) else {
-        return Err(wrong("the board is refused"));
-    };
+    let board = board_of(alloc, files, "b")?;
     let text = contents(files, "m")?;
     if text.len() >= 1 << 20 {
         return Err(wrong("the microprogram is too long"));

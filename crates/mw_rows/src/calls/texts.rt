@@ -56,6 +56,15 @@ fn named_words(alloc: Global, which: Words, words: &[u32]) -> Result<String, All
     Ok(text)
 }
 
+/// The words of a memory that aren't 0, each by its name and with a blank before it.
+///
+/// # Errors
+///
+/// Want of memory.
+pub fn memory(alloc: Global, words: &[u32]) -> Result<String, AllocError> {
+    named_words(alloc, Words::Memory, words)
+}
+
 /// A state: `at=`, the registers, `q=`, `mar=`, `ir=`, `flips=`, the sequencer and the memory.
 ///
 /// # Errors
@@ -71,7 +80,7 @@ pub fn state(alloc: Global, state: &State) -> Result<String, AllocError> {
         ..
     } = state;
     let registers = named_words(alloc, Words::Registers, &state.regs)?;
-    let memory = named_words(alloc, Words::Memory, &state.memory)?;
+    let memory = memory(alloc, &state.memory)?;
     let sequencer = sequencer(alloc, state.seq)?;
     format!(in alloc;
         "at={at:x}{registers} q={q:x} mar={mar:x} ir={ir:x} flips={flips:x} {sequencer}{memory}"

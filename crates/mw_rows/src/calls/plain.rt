@@ -1,0 +1,247 @@
+// `call plain`: whether there is a job of the board of the file `b`, the machine of the file `k` and the boundaries of the
+// file `text`, which no reader has looked at: `a job`, or the cause for which it is refused. A line of the text is a
+// boundary: its address, its bound, its stack pointer, and words LEFT=RIGHT with elements by their numbers, where RIGHT
+// is an element, a constant VALUE#WIDTH, or `memN`, the word of the memory at the address in an element. All numbers are
+// hexadecimal.
+ghost use Rattle.std.specs.Prelude.{◌≡◌, ◌≤◌, ◌<◌, ◌^◌, All, IfOk, IsTrue, length, true};
+ghost use Rattle.mw_expr.specs.Tree.{view};
+ghost use Rattle.mw_expr.specs.Widths.{is_known, depth};
+ghost use Rattle.mw_macro.specs.Counts.{reads};
+ghost use Rattle.mw_rel.specs.Lines.{reads_of};
+ghost use Rattle.mw_rel.specs.Relation.{related, IsFormed, IsFormedLine, IsFormedBoundary};
+ghost use Rattle.mw_rel.specs.Seen.{line_of, lines_of, boundary_of, boundaries_of};
+
+use super::contents;
+use super::cycles::board_of;
+use super::pairs::described;
+use crate::fault::{Fault, wrong};
+use crate::named::{address, hexadecimal, word};
+use crate::row::File;
+use mw_base::{Cause, Items};
+use mw_board::{Board, Store};
+use mw_expr::{Expr, Shape};
+use mw_macro::Machine;
+use mw_rel::{Boundary, Job, Line, Relation, shape_of};
+use std::alloc::Global;
+
+/// The number of an element, or another of 32 bits.
+fn number(text: &str) -> Result<u32, Fault> {
+    word(hexadecimal(text)?)
+}
+
+/// A number of 8 bits.
+fn small(text: &str) -> Result<u8, Fault> {
+    match u8::try_from(hexadecimal(text)?) {
+        Ok(number) => Ok(number),
+        Err(_) => Err(wrong("a number is too great")),
+    }
+}
+
+/// A constant.
+fn constant(value: &str, width: &str) -> Result<Expr, Fault> {
+    let value = number(value)?;
+    Ok(Expr::Con(value, small(width)?))
+}
+
+/// The right side of a line.
+fn right_of(alloc: Global, text: &str) -> Result<Expr, Fault> {
+    if let Some(element) = text.strip_prefix("mem") {
+        let element = Expr::Element(number(element)?);
+        return Ok(Expr::Memory(Box::new(alloc, element)?));
+    }
+    match text.split_once('#') {
+        Some((value, width)) => constant(value, width),
+        None => Ok(Expr::Element(number(text)?)),
+    }
+}
+
+/// A line of a boundary.
+fn read_line(alloc: Global, text: &str) -> Result<Line, Fault> {
+    match text.split_once('=') {
+        Some((left, right)) => {
+            let left = number(left)?;
+            let right = right_of(alloc, right)?;
+            Ok(Line { left, right })
+        }
+        None => Err(wrong("a line is LEFT=RIGHT")),
+    }
+}
+
+/// The lines behind the first three words.
+fn read_lines(alloc: Global, text: &str) -> Result<Vec<Line>, Fault> {
+    let mut lines = Vec::new(alloc);
+    for part in text.split(' ').skip(3) {
+        lines.push(read_line(alloc, part)?)?;
+    }
+    Ok(lines)
+}
+
+/// The word at a place.
+fn word_at(text: &str, place: usize) -> Result<&str, Fault> {
+    match text.split(' ').nth(place) {
+        Some(part) => Ok(part),
+        None => Err(wrong("a boundary has three numbers")),
+    }
+}
+
+/// The boundary of a line of the text.
+fn read_boundary(alloc: Global, text: &str) -> Result<Boundary, Fault> {
+    let address = address(hexadecimal(word_at(text, 0)?)?)?;
+    let bound = number(word_at(text, 1)?)?;
+    let sp = small(word_at(text, 2)?)?;
+    let lines = Items::from_vec(read_lines(alloc, text)?);
+    Ok(Boundary {
+        address,
+        bound,
+        sp,
+        lines,
+    })
+}
+
+/// The boundaries of a text.
+fn read_boundaries(alloc: Global, text: &[u8]) -> Result<Vec<Boundary>, Fault> {
+    let Ok(text) = str::from_utf8(text) else {
+        return Err(wrong("no text"));
+    };
+    let mut boundaries = Vec::new(alloc);
+    for line in text.lines() {
+        boundaries.push(read_boundary(alloc, line)?)?;
+    }
+    Ok(boundaries)
+}
+
+/// Whether the right side is one of the first elements, a constant, or the memory word at the address in an element.
+fn is_plain(right: &Expr, count: usize) -> bool
+    ensures known { IsTrue result → is_known count (view right.now) ≡ true }
+    ensures depth { IsTrue result → depth (view right.now) ≤ 64 }
+    ensures few { IsTrue result → reads (view right.now) ≤ 1 }
+{
+    match right {
+        Expr::Element(number) => (*number as usize) < count,
+        Expr::Con(..) => true,
+        Expr::Memory(address) => match &**address {
+            Expr::Element(number) => (*number as usize) < count,
+            _ => false,
+        },
+        _ => false,
+    }
+}
+
+/// Whether a line has elements that there are, and a plain right side.
+fn is_plain_line(line: &Line, shape: &Shape) -> bool
+    ensures formed { IsTrue result → IsFormedLine shape.now (line_of line.now) }
+    ensures few { IsTrue result → reads (view line.now.right) ≤ 1 }
+{
+    let count = shape.widths.as_slice().len();
+    if line.left as usize >= count {
+        return false;
+    }
+    is_plain(&line.right, count)
+}
+
+/// Whether each of some lines is such a line.
+fn are_plain(lines: &[Line], shape: &Shape) -> bool
+    ensures formed { IsTrue result → All (IsFormedLine shape.now) (lines_of lines.now) }
+    ensures few { IsTrue result → reads_of (lines_of lines.now) ≤ length lines.now }
+{
+    for line in lines {
+        if !is_plain_line(line, shape) {
+            return false;
+        }
+    }
+    true
+}
+
+/// Whether a boundary has few such lines, an address of 12 bits, and a stack pointer of at most 5.
+fn is_formed(boundary: &Boundary, shape: &Shape) -> bool
+    ensures formed { IsTrue result → IsFormedBoundary shape.now (boundary_of boundary.now) }
+    ensures pointer { IsTrue result → boundary.now.sp ≤ 5 }
+{
+    let lines = boundary.lines.as_slice();
+    if boundary.address >= 4096 || boundary.sp > 5 || lines.len() > 64 {
+        return false;
+    }
+    are_plain(lines, shape)
+}
+
+/// Whether there are few boundaries, each of which is such a one.
+fn are_formed(boundaries: &[Boundary], shape: &Shape) -> bool
+    ensures formed { IsTrue result → IsFormed (related (boundaries_of boundaries.now) shape.now) }
+    ensures pointers { IsTrue result → All (λ boundary. boundary.sp ≤ 5) (boundaries_of boundaries.now) }
+{
+    if boundaries.len() > 64 {
+        return false;
+    }
+    for boundary in boundaries {
+        if !is_formed(boundary, shape) {
+            return false;
+        }
+    }
+    true
+}
+
+/// Why there is no job of a board without a microprogram, a machine and these boundaries. None where there is one.
+fn refusal(
+    alloc: Global,
+    board: Board,
+    machine: Machine,
+    boundaries: Vec<Boundary>,
+) -> Result<Option<Cause>, Fault> {
+    let shape = shape_of(alloc, &board, &machine)?;
+    if !are_formed(&boundaries, &shape) {
+        return Err(wrong("boundaries that no relation has"));
+    }
+    let store = Store {
+        words: Items::from_vec(Vec::new(alloc)),
+    };
+    let relation = match Relation::new(boundaries, shape) {
+        Ok(relation) => relation,
+        Err(cause) => return Ok(Some(cause)),
+    };
+    match Job::new(board, store, machine, relation) {
+        Ok(_) => Ok(None),
+        Err(cause) => Ok(Some(cause)),
+    }
+}
+
+/// The line of a cause, or of none.
+fn cause_line(alloc: Global, refusal: Option<Cause>) -> Result<Vec<u8>, Fault> {
+    let line = match refusal {
+        None => String::from_str(alloc, "a job\n")?,
+        Some(cause) => format!(in alloc; "refused cause {}\n", cause.number())?,
+    };
+    Ok(Vec::from_slice(alloc, line.as_bytes())?)
+}
+
+/// Why there is no job of a board, a machine and the boundaries of a text.
+fn refusal_in(
+    alloc: Global,
+    board: Board,
+    machine: Machine,
+    text: &[u8],
+) -> Result<Option<Cause>, Fault> {
+    match read_boundaries(alloc, text) {
+        Ok(boundaries) => refusal(alloc, board, machine, boundaries),
+        Err(fault) => Err(fault),
+    }
+}
+
+/// Why there is no job of a board and of these files.
+fn refusal_with(alloc: Global, board: Board, files: &[File]) -> Result<Option<Cause>, Fault> {
+    let text = contents(files, "text")?;
+    match described(alloc, files) {
+        Ok(machine) => refusal_in(alloc, board, machine, text),
+        Err(fault) => Err(fault),
+    }
+}
+
+/// Whether there is a job of these files: `a job`, or its cause.
+///
+/// # Errors
+///
+/// Files that aren't what the call reads, and want of memory.
+pub fn read(alloc: Global, files: &[File]) -> Result<Vec<u8>, Fault> {
+    let board = board_of(alloc, files, "b")?;
+    let refusal = refusal_with(alloc, board, files)?;
+    cause_line(alloc, refusal)
+}

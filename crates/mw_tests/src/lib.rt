@@ -1,0 +1,16 @@
+//! Tests of the parts: what no row of `mw_rows` shows. They stand apart from the parts, because a crate with tests of its
+//! own is proved a second time with them.
+#![tactic(auto)]
+
+#[cfg(test)]
+mod descriptions;
+#[cfg(test)]
+mod expressions;
+#[cfg(test)]
+mod machines;
+#[cfg(test)]
+mod microprograms;
+#[cfg(test)]
+mod starts;
+#[cfg(test)]
+mod terms;
