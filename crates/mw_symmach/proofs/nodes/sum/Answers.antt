@@ -1,0 +1,19 @@
+use Rattle.std.proofs.Common.{[]}
+use Rattle.mw_term.specs.Table.{term_width}
+use Rattle.mw_symmach.proofs.Single.{first_of, second_of, fits_sum, gives_sum}
+use Rattle.mw_symmach.proofs.nodes.sum.Goals as goal
+
+pub add-requires-clause-fits : goal.add-requires-clause-fits
+add-requires-clause-fits c =
+    let t = c.args.terms.now in
+    fits_sum t c.constant.new.terms [] c.args.a c.args.b c.in_ok-carry_in.carry_in (term_width t c.args.a)
+    (λ given. c.args.carry) (first_of t c.args.a c.args.b c.requires.pair) (second_of t c.args.a c.args.b c.requires.pair)
+    (c.in_ok-carry_in.ensures [])
+
+pub returns : goal.returns
+returns c =
+    let t = c.args.terms.now in
+    gives_sum t c.constant.new.terms c.add.new.terms c.args.words.now c.add.new.words c.args.a c.args.b
+    c.in_ok-carry_in.carry_in c.in_ok-term.term (term_width t c.args.a) c.args.carry
+    (first_of t c.args.a c.args.b c.requires.pair) (second_of t c.args.a c.args.b c.requires.pair)
+    (c.in_ok-carry_in.ensures c.args.words.now) c.in_ok-term.ensures

@@ -1,0 +1,125 @@
+use Rattle.std.proofs.Common.{◌≡◌, suc, ◌+◌, ◌∷◌, [], drop, take, take-take, arith, sym, ap, ◌∙◌, add-one, drop-cons}
+use Rattle.std.proofs.lemmas.Result.{IfOk-weaker}
+use Rattle.mw_macro.specs.declared.counts.Counted.TheVariants.{Reads, Events}
+use Rattle.mw_macro.specs.Statements.{acts}
+use Rattle.mw_symmach.specs.Places.{dropped, list_at, left_of}
+use Rattle.mw_symmach.proofs.Carrying.{within_few, right_list, right_dropped, reaches_out, out_then, carries_out, front_at, front_before, none_behind, always_ok}
+use Rattle.mw_symmach.proofs.walk.+go_on.Goals as goal
+
+pub go_on-requires : goal.go_on-requires
+go_on-requires t c =
+    let all = acts c.args.statements.now in
+    let old = c.args.levels.now.items in
+    let i = c.args.level in
+    let within = c.index-within.result.now in
+    let s = c.args.shape.now in
+    let here : drop i old ≡ within ∷ drop (i + 1) old = rw add-one (drop-cons old i within (omega (arith, c.len.ensures))
+    ∙ ap (λ x. x ∷ drop (suc i) old) (sym c.index-within.ensures)) in
+    let few_reads = rw here at c.requires.few_reads in
+    let few_events = rw here at c.requires.few_events in
+    let reads_in = within_few Reads all within (drop (i + 1) old) c.args.position in
+    let events_in = within_few Events all within (drop (i + 1) old) c.args.position in (
+      omega (arith, c.len.ensures),
+      (
+        c.requires.stands,
+        (
+          rw c.list-list.ensures (right_list s within.first (dropped within.position all)
+              (right_dropped s within.position all c.requires.right)),
+          (rw c.list-list.ensures (omega (arith, few_reads, reads_in)), rw c.list-list.ensures (omega (arith, few_events, events_in))),
+        ),
+      ),
+    )
+
+pub returns-in-Some-clause-reaches : goal.returns-in-Some-clause-reaches
+returns-in-Some-clause-reaches t c =
+    let all = acts c.args.statements.now in
+    let old = c.args.levels.now.items in
+    let i = c.args.level in
+    let within = c.index-within.result.now in
+    let s = c.args.shape.now in
+    let here : drop i old ≡ within ∷ drop (i + 1) old = rw add-one (drop-cons old i within (omega (arith, c.len.ensures))
+    ∙ ap (λ x. x ∷ drop (suc i) old) (sym c.index-within.ensures)) in
+    let few_reads = rw here at c.requires.few_reads in
+    let few_events = rw here at c.requires.few_events in
+    let new = c.go_on.new.levels.items in
+    let front = c.in_ok-inner.ensures.front in
+    let reaches = rw (c.list-list.ensures, c.in-Some.is) at c.in_ok-inner.ensures.reaches in
+    rw (here, front_at i new old within front here)
+    (reaches_out s c.args.terms.now c.go_on.new.terms c.args.words.now c.go_on.new.words c.args.memory.now
+    c.go_on.new.memory c.args.parts.now c.go_on.new.parts all within (drop (i + 1) old) (drop (i + 1) new) c.args.position
+    c.in_ok-inner.inner.position c.in-Some.term reaches)
+
+pub returns-in-Some-clause-front : goal.returns-in-Some-clause-front
+returns-in-Some-clause-front t c =
+    front_before c.args.level c.go_on.new.levels.items c.args.levels.now.items c.in_ok-inner.ensures.front
+
+pub go_through-requires-2-clause-few_reads : goal.go_through-requires-2-clause-few_reads
+go_through-requires-2-clause-few_reads t c =
+    let all = acts c.args.statements.now in
+    let old = c.args.levels.now.items in
+    let i = c.args.level in
+    let within = c.index-within.result.now in
+    let s = c.args.shape.now in
+    let here : drop i old ≡ within ∷ drop (i + 1) old = rw add-one (drop-cons old i within (omega (arith, c.len.ensures))
+    ∙ ap (λ x. x ∷ drop (suc i) old) (sym c.index-within.ensures)) in
+    let few_reads = rw here at c.requires.few_reads in
+    let few_events = rw here at c.requires.few_events in
+    let new = c.go_on.new.levels.items in
+    let front = c.in_ok-inner.ensures.front in
+    let reaches = rw (c.list-list.ensures, c.in_default.is) at c.in_ok-inner.ensures.reaches in
+    let last = left_of (list_at within.first (dropped within.position all)) (drop (i + 1) new) c.in_ok-inner.inner.position in
+    let out = carries_out s c.args.terms.now c.go_on.new.terms c.args.words.now c.go_on.new.words c.args.memory.now
+    c.go_on.new.memory c.args.parts.now c.go_on.new.parts
+    (left_of (list_at within.first (dropped within.position all)) (drop (i + 1) old) c.args.position) last
+    (dropped (within.position + 1) all) reaches in
+    omega (arith, out.few_reads, few_reads)
+
+pub go_through-requires-2-clause-few_events : goal.go_through-requires-2-clause-few_events
+go_through-requires-2-clause-few_events t c =
+    let all = acts c.args.statements.now in
+    let old = c.args.levels.now.items in
+    let i = c.args.level in
+    let within = c.index-within.result.now in
+    let s = c.args.shape.now in
+    let here : drop i old ≡ within ∷ drop (i + 1) old = rw add-one (drop-cons old i within (omega (arith, c.len.ensures))
+    ∙ ap (λ x. x ∷ drop (suc i) old) (sym c.index-within.ensures)) in
+    let few_reads = rw here at c.requires.few_reads in
+    let few_events = rw here at c.requires.few_events in
+    let new = c.go_on.new.levels.items in
+    let front = c.in_ok-inner.ensures.front in
+    let reaches = rw (c.list-list.ensures, c.in_default.is) at c.in_ok-inner.ensures.reaches in
+    let last = left_of (list_at within.first (dropped within.position all)) (drop (i + 1) new) c.in_ok-inner.inner.position in
+    let out = carries_out s c.args.terms.now c.go_on.new.terms c.args.words.now c.go_on.new.words c.args.memory.now
+    c.go_on.new.memory c.args.parts.now c.go_on.new.parts
+    (left_of (list_at within.first (dropped within.position all)) (drop (i + 1) old) c.args.position) last
+    (dropped (within.position + 1) all) reaches in
+    omega (arith, out.few_events, few_events)
+
+pub returns-clause-reaches : goal.returns-clause-reaches
+returns-clause-reaches t c =
+    let all = acts c.args.statements.now in
+    let old = c.args.levels.now.items in
+    let i = c.args.level in
+    let within = c.index-within.result.now in
+    let s = c.args.shape.now in
+    let here : drop i old ≡ within ∷ drop (i + 1) old = rw add-one (drop-cons old i within (omega (arith, c.len.ensures))
+    ∙ ap (λ x. x ∷ drop (suc i) old) (sym c.index-within.ensures)) in
+    let few_reads = rw here at c.requires.few_reads in
+    let few_events = rw here at c.requires.few_events in
+    let new = c.go_on.new.levels.items in
+    let front = c.in_ok-inner.ensures.front in
+    let reaches = rw (c.list-list.ensures, c.in_default.is) at c.in_ok-inner.ensures.reaches in
+    let last = left_of (list_at within.first (dropped within.position all)) (drop (i + 1) new) c.in_ok-inner.inner.position in
+    let none : drop i c.truncate.new.self.items ≡ [] = ap (drop i) c.truncate.ensures.items ∙ none_behind i new in
+    rw (here, none) (IfOk-weaker c.go_through-2.result _ _
+    (λ reached behind. out_then s c.args.terms.now c.go_on.new.terms c.go_through-2.new.terms c.args.words.now
+    c.go_on.new.words c.go_through-2.new.words c.args.memory.now c.go_on.new.memory c.go_through-2.new.memory
+    c.args.parts.now c.go_on.new.parts c.go_through-2.new.self all within (drop (i + 1) old) c.args.position
+    reached.position last reached.asked reaches behind) c.go_through-2.ensures)
+
+pub returns-clause-front : goal.returns-clause-front
+returns-clause-front t c =
+    let new = c.go_on.new.levels.items in
+    let i = c.args.level in
+    always_ok c.go_through-2.result (ap (take i) c.truncate.ensures.items ∙ take-take i i new (omega arith)
+    ∙ front_before i new c.args.levels.now.items c.in_ok-inner.ensures.front)

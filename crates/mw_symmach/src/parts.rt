@@ -1,0 +1,295 @@
+// The parts of a described step on terms, and single statements.
+ghost use Rattle.std.specs.Prelude.{◌≡◌, ℕ, ◌+◌, ◌<◌, ◌≤◌, ◌^◌, true, length, IfOk, OnOk};
+ghost use Rattle.mw_expr.specs.Tree.{view};
+ghost use Rattle.mw_expr.specs.Widths.{width_of};
+ghost use Rattle.mw_macro.specs.Counts.{reads, own_reads, own_events, total};
+ghost use Rattle.mw_macro.specs.declared.counts.Counted.TheVariants.{Reads, Events};
+ghost use Rattle.mw_macro.specs.Right.{is_right, are_right, is_asked};
+ghost use Rattle.mw_macro.specs.Statements.{Acts, act_of, acts, assign, write, put, take_in, choose};
+ghost use Rattle.mw_term.specs.Table.{IsWidth};
+ghost use Rattle.mw_symmach.specs.Places.{dropped, IsAsked, IsDone, Reaches};
+ghost use Rattle.mw_symmach.specs.Steps.{IsInput, Stands, Acted};
+
+use crate::expression::expr_term;
+use mw_base::NoMemory;
+use mw_expr::{Expr, Shape};
+use mw_macro::Statement;
+use mw_symmem::{Side, SymEvent, SymMemory, Words};
+use mw_term::{Term, Terms, WordKind};
+use std::alloc::Global;
+use std::marker::Model;
+
+/// The terms of the elements, the events so far, and how many inputs were taken.
+#[derive(Drop)]
+pub(crate) struct Parts {
+    values: Vec<Term>,
+    events: Vec<SymEvent>,
+    taken: u32,
+}
+
+impl Model for Parts {
+    ghost use Rattle.mw_symmach.specs.Steps as steps;
+
+    ghost Value = { steps.Parts };
+
+    ghost view = { λ p. steps.parts_of p.values.items p.events.items p.taken };
+}
+
+/// How far statements were done.
+#[derive(Clone, Copy)]
+pub(crate) struct Reached {
+    /// The position of the next statement.
+    pub position: usize,
+    /// The term of the condition that it asks for, where it is an `if`.
+    pub asked: Option<Term>,
+}
+
+/// The variable of the input of a number, of so many bits, which is made where it isn't there yet.
+fn input_term(
+    alloc: Global,
+    number: u32,
+    width: u8,
+    terms: &mut Terms,
+    words: &mut Words,
+) -> Result<Term, NoMemory>
+    requires { IsWidth width }
+    ensures { IfOk result (IsInput terms.old terms.new words.old words.new width number) }
+{
+    if let Some(term) = words.find(WordKind::Input(number)) {
+        return Ok(term);
+    }
+    let term = words.fresh(alloc, terms, WordKind::Input(number), width)?;
+    Ok(term)
+}
+
+impl Parts {
+    /// An element gets the term of an expression.
+    pub(crate) fn assign(
+        &mut self,
+        alloc: Global,
+        shape: &Shape,
+        target: u32,
+        expr: &Expr,
+        terms: &mut Terms,
+        words: &mut Words,
+        memory: &mut SymMemory,
+    ) -> Result<(), NoMemory>
+        requires stands { Stands shape.now terms.old words.old memory.old self.old }
+        requires right { is_right shape.now (assign target (view expr.now)) ≡ true }
+        requires few { length memory.old.reads + own_reads (assign target (view expr.now)) ≤ 2 ^ 32 }
+        ensures { OnOk result (Acted shape.now terms.old terms.new words.old words.new memory.old memory.new self.old
+            self.new (assign target (view expr.now))) }
+    {
+        let _shape = shape;
+        let term = expr_term(
+            alloc,
+            expr,
+            &self.values,
+            Side::Machine,
+            terms,
+            words,
+            memory,
+        )?;
+        self.values[target as usize] = term;
+        Ok(())
+    }
+
+    /// The memory gets the term of an expression at that of another.
+    pub(crate) fn write(
+        &mut self,
+        alloc: Global,
+        shape: &Shape,
+        address: &Expr,
+        expr: &Expr,
+        terms: &mut Terms,
+        words: &mut Words,
+        memory: &mut SymMemory,
+    ) -> Result<(), NoMemory>
+        requires stands { Stands shape.now terms.old words.old memory.old self.old }
+        requires right { is_right shape.now (write (view address.now) (view expr.now)) ≡ true }
+        requires few { length memory.old.reads + own_reads (write (view address.now) (view expr.now)) ≤ 2 ^ 32 }
+        ensures { OnOk result (Acted shape.now terms.old terms.new words.old words.new memory.old memory.new self.old
+            self.new (write (view address.now) (view expr.now))) }
+    {
+        let _shape = shape;
+        let place = expr_term(
+            alloc,
+            address,
+            &self.values,
+            Side::Machine,
+            terms,
+            words,
+            memory,
+        )?;
+        let word = expr_term(
+            alloc,
+            expr,
+            &self.values,
+            Side::Machine,
+            terms,
+            words,
+            memory,
+        )?;
+        memory.write(alloc, Side::Machine, place, word)?;
+        Ok(())
+    }
+
+    /// The term of an expression is put out.
+    pub(crate) fn put(
+        &mut self,
+        alloc: Global,
+        shape: &Shape,
+        expr: &Expr,
+        terms: &mut Terms,
+        words: &mut Words,
+        memory: &mut SymMemory,
+    ) -> Result<(), NoMemory>
+        requires stands { Stands shape.now terms.old words.old memory.old self.old }
+        requires right { is_right shape.now (put (view expr.now)) ≡ true }
+        requires few { length memory.old.reads + own_reads (put (view expr.now)) ≤ 2 ^ 32 }
+        ensures { OnOk result (Acted shape.now terms.old terms.new words.old words.new memory.old memory.new self.old
+            self.new (put (view expr.now))) }
+    {
+        let _shape = shape;
+        let term = expr_term(
+            alloc,
+            expr,
+            &self.values,
+            Side::Machine,
+            terms,
+            words,
+            memory,
+        )?;
+        self.events.push(SymEvent::Out(term))?;
+        Ok(())
+    }
+
+    /// An element gets the variable of the next input.
+    pub(crate) fn take(
+        &mut self,
+        alloc: Global,
+        shape: &Shape,
+        target: u32,
+        terms: &mut Terms,
+        words: &mut Words,
+        _memory: &SymMemory,
+    ) -> Result<(), NoMemory>
+        requires stands { Stands shape.now terms.old words.old _memory.now self.old }
+        requires right { is_right shape.now (take_in target) ≡ true }
+        requires few { self.old.taken + 1 < 2 ^ 32 }
+        ensures { OnOk result (Acted shape.now terms.old terms.new words.old words.new _memory.now _memory.now self.old
+            self.new (take_in target)) }
+    {
+        let term = input_term(alloc, self.taken, shape.word, terms, words)?;
+        self.events.push(SymEvent::Taken(term))?;
+        self.values[target as usize] = term;
+        self.taken += 1;
+        Ok(())
+    }
+
+    /// The term of the condition of an `if`.
+    fn condition(
+        &self,
+        alloc: Global,
+        shape: &Shape,
+        condition: &Expr,
+        terms: &mut Terms,
+        words: &mut Words,
+        memory: &mut SymMemory,
+    ) -> Result<Term, NoMemory>
+        requires stands { Stands shape.now terms.old words.old memory.old self.now }
+        requires few { length memory.old.reads + reads (view condition.now) ≤ 2 ^ 32 }
+        requires bit { is_asked 1 (width_of shape.now (view condition.now)) ≡ true }
+        ensures { IfOk result (λ term. (one other : Acts)
+            → is_right shape.now (choose (view condition.now) one other) ≡ true
+            → IsAsked shape.now terms.old terms.new words.old words.new memory.old memory.new self.now
+            (choose (view condition.now) one other) term) }
+    {
+        let _shape = shape;
+        let term = expr_term(
+            alloc,
+            condition,
+            &self.values,
+            Side::Machine,
+            terms,
+            words,
+            memory,
+        )?;
+        Ok(term)
+    }
+
+    /// Does a statement. Where it is an `if`, the answer is the term of its condition, and nothing else is done.
+    pub(crate) fn act(
+        &mut self,
+        alloc: Global,
+        shape: &Shape,
+        statement: &Statement,
+        terms: &mut Terms,
+        words: &mut Words,
+        memory: &mut SymMemory,
+    ) -> Result<Option<Term>, NoMemory>
+        requires stands { Stands shape.now terms.old words.old memory.old self.old }
+        requires right { is_right shape.now (act_of statement.now) ≡ true }
+        requires few_reads { length memory.old.reads + own_reads (act_of statement.now) ≤ 2 ^ 32 }
+        requires few_events { self.old.taken + own_events (act_of statement.now) < 2 ^ 32 }
+        ensures { IfOk result (IsDone shape.now terms.old terms.new words.old words.new memory.old memory.new self.old
+            self.new (act_of statement.now)) }
+    {
+        match statement {
+            Statement::Assign { target, value } => {
+                self.assign(alloc, shape, *target, value, terms, words, memory)?;
+                Ok(None)
+            }
+            Statement::Write { address, value } => {
+                self.write(alloc, shape, address, value, terms, words, memory)?;
+                Ok(None)
+            }
+            Statement::Put(value) => {
+                self.put(alloc, shape, value, terms, words, memory)?;
+                Ok(None)
+            }
+            Statement::Take(target) => {
+                self.take(alloc, shape, *target, terms, words, memory)?;
+                Ok(None)
+            }
+            Statement::If { condition, .. } => {
+                let term = self.condition(alloc, shape, condition, terms, words, memory)?;
+                Ok(Some(term))
+            }
+        }
+    }
+
+    /// Does statements from a position on, until none is left or an `if` asks for its condition.
+    pub(crate) fn go_through(
+        &mut self,
+        alloc: Global,
+        shape: &Shape,
+        statements: &[Statement],
+        from: usize,
+        terms: &mut Terms,
+        words: &mut Words,
+        memory: &mut SymMemory,
+    ) -> Result<Reached, NoMemory>
+        requires stands { Stands shape.now terms.old words.old memory.old self.old }
+        requires right { are_right shape.now (acts statements.now) ≡ true }
+        requires few_reads { length memory.old.reads + total Reads (dropped from (acts statements.now)) ≤ 2 ^ 32 }
+        requires few_events { self.old.taken + total Events (dropped from (acts statements.now)) < 2 ^ 32 }
+        ensures { IfOk result (λ reached. Reaches shape.now terms.old terms.new words.old words.new memory.old memory.new
+            self.old self.new (dropped from (acts statements.now)) (dropped reached.position (acts statements.now))
+            reached.asked) }
+    {
+        for position in from..statements.len() {
+            let asked = self.act(alloc, shape, &statements[position], terms, words, memory)?;
+            if let Some(term) = asked {
+                return Ok(Reached {
+                    position,
+                    asked: Some(term),
+                });
+            }
+        }
+        Ok(Reached {
+            position: statements.len(),
+            asked: None,
+        })
+    }
+}
