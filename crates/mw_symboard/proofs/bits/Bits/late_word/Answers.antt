@@ -1,0 +1,31 @@
+use Rattle.mw_symboard.proofs.MadeBits.{late_bits_push, found_late, wide_bit}
+use Rattle.mw_symboard.proofs.Standing.{late_bits_stay}
+use Rattle.mw_symboard.proofs.bits.Bits.late_word.Goals as goal
+
+pub returns-in-Some-clause-is : goal.returns-in-Some-clause-is
+returns-in-Some-clause-is c =
+    let right = rw (← c.self.view_is) at c.requires.right in
+    let found = rw c.deref.ensures.value at c.in-Some.ensures in
+    (found_late c.args.board.now c.args.terms.now c.args.parts.now c.args.sp c.args.sources.now c.self.inside.late.items
+    c.args.bit c.in-Some.term right found).1
+
+pub returns-in-Some-clause-wide : goal.returns-in-Some-clause-wide
+returns-in-Some-clause-wide c =
+    let right = rw (← c.self.view_is) at c.requires.right in
+    let found = rw c.deref.ensures.value at c.in-Some.ensures in
+    (found_late c.args.board.now c.args.terms.now c.args.parts.now c.args.sp c.args.sources.now c.self.inside.late.items
+    c.args.bit c.in-Some.term right found).0
+
+pub returns-clause-right : goal.returns-clause-right
+returns-clause-right c =
+    let right = rw (← c.self.view_is) at c.requires.right in
+    let e = c.in_ok-term.ensures in
+    let told = c.args.terms.now in
+    let tnew = c.word.new.terms in
+    rw c.in_ok-push.ensures.items
+    (late_bits_push c.args.board.now tnew c.args.parts.now c.args.sp c.args.sources.now c.self.inside.late.items
+    (record { bit = c.args.bit; term = c.in_ok-term.term })
+    (late_bits_stay c.args.board.now told tnew c.args.parts.now c.args.sp c.args.sources.now c.self.inside.late.items e.grows.extends
+    e.grows.keeps right)
+    (wide_bit told tnew c.args.op c.in_ok-term.term e.made c.requires.one)
+    (c.requires.means tnew c.in_ok-term.term e.is))

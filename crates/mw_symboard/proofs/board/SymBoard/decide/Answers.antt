@@ -1,0 +1,7 @@
+use Rattle.mw_symboard.proofs.Turning.{decide_keeps}
+use Rattle.mw_symboard.proofs.board.SymBoard.decide.Goals as goal
+
+pub returns-in-Some-clause-symbolic : goal.returns-in-Some-clause-symbolic
+returns-in-Some-clause-symbolic c = λ board store t words m kind term asks symbolic.
+    rw c.settle.ensures
+    (decide_keeps board store t words m c.args.self.now kind c.in-Some.kind term c.args.value asks symbolic)

@@ -1,0 +1,77 @@
+use Rattle.std.proofs.Common.{ap, sym, ◌∙◌}
+use Rattle.mw_term.specs.MemoryRead.{Held}
+use Rattle.std.specs.Prelude.{List}
+use Rattle.mw_symmem.proofs.Later.{reads_itself}
+use Rattle.mw_symboard.specs.Kinds.{IsCycleKind}
+use Rattle.mw_symboard.specs.Turns.{with_reads}
+use Rattle.mw_symboard.proofs.Growing.{grew_then}
+use Rattle.mw_symboard.proofs.Staying.{workspace_grown}
+use Rattle.mw_symboard.proofs.Finishing.{asked_turn, done_from, goes_further, with_reads_is}
+use Rattle.mw_symboard.proofs.board.SymBoard.sym_cycle.Goals as goal
+
+pub returns-then-known-before-clause-turn : goal.returns-then-known-before-clause-turn
+returns-then-known-before-clause-turn c =
+    asked_turn c.args.board.now c.args.store.now.words c.ask_test.new.terms c.ask_test.new.words c.args.memory.now
+    c.begin.new.memory c.args.self.now c.begin.new.self c.ask_test.new.self c.in_ok-turn.turn c.begin.ensures.place
+    c.begin.ensures.events
+    (with_reads_is c.args.memory.now c.begin.new.memory c.in_ok-begin.ensures.goes.reads c.in_ok-begin.ensures.writes)
+    c.ask_test.ensures.place c.ask_test.ensures.events c.in_ok-turn.ensures.asks
+
+pub returns-then-known-before-clause-goes : goal.returns-then-known-before-clause-goes
+returns-then-known-before-clause-goes c =
+    let goes = c.in_ok-begin.ensures.goes in
+    goes_further (IsCycleKind c.args.self.now.place.cycle c.args.self.now.place.taken) c.args.terms.now c.begin.new.terms
+    c.ask_test.new.terms c.args.words.now c.begin.new.words c.ask_test.new.words c.args.memory.now c.begin.new.memory
+    c.begin.new.memory goes c.in_ok-turn.ensures.grew (reads_itself c.begin.new.memory)
+    (workspace_grown c.begin.new.terms c.ask_test.new.terms c.begin.new.words c.ask_test.new.words c.begin.new.memory
+    goes.workspace c.in_ok-turn.ensures.grew)
+
+pub ask_next-requires-clause-workspace : goal.ask_next-requires-clause-workspace
+ask_next-requires-clause-workspace c =
+    workspace_grown c.begin.new.terms c.prepare.new.terms c.begin.new.words c.prepare.new.words c.begin.new.memory
+    c.in_ok-begin.ensures.goes.workspace c.in_ok-prepare.ensures.grew
+
+pub returns-then-known-before-2-clause-turn : goal.returns-then-known-before-2-clause-turn
+returns-then-known-before-2-clause-turn c =
+    asked_turn c.args.board.now c.args.store.now.words c.ask_next.new.terms c.ask_next.new.words c.args.memory.now
+    c.begin.new.memory c.args.self.now c.prepare.new.self c.ask_next.new.self c.in_ok-turn-2.turn
+    (c.prepare.ensures.place ∙ c.begin.ensures.place) (c.prepare.ensures.events ∙ c.begin.ensures.events)
+    (with_reads_is c.args.memory.now c.begin.new.memory c.in_ok-begin.ensures.goes.reads c.in_ok-begin.ensures.writes)
+    c.ask_next.ensures.place c.ask_next.ensures.events c.in_ok-turn-2.ensures.asks
+
+pub returns-then-known-before-2-clause-goes : goal.returns-then-known-before-2-clause-goes
+returns-then-known-before-2-clause-goes c =
+    let goes = c.in_ok-begin.ensures.goes in
+    let grew = grew_then c.begin.new.terms c.prepare.new.terms c.ask_next.new.terms c.begin.new.words c.prepare.new.words
+    c.ask_next.new.words c.in_ok-prepare.ensures.grew c.in_ok-turn-2.ensures.grew in
+    goes_further (IsCycleKind c.args.self.now.place.cycle c.args.self.now.place.taken) c.args.terms.now c.begin.new.terms
+    c.ask_next.new.terms c.args.words.now c.begin.new.words c.ask_next.new.words c.args.memory.now c.begin.new.memory
+    c.begin.new.memory goes grew (reads_itself c.begin.new.memory)
+    (workspace_grown c.begin.new.terms c.ask_next.new.terms c.begin.new.words c.ask_next.new.words c.begin.new.memory
+    goes.workspace grew)
+
+pub finish-requires-clause-workspace : goal.finish-requires-clause-workspace
+finish-requires-clause-workspace c =
+    workspace_grown c.begin.new.terms c.prepare.new.terms c.begin.new.words c.prepare.new.words c.begin.new.memory
+    c.in_ok-begin.ensures.goes.workspace c.in_ok-prepare.ensures.grew
+
+pub returns-clause-turn : goal.returns-clause-turn
+returns-clause-turn c =
+    let e = c.in_ok-finish.ensures in
+    let memory = with_reads_is c.args.memory.now c.begin.new.memory c.in_ok-begin.ensures.goes.reads
+    c.in_ok-begin.ensures.writes ∙ ap (λ (hs : List Held). with_reads c.args.memory.now hs) (sym e.reads) in (
+      e.asked,
+      e.decided,
+      done_from c.args.board.now c.args.store.now.words c.finish.new.terms c.finish.new.words c.args.memory.now
+          c.begin.new.memory c.finish.new.memory c.args.self.now c.prepare.new.self c.finish.new.self
+          (c.prepare.ensures.place ∙ c.begin.ensures.place) (c.prepare.ensures.events ∙ c.begin.ensures.events) memory e.done,
+    )
+
+pub returns-clause-goes : goal.returns-clause-goes
+returns-clause-goes c =
+    let e = c.in_ok-finish.ensures in
+    goes_further (IsCycleKind c.args.self.now.place.cycle c.args.self.now.place.taken) c.args.terms.now c.begin.new.terms
+    c.finish.new.terms c.args.words.now c.begin.new.words c.finish.new.words c.args.memory.now c.begin.new.memory
+    c.finish.new.memory c.in_ok-begin.ensures.goes
+    (grew_then c.begin.new.terms c.prepare.new.terms c.finish.new.terms c.begin.new.words c.prepare.new.words
+    c.finish.new.words c.in_ok-prepare.ensures.grew e.grew) e.more e.workspace

@@ -1,0 +1,86 @@
+use Rattle.std.proofs.Common.{◌≡◌, ◌∙◌, ◌<◌, [], ◌∷◌, List, length, length-append, slice_index, Some, ap, sym, refl, subst, arith, rules}
+use Rattle.std.specs.Prelude.{slice_get}
+use Rattle.std.proofs.lemmas.List.{get_or_read}
+use Rattle.std.proofs.lemmas.Option.{slice_get_read, slice_get_within}
+use Rattle.mw_board.specs.declared.bit.Load.{Load}
+use Rattle.mw_board.specs.declared.flipflop.FlipFlop.{FlipFlop}
+use Rattle.mw_cycle.specs.Cycle.{load_of}
+use Rattle.mw_symboard.specs.Made.{IsLoaded}
+use Rattle.mw_symboard.specs.Parts.{Parts}
+use Rattle.mw_symboard.proofs.Growing.{grew_then, wide_later}
+use Rattle.mw_symboard.proofs.Loads.{one_so_far}
+use Rattle.mw_symboard.proofs.Widths.{flip_wide}
+use Rattle.mw_symboard.proofs.edge.flips.Goals as goal
+
+pub loaded-requires-clause-old : goal.loaded-requires-clause-old
+loaded-requires-clause-old c =
+    let parts = rw (← c.parts-2.view_is) at c.requires.parts in
+    let flipflops : c.as_slice-flipflop-items.result.now ≡ c.args.board.now.flipflop = search rules in
+    let many : length c.as_slice-flipflop-items.result.now ≡ length c.args.board.now.flipflop = ap length flipflops in
+    let i = c.len.result in
+    let flips = c.parts-2.inside.flips.items in
+    let at : i ≡ length c.loop-flipflop.flips.items = search rules in
+    let there : i < length c.args.board.now.flipflop =
+    omega (arith, at, many, c.loop-flipflop.invariant.count, c.loop-flipflop-test.true) in
+    let inside : i < length flips = omega (arith, there, parts.flips) in
+    let s : c.index-old.result.now ≡ slice_index flips i = get_or_read flips i c.index-old.result.now inside c.index-old.ensures 0 in
+    rw s
+    (wide_later c.args.terms.now c.loop-flipflop.terms c.args.words.now c.loop-flipflop.words 1 (slice_index flips i)
+    c.loop-flipflop.invariant.grew (flip_wide _ _ _ i parts there))
+
+pub loop-flipflop-preserved : goal.loop-flipflop-preserved
+loop-flipflop-preserved c =
+    let parts = rw (← c.parts-2.view_is) at c.requires.parts in
+    let board = c.args.board.now in
+    let m = c.args.microword.now in
+    let p = c.args.parts.now in
+    let f = c.flipflop-item.result in
+    let t1 = c.loop-flipflop.terms in
+    let t2 = c.loaded.new.terms in
+    let terms = c.loop-flipflop.flips.items in
+    let e = c.in_ok-term.ensures in
+    let before = c.loop-flipflop.invariant in
+    let flipflops : c.as_slice-flipflop-items.result.now ≡ board.flipflop = search rules in
+    let many : length c.as_slice-flipflop-items.result.now ≡ length board.flipflop = ap length flipflops in
+    let at : c.len.result ≡ length terms = search rules in
+    let there : c.len.result < length board.flipflop = omega (arith, at, many, before.count, c.loop-flipflop-test.true) in
+    let inside : c.len.result < length c.parts-2.inside.flips.items = omega (arith, there, parts.flips) in
+    let s : c.index-old.result.now ≡ slice_index c.parts-2.inside.flips.items c.len.result =
+    get_or_read c.parts-2.inside.flips.items c.len.result c.index-old.result.now inside c.index-old.ensures 0 in
+    let old : c.index-old.result.now ≡ slice_index p.flips (length terms) =
+    s ∙ ap (slice_index c.parts-2.inside.flips.items) at
+    ∙ ap (λ (q : Parts). slice_index q.flips (length terms)) c.parts-2.view_is in
+    let read : slice_get c.as_slice-flipflop-items.result.now c.loop-flipflop.flipflop-index ≡ Some f =
+    slice_get_read c.as_slice-flipflop-items.result.now (length c.as_slice-flipflop-items.result.now)
+    c.loop-flipflop.flipflop-index f refl c.loop-flipflop-test.true c.flipflop-item.is in
+    let here = subst (λ k. slice_get board.flipflop k ≡ Some f) (sym before.count)
+    (subst (λ (xs : List FlipFlop). slice_get xs c.loop-flipflop.flipflop-index ≡ Some f) flipflops read) in
+    let loaded = subst (λ (load : Load). IsLoaded load board t2 p c.args.sp c.args.sources.now c.index-old.result.now c.in_ok-term.term)
+    c.load-load.ensures.exact e.is in
+    let is = subst (λ was. IsLoaded (load_of board m f) board t2 p c.args.sp c.args.sources.now was c.in_ok-term.term)
+    old loaded in
+    record {
+      count = ap length c.in_ok-push.ensures.items
+          ∙ omega (arith, length-append terms (c.in_ok-term.term ∷ []), before.count);
+      grew = grew_then c.args.terms.now t1 t2 c.args.words.now c.loop-flipflop.words c.loaded.new.words before.grew
+          e.grew;
+      right = e.right;
+      so_far = rw c.in_ok-push.ensures.items
+          (one_so_far board m t1 t2 p c.args.sp c.args.sources.now terms f c.in_ok-term.term e.grew.1.extends
+          e.grew.1.keeps before.so_far here is e.wide);
+    }
+
+pub returns-clause-are : goal.returns-clause-are
+returns-clause-are c =
+    let flipflops : c.as_slice-flipflop-items.result.now ≡ c.args.board.now.flipflop = search rules in
+    let many : length c.as_slice-flipflop-items.result.now ≡ length c.args.board.now.flipflop = ap length flipflops in
+    let terms = c.loop-flipflop.flips.items in
+    let before = c.loop-flipflop.invariant in
+    let count : length terms ≡ length c.args.board.now.flipflop =
+    omega (arith, many, before.count, c.loop-flipflop-test.false, c.loop-flipflop.auto.flipflop-index-end) in
+    record {
+      count = count;
+      each = λ k f is.
+          (let inside = slice_get_within c.args.board.now.flipflop k f is in
+          before.so_far.each k f (omega (arith, inside, count)) is);
+    }

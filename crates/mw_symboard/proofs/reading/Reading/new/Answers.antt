@@ -1,0 +1,177 @@
+use Rattle.std.proofs.Common.{◌≡◌, ℕ, ◌+◌, Some, slice_index, ap, sym, subst, ◌∙◌}
+use Rattle.mw_alu.specs.Instruction.{destination_of}
+use Rattle.mw_term.specs.declared.kinds.WordKind.TheVariants.{Line, Noise}
+use Rattle.mw_symmem.specs.Memory.{IsOfWidth}
+use Rattle.mw_symmem.specs.Words.{term_of}
+use Rattle.mw_symmem.specs.Workspace.{GoesOn}
+use Rattle.mw_symboard.specs.Kinds.{IsCycleKind, IsSourceKind}
+use Rattle.mw_symboard.specs.Made.{IsFrom, IsMasked}
+use Rattle.mw_symboard.specs.Parts.{AreParts}
+use Rattle.mw_symboard.specs.Seen.{Place}
+use Rattle.mw_symboard.specs.Turns.{AreNoLater}
+use Rattle.mw_symboard.proofs.Read.{goes_on, grew_four, parts_grew, parts_later, reading_is, y_wide}
+use Rattle.mw_symboard.proofs.Growing.{grew_then, wide_later}
+use Rattle.mw_symboard.proofs.Standing.{parts_stay}
+use Rattle.mw_symboard.proofs.Variables.{grew_inputs, grew_none_later, source_none_later}
+use Rattle.mw_symboard.proofs.Widths.{register_wide}
+use Rattle.mw_symboard.proofs.reading.Reading.new.Goals as goal
+
+pub from_source-requires-clause-workspace : goal.from_source-requires-clause-workspace
+from_source-requires-clause-workspace c =
+    let goes = c.in_ok-variables.ensures.goes c.place.inside.taken c.args.memory.now c.requires.workspace in
+    goes.workspace
+
+pub from_source-requires-clause-parts : goal.from_source-requires-clause-parts
+from_source-requires-clause-parts c =
+    let b = c.args.board.now in
+    let t0 = c.args.terms.now in
+    let goes = c.in_ok-variables.ensures.goes c.place.inside.taken c.args.memory.now c.requires.workspace in
+    parts_later b t0 c.line_and_noise.new.terms c.place.inside.parts goes.later
+    (subst (λ (q : Place). AreParts b t0 q.parts) (sym c.place.view_is) c.requires.parts)
+
+pub from_source-requires-clause-inputs : goal.from_source-requires-clause-inputs
+from_source-requires-clause-inputs c = c.in_ok-variables.ensures.inputs c.args.board.now c.requires.inputs
+
+pub make_sources-requires-clause-parts : goal.make_sources-requires-clause-parts
+make_sources-requires-clause-parts c =
+    let b = c.args.board.now in
+    let p = c.args.place.now.parts in
+    let t1 = c.line_and_noise.new.terms in
+    let t2 = c.from_source.new.terms in
+    let goes = c.in_ok-variables.ensures.goes c.place.inside.taken c.args.memory.now c.requires.workspace in
+    let first = parts_later b c.args.terms.now t1 p goes.later c.requires.parts in
+    let second = parts_later b t1 t2 p c.in_ok-source.ensures.goes.later first in
+    parts_grew b t2 c.masked.new.terms c.from_source.new.words c.masked.new.words p c.in_ok-d.ensures.grew second
+
+pub make_bits-requires-clause-parts : goal.make_bits-requires-clause-parts
+make_bits-requires-clause-parts c =
+    let b = c.args.board.now in
+    let p = c.args.place.now.parts in
+    let t1 = c.line_and_noise.new.terms in
+    let t2 = c.from_source.new.terms in
+    let goes = c.in_ok-variables.ensures.goes c.place.inside.taken c.args.memory.now c.requires.workspace in
+    let first = parts_later b c.args.terms.now t1 p goes.later c.requires.parts in
+    let second = parts_later b t1 t2 p c.in_ok-source.ensures.goes.later first in
+    let third = parts_grew b t2 c.masked.new.terms c.from_source.new.words c.masked.new.words p c.in_ok-d.ensures.grew second in
+    parts_grew b c.masked.new.terms c.make_sources.new.terms c.masked.new.words c.make_sources.new.words p
+    c.in_ok-sources.ensures.grew third
+
+pub condition-requires-clause-parts : goal.condition-requires-clause-parts
+condition-requires-clause-parts c =
+    let b = c.args.board.now in
+    let p = c.args.place.now.parts in
+    let t1 = c.line_and_noise.new.terms in
+    let t2 = c.from_source.new.terms in
+    let goes = c.in_ok-variables.ensures.goes c.place.inside.taken c.args.memory.now c.requires.workspace in
+    let first = parts_later b c.args.terms.now t1 p goes.later c.requires.parts in
+    let second = parts_later b t1 t2 p c.in_ok-source.ensures.goes.later first in
+    let third = parts_grew b t2 c.masked.new.terms c.from_source.new.words c.masked.new.words p c.in_ok-d.ensures.grew second in
+    let fourth = parts_grew b c.masked.new.terms c.make_sources.new.terms c.masked.new.words c.make_sources.new.words p
+    c.in_ok-sources.ensures.grew third in
+    parts_grew b c.make_sources.new.terms c.make_bits.new.terms c.make_sources.new.words c.make_bits.new.words p
+    c.in_ok-make_bits.ensures.grew fourth
+
+pub returns-clause-is : goal.returns-clause-is
+returns-clause-is c =
+    let b = c.args.board.now in
+    let m = c.args.microword.now in
+    let p = c.args.place.now in
+    let t0 = c.args.terms.now in
+    let t1 = c.line_and_noise.new.terms in
+    let t2 = c.from_source.new.terms in
+    let t3 = c.masked.new.terms in
+    let t4 = c.make_sources.new.terms in
+    let t5 = c.make_bits.new.terms in
+    let t6 = c.condition.new.terms in
+    let w0 = c.args.words.now in
+    let w1 = c.line_and_noise.new.words in
+    let w2 = c.from_source.new.words in
+    let w3 = c.masked.new.words in
+    let w4 = c.make_sources.new.words in
+    let w5 = c.make_bits.new.words in
+    let w6 = c.condition.new.words in
+    let m0 = c.args.memory.now in
+    let m2 = c.from_source.new.memory in
+    let e1 = c.in_ok-variables.ensures in
+    let e2 = c.in_ok-source.ensures in
+    let e3 = c.in_ok-d.ensures in
+    let e4 = c.in_ok-sources.ensures in
+    let e5 = c.in_ok-make_bits.ensures in
+    let e6 = c.in_ok-condition.ensures in
+    let line = c.in_ok-variables.variables.line in
+    let noise = c.in_ok-variables.variables.noise in
+    let source = c.in_ok-source.source in
+    let d = c.in_ok-d.d in
+    let n = c.in_ok-sources.sources in
+    let a = slice_index p.parts.regs m.a_address in
+    let width : c.bits-width.result ≡ b.width = cc in
+    let goes = subst (λ (q : Place). GoesOn (IsCycleKind q.cycle q.taken) t0 t1 w0 w1 m0 m0) c.place.view_is
+    (e1.goes c.place.inside.taken m0 c.requires.workspace) in
+    let taken = subst (λ (q : Place). GoesOn (IsSourceKind q.taken) t1 t2 w1 w2 m0 m2) c.place.view_is e2.goes in
+    let first = parts_stay b t0 t1 p.parts goes.later.extends goes.later.keeps c.requires.parts in
+    let parts = parts_stay b t1 t2 p.parts taken.later.extends taken.later.keeps first in
+    let all = grew_four t2 t3 t4 t5 t6 w2 w3 w4 w5 w6 e3.grew e4.grew e5.grew e6.grew in
+    let late = grew_then t4 t5 t6 w4 w5 w6 e5.grew e6.grew in
+    let line_is = subst (λ (q : Place). term_of w1 (Line q.cycle) ≡ Some line) c.place.view_is e1.line in
+    let noise_is = subst (λ (q : Place). term_of w1 (Noise q.cycle) ≡ Some noise) c.place.view_is e1.noise in
+    let a_wide = wide_later t2 t6 w2 w6 b.width a all
+    (register_wide b t2 p.parts m.a_address parts c.requires.microword.a_address) in
+    let f_wide = wide_later t4 t6 w4 w6 b.width n.f late e4.are.sources.f in
+    reading_is b m p t0 t1 t2 t3 t4 t5 t6 w0 w1 w2 w3 w4 w5 w6 m0 m2 goes taken e3.grew e4.grew e5.grew e6.grew _ d e6.is.0
+    (line_is ∙ ap (λ (x : ℕ). Some x) (sym e4.line))
+    (noise_is ∙ ap (λ (x : ℕ). Some x) (sym e4.noise))
+    parts
+    (subst (λ (q : Place). IsFrom b m.word t2 w2 m2 q.parts q.taken m.d.from source) c.place.view_is e2.is)
+    e2.wide
+    (subst (λ (k : ℕ). IsMasked t3 k m.d.mask source d) width e3.is)
+    (subst (λ (k : ℕ). IsOfWidth t3 k d) width e3.wide)
+    e4.are e6.right e6.is.1 e6.is.2 e6.wide c.y-y.ensures
+    (subst (λ (k : ℕ). IsOfWidth t6 b.width k) (sym c.y-y.ensures)
+    (y_wide t6 b.width (destination_of m.instruction) a n.f a_wide f_wide))
+
+pub returns-clause-goes : goal.returns-clause-goes
+returns-clause-goes c =
+    let b = c.args.board.now in
+    let t0 = c.args.terms.now in
+    let t1 = c.line_and_noise.new.terms in
+    let t2 = c.from_source.new.terms in
+    let w0 = c.args.words.now in
+    let w1 = c.line_and_noise.new.words in
+    let w2 = c.from_source.new.words in
+    let m0 = c.args.memory.now in
+    let m2 = c.from_source.new.memory in
+    let goes = subst (λ (q : Place). GoesOn (IsCycleKind q.cycle q.taken) t0 t1 w0 w1 m0 m0) c.place.view_is
+    (c.in_ok-variables.ensures.goes c.place.inside.taken m0 c.requires.workspace) in
+    let taken = subst (λ (q : Place). GoesOn (IsSourceKind q.taken) t1 t2 w1 w2 m0 m2) c.place.view_is
+    c.in_ok-source.ensures.goes in
+    goes_on b c.args.microword.now c.args.place.now t0 t1 t2 c.masked.new.terms c.make_sources.new.terms
+    c.make_bits.new.terms c.condition.new.terms w0 w1 w2 c.masked.new.words c.make_sources.new.words
+    c.make_bits.new.words c.condition.new.words m0 m2 goes taken c.in_ok-d.ensures.grew c.in_ok-sources.ensures.grew
+    c.in_ok-make_bits.ensures.grew c.in_ok-condition.ensures.grew
+
+pub returns-clause-inputs : goal.returns-clause-inputs
+returns-clause-inputs c =
+    let t2 = c.from_source.new.terms in
+    let t6 = c.condition.new.terms in
+    let w2 = c.from_source.new.words in
+    let w6 = c.condition.new.words in
+    let all = grew_four t2 c.masked.new.terms c.make_sources.new.terms c.make_bits.new.terms t6 w2 c.masked.new.words
+    c.make_sources.new.words c.make_bits.new.words w6 c.in_ok-d.ensures.grew c.in_ok-sources.ensures.grew
+    c.in_ok-make_bits.ensures.grew c.in_ok-condition.ensures.grew in
+    grew_inputs c.args.board.now t2 t6 w2 w6 all c.in_ok-source.ensures.inputs
+
+pub returns-clause-none : goal.returns-clause-none
+returns-clause-none c =
+    let t2 = c.from_source.new.terms in
+    let t6 = c.condition.new.terms in
+    let w1 = c.line_and_noise.new.words in
+    let w2 = c.from_source.new.words in
+    let w6 = c.condition.new.words in
+    let all = grew_four t2 c.masked.new.terms c.make_sources.new.terms c.make_bits.new.terms t6 w2 c.masked.new.words
+    c.make_sources.new.words c.make_bits.new.words w6 c.in_ok-d.ensures.grew c.in_ok-sources.ensures.grew
+    c.in_ok-make_bits.ensures.grew c.in_ok-condition.ensures.grew in
+    let goes = c.in_ok-source.ensures.goes in
+    let cycle = c.args.place.now.cycle in
+    let begun = subst (λ (q : Place). AreNoLater (q.cycle + 1) w1) c.place.view_is c.in_ok-variables.ensures.none in
+    grew_none_later (cycle + 1) t2 t6 w2 w6 all
+    (source_none_later (cycle + 1) c.place.inside.taken w1 w2 goes.more goes.words goes.kinds begun)

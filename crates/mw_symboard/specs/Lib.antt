@@ -1,0 +1,9 @@
+pub mod Bits
+pub mod Cycle
+pub mod Growth
+pub mod Kinds
+pub mod Made
+pub mod Parts
+pub mod Seen
+pub mod Shown
+pub mod Turns

@@ -1,0 +1,29 @@
+// Where a symbolic board is.
+use crate::parts::Parts;
+use crate::path::Path;
+use std::marker::Model;
+
+/// Where a symbolic board is.
+#[derive(Drop)]
+pub(crate) struct Place {
+    /// The control address, 12 bits.
+    pub(crate) at: u16,
+    /// The stack pointer, which counts the words on the stack.
+    pub(crate) sp: u8,
+    /// A term for each element.
+    pub(crate) parts: Parts,
+    /// How many cycles are finished.
+    pub(crate) cycle: u32,
+    /// How many inputs were taken.
+    pub(crate) taken: u32,
+    /// The bits decided so far of the cycle that it is in.
+    pub(crate) decided: Path,
+}
+
+impl Model for Place {
+    ghost use Rattle.mw_symboard.specs.Seen as seen;
+
+    ghost Value = { seen.Place };
+
+    ghost view = { λ p. record { at = p.at; sp = p.sp; parts = p.parts; cycle = p.cycle; taken = p.taken; decided = p.decided } };
+}
