@@ -398,7 +398,3 @@ front_at n xs ys y same is = rw add-one (same_front n xs ys y (rw add-one at sam
 
 pub front_before : {A : Type 0} (n : ℕ) (xs ys : List A) → take (n + 1) xs ≡ take (n + 1) ys → take n xs ≡ take n ys
 front_before n xs ys same = shorter_front n xs ys (rw add-one at same)
-
-pub always_ok : {A E P : Type 0} (r : Result A E) → P → OnOk r P
-always_ok (Ok x) p = p
-always_ok (Err e) p = tt

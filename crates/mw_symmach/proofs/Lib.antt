@@ -1,6 +1,10 @@
 pub mod Acting
+pub mod AtIf
+pub mod Beginning
 pub mod Beside
 pub mod Carrying
 pub mod Forms
+pub mod InStep
 pub mod Making
 pub mod Single
+pub mod Turning

@@ -46,6 +46,24 @@ left_of acts (level ∷ deeper) position =
     then_acts (left_of (list_at level.first (dropped level.position acts)) deeper position)
     (dropped (level.position + 1) acts)
 
+-- the innermost list in which a step stands
+abbrev pub innermost : Acts → List Level → Acts
+innermost acts [] = acts
+innermost acts (level ∷ deeper) = innermost (list_at level.first (dropped level.position acts)) deeper
+
+-- the statement at a position in the innermost list is an `if`
+pub record IsAtIf (acts : Acts) (levels : List Level) (position : ℕ) : Type 0 where
+  pub condition : Tree
+  pub one : Acts
+  pub other : Acts
+  pub rest : Acts
+  pub is : dropped position (innermost acts levels) ≡ next (choose condition one other) rest
+
+-- where a term is asked for, it is that of the condition of an `if` at this place
+abbrev pub StopsAt : Acts → List Level → (position : ℕ) → (asked : Option ℕ) → Type 0
+StopsAt acts levels position None = Unit
+StopsAt acts levels position (Some term) = IsAtIf acts levels position
+
 -- A run went on from parts of a step with some acts left to parts with others left: what these come to, and the bits
 -- that they branch by, is what the first come to, for every assignment, every image that the base reads fit, and the
 -- inputs that the variables of inputs have as values. No more base reads were added than are left fewer, and `more`.

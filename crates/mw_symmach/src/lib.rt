@@ -3,9 +3,14 @@
 
 mod expression;
 mod joins;
+mod laws;
 mod level;
+mod machine;
 mod nodes;
 mod parts;
 mod walk;
+mod zeros;
 
 pub use expression::expr_term;
+pub use laws::{scenes_are_seen_before, turns_are_of_the_step};
+pub use machine::SymMach;

@@ -1,16 +1,18 @@
 // The parts of a described step on terms, and single statements.
-ghost use Rattle.std.specs.Prelude.{◌≡◌, ℕ, ◌+◌, ◌<◌, ◌≤◌, ◌^◌, true, length, IfOk, OnOk};
+ghost use Rattle.std.specs.Prelude.{◌≡◌, ℕ, ◌+◌, ◌-◌, ◌<◌, ◌≤◌, ◌^◌, [], ◌∷◌, ◌++◌, true, length, slice_index, IfOk, OnOk};
 ghost use Rattle.mw_expr.specs.Tree.{view};
 ghost use Rattle.mw_expr.specs.Widths.{width_of};
 ghost use Rattle.mw_macro.specs.Counts.{reads, own_reads, own_events, total};
 ghost use Rattle.mw_macro.specs.declared.counts.Counted.TheVariants.{Reads, Events};
 ghost use Rattle.mw_macro.specs.Right.{is_right, are_right, is_asked};
 ghost use Rattle.mw_macro.specs.Statements.{Acts, act_of, acts, assign, write, put, take_in, choose};
-ghost use Rattle.mw_term.specs.Table.{IsWidth};
+ghost use Rattle.mw_term.specs.Table.{IsTable, IsWidth};
 ghost use Rattle.mw_symmach.specs.Places.{dropped, IsAsked, IsDone, Reaches};
-ghost use Rattle.mw_symmach.specs.Steps.{IsInput, Stands, Acted};
+ghost use Rattle.mw_symmach.specs.Steps.{IsInput, Stands, Acted, parts_of};
+ghost use Rattle.mw_symmach.specs.Zeros.{AreWide, HaveZeros};
 
 use crate::expression::expr_term;
+use crate::zeros::push_zeros;
 use mw_base::NoMemory;
 use mw_expr::{Expr, Shape};
 use mw_macro::Statement;
@@ -63,6 +65,64 @@ fn input_term(
 }
 
 impl Parts {
+    /// These terms, with room for those of so many elements. There is no event, and no input was taken.
+    pub(crate) fn new(alloc: Global, registers: &[Term], elements: usize) -> Result<Parts, NoMemory>
+        ensures { IfOk result (λ parts. parts ≡ parts_of registers.now [] 0) }
+    {
+        let mut values = Vec::with_capacity(alloc, elements)?;
+        values.extend_from_slice(registers)?;
+        Ok(Parts {
+            values,
+            events: Vec::new(alloc),
+            taken: 0,
+        })
+    }
+
+    /// The elements up to a number that have no terms yet get terms of the value 0, of these widths.
+    pub(crate) fn push_zeros(
+        &mut self,
+        alloc: Global,
+        widths: &[u8],
+        elements: usize,
+        terms: &mut Terms,
+    ) -> Result<(), NoMemory>
+        requires table { IsTable terms.old }
+        requires widths { (i : ℕ) → i < length widths.now → IsWidth (slice_index widths.now i) }
+        requires elements { elements ≤ length widths.now }
+        requires count { length self.old.values ≤ elements }
+        requires wide { AreWide terms.old widths.now self.old.values }
+        ensures zeros { OnOk result (HaveZeros terms.old terms.new widths.now self.old.values self.new.values
+            (elements - length self.old.values)) }
+        ensures events { OnOk result (self.new.events ≡ self.old.events) }
+        ensures taken { OnOk result (self.new.taken ≡ self.old.taken) }
+    {
+        push_zeros(alloc, widths, elements, &mut self.values, terms)?;
+        Ok(())
+    }
+
+    /// One more element gets a term.
+    pub(crate) fn push(&mut self, term: Term) -> Result<(), NoMemory>
+        ensures { OnOk result (self.new ≡ parts_of (self.old.values ++ term ∷ []) self.old.events self.old.taken) }
+    {
+        self.values.push(term)?;
+        Ok(())
+    }
+
+    /// The term of an element.
+    pub(crate) fn value(&self, element: usize) -> Term
+        requires { element < length self.now.values }
+        ensures { result ≡ slice_index self.now.values element }
+    {
+        self.values[element]
+    }
+
+    /// The events so far.
+    pub(crate) fn events(&self) -> &[SymEvent]
+        ensures { result.now ≡ self.now.events }
+    {
+        &self.events
+    }
+
     /// An element gets the term of an expression.
     pub(crate) fn assign(
         &mut self,

@@ -4,7 +4,7 @@ ghost use Rattle.mw_macro.specs.declared.counts.Counted.TheVariants.{Reads, Even
 ghost use Rattle.mw_macro.specs.Counts.{total};
 ghost use Rattle.mw_macro.specs.Right.{are_right};
 ghost use Rattle.mw_macro.specs.Statements.{acts};
-ghost use Rattle.mw_symmach.specs.Places.{left_of, Reaches};
+ghost use Rattle.mw_symmach.specs.Places.{left_of, Reaches, StopsAt};
 ghost use Rattle.mw_symmach.specs.Steps.{Stands};
 
 use crate::level::Level;
@@ -39,10 +39,12 @@ pub(crate) fn go_on(
     ensures reaches { IfOk result (λ reached. Reaches shape.now terms.old terms.new words.old words.new memory.old
         memory.new parts.old parts.new (left_of (acts statements.now) (drop level levels.old.items) position)
         (left_of (acts statements.now) (drop level levels.new.items) reached.position) reached.asked) }
+    ensures stops { IfOk result (λ reached. StopsAt (acts statements.now) (drop level levels.new.items) reached.position reached.asked) }
     ensures front { OnOk result (take level levels.new.items ≡ take level levels.old.items) }
 {
     if level >= levels.len() {
-        return parts.go_through(alloc, shape, statements, position, terms, words, memory);
+        let reached = parts.go_through(alloc, shape, statements, position, terms, words, memory)?;
+        return Ok(reached);
     }
     let within = levels[level];
     let list = within.list(statements);
@@ -66,5 +68,6 @@ pub(crate) fn go_on(
     }
     levels.truncate(level);
     let from = within.position as usize + 1;
-    parts.go_through(alloc, shape, statements, from, terms, words, memory)
+    let reached = parts.go_through(alloc, shape, statements, from, terms, words, memory)?;
+    Ok(reached)
 }

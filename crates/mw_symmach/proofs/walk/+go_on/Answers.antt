@@ -1,9 +1,10 @@
+use Rattle.std.specs.Prelude.{Some}
 use Rattle.std.proofs.Common.{◌≡◌, suc, ◌+◌, ◌∷◌, [], drop, take, take-take, arith, sym, ap, ◌∙◌, add-one, drop-cons}
-use Rattle.std.proofs.lemmas.Result.{IfOk-weaker}
 use Rattle.mw_macro.specs.declared.counts.Counted.TheVariants.{Reads, Events}
 use Rattle.mw_macro.specs.Statements.{acts}
 use Rattle.mw_symmach.specs.Places.{dropped, list_at, left_of}
-use Rattle.mw_symmach.proofs.Carrying.{within_few, right_list, right_dropped, reaches_out, out_then, carries_out, front_at, front_before, none_behind, always_ok}
+use Rattle.mw_symmach.proofs.AtIf.{stops_here, stops_within}
+use Rattle.mw_symmach.proofs.Carrying.{within_few, right_list, right_dropped, reaches_out, out_then, carries_out, front_at, front_before, none_behind, past_end}
 use Rattle.mw_symmach.proofs.walk.+go_on.Goals as goal
 
 pub go_on-requires : goal.go_on-requires
@@ -111,15 +112,47 @@ returns-clause-reaches t c =
     let reaches = rw (c.list-list.ensures, c.in_default.is) at c.in_ok-inner.ensures.reaches in
     let last = left_of (list_at within.first (dropped within.position all)) (drop (i + 1) new) c.in_ok-inner.inner.position in
     let none : drop i c.truncate.new.self.items ≡ [] = ap (drop i) c.truncate.ensures.items ∙ none_behind i new in
-    rw (here, none) (IfOk-weaker c.go_through-2.result _ _
-    (λ reached behind. out_then s c.args.terms.now c.go_on.new.terms c.go_through-2.new.terms c.args.words.now
+    rw (here, none) (out_then s c.args.terms.now c.go_on.new.terms c.go_through-2.new.terms c.args.words.now
     c.go_on.new.words c.go_through-2.new.words c.args.memory.now c.go_on.new.memory c.go_through-2.new.memory
     c.args.parts.now c.go_on.new.parts c.go_through-2.new.self all within (drop (i + 1) old) c.args.position
-    reached.position last reached.asked reaches behind) c.go_through-2.ensures)
+    c.in_ok-reached-2.reached.position last c.in_ok-reached-2.reached.asked reaches c.in_ok-reached-2.ensures)
 
 pub returns-clause-front : goal.returns-clause-front
 returns-clause-front t c =
     let new = c.go_on.new.levels.items in
     let i = c.args.level in
-    always_ok c.go_through-2.result (ap (take i) c.truncate.ensures.items ∙ take-take i i new (omega arith)
-    ∙ front_before i new c.args.levels.now.items c.in_ok-inner.ensures.front)
+    ap (take i) c.truncate.ensures.items ∙ take-take i i new (omega arith)
+    ∙ front_before i new c.args.levels.now.items c.in_ok-inner.ensures.front
+
+pub returns-then-level-len-clause-stops : goal.returns-then-level-len-clause-stops
+returns-then-level-len-clause-stops t c =
+    let all = acts c.args.statements.now in
+    let none : drop c.args.level c.args.levels.now.items ≡ [] =
+    past_end c.args.level c.args.levels.now.items (omega (arith, c.len.ensures)) in
+    rw none (stops_here c.args.shape.now c.args.terms.now c.go_through.new.terms c.args.words.now c.go_through.new.words
+    c.args.memory.now c.go_through.new.memory c.args.parts.now c.go_through.new.self (dropped c.args.position all) all
+    c.in_ok-reached.reached.position c.in_ok-reached.reached.asked c.in_ok-reached.ensures)
+
+pub returns-in-Some-clause-stops : goal.returns-in-Some-clause-stops
+returns-in-Some-clause-stops t c =
+    let all = acts c.args.statements.now in
+    let old = c.args.levels.now.items in
+    let i = c.args.level in
+    let within = c.index-within.result.now in
+    let here : drop i old ≡ within ∷ drop (i + 1) old = rw add-one (drop-cons old i within (omega (arith, c.len.ensures))
+    ∙ ap (λ x. x ∷ drop (suc i) old) (sym c.index-within.ensures)) in
+    let new = c.go_on.new.levels.items in
+    let stops = rw (c.list-list.ensures, c.in-Some.is) at c.in_ok-inner.ensures.stops in
+    rw (front_at i new old within c.in_ok-inner.ensures.front here)
+    (stops_within all within (drop (i + 1) new) c.in_ok-inner.inner.position (Some c.in-Some.term) stops)
+
+pub returns-clause-stops : goal.returns-clause-stops
+returns-clause-stops t c =
+    let all = acts c.args.statements.now in
+    let new = c.go_on.new.levels.items in
+    let i = c.args.level in
+    let none : drop i c.truncate.new.self.items ≡ [] = ap (drop i) c.truncate.ensures.items ∙ none_behind i new in
+    rw none (stops_here c.args.shape.now c.go_on.new.terms c.go_through-2.new.terms c.go_on.new.words
+    c.go_through-2.new.words c.go_on.new.memory c.go_through-2.new.memory c.go_on.new.parts c.go_through-2.new.self
+    (dropped (c.index-within.result.now.position + 1) all) all
+    c.in_ok-reached-2.reached.position c.in_ok-reached-2.reached.asked c.in_ok-reached-2.ensures)

@@ -1,0 +1,72 @@
+-- A described step on terms is the step of the machine.
+use Rattle.std.proofs.Common.{◌≡◌, ℕ, zero, suc, List, [], ◌∷◌, ◌++◌, length, Bool, append-nil, append_assoc, refl, ap, sym, subst, ◌∙◌}
+use Rattle.std.specs.Prelude.{◌==◌, Option, Some, None, slice_get}
+use Rattle.mw_macro.specs.Branches.{branches_of}
+use Rattle.mw_macro.specs.DescribedStep.{ended, step_of}
+use Rattle.mw_macro.specs.Machine.{Description}
+use Rattle.mw_macro.specs.State.{MachineState}
+use Rattle.mw_term.specs.declared.kinds.WordKind.TheVariants.{Input}
+use Rattle.mw_term.specs.Assigned.{Given}
+use Rattle.mw_term.specs.Table.{Table}
+use Rattle.mw_term.specs.Values.{term_value}
+use Rattle.mw_symmem.specs.declared.turn.Turn.TheVariants.{Ask, Finished}
+use Rattle.mw_symmem.specs.declared.word.Word.{Word}
+use Rattle.mw_symmem.specs.Words.{IsVariable, variable}
+use Rattle.mw_symmem.specs.Memory.{Memory}
+use Rattle.mw_symmem.specs.Workspace.{GoesOn, IsWorkspace}
+use Rattle.mw_symmem.proofs.Later.{image_before, images_fit_before}
+use Rattle.mw_symmem.proofs.Lists.{behind}
+use Rattle.mw_symmach.specs.Laws.{IsInStep, TurnsAreOfTheStep, BitsAreOfTheStep, ScenesAreSeenBefore}
+use Rattle.mw_symmach.specs.Steps.{Parts, IsOfStep, now_of}
+use Rattle.mw_symmach.specs.Turns.{Stepping, Scene, HasTerms, IsSeen, IsStepping, bits_to_come, end_of}
+
+-- the item behind some others
+next_behind : (xs ys : List Bool) → slice_get (xs ++ ys) (length xs) ≡ slice_get ys 0
+next_behind [] ys = refl
+next_behind (x ∷ xs) ys = next_behind xs ys
+
+pub turns_are_of_the_step : TurnsAreOfTheStep
+turns_are_of_the_step d told tnew words mold mnew old new turn given x s request bits is seen within =
+    let now_within : IsInStep d tnew mnew given x new s request bits =
+    record {
+      bits = within.bits ∙ ap (λ more. bits ++ more) (sym (is.bits given x seen));
+      ends = within.ends ∙ sym (is.ends given x seen);
+    } in (
+      now_within,
+      λ kind term asks.
+          let says = rw asks at is.says in
+          ap (λ all. slice_get all (length bits)) now_within.bits
+          ∙ next_behind bits (bits_to_come d tnew given mnew x new) ∙ says.next given x seen,
+      λ done.
+          let says = rw done at is.says in (
+            now_within.bits ∙ ap (λ more. bits ++ more) (says.bits given x) ∙ append-nil bits,
+            now_within.ends ∙ says.ends given x,
+          ),
+    )
+
+pub bits_are_of_the_step : BitsAreOfTheStep
+bits_are_of_the_step d t words m old new value given x s request bits is within next =
+    let first : slice_get (bits_to_come d t given m x old) 0 ≡ Some value =
+    sym (next_behind bits (bits_to_come d t given m x old)) ∙ ap (λ all. slice_get all (length bits)) (sym within.bits) ∙ next in
+    record {
+      bits = within.bits ∙ ap (λ more. bits ++ more) (is.bits given x first)
+          ∙ sym (append_assoc bits (value ∷ []) (bits_to_come d t given m x new));
+      ends = within.ends ∙ sym (is.ends given x first);
+    }
+
+workspace_of : (d : Description) (t : Table) (words : List Word) (m : Memory) (p : Parts) (request : Option ℕ)
+    → HasTerms d t words m p request → IsWorkspace t words m
+workspace_of d t words m p None has = has.workspace
+workspace_of d t words m p (Some request) has = has.0.workspace
+
+pub scenes_are_seen_before : ScenesAreSeenBefore
+scenes_are_seen_before told tnew wold wnew mold mnew given x d o stepping goes seen =
+    let workspace = workspace_of d told wold mold o.parts o.request stepping.terms in
+    record {
+      image = image_before mold mnew x.image goes.reads seen.image;
+      fit = images_fit_before told tnew wold mold mnew given x.image goes.later workspace.memory goes.reads seen.fit;
+      inputs = λ k place term is.
+          seen.inputs k place term (subst (λ ws. IsVariable ws place term (Input k)) (sym goes.words)
+          (behind wold goes.more place (variable term (Input k)) is))
+          ∙ goes.later.keeps.values given term (workspace.of.there place (variable term (Input k)) is);
+    }

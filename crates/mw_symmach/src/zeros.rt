@@ -1,0 +1,32 @@
+// Elements that are 0 before the first statement.
+ghost use Rattle.std.specs.Prelude.{◌≡◌, ℕ, ◌-◌, ◌<◌, ◌≤◌, length, slice_index, OnOk};
+ghost use Rattle.mw_term.specs.Table.{IsTable, IsWidth};
+ghost use Rattle.mw_symmach.specs.Zeros.{AreWide, HaveZeros};
+
+use crate::nodes::constant;
+use mw_base::NoMemory;
+use mw_term::{Term, Terms};
+use std::alloc::Global;
+
+/// The elements up to a number that have no terms yet get terms of the value 0, of these widths.
+pub(crate) fn push_zeros(
+    alloc: Global,
+    widths: &[u8],
+    elements: usize,
+    values: &mut Vec<Term>,
+    terms: &mut Terms,
+) -> Result<(), NoMemory>
+    requires table { IsTable terms.old }
+    requires widths { (i : ℕ) → i < length widths.now → IsWidth (slice_index widths.now i) }
+    requires elements { elements ≤ length widths.now }
+    requires count { length values.old.items ≤ elements }
+    requires wide { AreWide terms.old widths.now values.old.items }
+    ensures { OnOk result (HaveZeros terms.old terms.new widths.now values.old.items values.new.items
+        (elements - length values.old.items)) }
+{
+    for element in values.len()..elements {
+        let zero = constant(alloc, 0, widths[element], terms)?;
+        values.push(zero)?;
+    }
+    Ok(())
+}
