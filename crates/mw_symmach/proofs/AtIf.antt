@@ -1,16 +1,15 @@
 -- Where a step stands at an `if`, and goes into one of its lists.
-use Rattle.std.proofs.Common.{◌≡◌, ℕ, zero, suc, ◌+◌, ◌<◌, ◌≤◌, List, [], ◌∷◌, ◌++◌, Bool, true, false, refl, ap, ap₂, arith, sym, subst, ◌∙◌, add-one}
+use Rattle.std.proofs.Common.{◌≡◌, ℕ, zero, suc, ◌+◌, ◌<◌, ◌≤◌, List, [], ◌∷◌, ◌++◌, Bool, true, false, refl, ap, ap₂, arith, ◌∙◌, add-one}
 use Rattle.std.specs.Prelude.{if◌then◌else◌, Option, Some, None}
 use Rattle.mw_expr.specs.declared.shape.Shape.{Shape}
-use Rattle.mw_macro.specs.declared.counts.Counted.{Counted}
-use Rattle.mw_macro.specs.declared.counts.Counted.TheVariants.{Statements, Reads, Events}
-use Rattle.mw_macro.specs.Counts.{total, count, own}
+use Rattle.mw_macro.specs.declared.counts.Counted.TheVariants.{Statements}
+use Rattle.mw_macro.specs.Counts.{total, count}
 use Rattle.mw_macro.specs.Statements.{Act, assign, write, put, take_in, choose, Acts, nothing, next}
 use Rattle.mw_term.specs.Table.{Table}
 use Rattle.mw_symmem.specs.declared.word.Word.{Word}
 use Rattle.mw_symmem.specs.Memory.{Memory}
 use Rattle.mw_symmach.specs.declared.level.Level.{Level}
-use Rattle.mw_symmach.specs.Places.{dropped, then_acts, list_at, list_of, left_of, innermost, IsAtIf, StopsAt, Reaches}
+use Rattle.mw_symmach.specs.Places.{dropped, then_acts, list_at, left_of, innermost, IsAtIf, StopsAt, Reaches}
 use Rattle.mw_symmach.specs.Steps.{Parts}
 use Rattle.mw_symmach.specs.Turns.{level_of}
 

@@ -1,24 +1,21 @@
 -- Elements that are 0 before the first statement.
-use Rattle.std.proofs.Common.{◌≡◌, ℕ, zero, suc, ◌+◌, ◌-◌, ◌<◌, ◌≤◌, List, [], ◌∷◌, ◌++◌, length, map, replicate, slice_index, append-nil, append_assoc, refl, ap, ap₂, arith, sym, subst, take_all, add-one, ◌∙◌}
+use Rattle.std.proofs.Common.{◌≡◌, ℕ, zero, suc, ◌+◌, ◌-◌, ◌<◌, List, [], ◌∷◌, ◌++◌, length, map, replicate, slice_index, append-nil, append_assoc, refl, ap, ap₂, arith, sym, subst, take_all, add-one, ◌∙◌}
 use Rattle.std.specs.Prelude.{slice_get, Option, Some, None}
-use Rattle.mw_base.specs.declared.event.Event.{Event}
-use Rattle.mw_macro.specs.DescribedStep.{Now, now}
+use Rattle.mw_macro.specs.DescribedStep.{now}
 use Rattle.mw_macro.specs.Machine.{Description, IsFormed}
-use Rattle.mw_term.specs.declared.kinds.WordKind.TheVariants.{Input}
 use Rattle.mw_term.specs.Assigned.{Given}
 use Rattle.mw_term.specs.Table.{Table, IsTable}
-use Rattle.mw_term.specs.Values.{Keeps, term_value}
+use Rattle.mw_term.specs.Values.{term_value}
 use Rattle.mw_symmem.specs.declared.side.Side.TheVariants.{Machine}
 use Rattle.mw_symmem.specs.declared.word.Word.{Word}
-use Rattle.mw_symmem.specs.Words.{IsVariable}
 use Rattle.mw_symmem.specs.Memory.{Memory, IsOfWidth, held_by}
 use Rattle.mw_symmem.specs.Steps.{Grows}
 use Rattle.mw_symmem.specs.Workspace.{IsLater, IsWorkspace, GoesOn}
 use Rattle.mw_symmem.proofs.Growth.{grows_then}
-use Rattle.mw_symmem.proofs.Later.{goes_by_growth, held_by_stays, later_itself, width_later, writes_itself}
+use Rattle.mw_symmem.proofs.Later.{goes_by_growth, held_by_stays, width_later, writes_itself}
 use Rattle.mw_symmach.specs.Expressions.{AreTerms, values_at}
 use Rattle.mw_symmach.specs.Given.{Gives}
-use Rattle.mw_symmach.specs.Steps.{Parts, parts_of, event_of, IsOfStep, Stands}
+use Rattle.mw_symmach.specs.Steps.{parts_of, event_of, IsOfStep, Stands}
 use Rattle.mw_symmach.specs.Turns.{Stepping, HasTerms, IsStepping, Waits, now_in, values_in, with_parts}
 use Rattle.mw_symmach.specs.Zeros.{AreWide, HaveZeros}
 use Rattle.mw_symmach.proofs.Making.{values_same}

@@ -1,6 +1,6 @@
 -- What a step has left to do as it goes on.
 use Rattle.std.proofs.Common.{◌≡◌, ℕ, zero, suc, ◌+◌, ◌<◌, ◌≤◌, List, [], ◌∷◌, ◌++◌, length, map, drop, ◌^◌, Bool, true, false, refl, ap, ap₂, arith, sym, subst, append_assoc, add-one, take, take-take, ◌∙◌}
-use Rattle.std.specs.Prelude.{Option, Some, None, Result, Ok, Err, OnOk}
+use Rattle.std.specs.Prelude.{Option, Some, None}
 use Rattle.std.proofs.Math.Seq.{drop-nil}
 use Rattle.std.proofs.lemmas.Bool.{and_parts}
 use Rattle.mw_expr.specs.declared.shape.Shape.{Shape}

@@ -1,24 +1,18 @@
 -- A described step on terms is the step of the machine.
-use Rattle.std.proofs.Common.{◌≡◌, ℕ, zero, suc, List, [], ◌∷◌, ◌++◌, length, Bool, append-nil, append_assoc, refl, ap, sym, subst, ◌∙◌}
-use Rattle.std.specs.Prelude.{◌==◌, Option, Some, None, slice_get}
-use Rattle.mw_macro.specs.Branches.{branches_of}
-use Rattle.mw_macro.specs.DescribedStep.{ended, step_of}
+use Rattle.std.proofs.Common.{◌≡◌, ℕ, List, [], ◌∷◌, ◌++◌, length, Bool, append-nil, append_assoc, refl, ap, sym, subst, ◌∙◌}
+use Rattle.std.specs.Prelude.{Option, Some, None, slice_get}
 use Rattle.mw_macro.specs.Machine.{Description}
-use Rattle.mw_macro.specs.State.{MachineState}
 use Rattle.mw_term.specs.declared.kinds.WordKind.TheVariants.{Input}
-use Rattle.mw_term.specs.Assigned.{Given}
 use Rattle.mw_term.specs.Table.{Table}
-use Rattle.mw_term.specs.Values.{term_value}
-use Rattle.mw_symmem.specs.declared.turn.Turn.TheVariants.{Ask, Finished}
 use Rattle.mw_symmem.specs.declared.word.Word.{Word}
 use Rattle.mw_symmem.specs.Words.{IsVariable, variable}
 use Rattle.mw_symmem.specs.Memory.{Memory}
-use Rattle.mw_symmem.specs.Workspace.{GoesOn, IsWorkspace}
+use Rattle.mw_symmem.specs.Workspace.{IsWorkspace}
 use Rattle.mw_symmem.proofs.Later.{image_before, images_fit_before}
 use Rattle.mw_symmem.proofs.Lists.{behind}
 use Rattle.mw_symmach.specs.Laws.{IsInStep, TurnsAreOfTheStep, BitsAreOfTheStep, ScenesAreSeenBefore}
-use Rattle.mw_symmach.specs.Steps.{Parts, IsOfStep, now_of}
-use Rattle.mw_symmach.specs.Turns.{Stepping, Scene, HasTerms, IsSeen, IsStepping, bits_to_come, end_of}
+use Rattle.mw_symmach.specs.Steps.{Parts}
+use Rattle.mw_symmach.specs.Turns.{HasTerms, bits_to_come}
 
 -- the item behind some others
 next_behind : (xs ys : List Bool) → slice_get (xs ++ ys) (length xs) ≡ slice_get ys 0

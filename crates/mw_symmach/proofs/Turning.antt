@@ -1,35 +1,29 @@
 -- The turns of a step.
-use Rattle.std.proofs.Common.{◌≡◌, ℕ, zero, suc, ◌+◌, ◌-◌, ◌<◌, ◌≤◌, ◌^◌, List, [], ◌∷◌, ◌++◌, length, map, replicate, Bool, true, false, refl, ap, ap₂, arith, sym, subst, ◌∙◌}
+use Rattle.std.proofs.Common.{◌≡◌, ℕ, ◌+◌, ◌<◌, ◌≤◌, ◌^◌, List, [], ◌∷◌, length, map, Bool, true, false, refl, ap, ap₂, arith, sym, subst, ◌∙◌}
 use Rattle.std.specs.Prelude.{if◌then◌else◌, ◌==◌, Option, Some, None, slice_get}
-use Rattle.mw_base.specs.Words.{num}
-use Rattle.mw_base.specs.declared.event.Event.{Event}
 use Rattle.mw_expr.specs.declared.shape.Shape.{Shape}
 use Rattle.mw_expr.specs.Tree.{Tree}
 use Rattle.mw_expr.specs.Values.{value}
-use Rattle.mw_macro.specs.declared.counts.Counted.{Counted}
 use Rattle.mw_macro.specs.declared.counts.Counted.TheVariants.{Statements, Reads, Events}
 use Rattle.mw_macro.specs.Branches.{branches_in, branches_of}
-use Rattle.mw_macro.specs.Counts.{total, count, own_reads}
-use Rattle.mw_macro.specs.DescribedStep.{Now, now, after, after_all, begun, ended, step_of}
+use Rattle.mw_macro.specs.Counts.{total}
+use Rattle.mw_macro.specs.DescribedStep.{Now, now, after_all, begun, ended, step_of}
 use Rattle.mw_macro.specs.Machine.{Description}
 use Rattle.mw_macro.specs.State.{MachineState}
-use Rattle.mw_macro.specs.Statements.{choose, Acts, nothing, next}
+use Rattle.mw_macro.specs.Statements.{choose, Acts, next}
 use Rattle.mw_term.specs.declared.kinds.DecidedKind.TheVariants.{Branch}
 use Rattle.mw_term.specs.Assigned.{Given}
 use Rattle.mw_term.specs.Table.{Table}
-use Rattle.mw_term.specs.Values.{term_value}
 use Rattle.mw_symmem.specs.declared.side.Side.TheVariants.{Machine}
 use Rattle.mw_symmem.specs.declared.word.Word.{Word}
 use Rattle.mw_symmem.specs.Memory.{Memory, held_by}
 use Rattle.mw_symmem.specs.Workspace.{GoesOn}
 use Rattle.mw_symmem.proofs.Later.{goes_then}
-use Rattle.mw_symmach.specs.declared.level.Level.{Level}
 use Rattle.mw_symmach.specs.declared.machine.Pending.{Pending}
 use Rattle.mw_symmach.specs.declared.machine.Pending.TheVariants as pendings
-use Rattle.mw_symmach.specs.Expressions.{values_at}
 use Rattle.mw_symmach.specs.Places.{left_of, then_acts, reads_first, AsksNext, Carries, IsAtIf, Reaches, StopsAt}
-use Rattle.mw_symmach.specs.Steps.{Parts, IsOfStep, Stands, now_of, event_of, parts_of}
-use Rattle.mw_symmach.specs.Turns.{Stepping, Scene, Asks, HasTerms, IsDecided, IsDone, IsSaid, IsSeen, IsStart, IsStepping, IsTurn, StandsAt, bits_to_come, come_to, end_of, entered, entered_by, given_so, is_asked, left_by, left_in, level_of, now_in, reads_behind, reads_by, reads_to_come, turn_of, values_in, with_parts}
+use Rattle.mw_symmach.specs.Steps.{Parts, IsOfStep, Stands, now_of, event_of}
+use Rattle.mw_symmach.specs.Turns.{Stepping, Scene, Asks, HasTerms, IsDecided, IsSaid, IsStart, IsStepping, IsTurn, StandsAt, bits_to_come, come_to, end_of, entered, entered_by, given_so, is_asked, left_by, left_in, now_in, reads_behind, reads_by, reads_to_come, turn_of, values_in, with_parts}
 use Rattle.mw_symmach.proofs.AtIf.{at_if_within, left_at_if}
 use Rattle.mw_symmach.proofs.Carrying.{after_then, branches_then, total_then}
 

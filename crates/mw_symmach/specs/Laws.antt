@@ -14,7 +14,7 @@ use Rattle.mw_symmem.specs.declared.word.Word.{Word}
 use Rattle.mw_symmem.specs.Memory.{Memory}
 use Rattle.mw_symmem.specs.Workspace.{GoesOn}
 use Rattle.mw_symmach.specs.Steps.{IsOfStep, now_of}
-use Rattle.mw_symmach.specs.Turns.{Stepping, Scene, Asks, IsDecided, IsDone, IsSeen, IsStepping, IsTurn, bits_to_come, end_of}
+use Rattle.mw_symmach.specs.Turns.{Stepping, Scene, IsDecided, IsSeen, IsStepping, IsTurn, bits_to_come, end_of}
 
 -- In a scene, under an assignment, it is in the step of a machine from a state, with a request bit, of whose branch bits
 -- these were given: the others are to come, and it comes to what the step comes to.

@@ -1,5 +1,5 @@
 -- A described step on terms, and what its turns say: under every assignment it is a step of the machine.
-use Rattle.std.specs.Prelude.{◌≡◌, ℕ, ◌+◌, ◌-◌, ◌<◌, ◌≤◌, ◌^◌, ◌==◌, List, [], ◌∷◌, ◌++◌, length, map, replicate, take, slice_get, slice_index, Bool, true, false, Option, Some, None}
+use Rattle.std.specs.Prelude.{◌≡◌, ℕ, ◌+◌, ◌-◌, ◌<◌, ◌≤◌, ◌^◌, ◌==◌, List, [], ◌∷◌, ◌++◌, length, map, replicate, slice_get, slice_index, Bool, true, false, Option, Some, None}
 use Rattle.mw_base.specs.Words.{num}
 use Rattle.mw_macro.specs.declared.counts.Counted.TheVariants.{Reads, Events}
 use Rattle.mw_macro.specs.Branches.{branches_in}
@@ -55,13 +55,14 @@ given_so o value = record o { pending = pendings.Given value }
 abbrev pub with_parts : Stepping → Parts → Option ℕ → Stepping
 with_parts o parts request = record o { parts = parts; request = request }
 
--- it at a position in a list of the `if` at which it stood, where one was chosen
+-- it at the start of a list of the `if` at which it stood, where one was chosen
 abbrev pub entered_by : Pending → Stepping → Stepping
 entered_by pendings.Nothing o = o
 entered_by pendings.Asked o = o
 entered_by (pendings.Given first) o =
     record o { levels = o.levels ++ level_of o.position first ∷ []; position = 0; pending = pendings.Nothing }
 
+-- the same by what it does with that `if`
 abbrev pub entered : Stepping → Stepping
 entered o = entered_by o.pending o
 
@@ -161,12 +162,13 @@ abbrev pub reads_behind : Acts → ℕ
 reads_behind nothing = 0
 reads_behind (next act rest) = count Reads act - own_reads act + total Reads rest
 
--- how many base reads are to come at most
+-- how many base reads acts come to at most, where the first may be an `if` whose condition was read
 abbrev pub reads_by : Pending → Acts → ℕ
 reads_by pendings.Nothing left = total Reads left
 reads_by pendings.Asked left = reads_behind left
 reads_by (pendings.Given first) left = total Reads left
 
+-- how many base reads the rest of a step comes to at most
 abbrev pub reads_to_come : Description → Stepping → ℕ
 reads_to_come d o = reads_by o.pending (left_in d o)
 

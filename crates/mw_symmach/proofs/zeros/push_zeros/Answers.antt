@@ -1,5 +1,4 @@
-use Rattle.std.proofs.Common.{◌≡◌, ◌+◌, ◌-◌, ◌<◌, ◌≤◌, length, slice_index, ap, arith, sym}
-use Rattle.mw_symmach.specs.Zeros.{HaveZeros}
+use Rattle.std.proofs.Common.{◌≡◌, ◌+◌, ◌-◌, length, slice_index, ap, arith, sym}
 use Rattle.mw_symmach.proofs.Beginning.{zeros_more}
 use Rattle.mw_symmach.proofs.zeros.push_zeros.Goals as goal
 

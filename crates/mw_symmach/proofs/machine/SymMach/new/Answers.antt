@@ -1,6 +1,4 @@
-use Rattle.std.proofs.Common.{◌≡◌, ◌+◌, ◌<◌, ◌^◌, arith, refl}
-use Rattle.mw_macro.specs.declared.counts.Counted.TheVariants.{Events}
-use Rattle.mw_macro.specs.Counts.{total}
+use Rattle.std.proofs.Common.{arith, refl}
 use Rattle.mw_macro.specs.Described.{description_of}
 use Rattle.mw_macro.proofs.Accepted.{accepted_few}
 use Rattle.mw_symmach.proofs.Turning.{start_bits, start_ends}

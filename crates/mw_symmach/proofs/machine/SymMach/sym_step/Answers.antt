@@ -18,98 +18,38 @@ go_on-requires c =
     c.in_ok-enter.ensures in
     record { stands = may.stands; few_reads = may.few_reads; few_events = may.few_events }
 
-pub returns-clause-turn : goal.returns-clause-turn
-returns-clause-turn c =
+pub returns : goal.returns
+returns c =
     let d = description_of c.args.machine.now in
-    let went : Went d c.args.terms.now c.begin.new.terms c.go_on.new.terms c.args.words.now c.go_on.new.words
-    c.args.memory.now c.go_on.new.memory c.args.self.now c.begin.new.self c.go_on.new.self
-    c.in_ok-reached.reached.position c.in_ok-reached.reached.asked =
+    let begun = c.begin.new.self in
+    let new = c.go_on.new.self in
+    let position = c.in_ok-reached.reached.position in
+    let asked = c.in_ok-reached.reached.asked in
+    let t0 = c.args.terms.now in
+    let t1 = c.begin.new.terms in
+    let t2 = c.go_on.new.terms in
+    let w0 = c.args.words.now in
+    let w2 = c.go_on.new.words in
+    let m0 = c.args.memory.now in
+    let m2 = c.go_on.new.memory in
+    let went : Went d t0 t1 t2 w0 w2 m0 m2 c.args.self.now begun new position asked =
     record {
       idle = c.requires.idle;
       same = c.in_ok-begin.ensures.same;
       stands = c.in_ok-begin.ensures.stands;
       goes = c.in_ok-begin.ensures.goes;
       stepping = c.in_ok-begin.ensures.stepping;
-      reaches = went_on d c.begin.new.terms c.go_on.new.terms c.args.words.now c.go_on.new.words c.args.memory.now
-          c.go_on.new.memory c.args.self.now c.begin.new.self c.enter.new.self c.go_on.new.self
-          c.in_ok-reached.reached.position c.in_ok-reached.reached.asked c.requires.idle c.in_ok-begin.ensures.stands
-          c.in_ok-enter.ensures c.in_ok-reached.ensures.reaches;
+      reaches = went_on d t1 t2 w0 w2 m0 m2 c.args.self.now begun c.enter.new.self new position asked c.requires.idle
+          c.in_ok-begin.ensures.stands c.in_ok-enter.ensures c.in_ok-reached.ensures.reaches;
       stops = c.in_ok-reached.ensures.stops;
-      request = c.go_on.ensures.request ∙ ap (λ (o : Stepping). o.request) c.in_ok-enter.ensures
-          ∙ entered_request c.begin.new.self ∙ c.in_ok-begin.ensures.begun;
+      request = c.go_on.ensures.request ∙ ap (λ (o : Stepping). o.request) c.in_ok-enter.ensures ∙ entered_request begun
+          ∙ c.in_ok-begin.ensures.begun;
     } in
-    rw (c.turn.ensures.said, c.turn.ensures.new) (went_turn d c.args.terms.now c.begin.new.terms c.go_on.new.terms c.args.words.now c.go_on.new.words
-    c.args.memory.now c.go_on.new.memory c.args.self.now c.begin.new.self c.go_on.new.self
-    c.in_ok-reached.reached.position c.in_ok-reached.reached.asked went)
-
-pub returns-clause-goes : goal.returns-clause-goes
-returns-clause-goes c =
-    let d = description_of c.args.machine.now in
-    let went : Went d c.args.terms.now c.begin.new.terms c.go_on.new.terms c.args.words.now c.go_on.new.words
-    c.args.memory.now c.go_on.new.memory c.args.self.now c.begin.new.self c.go_on.new.self
-    c.in_ok-reached.reached.position c.in_ok-reached.reached.asked =
     record {
-      idle = c.requires.idle;
-      same = c.in_ok-begin.ensures.same;
-      stands = c.in_ok-begin.ensures.stands;
-      goes = c.in_ok-begin.ensures.goes;
-      stepping = c.in_ok-begin.ensures.stepping;
-      reaches = went_on d c.begin.new.terms c.go_on.new.terms c.args.words.now c.go_on.new.words c.args.memory.now
-          c.go_on.new.memory c.args.self.now c.begin.new.self c.enter.new.self c.go_on.new.self
-          c.in_ok-reached.reached.position c.in_ok-reached.reached.asked c.requires.idle c.in_ok-begin.ensures.stands
-          c.in_ok-enter.ensures c.in_ok-reached.ensures.reaches;
-      stops = c.in_ok-reached.ensures.stops;
-      request = c.go_on.ensures.request ∙ ap (λ (o : Stepping). o.request) c.in_ok-enter.ensures
-          ∙ entered_request c.begin.new.self ∙ c.in_ok-begin.ensures.begun;
-    } in
-    went_goes d c.args.terms.now c.begin.new.terms c.go_on.new.terms c.args.words.now c.go_on.new.words
-    c.args.memory.now c.go_on.new.memory c.args.self.now c.begin.new.self c.go_on.new.self
-    c.in_ok-reached.reached.position c.in_ok-reached.reached.asked went
-
-pub returns-clause-few : goal.returns-clause-few
-returns-clause-few c =
-    let d = description_of c.args.machine.now in
-    let went : Went d c.args.terms.now c.begin.new.terms c.go_on.new.terms c.args.words.now c.go_on.new.words
-    c.args.memory.now c.go_on.new.memory c.args.self.now c.begin.new.self c.go_on.new.self
-    c.in_ok-reached.reached.position c.in_ok-reached.reached.asked =
-    record {
-      idle = c.requires.idle;
-      same = c.in_ok-begin.ensures.same;
-      stands = c.in_ok-begin.ensures.stands;
-      goes = c.in_ok-begin.ensures.goes;
-      stepping = c.in_ok-begin.ensures.stepping;
-      reaches = went_on d c.begin.new.terms c.go_on.new.terms c.args.words.now c.go_on.new.words c.args.memory.now
-          c.go_on.new.memory c.args.self.now c.begin.new.self c.enter.new.self c.go_on.new.self
-          c.in_ok-reached.reached.position c.in_ok-reached.reached.asked c.requires.idle c.in_ok-begin.ensures.stands
-          c.in_ok-enter.ensures c.in_ok-reached.ensures.reaches;
-      stops = c.in_ok-reached.ensures.stops;
-      request = c.go_on.ensures.request ∙ ap (λ (o : Stepping). o.request) c.in_ok-enter.ensures
-          ∙ entered_request c.begin.new.self ∙ c.in_ok-begin.ensures.begun;
-    } in
-    rw c.turn.ensures.new (went_few d c.args.terms.now c.begin.new.terms c.go_on.new.terms c.args.words.now c.go_on.new.words
-    c.args.memory.now c.go_on.new.memory c.args.self.now c.begin.new.self c.go_on.new.self
-    c.in_ok-reached.reached.position c.in_ok-reached.reached.asked went)
-
-pub returns-clause-stepping : goal.returns-clause-stepping
-returns-clause-stepping c =
-    let d = description_of c.args.machine.now in
-    let went : Went d c.args.terms.now c.begin.new.terms c.go_on.new.terms c.args.words.now c.go_on.new.words
-    c.args.memory.now c.go_on.new.memory c.args.self.now c.begin.new.self c.go_on.new.self
-    c.in_ok-reached.reached.position c.in_ok-reached.reached.asked =
-    record {
-      idle = c.requires.idle;
-      same = c.in_ok-begin.ensures.same;
-      stands = c.in_ok-begin.ensures.stands;
-      goes = c.in_ok-begin.ensures.goes;
-      stepping = c.in_ok-begin.ensures.stepping;
-      reaches = went_on d c.begin.new.terms c.go_on.new.terms c.args.words.now c.go_on.new.words c.args.memory.now
-          c.go_on.new.memory c.args.self.now c.begin.new.self c.enter.new.self c.go_on.new.self
-          c.in_ok-reached.reached.position c.in_ok-reached.reached.asked c.requires.idle c.in_ok-begin.ensures.stands
-          c.in_ok-enter.ensures c.in_ok-reached.ensures.reaches;
-      stops = c.in_ok-reached.ensures.stops;
-      request = c.go_on.ensures.request ∙ ap (λ (o : Stepping). o.request) c.in_ok-enter.ensures
-          ∙ entered_request c.begin.new.self ∙ c.in_ok-begin.ensures.begun;
-    } in
-    rw c.turn.ensures.new (went_stepping d c.args.terms.now c.begin.new.terms c.go_on.new.terms c.args.words.now c.go_on.new.words
-    c.args.memory.now c.go_on.new.memory c.args.self.now c.begin.new.self c.go_on.new.self
-    c.in_ok-reached.reached.position c.in_ok-reached.reached.asked went)
+      turn = rw (c.turn.ensures.said, c.turn.ensures.new)
+          (went_turn d t0 t1 t2 w0 w2 m0 m2 c.args.self.now begun new position asked went);
+      goes = went_goes d t0 t1 t2 w0 w2 m0 m2 c.args.self.now begun new position asked went;
+      few = rw c.turn.ensures.new (went_few d t0 t1 t2 w0 w2 m0 m2 c.args.self.now begun new position asked went);
+      stepping = rw c.turn.ensures.new
+          (went_stepping d t0 t1 t2 w0 w2 m0 m2 c.args.self.now begun new position asked went);
+    }
