@@ -21,7 +21,7 @@ use Rattle.mw_term.specs.MemoryRead.{Held, held}
 use Rattle.mw_term.specs.declared.op.Op.TheVariants.{Var}
 use Rattle.mw_term.specs.Table.{Table, Extends, IsTable, op_width, term_width}
 use Rattle.mw_term.specs.Values.{IsTermOf, Keeps, term_value}
-use Rattle.mw_symmem.specs.declared.side.Side.TheVariants.{Machine}
+use Rattle.mw_symmem.specs.declared.side.Side.TheVariants.{Board, Machine}
 use Rattle.mw_symmem.specs.declared.turn.SymEvent.{SymEvent}
 use Rattle.mw_symmem.specs.declared.turn.SymEvent.TheVariants.{Out, Taken}
 use Rattle.mw_symmem.specs.declared.word.Word.{Word}
@@ -235,6 +235,7 @@ acted_assign s t0 t1 w0 w1 m0 m1 p q target e term stands right made is =
         input = later.input;
       };
       many = made.runs.more;
+      board = made.runs.writes.each Board;
       few = omega arith;
       acts = λ given image inputs is_image fits are.
           ap (λ vs. now vs (held_by t1 given m1 Machine image) (map (event_of t1 given) p.events) p.taken)
@@ -280,6 +281,7 @@ acted_put s t0 t1 w0 w1 m0 m1 p q e term stands right made is =
         input = later.input;
       };
       many = made.runs.more;
+      board = made.runs.writes.each Board;
       few = omega arith;
       acts = λ given image inputs is_image fits are.
           ap (λ es. now (values_at t1 given p.values) (held_by t1 given m1 Machine image) es p.taken)
@@ -358,6 +360,7 @@ acted_write s t0 t1 t2 w0 w1 w2 m0 m1 m2 p a e place word stands right first sec
         input = later.input;
       };
       many = omega (arith, first.runs.more, second.runs.more);
+      board = second.runs.writes.each Board ∙ first.runs.writes.each Board;
       few = omega arith;
       acts = λ given image inputs is_image fits are.
           let one = now_same s t0 t1 w0 w1 m0 m1 p a place given image stands first in
@@ -476,6 +479,7 @@ acted_take s t0 t1 w0 w1 m p q target term stands right made is =
         input = widths;
       };
       many = omega arith;
+      board = refl;
       few = omega arith;
       acts = λ given image inputs is_image fits are.
           let none : 0 + p.taken ≡ p.taken = omega arith in

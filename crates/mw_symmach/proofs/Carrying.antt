@@ -16,7 +16,7 @@ use Rattle.mw_macro.specs.Statements.{Act, assign, write, put, take_in, choose, 
 use Rattle.mw_term.specs.declared.kinds.WordKind.TheVariants.{Input}
 use Rattle.mw_term.specs.Assigned.{Given}
 use Rattle.mw_term.specs.Table.{Table}
-use Rattle.mw_symmem.specs.declared.side.Side.TheVariants.{Machine}
+use Rattle.mw_symmem.specs.declared.side.Side.TheVariants.{Board, Machine}
 use Rattle.mw_symmem.specs.declared.word.Word.{Word}
 use Rattle.mw_symmem.specs.Words.{IsVariable, variable}
 use Rattle.mw_symmem.specs.Memory.{Memory}
@@ -69,6 +69,7 @@ pub carries_itself : (s : Shape) (t : Table) (words : List Word) (m : Memory) (p
 carries_itself s t words m p left stands = record {
   goes = goes_nowhere IsOfStep t words m stands.workspace;
   stands = stands;
+  board = refl;
   few_reads = omega arith;
   few_events = omega arith;
   ends = λ given image inputs is fits are. refl;
@@ -81,6 +82,7 @@ pub carries_then : (s : Shape) (a b c : Table) (wa wb wc : List Word) (ma mb mc 
 carries_then s a b c wa wb wc ma mb mc pa pb pc la lb lc more first second = record {
   goes = goes_then IsOfStep a b c wa wb wc ma mb mc first.goes second.goes;
   stands = second.stands;
+  board = second.board ∙ first.board;
   few_reads = omega (arith, first.few_reads, second.few_reads);
   few_events = omega (arith, first.few_events, second.few_events);
   ends = λ given image inputs is fits are.
@@ -102,6 +104,7 @@ pub carries_behind : (s : Shape) (told tnew : Table) (wold wnew : List Word) (mo
 carries_behind s told tnew wold wnew mold mnew pold pnew lold lnew rest more carries = record {
   goes = carries.goes;
   stands = carries.stands;
+  board = carries.board;
   few_reads = omega (arith, carries.few_reads, total_then Reads lold rest, total_then Reads lnew rest);
   few_events = omega (arith, carries.few_events, total_then Events lold rest, total_then Events lnew rest);
   ends = λ given image inputs is fits are.
@@ -142,6 +145,7 @@ pub carries_act : (s : Shape) (told tnew : Table) (wold wnew : List Word) (mold 
 carries_act s told tnew wold wnew mold mnew pold pnew act rest acted plain = record {
   goes = acted.goes;
   stands = acted.stands;
+  board = acted.board;
   few_reads = omega (arith, acted.many, plain_reads act plain);
   few_events = omega (arith, acted.few, plain_events act plain);
   ends = λ given image inputs is fits are. ap (after_all s inputs 0 rest) (acted.acts given image inputs is fits are);
@@ -181,6 +185,7 @@ asked_if s t0 t1 w0 w1 m0 m1 p c one other term stands right made =
       goes = goes_of_made t0 t1 w0 w1 m0 m1 made.runs.goes;
       stands = stands_after s t0 t1 w0 w1 m0 m1 p c term stands made;
       many = made.runs.more;
+      board = made.runs.writes.each Board;
       bit = term_is s t0 t1 w0 w1 m0 m1 p c term 1 stands made wide;
       same = λ given image. now_same s t0 t1 w0 w1 m0 m1 p c term given image stands made;
       value = λ given image is fits. value_same s t0 t1 w0 w1 m0 m1 p c term given image stands made is fits;
@@ -193,6 +198,7 @@ pub carries_asked : (s : Shape) (t0 t1 : Table) (w0 w1 : List Word) (m0 m1 : Mem
 carries_asked s t0 t1 w0 w1 m0 m1 p act term rest asked = record {
   goes = asked.goes;
   stands = asked.stands;
+  board = asked.board;
   few_reads = omega (arith, asked.many);
   few_events = omega arith;
   ends = λ given image inputs is fits are. ap (after_all s inputs 0 (next act rest)) (asked.same given image);

@@ -1,17 +1,18 @@
 -- A described step on terms is the step of the machine.
-use Rattle.std.proofs.Common.{◌≡◌, ℕ, List, [], ◌∷◌, ◌++◌, length, Bool, append-nil, append_assoc, refl, ap, sym, subst, ◌∙◌}
+use Rattle.std.proofs.Common.{◌≡◌, ◌<◌, ℕ, zero, suc, List, [], ◌∷◌, ◌++◌, length, slice_index, Bool, append-nil, append_assoc, refl, ap, arith, sym, subst, ◌∙◌}
 use Rattle.std.specs.Prelude.{Option, Some, None, slice_get}
-use Rattle.mw_macro.specs.Machine.{Description}
+use Rattle.mw_macro.specs.Machine.{Description, IsFormed}
 use Rattle.mw_term.specs.declared.kinds.WordKind.TheVariants.{Input}
 use Rattle.mw_term.specs.Table.{Table}
+use Rattle.mw_symmem.specs.declared.turn.SymEvent.{SymEvent}
 use Rattle.mw_symmem.specs.declared.word.Word.{Word}
 use Rattle.mw_symmem.specs.Words.{IsVariable, variable}
-use Rattle.mw_symmem.specs.Memory.{Memory}
+use Rattle.mw_symmem.specs.Memory.{Memory, IsOfWidth}
 use Rattle.mw_symmem.specs.Workspace.{IsWorkspace}
 use Rattle.mw_symmem.proofs.Later.{image_before, images_fit_before}
 use Rattle.mw_symmem.proofs.Lists.{behind}
-use Rattle.mw_symmach.specs.Laws.{IsInStep, TurnsAreOfTheStep, BitsAreOfTheStep, ScenesAreSeenBefore}
-use Rattle.mw_symmach.specs.Steps.{Parts}
+use Rattle.mw_symmach.specs.Laws.{IsInStep, TermsAreThere, TurnsAreOfTheStep, BitsAreOfTheStep, ScenesAreSeenBefore}
+use Rattle.mw_symmach.specs.Steps.{Parts, event_term}
 use Rattle.mw_symmach.specs.Turns.{HasTerms, bits_to_come}
 
 -- the item behind some others
@@ -64,3 +65,26 @@ scenes_are_seen_before told tnew wold wnew mold mnew given x d o stepping goes s
           (behind wold goes.more place (variable term (Input k)) is))
           ∙ goes.later.keeps.values given term (workspace.of.there place (variable term (Input k)) is);
     }
+
+no_event : (i : ℕ) (e : SymEvent) → slice_get [] i ≡ Some e → ⊥
+no_event zero e is = absurd cc
+no_event (suc i) e is = absurd cc
+
+terms_of : (d : Description) (t : Table) (words : List Word) (m : Memory) (p : Parts) (request : Option ℕ) → IsFormed d
+    → HasTerms d t words m p request
+    → ((i : ℕ) → i < d.registers
+    → (i < length p.values) × IsOfWidth t (slice_index d.shape.widths i) (slice_index p.values i))
+    × ((i : ℕ) (e : SymEvent) → slice_get p.events i ≡ Some e → IsOfWidth t d.shape.word (event_term e))
+terms_of d t words m p None formed has = (
+  λ i inside.
+      let within : i < length d.shape.widths = omega (arith, inside, formed.registers, formed.elements) in
+      (omega (arith, within, has.count), has.each i within),
+  has.event,
+)
+terms_of d t words m p (Some request) formed has = (
+  λ i inside. (omega (arith, inside, has.0.count), has.0.each i inside),
+  λ i e is. absurd (no_event i e (rw has.1 at is)),
+)
+
+pub terms_are_there : TermsAreThere
+terms_are_there d t words m o formed stepping = terms_of d t words m o.parts o.request formed stepping.terms

@@ -206,6 +206,12 @@ went_goes d t0 t1 t2 w0 w2 m0 m2 old begun new position asked went =
     (carries_of d.shape t1 t2 w0 w2 m0 m2 begun.parts new.parts (left_in d begun) (left_of d.acts new.levels position) asked
     went.reaches).goes
 
+pub went_board : (d : Description) (t0 t1 t2 : Table) (w0 w2 : List Word) (m0 m2 : Memory) (old begun new : Stepping)
+    (position : ℕ) (asked : Option ℕ) → Went d t0 t1 t2 w0 w2 m0 m2 old begun new position asked → m2.board ≡ m0.board
+went_board d t0 t1 t2 w0 w2 m0 m2 old begun new position asked went =
+    (carries_of d.shape t1 t2 w0 w2 m0 m2 begun.parts new.parts (left_in d begun) (left_of d.acts new.levels position) asked
+    went.reaches).board
+
 came : (d : Description) (new : Stepping) (t : Table) (m : Memory) (position : ℕ) (asked : Option ℕ) (given : Given)
     (x : Scene) → new.request ≡ None
     → bits_to_come d t given m x (come_to new position asked)

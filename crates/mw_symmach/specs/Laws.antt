@@ -1,19 +1,20 @@
 -- A described step on terms is the step of the machine.
-use Rattle.std.specs.Prelude.{◌≡◌, ℕ, ◌==◌, List, [], ◌∷◌, ◌++◌, length, slice_get, Bool, Some}
+use Rattle.std.specs.Prelude.{◌≡◌, ℕ, ◌<◌, ◌==◌, List, [], ◌∷◌, ◌++◌, length, slice_get, slice_index, Bool, Some}
 use Rattle.mw_macro.specs.Branches.{branches_of}
 use Rattle.mw_macro.specs.DescribedStep.{ended, step_of}
-use Rattle.mw_macro.specs.Machine.{Description}
+use Rattle.mw_macro.specs.Machine.{Description, IsFormed}
 use Rattle.mw_macro.specs.State.{MachineState}
 use Rattle.mw_term.specs.declared.kinds.DecidedKind.{DecidedKind}
 use Rattle.mw_term.specs.Assigned.{Given}
 use Rattle.mw_term.specs.Table.{Table}
 use Rattle.mw_term.specs.Values.{term_value}
+use Rattle.mw_symmem.specs.declared.turn.SymEvent.{SymEvent}
 use Rattle.mw_symmem.specs.declared.turn.Turn.{Turn}
 use Rattle.mw_symmem.specs.declared.turn.Turn.TheVariants.{Ask, Finished}
 use Rattle.mw_symmem.specs.declared.word.Word.{Word}
-use Rattle.mw_symmem.specs.Memory.{Memory}
+use Rattle.mw_symmem.specs.Memory.{Memory, IsOfWidth}
 use Rattle.mw_symmem.specs.Workspace.{GoesOn}
-use Rattle.mw_symmach.specs.Steps.{IsOfStep, now_of}
+use Rattle.mw_symmach.specs.Steps.{IsOfStep, event_term, now_of}
 use Rattle.mw_symmach.specs.Turns.{Stepping, Scene, IsDecided, IsSeen, IsStepping, IsTurn, bits_to_come, end_of}
 
 -- In a scene, under an assignment, it is in the step of a machine from a state, with a request bit, of whose branch bits
@@ -53,3 +54,11 @@ ScenesAreSeenBefore =
     (told tnew : Table) (wold wnew : List Word) (mold mnew : Memory) (given : Given) (x : Scene) (d : Description) (o : Stepping)
     → IsStepping d told wold mold o → GoesOn IsOfStep told tnew wold wnew mold mnew → IsSeen tnew wnew mnew given x
     → IsSeen told wold mold given x
+
+-- There is a term of its width for each register, and for the word of each event.
+abbrev pub TermsAreThere : Type 0
+TermsAreThere =
+    (d : Description) (t : Table) (words : List Word) (m : Memory) (o : Stepping) → IsFormed d → IsStepping d t words m o
+    → ((i : ℕ) → i < d.registers
+    → (i < length o.parts.values) × IsOfWidth t (slice_index d.shape.widths i) (slice_index o.parts.values i))
+    × ((i : ℕ) (e : SymEvent) → slice_get o.parts.events i ≡ Some e → IsOfWidth t d.shape.word (event_term e))

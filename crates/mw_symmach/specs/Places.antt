@@ -66,11 +66,13 @@ StopsAt acts levels position (Some term) = IsAtIf acts levels position
 
 -- A run went on from parts of a step with some acts left to parts with others left: what these come to, and the bits
 -- that they branch by, is what the first come to, for every assignment, every image that the base reads fit, and the
--- inputs that the variables of inputs have as values. No more base reads were added than are left fewer, and `more`.
+-- inputs that the variables of inputs have as values. No more base reads were added than are left fewer, and `more`, and
+-- the board's writes are what they were.
 pub record Carries (s : Shape) (told tnew : Table) (wold wnew : List Word) (mold mnew : Memory) (pold pnew : Parts)
     (lold lnew : Acts) (more : ℕ) : Type 0 where
   pub goes : GoesOn IsOfStep told tnew wold wnew mold mnew
   pub stands : Stands s tnew wnew mnew pnew
+  pub board : mnew.board ≡ mold.board
   pub few_reads : length mnew.reads + total Reads lnew ≤ length mold.reads + total Reads lold + more
   pub few_events : pnew.taken + total Events lnew ≤ pold.taken + total Events lold
   pub ends : (given : Given) (image inputs : List ℕ) → IsImage mnew image → FitImage tnew given mnew.reads image
@@ -97,6 +99,7 @@ pub record IsAsked (s : Shape) (told tnew : Table) (wold wnew : List Word) (mold
   pub goes : GoesOn IsOfStep told tnew wold wnew mold mnew
   pub stands : Stands s tnew wnew mnew p
   pub many : length mnew.reads ≡ length mold.reads + own_reads act
+  pub board : mnew.board ≡ mold.board
   pub bit : IsOfWidth tnew 1 term
   pub same : (given : Given) (image : List ℕ) → now_of tnew given mnew image p ≡ now_of told given mold image p
   pub value : (given : Given) (image : List ℕ) → IsImage mnew image → FitImage tnew given mnew.reads image

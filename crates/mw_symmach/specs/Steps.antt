@@ -78,12 +78,14 @@ pub record Stands (s : Shape) (t : Table) (words : List Word) (m : Memory) (p : 
   pub input : (k place term : ℕ) → IsVariable words place term (Input k) → IsOfWidth t s.word term
 
 -- A statement was done on terms: what they stand for is what there is after the statement, for every assignment, every
--- image that the base reads fit, and the inputs that the variables of inputs have as values.
+-- image that the base reads fit, and the inputs that the variables of inputs have as values. The board's writes are what
+-- they were.
 pub record Acted (s : Shape) (told tnew : Table) (wold wnew : List Word) (mold mnew : Memory) (pold pnew : Parts)
     (act : Act) : Type 0 where
   pub goes : GoesOn IsOfStep told tnew wold wnew mold mnew
   pub stands : Stands s tnew wnew mnew pnew
   pub many : length mnew.reads ≡ length mold.reads + own_reads act
+  pub board : mnew.board ≡ mold.board
   pub few : pnew.taken ≤ pold.taken + own_events act
   pub acts : (given : Given) (image inputs : List ℕ) → IsImage mnew image → FitImage tnew given mnew.reads image
       → AreInputsOf tnew wnew given inputs

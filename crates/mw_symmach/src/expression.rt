@@ -12,8 +12,7 @@ use mw_term::{Term, Terms};
 use std::alloc::Global;
 
 /// The term that stands for an expression: its value is the expression's, for every assignment, and for every image that
-/// the base reads fit, where each element has the value of its term and the memory holds what the side's holds. The
-/// words of its parts are added from left to right, and then its own.
+/// the base reads fit, where each element has the value of its term and the memory holds what the side's holds.
 ///
 /// There is a term for each element. The expression has a width over these terms and the memory, and the numbers of base
 /// reads stay below 2^32.

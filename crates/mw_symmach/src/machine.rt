@@ -61,8 +61,8 @@ impl Model for SymMach {
 }
 
 impl SymMach {
-    /// A step from these terms for the registers, by their numbers, and one for the request. Each has its register's
-    /// width, and the request one bit. There is no event, and no input was taken.
+    /// A step from these terms for the registers, by their numbers, and one for the request. It may go on where each has
+    /// its register's width, and the request one bit. There is no event, and no input was taken.
     ///
     /// # Errors
     ///
@@ -199,6 +199,7 @@ impl SymMach {
         requires stepping { IsStepping (description_of machine.now) terms.old words.old memory.old self.old }
         ensures turn { IfOk result (IsTurn (description_of machine.now) terms.old terms.new words.new memory.old memory.new self.old self.new) }
         ensures goes { OnOk result (GoesOn IsOfStep terms.old terms.new words.old words.new memory.old memory.new) }
+        ensures board { OnOk result (memory.new.board ≡ memory.old.board) }
         ensures few { OnOk result (length memory.new.reads + reads_to_come (description_of machine.now) self.new
             ≤ length memory.old.reads + reads_to_come (description_of machine.now) self.old) }
         ensures stepping { OnOk result (IsStepping (description_of machine.now) terms.new words.new memory.new self.new) }
@@ -275,7 +276,7 @@ impl SymMach {
         self.pending = Pending::Given(value);
     }
 
-    /// The term of a register of the machine, by its number, from 0.
+    /// The term of an element: the registers are the first ones, by their numbers, from 0.
     pub fn register(&self, number: u32) -> Term
         requires { number < length self.now.parts.values }
         ensures { result ≡ slice_index self.now.parts.values number }
