@@ -6,6 +6,8 @@ crates. cycle_cases.py has the boards and the cases. The boards that are modelle
 read from the very texts that are printed.
 
     cycle_table.py rows       the rows, for crates/mw_rows/data/cycles
+    cycle_table.py symbolic   the rows of symbolic cycles, for crates/mw_rows/data/symbolic: the same cases, and cycles of random microwords
+                              from random states. They have the state after the cycle, its event, and its decided bits
     cycle_table.py --check    no row: random cycles keep a state's ranges, and the cases choose every entry of every list
 """
 import random
@@ -270,19 +272,115 @@ def worked_out():
     return stores, rows
 
 
+def print_store(files, text, store):
+    """A set of a board and a store."""
+    words = "".join(f"{word:x}\n" for word in store)
+    print("\n".join(["", f"set {files}"] + file_lines("board", text.encode()) + file_lines("store", words.encode())))
+
+
 def print_rows():
     stores, rows = worked_out()
     print("# Cycles, printed by tools/cycle_table.py: the state after a cycle, and its nets.")
     for width, text in BOARDS.items():
-        words = "".join(f"{word:x}\n" for word in stores[width])
-        print("\n".join(["", f"set board of {width} bits"] + file_lines("board", text.encode())
-                        + file_lines("store", words.encode())))
+        print_store(f"board of {width} bits", text, stores[width])
         for name, start, at, (noise, line, offered), after, nets in rows:
             if width_of(start) == width:
                 before = State.read(STARTS[start]).text(at)
                 given = [f"with board of {width} bits"] + file_lines("state", f"{before}\n".encode())
                 given += [f"call cycle noise={noise:x} line={line} input={offered:x}"]
                 print("\n".join([""] + row_lines(name, given, "gives", f"{after}\n{nets}\n".encode())))
+
+
+def decided_bits(board, word, state, nets):
+    """The decided bits of a cycle, each by what it says: pass where an instruction that reads it is tested, whether R is 0
+    where that is asked, and the next address from its highest bit down."""
+    code = board.point(word, "sequencer")
+    bits = []
+    if not board.point(word, "test_disable") and list(TABLE)[code] not in ("JZ", "JMAP", "RFCT", "RPCT", "LDCT", "CONT"):
+        bits.append(("pass", int(nets["pass"])))
+    if list(TABLE)[code] in ("RFCT", "RPCT", "TWB"):
+        bits.append(("zero", int(state.r == 0)))
+    return bits + [(bit, int(nets["next"], 16) >> bit & 1) for bit in range(11, -1, -1)]
+
+
+def print_symbolic_row(name, files, board, store, at, state, given):
+    """Prints the row of a symbolic cycle, over a set of a board and a store."""
+    following, after, nets = cycle(board, store, at, state, *given)
+    nets = settings_of(nets)
+    bits = decided_bits(board, int(nets["word"], 16), state, nets)
+    report = f"{after.text(following)}\nevent={nets['event']}" + "".join(f" {bit}:{value}" for bit, value in bits) + "\n"
+    noise, line, offered = given
+    lines = [f"with {files}"] + file_lines("state", f"{state.text(at)}\n".encode())
+    lines += [f"call symbolic noise={noise:x} line={line} input={offered:x}"]
+    print("\n".join([""] + row_lines(name, lines, "gives", report.encode())))
+
+
+def random_state(board):
+    """A state in which words are often equal, or at an end of their range, and so are R and the stack pointer."""
+    bits = random.getrandbits
+    half = 1 << board.width - 1
+
+    def word():
+        return random.choice([0, 1, board.ones, half, half - 1, bits(board.width), bits(board.width), bits(board.width)])
+
+    mar = bits(board.address)
+    memory = {mar: word(), mar ^ 1: word(), bits(board.address): word()}
+    return State(word(), mar, bits(board.width), bits(len(board.flips)), bits(12), random.choice([0, 0, 1, bits(12)]),
+                 random.choice([0, DEPTH, random.randint(1, DEPTH - 1)]), [bits(12) for _ in range(DEPTH)],
+                 {number: word() for number in range(16)}, memory)
+
+
+def random_word(board, number):
+    """The microword of a number. Sequencer instructions come in turn; so do, first, the entries of the lists."""
+    word = random.getrandbits(board.microword)
+
+    def choose(control, value):
+        low, width = board.fields[control]
+        return word & ~((1 << width) - 1 << low) | (value & (1 << width) - 1) << low
+
+    for control, entries in board.selections():
+        if not isinstance(control, int) and number < len(entries):
+            word = choose(control, number)
+    if not isinstance(board.control["sequencer"], int):
+        word = choose(board.control["sequencer"], number)
+    return word
+
+
+def random_cycles(width):
+    """A store of random microwords for the board of this width, and of each a state and what is given from outside. They choose every entry
+    of every list. The board of 20 bits has more of them: each test that an instruction asks for has each outcome."""
+    board = Board(BOARDS[width])
+    store = [random_word(board, number) for number in range(128 if width == 20 else 32)]
+    for control, entries in board.selections():
+        chosen = {board.entry(word, control, entries) for word in store}
+        assert isinstance(control, int) or chosen == set(entries), (width, control, set(entries) - chosen)
+    given = [(random_state(board), [random.getrandbits(14), random.getrandbits(1), random.getrandbits(width)]) for _ in store]
+    if width == 20:
+        outcomes = set()
+        for at, (state, outside) in enumerate(given):
+            nets = settings_of(cycle(board, store, at, state, *outside)[2])
+            tests = tuple(bit for bit in decided_bits(board, store[at], state, nets) if isinstance(bit[0], str))
+            outcomes.add((board.point(store[at], "sequencer"), tests))
+        # Nine instructions read the test, which may be disabled; TWB asks for R too, RFCT and RPCT for R alone; four do neither.
+        assert len(outcomes) == 9 * 3 + 6 + 2 * 2 + 4, len(outcomes)
+    return store, given
+
+
+def print_symbolic():
+    stores, rows = worked_out()
+    random.seed(2971)
+    print("# Symbolic cycles, printed by tools/cycle_table.py: the state after a cycle, its event, and its decided bits.")
+    for width, text in BOARDS.items():
+        board, files = Board(text), f"board of {width} bits"
+        print_store(files, text, stores[width])
+        for name, start, at, given, _, _ in rows:
+            if width_of(start) == width:
+                print_symbolic_row(name, files, board, stores[width], at, State.read(STARTS[start]), given)
+        files = f"random microwords of {width} bits"
+        store, cycles = random_cycles(width)
+        print_store(files, text, store)
+        for at, (state, given) in enumerate(cycles):
+            print_symbolic_row(f"random cycle {at} of {width} bits", files, board, store, at, state, given)
 
 
 def in_range(board, at, state):
@@ -316,6 +414,8 @@ if __name__ == "__main__":
     match sys.argv[1:]:
         case ["rows"]:
             print_rows()
+        case ["symbolic"]:
+            print_symbolic()
         case ["--check"]:
             check()
         case _:

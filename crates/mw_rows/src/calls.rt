@@ -9,9 +9,11 @@ mod parts;
 mod plain;
 mod relations;
 mod runs;
+mod symbolic;
 mod texts;
 mod tokens;
 mod trees;
+mod workspace;
 
 use crate::fault::{Fault, wrong};
 use crate::row::{File, contents_in};
@@ -43,6 +45,7 @@ pub fn made(alloc: Global, words: &[String], files: &[File]) -> Result<Vec<u8>, 
         "slice" => parts::slice_table(alloc, given),
         "step" => parts::stepped(alloc, given),
         "cycle" => cycles::run(alloc, given, files),
+        "symbolic" => symbolic::run(alloc, given, files),
         "run" => runs::cycles(alloc, given, files),
         "until" => runs::until(alloc, given, files),
         _ => Err(wrong("no such call")),

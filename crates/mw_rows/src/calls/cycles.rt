@@ -30,7 +30,7 @@ pub(super) fn board_of(alloc: Global, files: &[File], name: &str) -> Result<Boar
 }
 
 /// A store of hexadecimal microwords.
-fn store_of(alloc: Global, files: &[File]) -> Result<Store, Fault> {
+pub(super) fn store_of(alloc: Global, files: &[File]) -> Result<Store, Fault> {
     let mut words = Vec::new(alloc);
     for text in &file_words(alloc, files, "store")? {
         match u128::from_str_radix(text, 16) {
@@ -78,7 +78,7 @@ fn is_of_sequencer(name: &str) -> bool {
 }
 
 /// The state of a file; what isn't named is 0, but for the sequencer, which is named whole.
-fn state_of(alloc: Global, board: &Board, files: &[File]) -> Result<State, Fault> {
+pub(super) fn state_of(alloc: Global, board: &Board, files: &[File]) -> Result<State, Fault> {
     let mut state = State::new(alloc, board)?;
     let words = file_words(alloc, files, "state")?;
     for part in &words {
@@ -101,7 +101,7 @@ fn state_of(alloc: Global, board: &Board, files: &[File]) -> Result<State, Fault
 }
 
 /// What the outside has for the cycle.
-fn given_of(given: &[String]) -> Result<CycleIn, Fault> {
+pub(super) fn given_of(given: &[String]) -> Result<CycleIn, Fault> {
     if given.len() != 3 {
         return Err(wrong("`cycle` has three numbers"));
     }

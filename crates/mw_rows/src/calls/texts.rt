@@ -88,7 +88,11 @@ pub fn state(alloc: Global, state: &State) -> Result<String, AllocError> {
 }
 
 /// An event: `none`, `out:` and the word that was put, or `taken:` and the word that was taken.
-fn event(alloc: Global, event: Option<Event>) -> Result<String, AllocError> {
+///
+/// # Errors
+///
+/// Want of memory.
+pub fn event(alloc: Global, event: Option<Event>) -> Result<String, AllocError> {
     match event {
         None => String::from_str(alloc, "none"),
         Some(Event::Out(value)) => format!(in alloc; "out:{value:x}"),
