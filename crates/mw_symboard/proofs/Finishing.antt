@@ -89,6 +89,10 @@ shown_keeps from false source y o = record {
   asked = refl;
 }
 
+pub taken_few : (from : DFrom) (n : ℕ) → taken_after from n ≤ n + 1
+taken_few sources.Input n = omega arith
+taken_few from n = omega arith
+
 -- ---- the memory
 
 -- the writes of the board's side
@@ -96,6 +100,11 @@ pub written_board : (write : Bool) (m : Memory) (address value : ℕ)
     → (written_if write m address value).board ≡ (if write then m.board ++ held address value ∷ [] else m.board)
 written_board true m address value = refl
 written_board false m address value = refl
+
+pub written_machine : (write : Bool) (m : Memory) (address value : ℕ)
+    → (written_if write m address value).machine ≡ m.machine
+written_machine true m address value = refl
+written_machine false m address value = refl
 
 pub written_reads : (write : Bool) (m : Memory) (address value : ℕ) → (written_if write m address value).reads ≡ m.reads
 written_reads true m address value = refl

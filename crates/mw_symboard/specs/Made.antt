@@ -230,14 +230,14 @@ pub record AreLoaded (board : BoardParts) (m : Microword) (t : Table) (p : Parts
   pub each : (k : ℕ) (f : FlipFlop) → slice_get board.flipflop k ≡ Some f
       → IsLoaded (load_of board m f) board t p sp n (slice_index p.flips k) (slice_index terms k)
 
--- the stack pointer after a move, and the word of the stack that takes PC, if one does
+-- the stack pointer after a move
 abbrev pub sp_after : StackMove → (depth sp : ℕ) → ℕ
 sp_after moves.Held depth sp = sp
 sp_after moves.Pushed depth sp = if nat_lt sp depth then sp + 1 else sp
 sp_after moves.Popped depth sp = sp - 1
 sp_after moves.Cleared depth sp = 0
 
--- the word that takes PC
+-- the word of the stack that takes PC, if one does
 abbrev pub pushed_word : StackMove → (depth sp : ℕ) → Option ℕ
 pushed_word moves.Pushed depth sp = Some (if nat_lt sp depth then sp else depth - 1)
 pushed_word move depth sp = None

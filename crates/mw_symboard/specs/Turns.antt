@@ -105,6 +105,15 @@ pub record IsSymbolic (board : BoardParts) (store : List ℕ) (t : Table) (words
   pub leaving : Leaves board store t o.place o.reading o.leaving
   pub few : length o.place.decided ≤ bits_before (microword_of board store o.place) + 12
 
+-- how many base reads the rest of its cycle comes to at most: a cycle reads the memory as it begins
+abbrev pub reads_by : Option Reading → ℕ
+reads_by None = 1
+reads_by (Some reading) = 0
+
+-- the same of a symbolic board
+abbrev pub reads_to_come : Symbolic → ℕ
+reads_to_come o = reads_by o.reading
+
 -- a memory with other base reads
 abbrev pub with_reads : Memory → List Held → Memory
 with_reads m reads = memory_of m.address m.word reads m.board m.machine
@@ -143,6 +152,7 @@ IsTurn board store t words mold mnew old new (Ask kind term) =
     (new.place ≡ old.place) × (new.events ≡ old.events) × (mnew ≡ with_reads mold mnew.reads)
     × Asks board store t words mnew new kind term
 IsTurn board store t words mold mnew old new Finished =
-    (new.asked ≡ None) × (new.place.decided ≡ [])
+    (new.asked ≡ None) × (new.place.decided ≡ []) × (new.place.cycle ≡ old.place.cycle + 1)
+    × (new.place.taken ≤ old.place.taken + 1)
     × ((given : Given) (x : Scene) → IsSeen board store t words (with_reads mold mnew.reads) old.place given x
     → IsDone board store t words mold mnew old new given x)

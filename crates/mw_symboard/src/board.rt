@@ -23,7 +23,7 @@ ghost use Rattle.mw_symboard.specs.Kinds.{AreInputs, IsCycleKind};
 ghost use Rattle.mw_symboard.specs.Parts.{AreElements, AreParts, term_of_part};
 ghost use Rattle.mw_symmem.specs.declared.turn.Turn.TheVariants.{Ask};
 ghost use Rattle.mw_term.specs.declared.kinds.DecidedKind.{DecidedKind};
-ghost use Rattle.mw_symboard.specs.Turns.{AreNoLater, Asks, IsDone, IsSymbolic, IsTurn, cycle_left, decided_so, shown_by, written_if};
+ghost use Rattle.mw_symboard.specs.Turns.{AreNoLater, Asks, IsDone, IsSymbolic, IsTurn, cycle_left, decided_so, reads_to_come, shown_by, written_if};
 
 use crate::after::take_edge;
 use crate::leaving::{Leaving, bits_before};
@@ -78,8 +78,9 @@ fn write_memory(
 }
 
 impl SymBoard {
-    /// A board at a control address below 4,096, with so many words on its stack, and with these terms for its elements, by their numbers,
-    /// each of its element's width. No cycle is finished and no input taken.
+    /// A board at a control address, with so many words on its stack, and with these terms for its elements, by their numbers. It may go on
+    /// where the address is below 4,096, the stack has so many words, and each term has its element's width. No cycle is finished and no input
+    /// taken.
     ///
     /// # Errors
     ///
@@ -98,6 +99,7 @@ impl SymBoard {
         ensures sp { IfOk result (λ b. b.place.sp ≡ sp) }
         ensures cycle { IfOk result (λ b. b.place.cycle ≡ 0) }
         ensures taken { IfOk result (λ b. b.place.taken ≡ 0) }
+        ensures decided { IfOk result (λ b. b.place.decided ≡ []) }
         ensures events { IfOk result (λ b. b.events ≡ []) }
         ensures asked { IfOk result (λ b. b.asked ≡ None) }
         ensures symbolic { IfOk result (λ b. (store : List ℕ) (t : Table) (words : List Word) (m : Memory) → address < 2 ^ 12
@@ -188,6 +190,7 @@ impl SymBoard {
         ensures asked { self.new.asked ≡ self.old.asked }
         ensures goes { OnOk result (GoesOn (IsCycleKind self.old.place.cycle self.old.place.taken) terms.old terms.new words.old words.new memory.old memory.new) }
         ensures writes { OnOk result (KeepsWrites memory.old memory.new) }
+        ensures reads { OnOk result (length memory.new.reads ≤ length memory.old.reads + reads_to_come self.old) }
         ensures symbolic { OnOk result (IsSymbolic board.now store.now.words terms.new words.new memory.new self.new) }
     {
         if self.reading.is_some() {
@@ -488,7 +491,10 @@ impl SymBoard {
             → IsDone board.now store.now.words terms.new words.new memory.old memory.new self.old self.new given x) }
         ensures asked { OnOk result (self.new.asked ≡ None) }
         ensures decided { OnOk result (self.new.place.decided ≡ []) }
+        ensures cycle { OnOk result (self.new.place.cycle ≡ self.old.place.cycle + 1) }
+        ensures inputs { OnOk result (self.new.place.taken ≤ self.old.place.taken + 1) }
         ensures reads { OnOk result (memory.new.reads ≡ memory.old.reads) }
+        ensures machine { OnOk result (memory.new.machine ≡ memory.old.machine) }
         ensures more { OnOk result (ReadsMore memory.old memory.new) }
         ensures grew { OnOk result (Grew terms.old terms.new words.old words.new) }
         ensures workspace { OnOk result (IsWorkspace terms.new words.new memory.new) }
@@ -536,8 +542,9 @@ impl SymBoard {
         Ok(())
     }
 
-    /// Goes on to the next decided bit, or to the end of the cycle. It isn't called while a bit that was asked for waits for `decide`. The table's
-    /// map is the board's, the memory has the board's widths, and the numbers of cycles, base reads and inputs stay below 2^32.
+    /// Goes on to the next decided bit, or to the end of the cycle, with the board and the store that it had before. It isn't called while a bit
+    /// that was asked for waits for `decide`. The table's map is the board's, the memory has the board's widths, and the numbers of cycles, base
+    /// reads and inputs stay below 2^32.
     ///
     /// # Errors
     ///
@@ -562,6 +569,8 @@ impl SymBoard {
         requires symbolic { IsSymbolic board.now store.now.words terms.old words.old memory.old self.old }
         ensures turn { IfOk result (IsTurn board.now store.now.words terms.new words.new memory.old memory.new self.old self.new) }
         ensures goes { OnOk result (GoesOn (IsCycleKind self.old.place.cycle self.old.place.taken) terms.old terms.new words.old words.new memory.old memory.new) }
+        ensures reads { OnOk result (length memory.new.reads ≤ length memory.old.reads + reads_to_come self.old) }
+        ensures machine { OnOk result (memory.new.machine ≡ memory.old.machine) }
         ensures symbolic { OnOk result (IsSymbolic board.now store.now.words terms.new words.new memory.new self.new) }
     {
         self.begin(alloc, board, store, terms, words, memory)?;

@@ -44,7 +44,7 @@ fn value_in(decided: &Path, place: usize) -> bool
     decided.bit(place).value
 }
 
-/// The entry of the Am2910's table, by the bits that were decided: pass is 1 where it isn't, and the counter no 0.
+/// The entry of the Am2910's table, by the bits that were decided. Where pass isn't decided it is 1, and where the counter isn't it is not 0.
 pub(crate) fn effect(microword: &Microword, decided: &Path) -> Effect
     requires microword { microword.now.sequencer < 16 }
     requires known { bits_before microword.now ≤ length decided.now }

@@ -404,6 +404,7 @@ impl Reading {
         requires none { AreNoLater place.now.cycle words.old }
         ensures is { IfOk result (IsReading board.now microword.now terms.new words.new memory.new place.now) }
         ensures goes { OnOk result (GoesOn (IsCycleKind place.now.cycle place.now.taken) terms.old terms.new words.old words.new memory.old memory.new) }
+        ensures reads { OnOk result (length memory.new.reads ≤ length memory.old.reads + 1) }
         ensures writes { OnOk result (KeepsWrites memory.old memory.new) }
         ensures inputs { OnOk result (AreInputs board.now terms.new words.new) }
         ensures none { OnOk result (AreNoLater (place.now.cycle + 1) words.new) }

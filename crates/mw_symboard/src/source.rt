@@ -1,5 +1,5 @@
 // The direct data of the Am2901.
-ghost use Rattle.std.specs.Prelude.{◌≡◌, ℕ, ◌<◌, ◌≤◌, ◌^◌, length, Some, None, IfOk, OnOk};
+ghost use Rattle.std.specs.Prelude.{◌≡◌, ◌+◌, ℕ, ◌<◌, ◌≤◌, ◌^◌, length, Some, None, IfOk, OnOk};
 ghost use Rattle.mw_board.specs.Valid.{IsMask};
 ghost use Rattle.mw_cycle.specs.Microword.{IsMicroword};
 ghost use Rattle.mw_term.specs.declared.kinds.WordKind.TheVariants.{Input};
@@ -84,6 +84,7 @@ fn read_source(
     ensures is { IfOk result (IsRead terms.new memory.new side.Board mar) }
     ensures wide { IfOk result (IsOfWidth terms.new board.now.width) }
     ensures goes { OnOk result (GoesOn (IsSourceKind taken) terms.old terms.new words.old words.new memory.old memory.new) }
+    ensures reads { OnOk result (length memory.new.reads ≤ length memory.old.reads + 1) }
     ensures writes { OnOk result (KeepsWrites memory.old memory.new) }
     ensures inputs { OnOk result (AreInputs board.now terms.new words.new) }
 {
@@ -112,6 +113,7 @@ pub(crate) fn from_source(
     ensures is { IfOk result (IsFrom board.now microword.now.word terms.new words.new memory.new parts.now taken microword.now.d.from) }
     ensures wide { IfOk result (IsOfWidth terms.new board.now.width) }
     ensures goes { OnOk result (GoesOn (IsSourceKind taken) terms.old terms.new words.old words.new memory.old memory.new) }
+    ensures reads { OnOk result (length memory.new.reads ≤ length memory.old.reads + 1) }
     ensures writes { OnOk result (KeepsWrites memory.old memory.new) }
     ensures inputs { OnOk result (AreInputs board.now terms.new words.new) }
 {

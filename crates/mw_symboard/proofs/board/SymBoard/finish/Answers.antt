@@ -1,4 +1,4 @@
-use Rattle.std.proofs.Common.{◌≡◌, ◌+◌, [], ◌∷◌, ◌++◌, List, ap, sym, subst, ◌∙◌}
+use Rattle.std.proofs.Common.{◌≡◌, arith, ◌+◌, [], ◌∷◌, ◌++◌, List, ap, sym, subst, ◌∙◌}
 use Rattle.std.specs.Prelude.{None, if◌then◌else◌}
 use Rattle.mw_term.specs.MemoryRead.{held}
 use Rattle.mw_cycle.specs.declared.elements.Element.TheVariants.{Mar}
@@ -10,7 +10,7 @@ use Rattle.mw_symboard.specs.Turns.{AreNoLater, Symbolic}
 use Rattle.mw_symboard.proofs.Growing.{wide_later}
 use Rattle.mw_symboard.proofs.Staying.{events_stay, inputs_stay, none_stay, workspace_grown}
 use Rattle.mw_symboard.proofs.Turning.{read_known}
-use Rattle.mw_symboard.proofs.Finishing.{at_the_end, ended_done, ended_symbolic, written_board, written_workspace}
+use Rattle.mw_symboard.proofs.Finishing.{at_the_end, ended_done, ended_symbolic, shown_keeps, taken_few, written_board, written_machine, written_workspace}
 use Rattle.mw_symboard.proofs.board.SymBoard.finish.Goals as goal
 
 pub returns-clause-workspace : goal.returns-clause-workspace
@@ -31,6 +31,32 @@ returns-clause-workspace c =
     c.take_reading-reading.result.y grew read.y_wide))
     (workspace_grown c.args.terms.now c.edge.new.terms c.args.words.now c.edge.new.words c.args.memory.now
     c.requires.workspace grew))
+
+pub returns-clause-machine : goal.returns-clause-machine
+returns-clause-machine c =
+    rw c.in_ok-write_memory.ensures (written_machine c.microword-microword.result.memory_write c.args.memory.now
+    c.mar-mar.result c.edge.new.reading.y)
+
+pub returns-clause-cycle : goal.returns-clause-cycle
+returns-clause-cycle c =
+    let left : c.take_leaving-leaving.new.self ≡ record c.args.self.now { reading = None; leaving = None } =
+    c.take_leaving-leaving.ensures.new ∙ ap (λ (s : Symbolic). record s { leaving = None }) c.take_reading-reading.ensures.new in
+    let cycle = c.edge.ensures.cycle ∙ ap (λ (s : Symbolic). s.place.cycle) left in
+    let from = c.microword-microword.result.d.from in
+    let keeps = shown_keeps from c.microword-microword.result.out c.edge.new.reading.source c.edge.new.reading.y
+    c.edge.new.self in
+    rw (c.leave_cycle.ensures, c.in_ok-show.ensures.shown) (omega (arith, keeps.cycle, cycle))
+
+pub returns-clause-inputs : goal.returns-clause-inputs
+returns-clause-inputs c =
+    let left : c.take_leaving-leaving.new.self ≡ record c.args.self.now { reading = None; leaving = None } =
+    c.take_leaving-leaving.ensures.new ∙ ap (λ (s : Symbolic). record s { leaving = None }) c.take_reading-reading.ensures.new in
+    let taken = c.edge.ensures.inputs ∙ ap (λ (s : Symbolic). s.place.taken) left in
+    let from = c.microword-microword.result.d.from in
+    let keeps = shown_keeps from c.microword-microword.result.out c.edge.new.reading.source c.edge.new.reading.y
+    c.edge.new.self in
+    rw (c.leave_cycle.ensures, c.in_ok-show.ensures.shown)
+    (omega (arith, keeps.taken, taken, taken_few from c.edge.new.self.place.taken))
 
 pub returns-clause-symbolic : goal.returns-clause-symbolic
 returns-clause-symbolic c =

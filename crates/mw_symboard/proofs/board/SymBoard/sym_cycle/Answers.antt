@@ -1,8 +1,10 @@
-use Rattle.std.proofs.Common.{ap, sym, ◌∙◌}
+use Rattle.std.proofs.Common.{◌+◌, ap, arith, sym, ◌∙◌}
 use Rattle.mw_term.specs.MemoryRead.{Held}
 use Rattle.std.specs.Prelude.{List}
+use Rattle.mw_symmem.specs.declared.side.Side.TheVariants as side
 use Rattle.mw_symmem.proofs.Later.{reads_itself}
 use Rattle.mw_symboard.specs.Kinds.{IsCycleKind}
+use Rattle.mw_symboard.specs.Seen.{Place}
 use Rattle.mw_symboard.specs.Turns.{with_reads}
 use Rattle.mw_symboard.proofs.Growing.{grew_then}
 use Rattle.mw_symboard.proofs.Staying.{workspace_grown}
@@ -58,13 +60,16 @@ finish-requires-clause-workspace c =
 pub returns-clause-turn : goal.returns-clause-turn
 returns-clause-turn c =
     let e = c.in_ok-finish.ensures in
+    let place = c.prepare.ensures.place ∙ c.begin.ensures.place in
     let memory = with_reads_is c.args.memory.now c.begin.new.memory c.in_ok-begin.ensures.goes.reads
     c.in_ok-begin.ensures.writes ∙ ap (λ (hs : List Held). with_reads c.args.memory.now hs) (sym e.reads) in (
       e.asked,
       e.decided,
+      e.cycle ∙ ap (λ (p : Place). p.cycle + 1) place,
+      omega (arith, e.inputs, ap (λ (p : Place). p.taken) place),
       done_from c.args.board.now c.args.store.now.words c.finish.new.terms c.finish.new.words c.args.memory.now
           c.begin.new.memory c.finish.new.memory c.args.self.now c.prepare.new.self c.finish.new.self
-          (c.prepare.ensures.place ∙ c.begin.ensures.place) (c.prepare.ensures.events ∙ c.begin.ensures.events) memory e.done,
+          place (c.prepare.ensures.events ∙ c.begin.ensures.events) memory e.done,
     )
 
 pub returns-clause-goes : goal.returns-clause-goes
@@ -75,3 +80,12 @@ returns-clause-goes c =
     c.finish.new.memory c.in_ok-begin.ensures.goes
     (grew_then c.begin.new.terms c.prepare.new.terms c.finish.new.terms c.begin.new.words c.prepare.new.words
     c.finish.new.words c.in_ok-prepare.ensures.grew e.grew) e.more e.workspace
+
+pub returns-then-known-before-clause-machine : goal.returns-then-known-before-clause-machine
+returns-then-known-before-clause-machine c = c.in_ok-begin.ensures.writes.each side.Machine
+
+pub returns-then-known-before-2-clause-machine : goal.returns-then-known-before-2-clause-machine
+returns-then-known-before-2-clause-machine c = c.in_ok-begin.ensures.writes.each side.Machine
+
+pub returns-clause-machine : goal.returns-clause-machine
+returns-clause-machine c = c.in_ok-finish.ensures.machine ∙ c.in_ok-begin.ensures.writes.each side.Machine
