@@ -1,15 +1,13 @@
 // The parts of a board after the edge.
-ghost use Rattle.std.specs.Prelude.{◌≡◌, ◌+◌, ◌%◌, ◌<◌, ◌≤◌, ◌^◌, ℕ, List, length, slice_index, if◌then◌else◌, IfOk, IfSome, OnOk};
+ghost use Rattle.std.specs.Prelude.{◌≡◌, ◌+◌, ◌%◌, ◌<◌, ◌≤◌, ◌^◌, ℕ, length, slice_index, if◌then◌else◌, IfOk, IfSome, OnOk};
 ghost use Rattle.mw_base.specs.Words.{num};
 ghost use Rattle.mw_board.specs.Depth.{depth_of};
 ghost use Rattle.mw_cycle.specs.Microword.{IsMicroword};
-ghost use Rattle.mw_term.specs.declared.op.Op.TheVariants.{Con};
-ghost use Rattle.mw_symmem.specs.declared.word.Word.{Word};
 ghost use Rattle.mw_symmem.specs.Memory.{IsOfWidth};
 ghost use Rattle.mw_symboard.specs.Bits.{AreBits, AreSources};
 ghost use Rattle.mw_symboard.specs.Cycle.{IsEdge, IsMar, bits_before, effect_by, number_in, or_taken, with_pushed, with_taken};
 ghost use Rattle.mw_symboard.specs.Growth.{Grew};
-ghost use Rattle.mw_symboard.specs.Made.{AreLoaded, Is, IsWrittenB, IsWrittenQ, pushed_word, sp_after};
+ghost use Rattle.mw_symboard.specs.Made.{AreLoaded, IsWrittenB, IsWrittenQ, pushed_word, sp_after};
 ghost use Rattle.mw_alu.specs.Instruction.{destination_of};
 ghost use Rattle.mw_symboard.specs.Parts.{AreParts};
 
@@ -160,17 +158,6 @@ fn counted(at: u16, ci: bool) -> u16
     (at + u16::from(ci)) % 0x1000
 }
 
-/// The microprogram counter after the edge, a constant.
-fn counter(alloc: Global, at: u16, ci: bool, terms: &mut Terms) -> Result<Term, NoMemory>
-    requires { at < 2 ^ 12 }
-    ensures is { IfOk result (Is terms.new (Con ((at + num ci) % 2 ^ 12) 12)) }
-    ensures wide { IfOk result (IsOfWidth terms.new 12) }
-    ensures grew { OnOk result ((words : List Word) → Grew terms.old terms.new words words) }
-{
-    let count = counted(at, ci);
-    constant(alloc, u32::from(count), 12, terms)
-}
-
 /// The address that was decided.
 fn decided_address(place: &Place, microword: &Microword) -> u16
     requires { bits_before microword.now + 12 ≤ length place.now.decided }
@@ -179,6 +166,26 @@ fn decided_address(place: &Place, microword: &Microword) -> u16
 {
     let before = bits_before(microword);
     address(&place.decided, before)
+}
+
+/// Where a cycle goes on, and what the microprogram counter counts to from there.
+#[derive(Clone, Copy)]
+struct Next {
+    at: u16,
+    pc: u16,
+}
+
+/// Where the cycle goes on: at the address that was decided.
+fn decided_next(place: &Place, microword: &Microword) -> Next
+    requires { bits_before microword.now + 12 ≤ length place.now.decided }
+    ensures at { result.at ≡ number_in place.now.decided (bits_before microword.now) 12 }
+    ensures pc { result.pc ≡ (result.at + num microword.now.ci) % 2 ^ 12 }
+    ensures at_below { result.at < 2 ^ 12 }
+    ensures pc_below { result.pc < 2 ^ 12 }
+{
+    let at = decided_address(place, microword);
+    let pc = counted(at, microword.ci);
+    Next { at, pc }
 }
 
 /// What the bits that were decided do to the stack.
@@ -305,9 +312,9 @@ pub(crate) fn take_edge(
 {
     let y = reading.y;
     let taken = edge_words(alloc, board, microword, place, reading, terms, words)?;
-    let at = decided_address(place, microword);
-    let pc = counter(alloc, at, microword.ci, terms)?;
+    let next = decided_next(place, microword);
+    let pc = constant(alloc, u32::from(next.pc), 12, terms)?;
     let moved = moved(board, microword, place);
-    settle(place, microword, taken, moved, at, y, pc, leaving.r);
+    settle(place, microword, taken, moved, next.at, y, pc, leaving.r);
     Ok(())
 }

@@ -245,6 +245,14 @@ pub(crate) fn loaded(
     }
 }
 
+/// The old value of the flip-flop whose new one is made next.
+fn old_value(parts: &Parts, made: &[Term]) -> Term
+    requires { length made.now < length parts.now.flips }
+    ensures { result ≡ slice_index parts.now.flips (length made.now) }
+{
+    parts.flips[made.len()]
+}
+
 /// What the flip-flops take, each from the old values of all.
 pub(crate) fn flips(
     alloc: Global,
@@ -268,7 +276,7 @@ pub(crate) fn flips(
     let mut flips = Vec::new(alloc);
     for flipflop in board.parts().flipflop.as_slice() {
         let load = microword.load(board, flipflop);
-        let old = parts.flips[flips.len()];
+        let old = old_value(parts, flips.as_slice());
         let term = loaded(
             alloc, load, old, board, parts, sp, sources, bits, terms, words,
         )?;

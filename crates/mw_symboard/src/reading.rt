@@ -1,13 +1,16 @@
 // What a cycle reads before its edge.
-ghost use Rattle.std.specs.Prelude.{◌≡◌, ◌⊎◌, ℕ, ◌+◌, ◌<◌, ◌≤◌, ◌^◌, [], length, slice_index, true, Some, IfOk, OnOk};
+ghost use Rattle.std.specs.Prelude.{◌≡◌, ◌⊎◌, ℕ, ◌+◌, ◌<◌, ◌≤◌, ◌^◌, [], ◌∷◌, ◌++◌, length, slice_index, true, Some, None, IfOk, OnOk};
 ghost use Rattle.mw_alu.specs.Instruction.{destination_of, source_of};
 ghost use Rattle.mw_board.specs.declared.parts.BoardParts.{BoardParts};
 ghost use Rattle.mw_board.specs.Valid.{IsBit, IsLoad};
 ghost use Rattle.mw_term.specs.declared.kinds.WordKind.TheVariants.{Line, Noise};
+ghost use Rattle.mw_term.specs.declared.op.Op.TheVariants.{Var};
+ghost use Rattle.mw_term.specs.Table.{Extends, IsTable};
+ghost use Rattle.mw_term.specs.Values.{IsTermOf, Keeps};
 ghost use Rattle.mw_board.specs.Depth.{depth_of};
 ghost use Rattle.mw_cycle.specs.Microword.{IsMicroword};
 ghost use Rattle.mw_symmem.specs.Memory.{Memory, IsOfWidth};
-ghost use Rattle.mw_symmem.specs.Words.{term_of};
+ghost use Rattle.mw_symmem.specs.Words.{AreOf, term_of, variable};
 ghost use Rattle.mw_symmem.specs.Workspace.{GoesOn, IsWorkspace, KeepsWrites};
 ghost use Rattle.mw_symboard.specs.Bits.{AreBits, AreSources};
 ghost use Rattle.mw_symboard.specs.Cycle.{AreOperands, IsReading, IsTurned, y_term};
@@ -238,6 +241,24 @@ struct Variables {
     noise: Term,
 }
 
+/// Makes the variable of the noise of a cycle.
+fn noise_word(
+    alloc: Global,
+    cycle: u32,
+    terms: &mut Terms,
+    words: &mut Words,
+) -> Result<Term, NoMemory>
+    requires { term_of words.old (Noise cycle) ≡ None }
+    ensures words { IfOk result (λ term. words.new ≡ words.old ++ variable term (Noise cycle) ∷ []) }
+    ensures made { IfOk result (IsTermOf terms.old terms.new (Var (length words.old + 1) 14)) }
+    ensures of { OnOk result (AreOf terms.old words.old → AreOf terms.new words.new) }
+    ensures extends { Extends terms.old terms.new }
+    ensures keeps { Keeps terms.old terms.new }
+    ensures table { IsTable terms.new }
+{
+    words.fresh(alloc, terms, WordKind::Noise(cycle), 14)
+}
+
 /// Makes the variables of the line and the noise of a cycle.
 fn line_and_noise(
     alloc: Global,
@@ -256,7 +277,7 @@ fn line_and_noise(
     ensures none { OnOk result (AreNoLater (cycle + 1) words.new) }
 {
     let line = words.fresh(alloc, terms, WordKind::Line(cycle), 1)?;
-    let noise = words.fresh(alloc, terms, WordKind::Noise(cycle), 14)?;
+    let noise = noise_word(alloc, cycle, terms, words)?;
     Ok(Variables { line, noise })
 }
 

@@ -1,4 +1,4 @@
-use Rattle.std.proofs.Common.{ℕ, List, length, slice_index, ap, sym, subst, ◌∙◌}
+use Rattle.std.proofs.Common.{◌≡◌, ℕ, List, length, slice_index, ap, sym, subst, ◌∙◌}
 use Rattle.mw_alu.specs.Instruction.{destination_of}
 use Rattle.mw_cycle.specs.declared.elements.Element.TheVariants.{Ir}
 use Rattle.mw_symmem.specs.Memory.{IsOfWidth}
@@ -23,9 +23,10 @@ returns-clause-is c =
     let e = c.in_ok-taken.ensures in
     let s = c.settle.ensures in
     let t = c.edge_words.new.terms in
-    let tnew = c.counter.new.terms in
+    let tnew = c.constant.new.terms in
     let ws = c.edge_words.new.words in
     let last = c.in_ok-pc.ensures.grew ws in
+    let count : c.from.result ≡ c.decided_next-next.result.pc = cc in
     record {
       written = taken.register;
       is_written = written_b_stays (destination_of m.instruction) b m t tnew old.parts old.sp n taken.register
@@ -39,8 +40,8 @@ returns-clause-is c =
       ir = s.ir;
       flips = subst (λ (xs : List ℕ). AreLoaded b m tnew old.parts old.sp n xs) (sym s.flips)
           (all_loaded_stay b m t tnew old.parts old.sp n taken.flips.items last.1.extends e.flips);
-      at = s.at ∙ c.decided_address-at.ensures.exact;
-      pc = rw (s.pc, s.at) c.in_ok-pc.ensures.is;
+      at = s.at ∙ c.decided_next-next.ensures.at;
+      pc = rw (s.pc, s.at, ← c.decided_next-next.ensures.pc, ← count) c.in_ok-pc.ensures.is;
       counter = s.r;
       stack = s.stack ∙ ap (λ o. with_pushed old.parts.stack o old.parts.pc) c.moved-moved.ensures.pushed;
       sp = s.sp ∙ c.moved-moved.ensures.sp;
@@ -58,7 +59,7 @@ returns-clause-parts c =
     let s = c.settle.ensures in
     let told = c.args.terms.now in
     let t = c.edge_words.new.terms in
-    let tnew = c.counter.new.terms in
+    let tnew = c.constant.new.terms in
     let ws = c.edge_words.new.words in
     let last = c.in_ok-pc.ensures.grew ws in
     let all = grew_then told t tnew c.args.words.now ws ws e.grew last in
@@ -87,5 +88,5 @@ returns-clause-parts c =
 pub returns-clause-grew : goal.returns-clause-grew
 returns-clause-grew c =
     let ws = c.edge_words.new.words in
-    grew_then c.args.terms.now c.edge_words.new.terms c.counter.new.terms c.args.words.now ws ws c.in_ok-taken.ensures.grew
+    grew_then c.args.terms.now c.edge_words.new.terms c.constant.new.terms c.args.words.now ws ws c.in_ok-taken.ensures.grew
     (c.in_ok-pc.ensures.grew ws)

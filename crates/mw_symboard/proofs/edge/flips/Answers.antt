@@ -1,12 +1,10 @@
 use Rattle.std.proofs.Common.{◌≡◌, ◌∙◌, ◌<◌, [], ◌∷◌, List, length, length-append, slice_index, Some, ap, sym, refl, subst, arith, rules}
 use Rattle.std.specs.Prelude.{slice_get}
-use Rattle.std.proofs.lemmas.List.{get_or_read}
 use Rattle.std.proofs.lemmas.Option.{slice_get_read, slice_get_within}
 use Rattle.mw_board.specs.declared.bit.Load.{Load}
 use Rattle.mw_board.specs.declared.flipflop.FlipFlop.{FlipFlop}
 use Rattle.mw_cycle.specs.Cycle.{load_of}
 use Rattle.mw_symboard.specs.Made.{IsLoaded}
-use Rattle.mw_symboard.specs.Parts.{Parts}
 use Rattle.mw_symboard.proofs.Growing.{grew_then, wide_later}
 use Rattle.mw_symboard.proofs.Loads.{one_so_far}
 use Rattle.mw_symboard.proofs.Widths.{flip_wide}
@@ -14,23 +12,27 @@ use Rattle.mw_symboard.proofs.edge.flips.Goals as goal
 
 pub loaded-requires-clause-old : goal.loaded-requires-clause-old
 loaded-requires-clause-old c =
-    let parts = rw (← c.parts-2.view_is) at c.requires.parts in
     let flipflops : c.as_slice-flipflop-items.result.now ≡ c.args.board.now.flipflop = search rules in
     let many : length c.as_slice-flipflop-items.result.now ≡ length c.args.board.now.flipflop = ap length flipflops in
-    let i = c.len.result in
-    let flips = c.parts-2.inside.flips.items in
-    let at : i ≡ length c.loop-flipflop.flips.items = search rules in
-    let there : i < length c.args.board.now.flipflop =
-    omega (arith, at, many, c.loop-flipflop.invariant.count, c.loop-flipflop-test.true) in
-    let inside : i < length flips = omega (arith, there, parts.flips) in
-    let s : c.index-old.result.now ≡ slice_index flips i = get_or_read flips i c.index-old.result.now inside c.index-old.ensures 0 in
-    rw s
-    (wide_later c.args.terms.now c.loop-flipflop.terms c.args.words.now c.loop-flipflop.words 1 (slice_index flips i)
-    c.loop-flipflop.invariant.grew (flip_wide _ _ _ i parts there))
+    let n = length c.loop-flipflop.flips.items in
+    let there : n < length c.args.board.now.flipflop =
+    omega (arith, many, c.loop-flipflop.invariant.count, c.loop-flipflop-test.true) in
+    let made : c.as_slice.result.now ≡ c.loop-flipflop.flips.items = search rules in
+    rw (c.old_value-old.ensures, made)
+    (wide_later c.args.terms.now c.loop-flipflop.terms c.args.words.now c.loop-flipflop.words 1 (slice_index
+    c.args.parts.now.flips n)
+    c.loop-flipflop.invariant.grew (flip_wide _ _ _ n c.requires.parts there))
+
+pub old_value-old-requires : goal.old_value-old-requires
+old_value-old-requires c =
+    let flipflops : c.as_slice-flipflop-items.result.now ≡ c.args.board.now.flipflop = search rules in
+    let many : length c.as_slice-flipflop-items.result.now ≡ length c.args.board.now.flipflop = ap length flipflops in
+    let made : c.as_slice.result.now ≡ c.loop-flipflop.flips.items = search rules in
+    rw made
+    (omega (arith, many, c.requires.parts.flips, c.loop-flipflop.invariant.count, c.loop-flipflop-test.true))
 
 pub loop-flipflop-preserved : goal.loop-flipflop-preserved
 loop-flipflop-preserved c =
-    let parts = rw (← c.parts-2.view_is) at c.requires.parts in
     let board = c.args.board.now in
     let m = c.args.microword.now in
     let p = c.args.parts.now in
@@ -42,20 +44,14 @@ loop-flipflop-preserved c =
     let before = c.loop-flipflop.invariant in
     let flipflops : c.as_slice-flipflop-items.result.now ≡ board.flipflop = search rules in
     let many : length c.as_slice-flipflop-items.result.now ≡ length board.flipflop = ap length flipflops in
-    let at : c.len.result ≡ length terms = search rules in
-    let there : c.len.result < length board.flipflop = omega (arith, at, many, before.count, c.loop-flipflop-test.true) in
-    let inside : c.len.result < length c.parts-2.inside.flips.items = omega (arith, there, parts.flips) in
-    let s : c.index-old.result.now ≡ slice_index c.parts-2.inside.flips.items c.len.result =
-    get_or_read c.parts-2.inside.flips.items c.len.result c.index-old.result.now inside c.index-old.ensures 0 in
-    let old : c.index-old.result.now ≡ slice_index p.flips (length terms) =
-    s ∙ ap (slice_index c.parts-2.inside.flips.items) at
-    ∙ ap (λ (q : Parts). slice_index q.flips (length terms)) c.parts-2.view_is in
+    let made : c.as_slice.result.now ≡ c.loop-flipflop.flips.items = search rules in
+    let old : c.old_value-old.result ≡ slice_index p.flips (length terms) = rw made at c.old_value-old.ensures in
     let read : slice_get c.as_slice-flipflop-items.result.now c.loop-flipflop.flipflop-index ≡ Some f =
     slice_get_read c.as_slice-flipflop-items.result.now (length c.as_slice-flipflop-items.result.now)
     c.loop-flipflop.flipflop-index f refl c.loop-flipflop-test.true c.flipflop-item.is in
     let here = subst (λ k. slice_get board.flipflop k ≡ Some f) (sym before.count)
     (subst (λ (xs : List FlipFlop). slice_get xs c.loop-flipflop.flipflop-index ≡ Some f) flipflops read) in
-    let loaded = subst (λ (load : Load). IsLoaded load board t2 p c.args.sp c.args.sources.now c.index-old.result.now c.in_ok-term.term)
+    let loaded = subst (λ (load : Load). IsLoaded load board t2 p c.args.sp c.args.sources.now c.old_value-old.result c.in_ok-term.term)
     c.load-load.ensures.exact e.is in
     let is = subst (λ was. IsLoaded (load_of board m f) board t2 p c.args.sp c.args.sources.now was c.in_ok-term.term)
     old loaded in
