@@ -172,12 +172,12 @@ class Described:
 
     def __init__(self, job, registers, memory, start):
         machine = job.machine
-        self.start, self.events, self.taken = start, [], 0
+        self.start, self.events, self.taken, self.bits = start, [], 0, []
         self.over = Over([])
         self.over.elements = {name: (width, registers.get(f"m.{name}", 0)) for name, width in machine.elements["register"]}
         self.over.elements |= {name: (width, 0) for name, width in machine.elements["temp"]}
         self.over.elements["request"] = (1, start.entry("line", 0))
-        self.over.memory, self.over.address, self.over.word = dict(memory), job.address, job.word
+        self.over.memory, self.over.address, self.over.word = memory, job.address, job.word
         self.do(machine.steps)
 
     def value(self, tree):
@@ -194,7 +194,8 @@ class Described:
             elif kind == "put":
                 self.events.append(("out", self.value(parts[0])))
             elif kind == "if":
-                self.do(lists["then" if self.value(parts[0]) else "else"])
+                self.bits.append(self.value(parts[0]))
+                self.do(lists["then" if self.bits[-1] else "else"])
             elif kind == "take":
                 offered = self.start.entry("inputs", self.taken)
                 self.taken += 1
@@ -235,7 +236,7 @@ def difference(job, start):
     at, board, events = segment(job, start, board_state(job, values, job.blocks[start.boundary][2], start.words))
     if board is None:
         return "late"
-    described = Described(job, values, start.words, start)
+    described = Described(job, values, dict(start.words), start)
     for number in range(max(len(events), len(described.events))):
         if events[number:number + 1] != described.events[number:number + 1]:
             return f"event {number}"

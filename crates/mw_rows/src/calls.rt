@@ -1,5 +1,6 @@
 // Calls that no command shows yet.
 mod cycles;
+mod described;
 mod diagrams;
 mod expressions;
 mod machines;
@@ -9,10 +10,12 @@ mod parts;
 mod plain;
 mod relations;
 mod runs;
+mod stepping;
 mod symbolic;
 mod texts;
 mod tokens;
 mod trees;
+mod valued;
 mod workspace;
 
 use crate::fault::{Fault, wrong};
@@ -43,6 +46,7 @@ pub fn made(alloc: Global, words: &[String], files: &[File]) -> Result<Vec<u8>, 
         "diagrams" => diagrams::read(alloc, contents(files, "text")?),
         "alu" => parts::alu_table(alloc, given),
         "slice" => parts::slice_table(alloc, given),
+        "described" => described::run(alloc, given, contents(files, "text")?),
         "step" => parts::stepped(alloc, given),
         "cycle" => cycles::run(alloc, given, files),
         "symbolic" => symbolic::run(alloc, given, files),

@@ -7,7 +7,8 @@ ghost use Rattle.mw_rows.specs.Runs.{IsOver, IsUnder};
 
 use super::cycles::{board_of, given_of, state_of, store_of};
 use super::texts;
-use super::workspace::{Bit, Outside, Run, Stop, assignment, numbered, value};
+use super::valued::{Stop, numbered, value};
+use super::workspace::{Bit, Outside, Run, assignment};
 use crate::fault::{Fault, wrong};
 use crate::row::File;
 use mw_base::Event;
@@ -16,15 +17,6 @@ use mw_cycle::{CycleIn, Element, State, element_of};
 use mw_symmem::SymEvent;
 use mw_term::{Assignment, DecidedKind};
 use std::alloc::Global;
-
-impl From<Stop> for Fault {
-    fn from(stop: Stop) -> Fault {
-        match stop {
-            Stop::NoMemory => Fault::NoMemory,
-            Stop::Unlike => wrong("the symbolic cycle is unlike a cycle"),
-        }
-    }
-}
 
 /// Whether the memory after a cycle is read at an address: where there was a word that isn't 0, at the address register, and where one bit differs
 /// from it.

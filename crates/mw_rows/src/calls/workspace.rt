@@ -12,40 +12,13 @@ ghost use Rattle.mw_symboard.specs.Parts.{AreElements};
 ghost use Rattle.mw_symboard.specs.Turns.{Asks};
 ghost use Rattle.mw_rows.specs.Runs.{AreFree, AreSoFar, IsFreeKind, IsOver, IsTurned, IsUnder};
 
-use mw_base::NoMemory;
+use super::valued::{Stop, is_of_width, numbered, set, value};
 use mw_board::{Board, Store};
 use mw_cycle::{CycleIn, Element, State, element_of};
 use mw_symboard::SymBoard;
 use mw_symmem::{Side, SymMemory, Turn, Words, are_of_at_first, is_memory_at_first};
-use mw_term::{Assignment, DecidedKind, Op, Term, Terms, WordKind, terms_have_widths};
-use std::alloc::{AllocError, AllocFailed, Global};
-
-/// Why a symbolic cycle isn't run to its end.
-#[derive(Clone, Copy, Debug, PartialEq, Eq)]
-pub enum Stop {
-    /// Memory ran out.
-    NoMemory,
-    /// Something isn't as it is in one cycle: a second variable of a kind, a second read, too many bits, or a term that isn't there.
-    Unlike,
-}
-
-impl From<NoMemory> for Stop {
-    fn from(_: NoMemory) -> Stop {
-        Stop::NoMemory
-    }
-}
-
-impl From<AllocError> for Stop {
-    fn from(_: AllocError) -> Stop {
-        Stop::NoMemory
-    }
-}
-
-impl<T: Drop> From<AllocFailed<T>> for Stop {
-    fn from(_: AllocFailed<T>) -> Stop {
-        Stop::NoMemory
-    }
-}
+use mw_term::{Assignment, DecidedKind, Term, Terms, WordKind};
+use std::alloc::Global;
 
 /// A symbolic board with what it works on.
 #[derive(Drop)]
@@ -96,16 +69,6 @@ fn variable(
     }
     let term = words.fresh(alloc, terms, kind, width)?;
     Ok(term)
-}
-
-/// The number of an element in 32 bits.
-pub fn numbered(number: usize) -> Result<u32, Stop>
-    ensures { IfOk result (λ n. n ≡ number) }
-{
-    match u32::try_from(number) {
-        Ok(number) => Ok(number),
-        Err(_) => Err(Stop::Unlike),
-    }
 }
 
 /// One variable more, for the element of this number.
@@ -165,48 +128,6 @@ fn no_terms(alloc: Global, board: &Board) -> Result<Terms, Stop>
 {
     let terms = Terms::new(alloc, board.parts().map_entries.as_slice())?;
     Ok(terms)
-}
-
-/// Whether a term is there, with so many bits.
-fn is_of_width(terms: &Terms, width: u8, term: Term) -> bool
-    ensures { IsTrue result → IsOfWidth terms.now width term }
-{
-    terms_have_widths();
-    terms.fits(&Op::Not(term)) && terms.width(term) == width
-}
-
-/// The value of a term.
-///
-/// # Errors
-///
-/// The term isn't there, and want of memory.
-pub fn value(alloc: Global, terms: &Terms, term: Term, given: &Assignment) -> Result<u32, Stop> {
-    terms_have_widths();
-    if !terms.fits(&Op::Not(term)) {
-        return Err(Stop::Unlike);
-    }
-    let value = terms.value(alloc, term, given)?;
-    Ok(value)
-}
-
-/// Gives the variable of a kind a value, where there is one.
-///
-/// # Errors
-///
-/// Want of memory.
-pub fn set(
-    alloc: Global,
-    given: &mut Assignment,
-    words: &Words,
-    kind: WordKind,
-    value: u32,
-) -> Result<(), Stop> {
-    if let Some(term) = words.find(kind) {
-        if let Some(number) = words.word_of(term) {
-            given.set(alloc, number, value)?;
-        }
-    }
-    Ok(())
 }
 
 /// What the outside has for a cycle, and the memory at the address register.
