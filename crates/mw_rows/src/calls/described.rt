@@ -2,7 +2,7 @@
 // and its request are variables, and have these values; inputs and words of the memory that aren't named are 0. Each bit that the step asks for
 // has the value of its term. The registers after the step, the memory's words at the addresses that are named, the events, how many inputs were
 // taken, and the branch bits, a line each. Words and addresses are hexadecimal.
-ghost use Rattle.std.specs.Prelude.{◌≡◌, false, OnOk, IfOk};
+ghost use Rattle.std.specs.Prelude.{◌≡◌, false};
 ghost use Rattle.mw_macro.specs.Described.{description_of};
 ghost use Rattle.mw_symmach.specs.Turns.{is_asked};
 ghost use Rattle.mw_rows.specs.StepRuns.{IsEnded, IsUnderway};

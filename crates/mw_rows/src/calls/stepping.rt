@@ -1,5 +1,5 @@
 // A described step on terms with what it works on.
-ghost use Rattle.std.specs.Prelude.{◌≡◌, ◌<◌, ◌≤◌, ◌^◌, ◌+◌, [], true, false, length, slice_index, IfOk, OnOk};
+ghost use Rattle.std.specs.Prelude.{◌≡◌, ◌<◌, ◌+◌, [], true, false, length, slice_index, IfOk, OnOk};
 ghost use Rattle.mw_macro.specs.Described.{description_of};
 ghost use Rattle.mw_term.specs.Table as tables;
 ghost use Rattle.mw_term.specs.Table.{IsTable, IsWidth};
