@@ -1,5 +1,5 @@
 // Values of terms under an assignment.
-ghost use Rattle.std.specs.Prelude.{IsTrue};
+ghost use Rattle.std.specs.Prelude.{◌≡◌, IfOk, IsTrue};
 ghost use Rattle.mw_symmem.specs.Memory.{IsOfWidth};
 
 use crate::fault::{Fault, wrong};
@@ -45,7 +45,9 @@ impl From<Stop> for Fault {
 }
 
 /// A number in 32 bits.
-pub fn numbered(number: usize) -> Result<u32, Stop> {
+pub fn numbered(number: usize) -> Result<u32, Stop>
+    ensures { IfOk result (λ n. n ≡ number) }
+{
     match u32::try_from(number) {
         Ok(number) => Ok(number),
         Err(_) => Err(Stop::Unlike),
