@@ -2,6 +2,7 @@ pub mod Branches
 pub mod Counts
 pub mod Described
 pub mod DescribedStep
+pub mod ExpressionWords
 pub mod Laws
 pub mod Machine
 pub mod Right

@@ -15,9 +15,10 @@ use Rattle.mw_term.specs.MemoryRead.{held}
 use Rattle.mw_term.specs.Table.{Table, table_of}
 use Rattle.mw_symmem.specs.declared.turn.Turn.{Turn}
 use Rattle.mw_symmem.specs.declared.turn.Turn.TheVariants.{Ask, Finished}
-use Rattle.mw_symmem.specs.declared.word.Word.{Word}
+use Rattle.mw_term.specs.declared.word.Word.{Word}
 use Rattle.mw_symmem.specs.Memory.{Memory, IsMemory, IsMemoryAtFirst, memory_of}
-use Rattle.mw_symmem.specs.Words.{term_of, variable, AreOf, IsVariable}
+use Rattle.mw_term.specs.WordList.{variable}
+use Rattle.mw_symmem.specs.Words.{term_of, AreOf, IsVariable}
 use Rattle.mw_symmem.specs.Workspace.{GoesOn, IsLater}
 use Rattle.mw_symmem.proofs.Lists.{absent, kind_of, missing, pushed}
 use Rattle.mw_symboard.specs.Cycle.{bits_before}

@@ -12,9 +12,10 @@ use Rattle.mw_term.specs.Table.{Table, IsTable, op_width}
 use Rattle.mw_term.specs.Values.{IsTermOf}
 use Rattle.mw_symmem.specs.declared.turn.Turn.{Turn}
 use Rattle.mw_symmem.specs.declared.turn.Turn.TheVariants.{Ask, Finished}
-use Rattle.mw_symmem.specs.declared.word.Word.{Word}
+use Rattle.mw_term.specs.declared.word.Word.{Word}
 use Rattle.mw_symmem.specs.Memory.{Memory, IsMemoryAtFirst, IsOfWidth, memory_of}
-use Rattle.mw_symmem.specs.Words.{variable, AreOf, IsVariable}
+use Rattle.mw_term.specs.WordList.{variable}
+use Rattle.mw_symmem.specs.Words.{AreOf, IsVariable}
 use Rattle.mw_symmem.specs.Workspace.{GoesOn, IsLater}
 use Rattle.mw_symmem.proofs.Later.{width_later}
 use Rattle.mw_symmem.proofs.Lists.{kind_of, pushed}

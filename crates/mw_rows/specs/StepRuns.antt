@@ -7,7 +7,7 @@ use Rattle.mw_term.specs.declared.kinds.WordKind.TheVariants.{Element, Line, Pro
 use Rattle.mw_term.specs.Table.{Table}
 use Rattle.mw_symmem.specs.declared.turn.Turn.{Turn}
 use Rattle.mw_symmem.specs.declared.turn.Turn.TheVariants.{Ask, Finished}
-use Rattle.mw_symmem.specs.declared.word.Word.{Word}
+use Rattle.mw_term.specs.declared.word.Word.{Word}
 use Rattle.mw_symmem.specs.Memory.{Memory, IsOfWidth}
 use Rattle.mw_symmem.specs.Workspace.{HaveKinds, IsWorkspace}
 use Rattle.mw_symmach.specs.Turns.{IsStepping, Stepping, is_asked, reads_to_come}

@@ -9,7 +9,7 @@ use Rattle.mw_cycle.specs.declared.elements.Element.TheVariants.{Register, Q, Ma
 use Rattle.mw_cycle.specs.Elements.{IsElement, bits_of, element_of, pc_number}
 use Rattle.mw_cycle.proofs.Values.{by_number}
 use Rattle.mw_term.specs.Table.{Table}
-use Rattle.mw_symmem.specs.declared.word.Word.{Word}
+use Rattle.mw_term.specs.declared.word.Word.{Word}
 use Rattle.mw_symmem.specs.Memory.{Memory, IsOfWidth}
 use Rattle.mw_symboard.specs.Kinds.{AreInputs}
 use Rattle.mw_symboard.specs.Turns.{AreNoLater, IsSymbolic, Symbolic}

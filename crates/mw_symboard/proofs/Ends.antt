@@ -12,7 +12,7 @@ use Rattle.mw_seq.specs.declared.instruction.CounterMove.TheVariants as counters
 use Rattle.mw_seq.specs.declared.instruction.Effect.{Effect}
 use Rattle.mw_seq.specs.Instruction.{instruction_of}
 use Rattle.mw_term.specs.Table.{Table, Extends}
-use Rattle.mw_symmem.specs.declared.word.Word.{Word}
+use Rattle.mw_term.specs.declared.word.Word.{Word}
 use Rattle.mw_symmem.specs.Memory.{IsOfWidth}
 use Rattle.mw_symboard.specs.Cycle.{IsCounter, IsLeaving, effect_by, number_in, value_in}
 use Rattle.mw_symboard.specs.Growth.{Grew}

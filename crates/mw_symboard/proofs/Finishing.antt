@@ -23,7 +23,7 @@ use Rattle.mw_symmem.specs.declared.turn.SymEvent.{SymEvent}
 use Rattle.mw_symmem.specs.declared.turn.SymEvent.TheVariants.{Out, Taken}
 use Rattle.mw_symmem.specs.declared.turn.Turn.{Turn}
 use Rattle.mw_symmem.specs.declared.turn.Turn.TheVariants.{Ask}
-use Rattle.mw_symmem.specs.declared.word.Word.{Word}
+use Rattle.mw_term.specs.declared.word.Word.{Word}
 use Rattle.mw_symmem.specs.Memory.{Memory, memory_of, IsOfWidth}
 use Rattle.mw_symmem.specs.Workspace.{GoesOn, IsWorkspace, KeepsWrites, ReadsMore}
 use Rattle.mw_symmem.proofs.Later.{goes_by_growth, goes_then, reads_itself, reads_with_write, workspace_with_write}

@@ -4,7 +4,7 @@ use Rattle.mw_term.specs.declared.op.Op.{Op}
 use Rattle.mw_term.specs.declared.op.Op.TheVariants.{Con}
 use Rattle.mw_term.specs.Table.{Table, Extends, IsTable, table_of}
 use Rattle.mw_term.specs.Values.{Keeps}
-use Rattle.mw_symmem.specs.declared.word.Word.{Word}
+use Rattle.mw_term.specs.declared.word.Word.{Word}
 use Rattle.mw_symmem.specs.Words.{IsNoVariable}
 use Rattle.mw_symmem.specs.Memory.{IsOfWidth}
 use Rattle.mw_symmem.specs.Steps.{Grows}

@@ -7,7 +7,7 @@ use Rattle.mw_term.specs.declared.op.Op.{Op}
 use Rattle.mw_term.specs.Table.{Table, width_over}
 use Rattle.mw_term.specs.Values.{IsTermOf}
 use Rattle.mw_symmem.specs.Memory.{IsOfWidth}
-use Rattle.mw_symmem.specs.declared.word.Word.{Word}
+use Rattle.mw_term.specs.declared.word.Word.{Word}
 use Rattle.mw_symmem.proofs.Lists.{pushed}
 use Rattle.mw_symboard.proofs.Standing.{early_bits_stay, late_bits_stay, bits_stay}
 use Rattle.mw_symboard.specs.declared.bits.MadeBit.{MadeBit}

@@ -21,7 +21,7 @@ use Rattle.mw_cycle.specs.Cycle.{answer_of, early_bit, from_source, masked, oper
 use Rattle.mw_cycle.specs.Elements.{IsElement, bits_of, value_of}
 use Rattle.mw_cycle.specs.Microword.{IsMicroword}
 use Rattle.mw_term.specs.Table.{Table, IsTable}
-use Rattle.mw_symmem.specs.declared.word.Word.{Word}
+use Rattle.mw_term.specs.declared.word.Word.{Word}
 use Rattle.mw_symmem.specs.Memory.{Memory, IsOfWidth}
 use Rattle.mw_symboard.specs.Made.{IsAddendR, IsAddendS, IsF, IsFrom, IsMasked, IsPart, IsR, IsS, IsWidened}
 use Rattle.mw_symboard.specs.Parts.{AreParts, term_of_part}

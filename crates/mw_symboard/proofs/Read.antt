@@ -11,7 +11,7 @@ use Rattle.mw_term.specs.declared.kinds.WordKind.{WordKind}
 use Rattle.mw_term.specs.declared.kinds.WordKind.TheVariants.{Line, Noise}
 use Rattle.mw_term.specs.Table.{Table, Extends, IsTable}
 use Rattle.mw_term.specs.Values.{Keeps}
-use Rattle.mw_symmem.specs.declared.word.Word.{Word}
+use Rattle.mw_term.specs.declared.word.Word.{Word}
 use Rattle.mw_symmem.specs.Memory.{Memory, IsOfWidth}
 use Rattle.mw_symmem.specs.Words.{term_of}
 use Rattle.mw_symmem.specs.Workspace.{GoesOn, IsLater, IsWorkspace}

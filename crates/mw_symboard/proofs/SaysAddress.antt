@@ -20,7 +20,7 @@ use Rattle.mw_seq.specs.Instruction.{instruction_of}
 use Rattle.mw_seq.specs.Sequencer.{address, top}
 use Rattle.mw_term.specs.Assigned.{Given}
 use Rattle.mw_term.specs.Table.{Table, IsTable}
-use Rattle.mw_symmem.specs.declared.word.Word.{Word}
+use Rattle.mw_term.specs.declared.word.Word.{Word}
 use Rattle.mw_symmem.specs.Memory.{Memory}
 use Rattle.mw_symboard.specs.Made.{IsDirect, IsEntry, IsLessOne, IsNext, IsTop}
 use Rattle.mw_symboard.specs.Parts.{AreParts}

@@ -17,7 +17,7 @@ use Rattle.mw_cycle.specs.declared.elements.Element.TheVariants.{Q, Ir, FlipFlop
 use Rattle.mw_cycle.specs.Cycle.{answer_of, bit_value, carry_net, early_bit, loaded, operands_of, overflow_net}
 use Rattle.mw_term.specs.declared.op.Op.TheVariants.{Con, Not, Xor, Cout, Ovf, Eq, Part}
 use Rattle.mw_term.specs.Table.{Table, IsTable}
-use Rattle.mw_symmem.specs.declared.word.Word.{Word}
+use Rattle.mw_term.specs.declared.word.Word.{Word}
 use Rattle.mw_symmem.specs.Memory.{Memory}
 use Rattle.mw_symboard.specs.declared.bits.Sources.{Sources}
 use Rattle.mw_symboard.specs.Made.{Is, IsBitTerm, IsEarlyBit, IsLoaded, carry_op, overflow_op}

@@ -24,7 +24,7 @@ use Rattle.mw_seq.specs.Sequencer.{effect}
 use Rattle.mw_term.specs.declared.kinds.DecidedKind.TheVariants.{Pass, CounterZero, Next}
 use Rattle.mw_term.specs.Assigned.{Given}
 use Rattle.mw_term.specs.Table.{Table}
-use Rattle.mw_symmem.specs.declared.word.Word.{Word}
+use Rattle.mw_term.specs.declared.word.Word.{Word}
 use Rattle.mw_symmem.specs.Memory.{Memory}
 use Rattle.mw_symboard.specs.Cycle.{bits_before, effect_by, number_in, value_in, zero_by}
 use Rattle.mw_symboard.specs.Seen.{IsSeen, Place, Scene, answer_net, microword_of, next_net, pass_net}

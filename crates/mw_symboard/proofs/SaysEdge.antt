@@ -13,7 +13,7 @@ use Rattle.mw_cycle.specs.declared.elements.Element.TheVariants.{Q}
 use Rattle.mw_cycle.specs.Cycle.{bit_value, pins_of}
 use Rattle.mw_cycle.specs.Microword.{IsMicroword}
 use Rattle.mw_term.specs.Table.{Table, IsTable}
-use Rattle.mw_symmem.specs.declared.word.Word.{Word}
+use Rattle.mw_term.specs.declared.word.Word.{Word}
 use Rattle.mw_symmem.specs.Memory.{Memory}
 use Rattle.mw_symboard.specs.declared.bits.Sources.{Sources}
 use Rattle.mw_symboard.specs.Made.{IsDown, IsShiftedDown, IsShiftedUp, IsUp, IsWrittenB, IsWrittenQ}

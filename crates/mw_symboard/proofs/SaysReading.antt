@@ -13,7 +13,7 @@ use Rattle.mw_cycle.specs.declared.elements.Element.TheVariants.{Register, Q}
 use Rattle.mw_cycle.specs.Cycle.{answer_of, bit_value, from_source, operands_of}
 use Rattle.mw_cycle.specs.Microword.{IsMicroword}
 use Rattle.mw_term.specs.Table.{Table, IsTable}
-use Rattle.mw_symmem.specs.declared.word.Word.{Word}
+use Rattle.mw_term.specs.declared.word.Word.{Word}
 use Rattle.mw_symmem.specs.Memory.{Memory}
 use Rattle.mw_symboard.specs.declared.reading.Reading.{Reading}
 use Rattle.mw_symboard.specs.Cycle.{IsReading, IsTurned, y_term}

@@ -31,7 +31,7 @@ use Rattle.mw_term.specs.declared.op.Op.TheVariants.{Con, Not, And, Or, Xor, Sum
 use Rattle.mw_term.specs.Table.{Table, Extends}
 use Rattle.mw_term.specs.Values.{Keeps}
 use Rattle.mw_symmem.specs.declared.side.Side.TheVariants as side
-use Rattle.mw_symmem.specs.declared.word.Word.{Word}
+use Rattle.mw_term.specs.declared.word.Word.{Word}
 use Rattle.mw_symmem.specs.Memory.{Memory, IsMemory}
 use Rattle.mw_symmem.specs.Words.{is_of, term_of}
 use Rattle.mw_symmem.specs.Workspace.{IsLater, KeepsWrites, ReadsMore}

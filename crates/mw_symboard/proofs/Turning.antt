@@ -15,7 +15,7 @@ use Rattle.mw_seq.specs.declared.instruction.Effect.{Effect}
 use Rattle.mw_seq.specs.Instruction.{instruction_of, effect_of}
 use Rattle.mw_term.specs.declared.kinds.DecidedKind.{DecidedKind}
 use Rattle.mw_term.specs.Table.{Table, IsTable}
-use Rattle.mw_symmem.specs.declared.word.Word.{Word}
+use Rattle.mw_term.specs.declared.word.Word.{Word}
 use Rattle.mw_symmem.specs.Memory.{Memory, IsOfWidth}
 use Rattle.mw_symboard.specs.declared.reading.Reading.{Reading}
 use Rattle.mw_symboard.specs.declared.leaving.Leaving.{Leaving}

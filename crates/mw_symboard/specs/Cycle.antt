@@ -16,7 +16,7 @@ use Rattle.mw_seq.specs.Instruction.{instruction_of, effect_of}
 use Rattle.mw_term.specs.declared.kinds.WordKind.TheVariants.{Line, Noise}
 use Rattle.mw_term.specs.declared.op.Op.TheVariants.{Con, Not}
 use Rattle.mw_term.specs.Table.{Table}
-use Rattle.mw_symmem.specs.declared.word.Word.{Word}
+use Rattle.mw_term.specs.declared.word.Word.{Word}
 use Rattle.mw_symmem.specs.Memory.{Memory, IsOfWidth}
 use Rattle.mw_symmem.specs.Words.{term_of}
 use Rattle.mw_symboard.specs.declared.bits.Sources.{Sources}

@@ -1,7 +1,7 @@
 -- Words that are no variables, behind those that there were.
 use Rattle.std.specs.Prelude.{ℕ, List}
 use Rattle.mw_term.specs.Table.{Table}
-use Rattle.mw_symmem.specs.declared.word.Word.{Word}
+use Rattle.mw_term.specs.declared.word.Word.{Word}
 use Rattle.mw_symmem.specs.Steps.{Grows}
 
 -- a table and its words have grown by words that are no variables

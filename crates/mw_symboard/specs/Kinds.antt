@@ -4,7 +4,7 @@ use Rattle.mw_board.specs.declared.parts.BoardParts.{BoardParts}
 use Rattle.mw_term.specs.declared.kinds.WordKind.{WordKind}
 use Rattle.mw_term.specs.declared.kinds.WordKind.TheVariants.{Base, Input, Line, Noise}
 use Rattle.mw_term.specs.Table.{Table}
-use Rattle.mw_symmem.specs.declared.word.Word.{Word}
+use Rattle.mw_term.specs.declared.word.Word.{Word}
 use Rattle.mw_symmem.specs.Memory.{IsOfWidth}
 use Rattle.mw_symmem.specs.Words.{term_of}
 

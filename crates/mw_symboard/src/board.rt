@@ -7,7 +7,7 @@ ghost use Rattle.mw_board.specs.Valid.{IsBoard};
 ghost use Rattle.mw_cycle.specs.Elements.{element_of};
 ghost use Rattle.mw_cycle.specs.Microword.{IsMicroword};
 ghost use Rattle.mw_term.specs.Table.{Table};
-ghost use Rattle.mw_symmem.specs.declared.word.Word.{Word};
+ghost use Rattle.mw_term.specs.declared.word.Word.{Word};
 ghost use Rattle.mw_symmem.specs.Memory.{Memory, IsOfWidth};
 ghost use Rattle.mw_symmem.specs.Workspace.{GoesOn, IsWorkspace, KeepsWrites, ReadsMore};
 ghost use Rattle.mw_term.specs.Assigned.{Given};

@@ -3,7 +3,7 @@ ghost use Rattle.std.specs.Prelude.{◌≡◌, ℕ, ◌+◌, ◌<◌, ◌≤◌,
 ghost use Rattle.mw_term.specs.declared.op.Op.TheVariants.{Con, Eq};
 ghost use Rattle.mw_term.specs.Table.{Fits, IsWidth};
 ghost use Rattle.mw_term.specs.Values.{IsTermOf};
-ghost use Rattle.mw_symmem.specs.declared.word.Word.{Word};
+ghost use Rattle.mw_term.specs.declared.word.Word.{Word};
 ghost use Rattle.mw_symmem.specs.Memory.{IsOfWidth};
 ghost use Rattle.mw_symmem.specs.Steps.{Grows};
 ghost use Rattle.mw_symmem.specs.Words.{IsNoVariable};

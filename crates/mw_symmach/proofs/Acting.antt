@@ -24,9 +24,10 @@ use Rattle.mw_term.specs.Values.{IsTermOf, Keeps, term_value}
 use Rattle.mw_symmem.specs.declared.side.Side.TheVariants.{Board, Machine}
 use Rattle.mw_symmem.specs.declared.turn.SymEvent.{SymEvent}
 use Rattle.mw_symmem.specs.declared.turn.SymEvent.TheVariants.{Out, Taken}
-use Rattle.mw_symmem.specs.declared.word.Word.{Word}
+use Rattle.mw_term.specs.declared.word.Word.{Word}
 use Rattle.mw_symmem.specs.Kinds.{kind_is}
-use Rattle.mw_symmem.specs.Words.{variable, IsVariable, AreOf, term_of, is_of}
+use Rattle.mw_term.specs.WordList.{variable}
+use Rattle.mw_symmem.specs.Words.{IsVariable, AreOf, term_of, is_of}
 use Rattle.mw_symmem.specs.Memory.{Memory, IsMemory, IsImage, IsHeld, IsOfWidth, FitImage, held_by, valued, writes_of, with_write}
 use Rattle.mw_symmem.specs.Memory as memories
 use Rattle.mw_symmem.specs.Workspace.{IsWorkspace, GoesOn}

@@ -6,7 +6,7 @@ use Rattle.mw_macro.specs.declared.counts.Counted.TheVariants.{Statements}
 use Rattle.mw_macro.specs.Counts.{total, count}
 use Rattle.mw_macro.specs.Statements.{Act, assign, write, put, take_in, choose, Acts, nothing, next}
 use Rattle.mw_term.specs.Table.{Table}
-use Rattle.mw_symmem.specs.declared.word.Word.{Word}
+use Rattle.mw_term.specs.declared.word.Word.{Word}
 use Rattle.mw_symmem.specs.Memory.{Memory}
 use Rattle.mw_symmach.specs.declared.level.Level.{Level}
 use Rattle.mw_symmach.specs.Places.{dropped, then_acts, list_at, left_of, innermost, IsAtIf, StopsAt, Reaches}

@@ -5,8 +5,9 @@ use Rattle.mw_macro.specs.Machine.{Description, IsFormed}
 use Rattle.mw_term.specs.declared.kinds.WordKind.TheVariants.{Input}
 use Rattle.mw_term.specs.Table.{Table}
 use Rattle.mw_symmem.specs.declared.turn.SymEvent.{SymEvent}
-use Rattle.mw_symmem.specs.declared.word.Word.{Word}
-use Rattle.mw_symmem.specs.Words.{IsVariable, variable}
+use Rattle.mw_term.specs.declared.word.Word.{Word}
+use Rattle.mw_term.specs.WordList.{variable}
+use Rattle.mw_symmem.specs.Words.{IsVariable}
 use Rattle.mw_symmem.specs.Memory.{Memory, IsOfWidth}
 use Rattle.mw_symmem.specs.Workspace.{IsWorkspace}
 use Rattle.mw_symmem.proofs.Later.{image_before, images_fit_before}

@@ -5,6 +5,7 @@ pub mod Beside
 pub mod Carrying
 pub mod Forms
 pub mod InStep
+pub mod Listing
 pub mod Making
 pub mod Single
 pub mod Turning

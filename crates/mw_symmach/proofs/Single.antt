@@ -13,9 +13,10 @@ use Rattle.mw_term.specs.Assigned.{Given}
 use Rattle.mw_term.specs.Table.{Table, table_of, op_width, widths_of, term_width, width_over, ArePair, IsBit, Fits, IsTable, IsWidth, Extends}
 use Rattle.mw_term.specs.Values.{IsTermOf, Keeps, term_value, value_over, op_value}
 use Rattle.mw_term.proofs.Tables.{widths_count, widths_range, words_of}
-use Rattle.mw_symmem.specs.declared.word.Word.{Word}
+use Rattle.mw_term.specs.declared.word.Word.{Word}
 use Rattle.mw_symmem.specs.Memory.{IsOfWidth}
-use Rattle.mw_symmem.specs.Words.{plain, AreOf, IsNoVariable}
+use Rattle.mw_term.specs.WordList.{plain}
+use Rattle.mw_symmem.specs.Words.{AreOf, IsNoVariable}
 use Rattle.mw_symmem.proofs.Growth.{grows_one, grows_none, grows_then, width_stays}
 use Rattle.mw_symmem.proofs.Later.{grows_without_word}
 use Rattle.mw_symmach.specs.Given.{Gives}

@@ -11,7 +11,7 @@ use Rattle.mw_term.specs.Values.{term_value}
 use Rattle.mw_symmem.specs.declared.turn.SymEvent.{SymEvent}
 use Rattle.mw_symmem.specs.declared.turn.Turn.{Turn}
 use Rattle.mw_symmem.specs.declared.turn.Turn.TheVariants.{Ask, Finished}
-use Rattle.mw_symmem.specs.declared.word.Word.{Word}
+use Rattle.mw_term.specs.declared.word.Word.{Word}
 use Rattle.mw_symmem.specs.Memory.{Memory, IsOfWidth}
 use Rattle.mw_symmem.specs.Workspace.{GoesOn}
 use Rattle.mw_symmach.specs.Steps.{IsOfStep, event_term, now_of}

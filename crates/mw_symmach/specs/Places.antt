@@ -11,7 +11,7 @@ use Rattle.mw_macro.specs.Statements.{Act, choose, Acts, nothing, next}
 use Rattle.mw_term.specs.Assigned.{Given}
 use Rattle.mw_term.specs.Table.{Table}
 use Rattle.mw_term.specs.Values.{term_value}
-use Rattle.mw_symmem.specs.declared.word.Word.{Word}
+use Rattle.mw_term.specs.declared.word.Word.{Word}
 use Rattle.mw_symmem.specs.Memory.{Memory, IsImage, IsOfWidth, FitImage}
 use Rattle.mw_symmem.specs.Workspace.{GoesOn}
 use Rattle.mw_symmach.specs.declared.level.Level.{Level}

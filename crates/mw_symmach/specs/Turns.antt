@@ -17,7 +17,7 @@ use Rattle.mw_term.specs.Values.{term_value}
 use Rattle.mw_symmem.specs.declared.side.Side.TheVariants.{Machine}
 use Rattle.mw_symmem.specs.declared.turn.Turn.{Turn}
 use Rattle.mw_symmem.specs.declared.turn.Turn.TheVariants.{Ask, Finished}
-use Rattle.mw_symmem.specs.declared.word.Word.{Word}
+use Rattle.mw_term.specs.declared.word.Word.{Word}
 use Rattle.mw_symmem.specs.Words.{IsVariable}
 use Rattle.mw_symmem.specs.Memory.{Memory, IsImage, IsOfWidth, FitImage, held_by}
 use Rattle.mw_symmem.specs.Workspace.{IsWorkspace}

@@ -1,7 +1,10 @@
 // The term of an expression.
 ghost use Rattle.std.specs.Prelude.{map, IfOk};
 ghost use Rattle.mw_expr.specs.Tree.{view, trees_of};
-ghost use Rattle.mw_symmach.specs.Expressions.{IsReady, IsMade, AreReady, AreMade};
+ghost use Rattle.mw_macro.specs.ExpressionWords.{expression_words, words_of_parts};
+ghost use Rattle.mw_symmem.specs.Listed.{ListsAllOver, ListsOver};
+ghost use Rattle.mw_symmem.specs.Memory.{writes_of};
+ghost use Rattle.mw_symmach.specs.Expressions.{IsReady, IsMade, AreReady, AreMade, shape_over};
 
 use crate::joins::joined;
 use crate::nodes::{choice, complement, constant, part, signed, widened};
@@ -31,8 +34,11 @@ pub fn expr_term(
     memory: &mut SymMemory,
 ) -> Result<Term, NoMemory>
     requires { IsReady terms.old words.old memory.old elements.now (view expr.now) }
-    ensures { IfOk result (IsMade terms.old terms.new words.old words.new memory.old memory.new elements.now side
+    ensures made { IfOk result (IsMade terms.old terms.new words.old words.new memory.old memory.new elements.now side
         (view expr.now)) }
+    ensures listed { IfOk result (ListsOver
+        (expression_words (shape_over terms.old elements.now memory.old) elements.now (writes_of memory.old side) (view expr.now))
+        terms.old terms.new words.old words.new memory.old memory.new) }
 {
     match expr {
         Expr::Element(element) => Ok(elements[*element as usize]),
@@ -83,8 +89,12 @@ fn part_terms(
     memory: &mut SymMemory,
 ) -> Result<Vec<Term>, NoMemory>
     requires { AreReady terms.old words.old memory.old elements.now (trees_of (map view parts.now)) }
-    ensures { IfOk result (λ made. AreMade terms.old terms.new words.old words.new memory.old memory.new elements.now side
+    ensures made { IfOk result (λ made. AreMade terms.old terms.new words.old words.new memory.old memory.new elements.now side
         (trees_of (map view parts.now)) made.items) }
+    ensures listed { IfOk result (λ made. ListsAllOver
+        (words_of_parts (shape_over terms.old elements.now memory.old) elements.now (writes_of memory.old side)
+        (trees_of (map view parts.now)))
+        terms.old terms.new words.old words.new memory.old memory.new made.items) }
 {
     let mut made = Vec::new(alloc);
     for part in parts {

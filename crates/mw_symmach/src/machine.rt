@@ -10,7 +10,7 @@ ghost use Rattle.mw_macro.specs.State.{MachineState};
 ghost use Rattle.mw_symmach.specs.declared.machine.Pending.TheVariants as pendings;
 ghost use Rattle.mw_term.specs.Assigned.{Given};
 ghost use Rattle.mw_term.specs.Table.{IsTable, Table};
-ghost use Rattle.mw_symmem.specs.declared.word.Word.{Word};
+ghost use Rattle.mw_term.specs.declared.word.Word.{Word};
 ghost use Rattle.mw_symmem.specs.Memory.{Memory};
 ghost use Rattle.mw_symmem.specs.Workspace.{GoesOn};
 ghost use Rattle.mw_symmach.specs.Places.{left_of, Reaches, StopsAt};

@@ -5,7 +5,11 @@ ghost use Rattle.mw_expr.specs.Values.{pair_value};
 ghost use Rattle.mw_expr.specs.Widths.{width_after};
 ghost use Rattle.mw_term.specs.Table.{ArePair, Fits, IsBit, IsTable, IsWidth, term_width, widths_of, width_over};
 ghost use Rattle.mw_term.specs.Values.{term_value, value_over};
-ghost use Rattle.mw_symmem.specs.declared.word.Word.{Word};
+ghost use Rattle.mw_term.specs.declared.word.Word.{Word};
+ghost use Rattle.mw_term.specs.declared.op.Op.TheVariants.{Ite, Join};
+ghost use Rattle.mw_term.specs.WordList.{with_complement, with_constant, with_part, with_sum, with_word, with_zeros_above};
+ghost use Rattle.mw_macro.specs.ExpressionWords.{difference_words, sign_words, unequal_words};
+ghost use Rattle.mw_symmem.specs.Listed.{Lists};
 ghost use Rattle.mw_symmem.specs.Words.{IsNoVariable};
 ghost use Rattle.mw_symmach.specs.Given.{Gives};
 
@@ -19,8 +23,9 @@ use std::alloc::Global;
 fn add(alloc: Global, op: Op, terms: &mut Terms, words: &mut Words) -> Result<Term, NoMemory>
     requires fits { Fits terms.old op }
     requires none { IsNoVariable op }
-    ensures { IfOk result (λ term. Gives terms.old terms.new words.old words.new (width_over terms.old op) term
+    ensures gives { IfOk result (λ term. Gives terms.old terms.new words.old words.new (width_over terms.old op) term
         (λ given. value_over terms.old given op)) }
+    ensures listed { IfOk result (Lists (with_word op) terms.old terms.new words.old words.new) }
 {
     let term = words.add(alloc, terms, op)?;
     Ok(term)
@@ -35,7 +40,8 @@ pub(crate) fn constant(
 ) -> Result<Term, NoMemory>
     requires width { IsWidth width }
     requires below { number < 2 ^ width }
-    ensures { IfOk result (λ term. (ws : List Word) → Gives terms.old terms.new ws ws width term (λ given. number)) }
+    ensures gives { IfOk result (λ term. (ws : List Word) → Gives terms.old terms.new ws ws width term (λ given. number)) }
+    ensures listed { IfOk result (λ term. (ws : List Word) → Lists (with_constant number width) terms.old terms.new ws ws term) }
 {
     let term = terms.build(alloc, Op::Con(number, width))?;
     Ok(term)
@@ -49,8 +55,9 @@ pub(crate) fn complement(
     words: &mut Words,
 ) -> Result<Term, NoMemory>
     requires { operand < length terms.old.ops }
-    ensures { IfOk result (λ term. Gives terms.old terms.new words.old words.new (term_width terms.old operand) term
+    ensures gives { IfOk result (λ term. Gives terms.old terms.new words.old words.new (term_width terms.old operand) term
         (λ given. bits.complement (term_width terms.old operand) (term_value terms.old given operand))) }
+    ensures listed { IfOk result (Lists (with_complement operand) terms.old terms.new words.old words.new) }
 {
     let term = add(alloc, Op::Not(operand), terms, words)?;
     Ok(term)
@@ -67,8 +74,9 @@ fn sum(
 ) -> Result<Term, NoMemory>
     requires pair { ArePair (widths_of terms.old.ops) a b }
     requires small { carry < 2 }
-    ensures { IfOk result (λ term. Gives terms.old terms.new words.old words.new (term_width terms.old a) term
+    ensures gives { IfOk result (λ term. Gives terms.old terms.new words.old words.new (term_width terms.old a) term
         (λ given. (term_value terms.old given a + term_value terms.old given b + carry) % 2 ^ term_width terms.old a)) }
+    ensures listed { IfOk result (Lists (with_sum a b carry) terms.old terms.new words.old words.new) }
 {
     let carry_in = constant(alloc, carry, 1, terms)?;
     let term = add(alloc, Op::Sum(a, b, carry_in), terms, words)?;
@@ -85,9 +93,10 @@ fn difference(
 ) -> Result<Term, NoMemory>
     requires pair { ArePair (widths_of terms.old.ops) a b }
     requires table { IsTable terms.old }
-    ensures { IfOk result (λ term. Gives terms.old terms.new words.old words.new (term_width terms.old a) term
+    ensures gives { IfOk result (λ term. Gives terms.old terms.new words.old words.new (term_width terms.old a) term
         (λ given. (term_value terms.old given a + (2 ^ term_width terms.old a - term_value terms.old given b))
         % 2 ^ term_width terms.old a)) }
+    ensures listed { IfOk result (Lists (difference_words a b) terms.old terms.new words.old words.new) }
 {
     let turned = complement(alloc, b, terms, words)?;
     let term = sum(alloc, a, turned, 1, terms, words)?;
@@ -103,8 +112,9 @@ fn unequal(
     words: &mut Words,
 ) -> Result<Term, NoMemory>
     requires pair { ArePair (widths_of terms.old.ops) a b }
-    ensures { IfOk result (λ term. Gives terms.old terms.new words.old words.new 1 term
+    ensures gives { IfOk result (λ term. Gives terms.old terms.new words.old words.new 1 term
         (λ given. bits.complement 1 (bits.num (term_value terms.old given a == term_value terms.old given b)))) }
+    ensures listed { IfOk result (Lists (unequal_words a b) terms.old terms.new words.old words.new) }
 {
     let same = add(alloc, Op::Eq(a, b), terms, words)?;
     let term = complement(alloc, same, terms, words)?;
@@ -122,9 +132,10 @@ pub(crate) fn signed(
 ) -> Result<Term, NoMemory>
     requires pair { ArePair (widths_of terms.old.ops) a b }
     requires table { IsTable terms.old }
-    ensures { IfOk result (λ term. Gives terms.old terms.new words.old words.new
+    ensures gives { IfOk result (λ term. Gives terms.old terms.new words.old words.new
         (width_after sign (term_width terms.old a)) term
         (λ given. pair_value sign (term_width terms.old a) (term_value terms.old given a) (term_value terms.old given b))) }
+    ensures listed { IfOk result (Lists (sign_words sign a b) terms.old terms.new words.old words.new) }
 {
     match sign {
         Pair2::And => add(alloc, Op::And(a, b), terms, words),
@@ -149,9 +160,10 @@ pub(crate) fn choice(
 ) -> Result<Term, NoMemory>
     requires bit { IsBit (widths_of terms.old.ops) condition }
     requires pair { ArePair (widths_of terms.old.ops) a b }
-    ensures { IfOk result (λ term. Gives terms.old terms.new words.old words.new (term_width terms.old a) term
+    ensures gives { IfOk result (λ term. Gives terms.old terms.new words.old words.new (term_width terms.old a) term
         (λ given. if term_value terms.old given condition == 1 then term_value terms.old given a
         else term_value terms.old given b)) }
+    ensures listed { IfOk result (Lists (with_word (Ite condition a b)) terms.old terms.new words.old words.new) }
 {
     let term = add(alloc, Op::Ite(condition, a, b), terms, words)?;
     Ok(term)
@@ -170,8 +182,10 @@ pub(crate) fn part(
     requires order { low ≤ high }
     requires inside { high < term_width terms.old whole }
     requires table { IsTable terms.old }
-    ensures { IfOk result (λ term. Gives terms.old terms.new words.old words.new (high - low + 1) term
+    ensures gives { IfOk result (λ term. Gives terms.old terms.new words.old words.new (high - low + 1) term
         (λ given. bits.part low (high - low + 1) (term_value terms.old given whole))) }
+    ensures listed { IfOk result (Lists (with_part (term_width terms.old whole) whole low (high - low + 1)) terms.old terms.new
+        words.old words.new) }
 {
     let all = terms.width(whole);
     let width = high - low + 1;
@@ -194,8 +208,10 @@ pub(crate) fn widened(
     requires wider { term_width terms.old narrow ≤ width }
     requires most { width ≤ 32 }
     requires table { IsTable terms.old }
-    ensures { IfOk result (λ term. Gives terms.old terms.new words.old words.new width term
+    ensures gives { IfOk result (λ term. Gives terms.old terms.new words.old words.new width term
         (λ given. term_value terms.old given narrow)) }
+    ensures listed { IfOk result (Lists (with_zeros_above (term_width terms.old narrow) width narrow) terms.old terms.new
+        words.old words.new) }
 {
     let from = terms.width(narrow);
     if from == width {
@@ -217,9 +233,10 @@ pub(crate) fn above(
     requires high { high < length terms.old.ops }
     requires low { low < length terms.old.ops }
     requires most { term_width terms.old high + term_width terms.old low ≤ 32 }
-    ensures { IfOk result (λ term. Gives terms.old terms.new words.old words.new
+    ensures gives { IfOk result (λ term. Gives terms.old terms.new words.old words.new
         (term_width terms.old high + term_width terms.old low) term
         (λ given. bits.join (term_width terms.old low) (term_value terms.old given high) (term_value terms.old given low))) }
+    ensures listed { IfOk result (Lists (with_word (Join high low)) terms.old terms.new words.old words.new) }
 {
     let term = add(alloc, Op::Join(high, low), terms, words)?;
     Ok(term)

@@ -9,8 +9,9 @@ use Rattle.mw_term.specs.Table.{Table, Extends, Fits, IsTable, width_over, width
 use Rattle.mw_term.specs.Values.{IsTermOf, Keeps, value_over, values_of}
 use Rattle.mw_term.proofs.Fitting.{fits_more, width_more, value_more}
 use Rattle.mw_term.proofs.Tables.{widths_append, widths_begin, values_append, values_begin, widths_count, values_count}
-use Rattle.mw_symmem.specs.declared.word.Word.{Word}
-use Rattle.mw_symmem.specs.Words.{plain, AreOf, IsNoVariable}
+use Rattle.mw_term.specs.declared.word.Word.{Word}
+use Rattle.mw_term.specs.WordList.{plain}
+use Rattle.mw_symmem.specs.Words.{AreOf, IsNoVariable}
 use Rattle.mw_symmem.specs.Memory.{Has, IsOfWidth}
 use Rattle.mw_symmem.specs.Steps.{Grows}
 use Rattle.mw_symmem.proofs.Lists.{behind}

@@ -12,8 +12,9 @@ use Rattle.mw_term.specs.Table.{Table, Extends, IsTable, table_of}
 use Rattle.mw_term.specs.Values.{Keeps, term_value}
 use Rattle.mw_symmem.specs.declared.side.Side.{Side}
 use Rattle.mw_symmem.specs.declared.side.Side.TheVariants.{Board, Machine}
-use Rattle.mw_symmem.specs.declared.word.Word.{Word}
-use Rattle.mw_symmem.specs.Words.{plain, variable, IsVariable, AreOf, IsNoVariable}
+use Rattle.mw_term.specs.declared.word.Word.{Word}
+use Rattle.mw_term.specs.WordList.{plain, variable}
+use Rattle.mw_symmem.specs.Words.{IsVariable, AreOf, IsNoVariable}
 use Rattle.mw_symmem.specs.Memory.{Memory, IsMemory, IsImage, IsHeld, IsOfWidth, AreHeld, AddsRead, after, held_by, read_value, valued, writes_of, with_read, with_write}
 use Rattle.mw_symmem.specs.Steps.{Grows}
 use Rattle.mw_symmem.specs.Workspace.{IsLater, IsWorkspace, HaveKinds, ReadsMore, GoesOn, KeepsWrites, ImagesFitBefore, ReadsStay}

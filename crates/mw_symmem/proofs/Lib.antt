@@ -8,4 +8,5 @@ pub mod Made
 pub mod Meaning
 pub mod Parts
 pub mod Reached
+pub mod Reading
 pub mod Stays

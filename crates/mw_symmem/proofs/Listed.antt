@@ -5,8 +5,9 @@ use Rattle.mw_term.specs.declared.kinds.WordKind.{WordKind}
 use Rattle.mw_term.specs.declared.op.Op.{Op}
 use Rattle.mw_term.specs.declared.op.Op.TheVariants.{Var}
 use Rattle.mw_term.specs.Table.{Table, table_of}
-use Rattle.mw_symmem.specs.declared.word.Word.{Word}
-use Rattle.mw_symmem.specs.Words.{plain, variable, IsListed, AreOf, IsNoVariable, AreOfAtFirst}
+use Rattle.mw_term.specs.declared.word.Word.{Word}
+use Rattle.mw_term.specs.WordList.{plain, variable}
+use Rattle.mw_symmem.specs.Words.{IsListed, AreOf, IsNoVariable, AreOfAtFirst}
 use Rattle.mw_symmem.proofs.Lists.{pushed, behind, pushed_there, none_is}
 
 -- the table with one op more

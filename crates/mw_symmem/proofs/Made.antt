@@ -13,8 +13,9 @@ use Rattle.mw_term.specs.Values.{Keeps, IsTermOf, term_value, values_after, op_v
 use Rattle.mw_term.proofs.Tables.{widths_count, words_of}
 use Rattle.mw_symmem.specs.declared.side.Side.{Side}
 use Rattle.mw_symmem.specs.declared.side.Side.TheVariants.{Board, Machine}
-use Rattle.mw_symmem.specs.declared.word.Word.{Word}
-use Rattle.mw_symmem.specs.Words.{plain, variable, IsVariable, AreOf}
+use Rattle.mw_term.specs.declared.word.Word.{Word}
+use Rattle.mw_term.specs.WordList.{plain, variable}
+use Rattle.mw_symmem.specs.Words.{IsVariable, AreOf}
 use Rattle.mw_symmem.specs.Memory.{Memory, writes_of, with_read, valued, first_at, IsRead, Has, AddsRead}
 use Rattle.mw_symmem.specs.Memory.{IsOfWidth, IsHeld, AreHeld, op_number, variable_number, DependsBefore, IsBaseRead, IsMemory}
 use Rattle.mw_symmem.specs.Steps.{Grows, AreSame, IsBaseValue, IsSideValue, IsMade}

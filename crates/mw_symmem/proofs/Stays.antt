@@ -6,8 +6,8 @@ use Rattle.mw_term.specs.declared.op.Op.TheVariants.{Var}
 use Rattle.mw_term.specs.MemoryRead.{Held}
 use Rattle.mw_term.specs.Table.{Table, Extends}
 use Rattle.mw_symmem.specs.declared.side.Side.TheVariants.{Board, Machine}
-use Rattle.mw_symmem.specs.declared.word.Word.{Word}
-use Rattle.mw_symmem.specs.Words.{variable}
+use Rattle.mw_term.specs.declared.word.Word.{Word}
+use Rattle.mw_term.specs.WordList.{variable}
 use Rattle.mw_symmem.specs.Memory.{Memory, IsHeld, AreHeld, IsMemory, StaysWithWords, StaysWithWrites, IsMemoryAtFirst}
 use Rattle.mw_symmem.specs.Memory.{variable_number, op_number}
 use Rattle.mw_symmem.proofs.Lists.{pushed, among}

@@ -2,7 +2,7 @@
 use Rattle.std.specs.Prelude.{◌≡◌, ℕ, List, nat_eq, ◌==◌, Option, Some, unwrap_or, if◌then◌else◌}
 use Rattle.std.specs.HashMap.{HashMap, get, get_by}
 use Rattle.mw_term.specs.declared.kinds.WordKind.{WordKind}
-use Rattle.mw_symmem.specs.declared.word.Word.{Word}
+use Rattle.mw_term.specs.declared.word.Word.{Word}
 use Rattle.mw_symmem.specs.declared.key.Key.{Key}
 use Rattle.mw_symmem.specs.Kinds.{same_kind}
 use Rattle.mw_symmem.specs.Words.{number_of, term_of, HaveOwnKinds}

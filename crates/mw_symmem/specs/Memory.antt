@@ -11,8 +11,9 @@ use Rattle.mw_term.specs.Table.{Table, Extends, IsTable, IsWidth, Fits, term_wid
 use Rattle.mw_term.specs.Values.{IsTermOf, Keeps, term_value}
 use Rattle.mw_symmem.specs.declared.side.Side.{Side}
 use Rattle.mw_symmem.specs.declared.side.Side.TheVariants.{Board, Machine}
-use Rattle.mw_symmem.specs.declared.word.Word.{Word}
-use Rattle.mw_symmem.specs.Words.{plain, variable, IsVariable}
+use Rattle.mw_term.specs.declared.word.Word.{Word}
+use Rattle.mw_term.specs.WordList.{plain, variable}
+use Rattle.mw_symmem.specs.Words.{IsVariable}
 
 -- The widths of an address and of a word; the base reads, oldest first, each with its address and its variable; and
 -- the writes of each side, oldest first, each with its address and its value. All of these are terms.

@@ -5,16 +5,9 @@ use Rattle.mw_term.specs.declared.kinds.WordKind.{WordKind}
 use Rattle.mw_term.specs.declared.op.Op.{Op}
 use Rattle.mw_term.specs.declared.op.Op.TheVariants.{Var}
 use Rattle.mw_term.specs.Table.{Table, table_of}
-use Rattle.mw_symmem.specs.declared.word.Word.{Word}
+use Rattle.mw_term.specs.WordList.{variable}
+use Rattle.mw_term.specs.declared.word.Word.{Word}
 use Rattle.mw_symmem.specs.Kinds.{same_kind}
-
--- a word that is no variable
-abbrev pub plain : (term : ℕ) → Word
-plain term = record { term = term; kind = None }
-
--- a variable
-abbrev pub variable : (term : ℕ) → WordKind → Word
-variable term kind = record { term = term; kind = Some kind }
 
 -- ---- what a list answers
 

@@ -9,7 +9,6 @@ mod memory;
 mod read;
 mod side;
 mod turn;
-mod word;
 mod words;
 
 pub use laws::{
@@ -19,7 +18,6 @@ pub use laws::{
 pub use memory::SymMemory;
 pub use side::Side;
 pub use turn::{SymEvent, Turn};
-pub use word::Word;
 pub use words::Words;
 
 #[cfg(test)]

@@ -1,10 +1,12 @@
 // Symbolic memory.
-ghost use Rattle.std.specs.Prelude.{◌≡◌, ℕ, ◌<◌, ◌^◌, List, [], length, slice_index, IfOk, OnOk, OnErr};
+ghost use Rattle.std.specs.Prelude.{◌≡◌, ℕ, ◌<◌, ◌^◌, List, [], ◌∷◌, ◌++◌, length, slice_index, IfOk, OnOk, OnErr};
 ghost use Rattle.mw_term.specs.Assigned.{given_by};
 ghost use Rattle.mw_term.specs.MemoryRead.{held};
 ghost use Rattle.mw_term.specs.Table.{Extends, IsTable};
 ghost use Rattle.mw_term.specs.Values.{Keeps};
-ghost use Rattle.mw_symmem.specs.declared.word.Word.{Word};
+ghost use Rattle.mw_term.specs.declared.word.Word.{Word};
+ghost use Rattle.mw_term.specs.WordList.{ended, list_of, memory_read_words};
+ghost use Rattle.mw_symmem.specs.Listed.{list_in, ListsOver};
 ghost use Rattle.mw_symmem.specs.Memory.{base_word, FitImage, IsImage};
 ghost use Rattle.mw_symmem.specs.Memory.{memory_of, writes_of, with_read, with_write, AddsRead, IsMemory, IsOfWidth, IsRead};
 ghost use Rattle.mw_symmem.specs.Steps.{IsMade};
@@ -70,6 +72,7 @@ impl SymMemory {
     }
 
     /// The words of a read.
+    #[tactic(auto, unfolding(mw_term::specs::WordList::memory_read_words))]
     fn make(
         &self,
         alloc: Global,
@@ -82,8 +85,11 @@ impl SymMemory {
         requires of { AreOf terms.old words.old }
         requires memory { IsMemory terms.old words.old self.now }
         requires address { IsOfWidth terms.old self.now.address address }
-        ensures { IfOk result (λ made.
+        ensures made { IfOk result (λ made.
             IsMade terms.old terms.new words.old words.new self.now side address made.base made.value) }
+        ensures listed { IfOk result (λ made. ended made.value
+            (list_of terms.new.ops words.new (self.now.reads ++ held address made.base ∷ []))
+            ≡ memory_read_words self.now.word address (writes_of self.now side) (list_in terms.old words.old self.now)) }
     {
         let number = self.reads.len() as u32;
         let same = same(alloc, &self.reads, address, terms, words)?;
@@ -114,6 +120,8 @@ impl SymMemory {
         requires address { IsOfWidth terms.old self.old.address address }
         ensures means { IfOk result (IsRead terms.new self.new side address) }
         ensures adds { IfOk result (AddsRead terms.new words.old words.new self.old side address) }
+        ensures listed { IfOk result (ListsOver (memory_read_words self.old.word address (writes_of self.old side))
+            terms.old terms.new words.old words.new self.old self.new) }
         ensures width { IfOk result (IsOfWidth terms.new self.old.word) }
         ensures reads { OnOk result ((base : ℕ) × (self.new ≡ with_read self.old (held address base))) }
         ensures memory { OnOk result (IsMemory terms.new words.new self.new) }

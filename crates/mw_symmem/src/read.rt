@@ -3,6 +3,8 @@ ghost use Rattle.std.specs.Prelude.{◌≡◌, ℕ, ◌<◌, List, [], ◌∷◌
 ghost use Rattle.mw_term.specs.MemoryRead as kept;
 ghost use Rattle.mw_term.specs.declared.op.Op.TheVariants.{Eq, Ite};
 ghost use Rattle.mw_term.specs.Table.{Fits, ArePair, IsBit, widths_of, term_width};
+ghost use Rattle.mw_term.specs.WordList.{over_reads, over_write, over_writes, with_same, with_word};
+ghost use Rattle.mw_symmem.specs.Listed.{Lists, ListsAll};
 ghost use Rattle.mw_symmem.specs.Memory.{Has};
 ghost use Rattle.mw_symmem.specs.Words.{IsNoVariable};
 ghost use Rattle.mw_symmem.specs.Steps.{Grows, AreSame, IsBaseValue, IsSideValue};
@@ -19,6 +21,7 @@ fn add(alloc: Global, op: Op, terms: &mut Terms, words: &mut Words) -> Result<Te
     requires none { IsNoVariable op }
     ensures grows { IfOk result (λ term. Grows terms.old terms.new words.old words.new (term ∷ [])) }
     ensures has { IfOk result (λ term. Has terms.new op term) }
+    ensures listed { IfOk result (Lists (with_word op) terms.old terms.new words.old words.new) }
 {
     let term = words.add(alloc, terms, op)?;
     Ok(term)
@@ -35,6 +38,7 @@ pub(crate) fn same(
     requires { (k : ℕ) (read : kept.Held) → slice_get reads.now k ≡ Some read → Fits terms.old (Eq address read.address) }
     ensures grows { IfOk result (λ same. Grows terms.old terms.new words.old words.new same.items) }
     ensures are { IfOk result (λ same. AreSame terms.new address reads.now same.items) }
+    ensures listed { IfOk result (λ same. ListsAll (with_same address reads.now) terms.old terms.new words.old words.new same.items) }
 {
     let mut same = Vec::new(alloc);
     for read in reads {
@@ -58,8 +62,9 @@ pub(crate) fn base_value(
     requires bits { (k : ℕ) → k < length same.now → IsBit (widths_of terms.old.ops) (slice_index same.now k) }
     requires pairs { (k : ℕ) (read : kept.Held) → slice_get reads.now k ≡ Some read
         → ArePair (widths_of terms.old.ops) read.word base }
-    ensures { IfOk result (λ value. (made : List ℕ) × Grows terms.old terms.new words.old words.new made
+    ensures made { IfOk result (λ value. (made : List ℕ) × Grows terms.old terms.new words.old words.new made
         × IsBaseValue terms.new reads.now same.now base made value) }
+    ensures listed { IfOk result (Lists (over_reads reads.now same.now base) terms.old terms.new words.old words.new) }
 {
     let mut value = base;
     let mut place = reads.len();
@@ -82,8 +87,9 @@ fn over_write(
 ) -> Result<Term, NoMemory>
     requires same { Fits terms.old (Eq address write.address) }
     requires pair { ArePair (widths_of terms.old.ops) write.word value }
-    ensures { IfOk result (λ next. (s : ℕ) × Grows terms.old terms.new words.old words.new (s ∷ next ∷ [])
+    ensures made { IfOk result (λ next. (s : ℕ) × Grows terms.old terms.new words.old words.new (s ∷ next ∷ [])
         × Has terms.new (Eq address write.address) s × Has terms.new (Ite s write.word value) next) }
+    ensures listed { IfOk result (Lists (over_write write address value) terms.old terms.new words.old words.new) }
 {
     let same = add(alloc, Op::Eq(address, write.address()), terms, words)?;
     let next = add(alloc, Op::Ite(same, write.word(), value), terms, words)?;
@@ -103,8 +109,9 @@ pub(crate) fn side_value(
         → Fits terms.old (Eq address write.address) }
     requires pairs { (k : ℕ) (write : kept.Held) → slice_get writes.now k ≡ Some write
         → ArePair (widths_of terms.old.ops) write.word base }
-    ensures { IfOk result (λ value. (made : List ℕ) × Grows terms.old terms.new words.old words.new made
+    ensures made { IfOk result (λ value. (made : List ℕ) × Grows terms.old terms.new words.old words.new made
         × IsSideValue terms.new address writes.now base made value) }
+    ensures listed { IfOk result (Lists (over_writes address writes.now base) terms.old terms.new words.old words.new) }
 {
     let mut value = base;
     for write in writes {

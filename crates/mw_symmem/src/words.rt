@@ -7,12 +7,13 @@ ghost use Rattle.mw_term.specs.Values.{IsTermOf, Keeps};
 ghost use Rattle.mw_term.specs.declared.kinds.WordKind.{WordKind};
 ghost use Rattle.mw_symmem.specs.Kept.{with_number};
 ghost use Rattle.mw_symmem.specs.Kinds.{same_kind};
-ghost use Rattle.mw_symmem.specs.Words.{plain, variable, number_of, term_of, HaveOwnKinds, AreOf, IsNoVariable};
+ghost use Rattle.mw_symmem.specs.Listed.{Lists};
+ghost use Rattle.mw_term.specs.WordList.{plain, variable, with_variable, with_word};
+ghost use Rattle.mw_symmem.specs.Words.{number_of, term_of, HaveOwnKinds, AreOf, IsNoVariable};
 
 use crate::key::Key;
-use crate::word::Word;
 use mw_base::NoMemory;
-use mw_term::{Op, Term, Terms, WordKind};
+use mw_term::{Op, Term, Terms, Word, WordKind};
 use std::alloc::Global;
 use std::collections::HashMap;
 use std::marker::Model;
@@ -28,7 +29,7 @@ pub struct Words {
 
 impl Model for Words {
     ghost use Rattle.std.specs.Prelude.{List};
-    ghost use Rattle.mw_symmem.specs.declared.word.Word.{Word};
+    ghost use Rattle.mw_term.specs.declared.word.Word.{Word};
     ghost use Rattle.mw_symmem.specs.Kept.{IsKept};
 
     ghost Value = { List Word };
@@ -191,6 +192,7 @@ impl Words {
         ensures words { IfOk result (λ term. self.new ≡ self.old ++ variable term kind ∷ []) }
         ensures op { IfOk result (λ term. slice_get terms.new.ops term ≡ Some (Var (length self.old + 1) width)) }
         ensures made { IfOk result (λ term. IsTermOf terms.old terms.new (Var (length self.old + 1) width) term) }
+        ensures listed { IfOk result (Lists (with_variable kind width) terms.old terms.new self.old self.new) }
         ensures of { OnOk result (AreOf terms.old self.old → AreOf terms.new self.new) }
         ensures extends { Extends terms.old terms.new }
         ensures keeps { Keeps terms.old terms.new }
@@ -211,6 +213,7 @@ impl Words {
         ensures words { IfOk result (λ term. self.new ≡ self.old ++ plain term ∷ []) }
         ensures op { IfOk result (λ term. slice_get terms.new.ops term ≡ Some op) }
         ensures made { IfOk result (λ term. IsTermOf terms.old terms.new op term) }
+        ensures listed { IfOk result (Lists (with_word op) terms.old terms.new self.old self.new) }
         ensures of { OnOk result (IsNoVariable op → AreOf terms.old self.old → AreOf terms.new self.new) }
         ensures extends { Extends terms.old terms.new }
         ensures keeps { Keeps terms.old terms.new }

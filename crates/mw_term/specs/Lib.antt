@@ -7,3 +7,4 @@ pub mod MemoryRead
 pub mod Rows
 pub mod Table
 pub mod Values
+pub mod WordList

@@ -7,6 +7,7 @@ mod kinds;
 mod laws;
 mod op;
 mod terms;
+mod word;
 mod words;
 
 pub use assignment::Assignment;
@@ -18,3 +19,4 @@ pub use laws::{
 };
 pub use op::{Op, Term};
 pub use terms::Terms;
+pub use word::Word;

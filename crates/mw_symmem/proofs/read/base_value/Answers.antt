@@ -1,9 +1,11 @@
-use Rattle.std.proofs.Common.{◌≡◌, ◌<◌, ◌+◌, ◌-◌, ◌++◌, [], ◌∷◌, Some, length, drop, slice_index, refl, arith}
+use Rattle.std.proofs.Common.{◌≡◌, ◌<◌, ◌+◌, ◌-◌, ◌++◌, [], ◌∷◌, Some, length, drop, slice_index, refl, arith, ap, ◌∙◌}
 use Rattle.std.specs.Prelude.{slice_get}
 use Rattle.std.proofs.lemmas.List.{get_or_read}
 use Rattle.std.proofs.lemmas.Option.{slice_get_read}
 use Rattle.mw_symmem.proofs.Growth.{grows_then}
-use Rattle.mw_symmem.proofs.Choices.{no_ite, bit_stays, pair_stays, pair_next, base_stays, base_push}
+use Rattle.mw_term.specs.declared.op.Op.TheVariants.{Ite}
+use Rattle.mw_term.specs.WordList.{with_word}
+use Rattle.mw_symmem.proofs.Choices.{dropped, no_ite, bit_stays, pair_stays, pair_next, base_stays, base_push}
 use Rattle.mw_symmem.proofs.read.base_value.Goals as goal
 
 pub add-requires-clause-none : goal.add-requires-clause-none
@@ -54,6 +56,10 @@ loop-place-preserved c =
             c.loop-place.value e.grows.extends e.grows.keeps before.made.2))
             has,
       );
+      listed = λ reads'.
+          rw (dropped reads i read inside c.index-reads-place.is, dropped same i s beside c.index-same-place.is)
+          (rw c.word.ensures at (e.listed reads')
+          ∙ ap (λ x. with_word (Ite s read.word x.term) x.list) (rw last at (before.listed reads')));
       pairs = λ k other is. pair_next new s read.word c.loop-place.value c.in_ok-value.value other.word has
           (pair_stays old new other.word c.loop-place.value e.grows.extends (before.pairs k other is));
     }

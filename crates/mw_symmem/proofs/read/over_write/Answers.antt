@@ -1,5 +1,6 @@
-use Rattle.std.proofs.Common.{[], ◌∷◌}
-use Rattle.mw_term.specs.declared.op.Op.TheVariants.{Eq}
+use Rattle.std.proofs.Common.{[], ◌∷◌, ap, ◌∙◌}
+use Rattle.mw_term.specs.declared.op.Op.TheVariants.{Eq, Ite}
+use Rattle.mw_term.specs.WordList.{with_word}
 use Rattle.mw_symmem.proofs.Growth.{grows_then, has_stays}
 use Rattle.mw_symmem.proofs.Choices.{no_eq, no_ite, bit_of_same, pair_stays}
 use Rattle.mw_symmem.proofs.read.over_write.Goals as goal
@@ -17,8 +18,8 @@ add-requires-2-clause-fits c =
       rw c.word.ensures (pair_stays c.args.terms.now c.add.new.terms c.args.write.word c.args.value e.grows.extends c.requires.pair),
     )
 
-pub returns : goal.returns
-returns c =
+pub returns-clause-made : goal.returns-clause-made
+returns-clause-made c =
     let one = c.in_ok-same.ensures in
     let two = c.in_ok-next.ensures in
     let same = rw c.address.ensures at one.has in
@@ -30,3 +31,9 @@ returns c =
           two.grows.extends two.grows.keeps same,
       chosen,
     )
+
+pub returns-clause-listed : goal.returns-clause-listed
+returns-clause-listed c = λ reads.
+    (rw c.word.ensures at (c.in_ok-next.ensures.listed reads)
+    ∙ ap (λ x. with_word (Ite x.term c.args.write.word c.args.value) x.list)
+    (rw c.address.ensures at (c.in_ok-same.ensures.listed reads)))

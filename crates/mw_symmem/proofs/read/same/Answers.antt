@@ -1,9 +1,10 @@
-use Rattle.std.proofs.Common.{◌≡◌, ◌∙◌, ◌+◌, ◌++◌, [], ◌∷◌, Some, length, take, ap, sym, refl}
+use Rattle.std.proofs.Common.{◌≡◌, ◌∙◌, ◌+◌, ◌++◌, [], ◌∷◌, Some, length, take, drop, ap, sym, refl, append_assoc}
 use Rattle.std.specs.Prelude.{slice_get}
 use Rattle.std.proofs.lemmas.List.{take_more}
 use Rattle.std.proofs.lemmas.Option.{slice_get_read}
 use Rattle.mw_symmem.proofs.Growth.{grows_then}
-use Rattle.mw_symmem.proofs.Choices.{no_eq, pair_stays, same_stays, same_push}
+use Rattle.mw_term.specs.WordList.{Ended, with_same}
+use Rattle.mw_symmem.proofs.Choices.{dropped, no_eq, pair_stays, same_stays, same_push}
 use Rattle.mw_symmem.proofs.read.same.Goals as goal
 
 pub add-requires-clause-none : goal.add-requires-clause-none
@@ -40,4 +41,13 @@ loop-read-preserved c =
           (same_stays c.loop-read.terms c.add.new.terms c.args.address (take i reads) c.loop-read.same.items
           one.grows.extends one.grows.keeps c.loop-read.invariant.are)
           has);
+      listed = λ reads'.
+          (let before = rw (dropped reads i read c.loop-read-test.true c.read-item.is) at (c.loop-read.invariant.listed reads') in
+          let first = rw c.address.ensures at (one.listed reads') in
+          let others = λ (x : Ended). with_same c.args.address (drop (i + 1) reads) x.list in
+          (
+            ap (λ x. (others x).list) first ∙ before.0,
+            rw (c.in_ok-push.ensures.items, append_assoc)
+                (ap (λ x. c.loop-read.same.items ++ x.term ∷ (others x).terms) first ∙ before.1),
+          ));
     }

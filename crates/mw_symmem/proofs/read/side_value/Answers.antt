@@ -1,9 +1,10 @@
-use Rattle.std.proofs.Common.{◌≡◌, ◌∙◌, ◌+◌, ◌++◌, [], ◌∷◌, Some, length, take, ap, sym, refl}
+use Rattle.std.proofs.Common.{◌≡◌, ◌∙◌, ◌+◌, ◌++◌, [], ◌∷◌, Some, length, take, drop, ap, sym, refl}
 use Rattle.std.specs.Prelude.{slice_get}
 use Rattle.std.proofs.lemmas.List.{take_more}
 use Rattle.std.proofs.lemmas.Option.{slice_get_read}
 use Rattle.mw_symmem.proofs.Growth.{grows_then}
-use Rattle.mw_symmem.proofs.Choices.{pair_stays, pair_next, side_stays, side_push}
+use Rattle.mw_term.specs.WordList.{over_writes}
+use Rattle.mw_symmem.proofs.Choices.{dropped, pair_stays, pair_next, side_stays, side_push}
 use Rattle.mw_symmem.proofs.read.side_value.Goals as goal
 
 pub over_write-requires-clause-same : goal.over_write-requires-clause-same
@@ -33,7 +34,7 @@ loop-write-preserved c =
     let before = c.loop-write.invariant in
     let old = c.loop-write.terms in
     let new = c.over_write.new.terms in
-    let e = c.in_ok-value.ensures in
+    let e = c.in_ok-value.ensures.made in
     let next : take (i + 1) writes ≡ take i writes ++ write ∷ [] =
     take_more writes i write c.loop-write-test.true ∙ ap (λ x. take i writes ++ x ∷ []) (sym c.write-item.is) in
     record {
@@ -48,6 +49,9 @@ loop-write-preserved c =
             e.1.keeps before.made.2)
             e.2 e.3),
       );
+      listed = λ reads.
+          ap (λ x. over_writes c.args.address (drop (i + 1) writes) x.term x.list) (c.in_ok-value.ensures.listed reads)
+          ∙ rw (dropped writes i write c.loop-write-test.true c.write-item.is) at (before.listed reads);
       pairs = λ k w is. pair_next new e.0 write.word c.loop-write.value c.in_ok-value.value w.word e.3
           (pair_stays old new w.word c.loop-write.value e.1.extends (before.pairs k w is));
     }

@@ -2,7 +2,7 @@ use Rattle.std.proofs.Common.{◌≡◌, arith, ◌+◌, [], ◌∷◌, ◌++◌
 use Rattle.std.specs.Prelude.{None, if◌then◌else◌}
 use Rattle.mw_term.specs.MemoryRead.{held}
 use Rattle.mw_cycle.specs.declared.elements.Element.TheVariants.{Mar}
-use Rattle.mw_symmem.specs.declared.word.Word.{Word}
+use Rattle.mw_term.specs.declared.word.Word.{Word}
 use Rattle.mw_symmem.proofs.Later.{goes_by_growth}
 use Rattle.mw_symboard.specs.Kinds.{AreInputs}
 use Rattle.mw_symboard.specs.Seen.{microword_of}

@@ -5,6 +5,7 @@ use Rattle.mw_symmem.proofs.Lists.{absent, plain_behind}
 use Rattle.mw_symmem.proofs.Growth.{extends_then, keeps_then, has_made, width_stays}
 use Rattle.mw_symmem.proofs.Choices.{bit_stays}
 use Rattle.mw_symmem.proofs.Parts.{same_count}
+use Rattle.mw_symmem.proofs.Reading.{read_listed}
 use Rattle.mw_symmem.proofs.Made.{pair_of, same_bits, variable_width, base_width, side_held, done}
 use Rattle.mw_symmem.proofs.memory.SymMemory.make.Goals as goal
 
@@ -74,7 +75,7 @@ side_value-requires-clause-same c = λ k write is.
     let t3 = c.base_value.new.terms in
     let one = c.in_ok-same.ensures.grows in
     let e = c.in_ok-base.ensures in
-    let two = c.in_ok-middle.ensures.1 in
+    let two = c.in_ok-middle.ensures.made.1 in
     let extends = extends_then told t1 t3 one.extends (extends_then t1 t2 t3 e.extends two.extends) in
     let keeps = keeps_then told t1 t3 one.extends.more one.keeps (keeps_then t1 t2 t3 e.extends.more e.keeps two.keeps) in
     let w = c.self.inside.address in
@@ -92,8 +93,8 @@ side_value-requires-clause-pairs c = λ k write is.
     let t3 = c.base_value.new.terms in
     let one = c.in_ok-same.ensures.grows in
     let e = c.in_ok-base.ensures in
-    let two = c.in_ok-middle.ensures.1 in
-    let base_is = rw (c.deref-3.ensures.value, c.deref-2.ensures.value) at c.in_ok-middle.ensures.2 in
+    let two = c.in_ok-middle.ensures.made.1 in
+    let base_is = rw (c.deref-3.ensures.value, c.deref-2.ensures.value) at c.in_ok-middle.ensures.made.2 in
     let extends = extends_then told t1 t3 one.extends (extends_then t1 t2 t3 e.extends two.extends) in
     let keeps = keeps_then told t1 t3 one.extends.more one.keeps (keeps_then t1 t2 t3 e.extends.more e.keeps two.keeps) in
     let number : ℕ = length c.same.new.words + 1 in
@@ -102,24 +103,38 @@ side_value-requires-clause-pairs c = λ k write is.
     let base = variable_width t2 number w c.in_ok-base.base has in
     pair_of t3 w write.word c.in_ok-middle.middle
     (width_stays told t3 w write.word extends keeps (side_held told c.args.words.now _ c.args.side memory k write there).word)
-    (base_width t3 w c.self.inside.reads.items c.in_ok-same.same.items c.in_ok-base.base c.in_ok-middle.ensures.0
+    (base_width t3 w c.self.inside.reads.items c.in_ok-same.same.items c.in_ok-base.base c.in_ok-middle.ensures.made.0
     c.in_ok-middle.middle
     (width_stays t2 t3 w c.in_ok-base.base two.extends two.keeps base)
     base_is)
 
-pub returns : goal.returns
-returns c =
+pub returns-clause-made : goal.returns-clause-made
+returns-clause-made c =
     let memory = rw (← c.self.view_is) at c.requires.memory in
     let writes = rw (← c.self.view_is) at c.writes.ensures in
     let are = rw c.deref.ensures.value at c.in_ok-same.ensures.are in
-    let base_is = rw (c.deref-3.ensures.value, c.deref-2.ensures.value) at c.in_ok-middle.ensures.2 in
-    let side_is = rw writes at c.in_ok-value.ensures.2 in
+    let base_is = rw (c.deref-3.ensures.value, c.deref-2.ensures.value) at c.in_ok-middle.ensures.made.2 in
+    let side_is = rw writes at c.in_ok-value.ensures.made.2 in
     let e = c.in_ok-base.ensures in
     let number : c.len-number.result ≡ length c.self.inside.reads.items = omega (arith, c.len-number.ensures) in
     rw (← c.self.view_is)
     (done c.args.terms.now c.same.new.terms c.fresh.new.terms c.base_value.new.terms c.side_value.new.terms
     c.args.words.now c.same.new.words c.fresh.new.self c.base_value.new.words c.side_value.new.words _ c.args.side
     c.args.address c.in_ok-base.base c.in_ok-middle.middle c.in_ok-value.value c.len-number.result
-    c.in_ok-same.same.items c.in_ok-middle.ensures.0 c.in_ok-value.ensures.0
+    c.in_ok-same.same.items c.in_ok-middle.ensures.made.0 c.in_ok-value.ensures.made.0
     c.in_ok-same.ensures.grows are e.words number e.op e.made e.extends e.keeps e.table e.of memory.word
-    c.in_ok-middle.ensures.1 base_is c.in_ok-value.ensures.1 side_is c.requires.of)
+    c.in_ok-middle.ensures.made.1 base_is c.in_ok-value.ensures.made.1 side_is c.requires.of)
+
+pub returns-clause-listed : goal.returns-clause-listed
+returns-clause-listed c =
+    let writes = rw (← c.self.view_is) at c.writes.ensures in
+    let same = rw c.deref.ensures.value at c.in_ok-same.ensures.listed in
+    let older = rw (c.deref-3.ensures.value, c.deref-2.ensures.value) at c.in_ok-middle.ensures.listed in
+    let newer = rw writes at c.in_ok-value.ensures.listed in
+    let number : c.len-number.result ≡ length c.self.inside.reads.items = omega (arith, c.len-number.ensures) in
+    let base = rw number at c.in_ok-base.ensures.listed in
+    rw (← c.self.view_is)
+    (read_listed c.self.inside.word c.args.address c.in_ok-base.base c.in_ok-middle.middle c.in_ok-value.value
+    c.self.inside.reads.items _ c.in_ok-same.same.items c.args.terms.now c.same.new.terms c.fresh.new.terms
+    c.base_value.new.terms c.side_value.new.terms c.args.words.now c.same.new.words c.fresh.new.self
+    c.base_value.new.words c.side_value.new.words same base older newer)

@@ -1,8 +1,9 @@
 // A word of a list.
 ghost use Rattle.std.specs.Prelude.{◌≡◌, None, Some};
-ghost use Rattle.mw_symmem.specs.Words.{plain, variable};
+ghost use Rattle.mw_term.specs.WordList.{plain, variable};
 
-use mw_term::{Term, WordKind};
+use crate::kinds::WordKind;
+use crate::op::Term;
 
 /// A word of a list: its term, and where it is a variable what it stands for.
 #[derive(Clone, Copy, Debug, PartialEq, Eq)]
@@ -15,14 +16,14 @@ pub struct Word {
 
 impl Word {
     /// A word that is no variable.
-    pub(crate) fn plain(term: Term) -> Word
+    pub fn plain(term: Term) -> Word
         ensures { result ≡ plain term }
     {
         Word { term, kind: None }
     }
 
     /// A variable of a kind.
-    pub(crate) fn variable(term: Term, kind: WordKind) -> Word
+    pub fn variable(term: Term, kind: WordKind) -> Word
         ensures { result ≡ variable term kind }
     {
         Word {
