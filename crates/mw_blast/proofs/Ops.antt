@@ -343,14 +343,13 @@ unfolding op_width bit_made
 variable_made t nodes word w xs are = are
 
 -- so many items from a place on
-pub part_slice : (xs ys : List ℕ) (low w : ℕ) → low + w ≤ length xs → ys ≡ take (low + w - low) (drop low xs)
+pub part_slice : (xs ys : List ℕ) (low w : ℕ) → low + w ≤ length xs → ys ≡ take w (drop low xs)
     → (length ys ≡ w) × ((j : ℕ) → j < w → slice_index ys j ≡ slice_index xs (low + j))
 part_slice xs ys low w within is =
-    let many : low + w - low ≡ w = omega arith in
     let rest : length (drop low xs) ≡ length xs - low = length-drop low xs in (
-      ap length is ∙ length-take-le (low + w - low) (drop low xs) (omega (arith, many, rest, within)) ∙ many,
+      ap length is ∙ length-take-le w (drop low xs) (omega (arith, rest, within)),
       λ j inside. ap (λ zs. slice_index zs j) is
-          ∙ get_or-take (low + w - low) (drop low xs) j 0 (omega (arith, many, inside))
+          ∙ get_or-take w (drop low xs) j 0 inside
           ∙ get_or-drop low xs j 0,
     )
 

@@ -1,5 +1,5 @@
 // Lists of functions, and those of constants and variables.
-ghost use Rattle.std.specs.Prelude.{◌≡◌, ◌≤◌, ◌<◌, ◌^◌, [], ◌∷◌, ◌++◌, length, map, IfOk, OnOk};
+ghost use Rattle.std.specs.Prelude.{◌≡◌, ◌+◌, ◌≤◌, ◌<◌, ◌^◌, [], ◌∷◌, ◌++◌, length, take, drop, map, IfOk, OnOk};
 ghost use Rattle.mw_base.specs.Words as words;
 ghost use Rattle.mw_term.specs.Cofactors.{variable, value_of};
 ghost use Rattle.mw_dd.specs.Diagrams.{Keeps};
@@ -44,6 +44,19 @@ pub(crate) fn copied(alloc: Global, functions: &[Dd]) -> Result<Vec<Dd>, NoMemor
     ensures { IfOk result (λ v. v.items ≡ functions.now) }
 {
     Ok(Vec::from_slice(alloc, functions)?)
+}
+
+/// So many of some functions anew, from a place on.
+///
+/// # Errors
+///
+/// Memory ran out.
+pub(crate) fn part(alloc: Global, functions: &[Dd], low: u8, width: u8) -> Result<Vec<Dd>, NoMemory>
+    requires { low + width ≤ length functions.now }
+    ensures { IfOk result (λ v. v.items ≡ take width (drop low functions.now)) }
+{
+    let low = low as usize;
+    copied(alloc, &functions[low..low + width as usize])
 }
 
 /// A list of functions behind another.

@@ -14,7 +14,7 @@ ghost use Rattle.mw_blast.specs.Rows.{carried, bit_at, operations_at, IsRefusedA
 use crate::blast::Blast;
 use crate::entry::entry;
 use crate::fault::RowFault;
-use crate::functions::{constants, copied, joined, single, variables};
+use crate::functions::{constants, joined, part, single, variables};
 use crate::rows::{Row, difference};
 use crate::words::word;
 use mw_dd::{Dd, Diagrams};
@@ -175,8 +175,7 @@ impl Blast {
             }
             Op::Part(a, low, width) => {
                 let bits = self.bits_of(terms, a);
-                let low = low as usize;
-                Ok(copied(alloc, &bits[low..low + width as usize])?)
+                Ok(part(alloc, bits, low, width)?)
             }
             Op::Join(high, low) => {
                 let above = self.bits_of(terms, high);

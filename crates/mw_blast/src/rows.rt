@@ -72,8 +72,8 @@ pub(crate) fn operate(
     ensures there { IfOk result (IsDd dds.new) }
     ensures made { (F G H : Function) → StandsFor dds.old f F → StandsFor dds.old g G → StandsFor dds.old h H
         → MatchResult result (λ x. StandsFor dds.new x (made (ite F G H))) (IsRefused (ite F G H ∷ []) budget) }
-    ensures within { OnOk result ((F G H : Function) → StandsFor dds.old f F → StandsFor dds.old g G → StandsFor dds.old h H
-        → HasAtMostCofactors (ite F G H) budget) }
+    ensures within { (F G H : Function) → StandsFor dds.old f F → StandsFor dds.old g G → StandsFor dds.old h H
+        → OnOk result (HasAtMostCofactors (ite F G H) budget) }
     ensures keeps { Keeps dds.old dds.new }
 {
     dds.ite(alloc, f, g, h, budget)

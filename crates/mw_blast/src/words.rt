@@ -1,5 +1,5 @@
 // The rows of the term table over all bits of two words.
-ghost use Rattle.std.specs.Prelude.{◌≡◌, ◌≤◌, ℕ, length, IfOk, MatchResult};
+ghost use Rattle.std.specs.Prelude.{◌≡◌, ◌≤◌, ℕ, [], ◌∷◌, ◌++◌, length, IfOk, MatchResult, OnOk};
 ghost use Rattle.mw_term.specs.Functions.{Function};
 ghost use Rattle.mw_dd.specs.Nodes.{IsDd};
 ghost use Rattle.mw_dd.specs.Diagrams.{Keeps};
@@ -8,9 +8,19 @@ ghost use Rattle.mw_blast.specs.Rows.{bit_at, operations_at, IsRefusedAt};
 
 use crate::fault::RowFault;
 use crate::functions::append;
-use crate::rows::Row;
+use crate::rows::{Row, Step};
+use mw_base::NoMemory;
 use mw_dd::{Dd, Diagrams};
 use std::alloc::Global;
+
+/// Puts the bit of a step behind others, and gives what it carries on.
+fn push_step(bits: &mut Vec<Dd>, step: Step) -> Result<Dd, NoMemory>
+    ensures bits { OnOk result (bits.new.items ≡ bits.old.items ++ step.bit ∷ []) }
+    ensures carried { IfOk result (λ carried. carried ≡ step.carried) }
+{
+    append(bits, step.bit)?;
+    Ok(step.carried)
+}
 
 /// What a row makes at each bit of two words of one width, of at most 32 bits, from the lowest, and what is carried into
 /// that one.
@@ -47,8 +57,7 @@ pub(crate) fn word(
             Ok(step) => step,
             Err(fault) => return Err(RowFault::at(bit as u8, fault)),
         };
-        append(&mut bits, step.bit)?;
-        carried = step.carried;
+        carried = push_step(&mut bits, step)?;
     }
     Ok(bits)
 }

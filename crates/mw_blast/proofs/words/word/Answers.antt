@@ -36,13 +36,13 @@ returns-in-Err-clause-made c =
 pub returns-in-Err-clause-keeps : goal.returns-in-Err-clause-keeps
 returns-in-Err-clause-keeps c = keeps-then _ _ _ c.loop-bit.invariant.keeps c.step.ensures.keeps
 
-pub returns-in_err-append-clause-keeps : goal.returns-in_err-append-clause-keeps
-returns-in_err-append-clause-keeps c = keeps-then _ _ _ c.loop-bit.invariant.keeps c.step.ensures.keeps
+pub returns-in_err-carried-clause-keeps : goal.returns-in_err-carried-clause-keeps
+returns-in_err-carried-clause-keeps c = keeps-then _ _ _ c.loop-bit.invariant.keeps c.step.ensures.keeps
 
 pub loop-bit-preserved : goal.loop-bit-preserved
 loop-bit-preserved c =
     let inside : c.loop-bit.bit < length c.args.b.now = omega (arith, c.loop-bit-test.true, c.requires.width) in
-    rw c.in_ok-append.ensures
+    rw (c.in_ok-carried.ensures.bits, c.in_ok-carried.ensures.carried)
     (one_more c.args.dds.now c.loop-bit.dds c.step.new.dds c.args.row c.args.a.now c.args.b.now c.args.first
     c.loop-bit.carried c.loop-bit.bit c.index-a-bit.result c.index-b-bit.result c.loop-bit.bits.items c.in-Ok.step
     c.loop-bit.invariant c.loop-bit-test.true c.requires.width

@@ -234,17 +234,22 @@ returns-in_ok-variables-in-Var-clause-made c = rw c.in-Var.is
     (variable_made c.args.terms.now c.variables.new.dds c.in-Var.word c.in-Var.width
     c.in_ok-variables-in-Var.field-0.items c.in_ok-variables-in-Var.ensures.made)
 
-pub returns-in_ok-copied-in-Part-clause-made : goal.returns-in_ok-copied-in-Part-clause-made
-returns-in_ok-copied-in-Part-clause-made c =
+pub part-requires : goal.part-requires
+part-requires c =
+    let fits = rw c.in-Part.is at c.requires.fits in
+    omega (arith, fits.2, (c.bits_of-bits.ensures.are c.args.dds.now c.requires.of).count)
+
+pub returns-in_ok-part-in-Part-clause-made : goal.returns-in_ok-part-in-Part-clause-made
+returns-in_ok-part-in-Part-clause-made c =
     let t = c.args.terms.now in
     let fits = rw c.in-Part.is at c.requires.fits in
     let xs = c.bits_of-bits.result.now in
     let are = c.bits_of-bits.ensures.are c.args.dds.now c.requires.of in
     let within : c.in-Part.low + c.in-Part.width ≤ length xs = omega (arith, fits.2, are.count) in
-    let cut = part_slice xs c.in_ok-copied-in-Part.field-0.items c.in-Part.low c.in-Part.width within
-    c.in_ok-copied-in-Part.ensures in
+    let cut = part_slice xs c.in_ok-part-in-Part.field-0.items c.in-Part.low c.in-Part.width within
+    c.in_ok-part-in-Part.ensures in
     rw c.in-Part.is
-    (part_made t c.args.dds.now c.in-Part.a c.in-Part.low c.in-Part.width xs c.in_ok-copied-in-Part.field-0.items are
+    (part_made t c.args.dds.now c.in-Part.a c.in-Part.low c.in-Part.width xs c.in_ok-part-in-Part.field-0.items are
     cut.0 within cut.1)
 
 pub returns-in_ok-joined-in-Join-clause-made : goal.returns-in_ok-joined-in-Join-clause-made
