@@ -554,7 +554,7 @@ class Values:
             return found[0] << operands[1].width | found[1]
         if op == "tab":
             return self.map[found[0]]
-        return OPS[op](operands[-2 if op in ("sum", "cout", "ovf") else -1].width, *found) if op in OPS else self.given.get((op, numbers[0]), 0)
+        return OPS[op](operands[0].width, *found) if op in OPS else self.given.get((op, numbers[0]), 0)
 
     def work_out(self, words):
         for word in words:
@@ -607,34 +607,52 @@ def check_step(machine, setting):
 
 # ---- what the cases use
 
+SEEN_BEFORE_F = {"carry", "overflow", "f_zero", "sign", "f_low", "f_high"}
+KINDS = {bit.removesuffix(":") for bit in BITS}
+D_SOURCES = ("zero", "memory", "ir", "mar", "input", "field", "ff")
+LINKS = {"ram_link": "B", "q_link": "Q"}
+
+# What the cases have to use: every source of D with and without a mask; every function where its carry is read and where not; every instruction
+# and polarity where the test is enabled and where not; every kind of bit wherever it may stand; the map, and noise as an address.
+WANTED = {
+    "d": {(source, mask) for source in D_SOURCES for mask in (False, True)},
+    "function": {(name, read) for name in FUNCTIONS for read in (False, True)},
+    "destination": set(DESTINATIONS),
+    "code": {(code, off) for code in TABLE for off in (0, 1)},
+    "polarity": {(polarity, off) for polarity in (0, 1) for off in (0, 1)},
+    "carry_in": KINDS - SEEN_BEFORE_F,
+    "condition": KINDS,
+    "link": {(link, kind) for link in LINKS for kind in KINDS},
+    "load": KINDS | {"hold", "invert", "xor_carry"},
+    "next": {"tab", "part of noise"},
+}
+
+
+def uses_of(made):
+    """What a cycle uses, each with its place in the table above."""
+    def kind(entry):
+        return entry.partition(":")[0]
+
+    source, _, mask = made.chosen("d").partition("&")
+    off = made.point("test_disable")
+    yield "d", (kind(source), bool(mask))
+    yield "function", (FUNCTIONS[made.point("alu_function")], "carry" in made.bits_read())
+    yield "destination", made.destination
+    yield "code", (made.code, off)
+    yield "polarity", (made.point("polarity"), off)
+    yield "carry_in", kind(made.chosen("carry_in"))
+    yield "condition", kind(made.chosen("condition"))
+    yield from (("link", (link, kind(made.chosen(link)))) for link, taker in LINKS.items() if "2" in made.destination_of(taker))
+    yield from (("load", kind(load)) for load in made.loads)
+    for op, operands, numbers in made.words.words:
+        yield "next", "part of noise" if op == "part" and (operands[0], *numbers) == (made.noise, 0, 12) else op
+
+
 def check_uses(found):
-    """The cases choose every source of D with and without a mask, function, destination, instruction, and kind of bit wherever it may stand."""
-    uses = {what: set() for what in ("d", "function", "destination", "code", "carry_in", "condition", "link", "load", "polarity", "f")}
-    for made in found:
-        source, _, mask = made.chosen("d").partition("&")
-        uses["d"].add((source.partition(":")[0], bool(mask)))
-        uses["function"].add((FUNCTIONS[made.point("alu_function")], any(entry in ("carry", "xor_carry") for entry in made.bits_read())))
-        uses["destination"].add(made.destination)
-        tested = not made.point("test_disable")
-        uses["code"].add((made.code, tested))
-        uses["polarity"].add((made.point("polarity"), tested))
-        uses["carry_in"].add(made.chosen("carry_in").partition(":")[0])
-        uses["condition"].add(made.chosen("condition").partition(":")[0])
-        for taker, link in (("B", "ram_link"), ("Q", "q_link")):
-            if "2" in made.destination_of(taker):
-                uses["link"].add((link, made.chosen(link).partition(":")[0]))
-        uses["load"] |= {load.partition(":")[0] for load in made.loads}
-        uses["f"] |= {op for op, operands, _ in made.words.words if op == "tab" or op == "part" and operands[0] == made.noise}
-    bits = {bit.partition(":")[0] for bit in BITS}
-    inner = {"carry", "overflow", "f_zero", "sign", "f_low", "f_high"}
-    sources = ("zero", "memory", "ir", "mar", "input", "field", "ff")
-    wanted = {"d": {(source, mask) for source in sources for mask in (False, True)}, "function": {(name, read) for name in FUNCTIONS for read in (0, 1)},
-              "destination": set(DESTINATIONS), "code": {(code, tested) for code in TABLE for tested in (False, True)}, "carry_in": bits - inner,
-              "condition": bits, "link": {(link, bit) for link in ("ram_link", "q_link") for bit in bits},
-              "load": bits | {"hold", "invert", "xor_carry"}, "polarity": {(polarity, tested) for polarity in (0, 1) for tested in (False, True)},
-              "f": {"tab", "part"}}
-    for what, entries in wanted.items():
-        assert entries <= uses[what], (what, entries - uses[what])
+    """The cases use all that they have to."""
+    used = {use for made in found for use in uses_of(made)}
+    missing = {(what, entry) for what, entries in WANTED.items() for entry in entries} - used
+    assert not missing, missing
 
 
 def check_small_case():
