@@ -283,12 +283,10 @@ def print_rows():
     print("# Cycles, printed by tools/cycle_table.py: the state after a cycle, and its nets.")
     for width, text in BOARDS.items():
         print_store(f"board of {width} bits", text, stores[width])
-        for name, start, at, (noise, line, offered), after, nets in rows:
+        for name, start, at, given, after, nets in rows:
             if width_of(start) == width:
-                before = State.read(STARTS[start]).text(at)
-                given = [f"with board of {width} bits"] + file_lines("state", f"{before}\n".encode())
-                given += [f"call cycle noise={noise:x} line={line} input={offered:x}"]
-                print("\n".join([""] + row_lines(name, given, "gives", f"{after}\n{nets}\n".encode())))
+                lines = given_lines(f"board of {width} bits", "cycle", at, State.read(STARTS[start]), given)
+                print("\n".join([""] + row_lines(name, lines, "gives", f"{after}\n{nets}\n".encode())))
 
 
 def decided_bits(board, word, state, nets):
@@ -303,16 +301,20 @@ def decided_bits(board, word, state, nets):
     return bits + [(bit, int(nets["next"], 16) >> bit & 1) for bit in range(11, -1, -1)]
 
 
+def given_lines(files, call, at, state, given):
+    """The lines of a row from a state, over a set of a board and a store, up to the call."""
+    noise, line, offered = given
+    lines = [f"with {files}"] + file_lines("state", f"{state.text(at)}\n".encode())
+    return lines + [f"call {call} noise={noise:x} line={line} input={offered:x}"]
+
+
 def print_symbolic_row(name, files, board, store, at, state, given):
     """Prints the row of a symbolic cycle, over a set of a board and a store."""
     following, after, nets = cycle(board, store, at, state, *given)
     nets = settings_of(nets)
     bits = decided_bits(board, int(nets["word"], 16), state, nets)
     report = f"{after.text(following)}\nevent={nets['event']}" + "".join(f" {bit}:{value}" for bit, value in bits) + "\n"
-    noise, line, offered = given
-    lines = [f"with {files}"] + file_lines("state", f"{state.text(at)}\n".encode())
-    lines += [f"call symbolic noise={noise:x} line={line} input={offered:x}"]
-    print("\n".join([""] + row_lines(name, lines, "gives", report.encode())))
+    print("\n".join([""] + row_lines(name, given_lines(files, "symbolic", at, state, given), "gives", report.encode())))
 
 
 def random_state(board):

@@ -57,21 +57,28 @@ def stepped(machine, values, request, inputs, words):
     return Described(job, {f"m.{name}": value for name, value in values.items()}, Touched(words), Inputs(request, inputs))
 
 
+def named(machine, memory):
+    """The addresses that a step names: those that it reads and writes, and a few at which nothing happens."""
+    return sorted(memory.at | {0, 2**machine.over.address - 1})
+
+
+def call_of(call, machine, step, values, request=0, inputs=(), words=()):
+    """The line that calls for a step."""
+    line = [f"call {call}", f"request={request}"] + ([f"inputs={','.join(f'{word:x}' for word in inputs)}"] if inputs else [])
+    line += [f"{register}={value:x}" for register, value in values.items()]
+    return " ".join(line + [f"mem:{address:x}={dict(words).get(address, 0):x}" for address in named(machine, step.over.memory)])
+
+
 def row_of(name, lines, machine, values, request=0, inputs=(), words=()):
     """The row of a step, where `lines` are those of its file."""
-    words = dict(words)
     step = stepped(machine, values, request, inputs, words)
+    call = call_of("described", machine, step, values, request, inputs, words)
     memory = step.over.memory
-    # A few addresses at which nothing happens stand among them.
-    named = sorted(memory.at | {0, 2**machine.over.address - 1})
-    call = ["call described", f"request={request}"] + ([f"inputs={','.join(f'{word:x}' for word in inputs)}"] if inputs else [])
-    call += [f"{register}={value:x}" for register, value in values.items()]
-    call += [f"mem:{address:x}={words.get(address, 0):x}" for address in named]
     after = [f"{register}={step.over.elements[register][1]:x}" for register, _ in machine.elements["register"]]
-    report = [["registers"] + after, ["memory"] + [f"{address:x}={dict.get(memory, address, 0):x}" for address in named],
+    report = [["registers"] + after, ["memory"] + [f"{address:x}={dict.get(memory, address, 0):x}" for address in named(machine, memory)],
               ["events"] + [f"{kind}:{word:x}" for kind, word in step.events], ["inputs", str(step.taken)],
               ["branches"] + [str(bit) for bit in step.bits]]
-    return row_lines(name, lines + [" ".join(call)], "gives", "".join(" ".join(line) + "\n" for line in report).encode())
+    return row_lines(name, lines + [call], "gives", "".join(" ".join(line) + "\n" for line in report).encode())
 
 
 # ---- machines by hand: a name, the text, and for each row the values of its step
