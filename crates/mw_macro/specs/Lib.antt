@@ -9,3 +9,4 @@ pub mod Right
 pub mod Rules
 pub mod State
 pub mod Statements
+pub mod StepWords

@@ -17,8 +17,8 @@ use Rattle.mw_symmem.specs.declared.turn.Turn.{Turn}
 use Rattle.mw_symmem.specs.declared.turn.Turn.TheVariants.{Ask, Finished}
 use Rattle.mw_term.specs.declared.word.Word.{Word}
 use Rattle.mw_symmem.specs.Memory.{Memory, IsMemory, IsMemoryAtFirst, memory_of}
-use Rattle.mw_term.specs.WordList.{variable}
-use Rattle.mw_symmem.specs.Words.{term_of, AreOf, IsVariable}
+use Rattle.mw_term.specs.WordList.{variable, term_of}
+use Rattle.mw_symmem.specs.Words.{AreOf, IsVariable}
 use Rattle.mw_symmem.specs.Workspace.{GoesOn, IsLater}
 use Rattle.mw_symmem.proofs.Lists.{absent, kind_of, missing, pushed}
 use Rattle.mw_symboard.specs.Cycle.{bits_before}

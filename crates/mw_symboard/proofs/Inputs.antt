@@ -10,10 +10,10 @@ use Rattle.mw_term.specs.Table.{Table, Extends, IsTable, op_width}
 use Rattle.mw_term.specs.Values.{IsTermOf, Keeps}
 use Rattle.mw_symmem.specs.declared.side.Side.{Side}
 use Rattle.mw_term.specs.declared.word.Word.{Word}
-use Rattle.mw_symmem.specs.Kinds.{same_kind, kind_own}
+use Rattle.mw_term.specs.WordList.{same_kind, variable, is_of, term_of}
+use Rattle.mw_symmem.specs.Kinds.{kind_own}
 use Rattle.mw_symmem.specs.Memory.{Memory, AddsRead, IsMemory, IsOfWidth, with_read}
-use Rattle.mw_term.specs.WordList.{variable}
-use Rattle.mw_symmem.specs.Words.{is_of, term_of, AreOf}
+use Rattle.mw_symmem.specs.Words.{AreOf}
 use Rattle.mw_symmem.specs.Workspace.{GoesOn, IsWorkspace}
 use Rattle.mw_symmem.proofs.Growth.{width_stays}
 use Rattle.mw_symmem.proofs.Later.{goes_as, goes_by_growth, goes_by_read, goes_by_variable}

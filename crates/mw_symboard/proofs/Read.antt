@@ -13,7 +13,7 @@ use Rattle.mw_term.specs.Table.{Table, Extends, IsTable}
 use Rattle.mw_term.specs.Values.{Keeps}
 use Rattle.mw_term.specs.declared.word.Word.{Word}
 use Rattle.mw_symmem.specs.Memory.{Memory, IsOfWidth}
-use Rattle.mw_symmem.specs.Words.{term_of}
+use Rattle.mw_term.specs.WordList.{term_of}
 use Rattle.mw_symmem.specs.Workspace.{GoesOn, IsLater, IsWorkspace}
 use Rattle.mw_symmem.proofs.Growth.{width_stays}
 use Rattle.mw_symmem.proofs.Later.{goes_as, goes_by_growth, goes_then, reads_itself, writes_itself}

@@ -19,7 +19,8 @@ use Rattle.mw_term.specs.Values.{op_value, term_value, value_over}
 use Rattle.mw_term.proofs.Tables.{terms_have_ops, widths_count, words_of}
 use Rattle.mw_symmem.specs.declared.side.Side.TheVariants as side
 use Rattle.mw_term.specs.declared.word.Word.{Word}
-use Rattle.mw_symmem.specs.Words.{AreOf, is_of, term_of}
+use Rattle.mw_term.specs.WordList.{is_of, term_of}
+use Rattle.mw_symmem.specs.Words.{AreOf}
 use Rattle.mw_symmem.specs.Memory.{Memory}
 use Rattle.mw_symmem.specs.Workspace.{GoesOn, IsWorkspace, KeepsWrites}
 use Rattle.mw_symmem.proofs.Later.{held_by_stays, image_before, images_fit_before, width_later}

@@ -19,7 +19,7 @@ use Rattle.mw_term.specs.Assigned.{Given}
 use Rattle.mw_term.specs.MemoryRead.{held}
 use Rattle.mw_term.specs.Table.{Table, IsTable}
 use Rattle.mw_term.specs.Values.{term_value}
-use Rattle.mw_symmem.specs.declared.turn.SymEvent.{SymEvent}
+use Rattle.mw_term.specs.declared.event.SymEvent.{SymEvent}
 use Rattle.mw_term.specs.declared.word.Word.{Word}
 use Rattle.mw_symmem.specs.Memory.{Memory}
 use Rattle.mw_symboard.specs.declared.leaving.Leaving.{Leaving}

@@ -33,7 +33,7 @@ use Rattle.mw_term.specs.Values.{Keeps}
 use Rattle.mw_symmem.specs.declared.side.Side.TheVariants as side
 use Rattle.mw_term.specs.declared.word.Word.{Word}
 use Rattle.mw_symmem.specs.Memory.{Memory, IsMemory}
-use Rattle.mw_symmem.specs.Words.{is_of, term_of}
+use Rattle.mw_term.specs.WordList.{is_of, term_of}
 use Rattle.mw_symmem.specs.Workspace.{IsLater, KeepsWrites, ReadsMore}
 use Rattle.mw_symmem.proofs.Growth.{width_stays}
 use Rattle.mw_symmem.proofs.Later.{reads_stay}

@@ -12,11 +12,10 @@ use Rattle.mw_term.specs.declared.kinds.WordKind.{WordKind}
 use Rattle.mw_term.specs.declared.kinds.WordKind.TheVariants.{Line, Noise, Input}
 use Rattle.mw_term.specs.declared.op.Op.TheVariants.{Not}
 use Rattle.mw_term.specs.Table.{Table, Extends}
-use Rattle.mw_symmem.specs.declared.turn.SymEvent.{SymEvent}
+use Rattle.mw_term.specs.declared.event.SymEvent.{SymEvent}
 use Rattle.mw_term.specs.declared.word.Word.{Word}
 use Rattle.mw_symmem.specs.Memory.{Memory}
-use Rattle.mw_term.specs.WordList.{plain}
-use Rattle.mw_symmem.specs.Words.{is_of, term_of}
+use Rattle.mw_term.specs.WordList.{plain, is_of, term_of}
 use Rattle.mw_symmem.specs.Workspace.{IsLater, IsWorkspace}
 use Rattle.mw_symmem.proofs.Growth.{width_stays}
 use Rattle.mw_symmem.proofs.Later.{reads_itself, writes_itself, goes_by_growth}

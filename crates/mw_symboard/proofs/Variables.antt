@@ -8,10 +8,10 @@ use Rattle.mw_term.specs.declared.op.Op.TheVariants.{Var}
 use Rattle.mw_term.specs.Table.{Table, Extends, IsTable, op_width}
 use Rattle.mw_term.specs.Values.{IsTermOf, Keeps}
 use Rattle.mw_term.specs.declared.word.Word.{Word}
-use Rattle.mw_symmem.specs.Kinds.{same_kind, kind_is, kind_own}
+use Rattle.mw_term.specs.WordList.{same_kind, plain, variable, is_of, term_of}
+use Rattle.mw_symmem.specs.Kinds.{kind_is, kind_own}
 use Rattle.mw_symmem.specs.Memory.{Memory, IsOfWidth}
-use Rattle.mw_term.specs.WordList.{plain, variable}
-use Rattle.mw_symmem.specs.Words.{is_of, term_of, AreOf}
+use Rattle.mw_symmem.specs.Words.{AreOf}
 use Rattle.mw_symmem.specs.Workspace.{GoesOn, HaveKinds, IsWorkspace}
 use Rattle.mw_symmem.proofs.Growth.{width_stays}
 use Rattle.mw_symmem.proofs.Later.{goes_by_variable, goes_then}

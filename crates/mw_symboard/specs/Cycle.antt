@@ -18,7 +18,7 @@ use Rattle.mw_term.specs.declared.op.Op.TheVariants.{Con, Not}
 use Rattle.mw_term.specs.Table.{Table}
 use Rattle.mw_term.specs.declared.word.Word.{Word}
 use Rattle.mw_symmem.specs.Memory.{Memory, IsOfWidth}
-use Rattle.mw_symmem.specs.Words.{term_of}
+use Rattle.mw_term.specs.WordList.{term_of}
 use Rattle.mw_symboard.specs.declared.bits.Sources.{Sources}
 use Rattle.mw_symboard.specs.declared.reading.Reading.{Reading}
 use Rattle.mw_symboard.specs.declared.leaving.Leaving.{Leaving}

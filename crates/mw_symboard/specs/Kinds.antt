@@ -6,7 +6,7 @@ use Rattle.mw_term.specs.declared.kinds.WordKind.TheVariants.{Base, Input, Line,
 use Rattle.mw_term.specs.Table.{Table}
 use Rattle.mw_term.specs.declared.word.Word.{Word}
 use Rattle.mw_symmem.specs.Memory.{IsOfWidth}
-use Rattle.mw_symmem.specs.Words.{term_of}
+use Rattle.mw_term.specs.WordList.{term_of}
 
 -- the source of D makes a base read's variable, or that of the next input
 abbrev pub IsSourceKind : (taken : ℕ) → WordKind → Type 0

@@ -32,7 +32,7 @@ use Rattle.mw_term.specs.declared.op.Op.TheVariants.{Con, Not, And, Or, Xor, Sum
 use Rattle.mw_term.specs.Table.{Table}
 use Rattle.mw_symmem.specs.declared.side.Side.TheVariants as side
 use Rattle.mw_term.specs.declared.word.Word.{Word}
-use Rattle.mw_symmem.specs.Words.{term_of}
+use Rattle.mw_term.specs.WordList.{term_of}
 use Rattle.mw_symmem.specs.Memory.{Memory, IsRead}
 use Rattle.mw_symboard.specs.declared.bits.Sources.{Sources}
 use Rattle.mw_symboard.specs.Parts.{Parts}

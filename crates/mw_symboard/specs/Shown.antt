@@ -2,8 +2,8 @@
 use Rattle.std.specs.Prelude.{ℕ, ◌+◌, Bool, if◌then◌else◌, Option, Some, None}
 use Rattle.mw_board.specs.declared.bit.DFrom.{DFrom}
 use Rattle.mw_board.specs.declared.bit.DFrom.TheVariants as sources
-use Rattle.mw_symmem.specs.declared.turn.SymEvent.{SymEvent}
-use Rattle.mw_symmem.specs.declared.turn.SymEvent.TheVariants.{Out, Taken}
+use Rattle.mw_term.specs.declared.event.SymEvent.{SymEvent}
+use Rattle.mw_term.specs.declared.event.SymEvent.TheVariants.{Out, Taken}
 
 -- the event of a cycle whose D before its mask is one term and whose Y is another: an input that is taken hides an output
 abbrev pub shown : DFrom → (out : Bool) → (source y : ℕ) → Option SymEvent

@@ -17,14 +17,14 @@ use Rattle.mw_term.specs.Assigned.{Given}
 use Rattle.mw_term.specs.MemoryRead.{Held, held}
 use Rattle.mw_term.specs.Table.{Table}
 use Rattle.mw_term.specs.Values.{term_value}
-use Rattle.mw_symmem.specs.declared.turn.SymEvent.{SymEvent}
-use Rattle.mw_symmem.specs.declared.turn.SymEvent.TheVariants.{Out, Taken}
+use Rattle.mw_term.specs.declared.event.SymEvent.{SymEvent}
+use Rattle.mw_term.specs.declared.event.SymEvent.TheVariants.{Out, Taken}
 use Rattle.mw_symmem.specs.declared.turn.Turn.{Turn}
 use Rattle.mw_symmem.specs.declared.turn.Turn.TheVariants.{Ask, Finished}
 use Rattle.mw_term.specs.declared.word.Word.{Word}
 use Rattle.mw_symmem.specs.declared.side.Side.TheVariants as side
 use Rattle.mw_symmem.specs.Memory.{Memory, memory_of, with_write, IsOfWidth}
-use Rattle.mw_symmem.specs.Words.{term_of}
+use Rattle.mw_term.specs.WordList.{term_of}
 use Rattle.mw_symboard.specs.declared.reading.Reading.{Reading}
 use Rattle.mw_symboard.specs.declared.leaving.Leaving.{Leaving}
 use Rattle.mw_symboard.specs.Cycle.{IsReading, IsLeaving, bits_before}

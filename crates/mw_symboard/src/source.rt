@@ -6,7 +6,7 @@ ghost use Rattle.mw_term.specs.declared.kinds.WordKind.TheVariants.{Input};
 ghost use Rattle.mw_term.specs.Table.{IsWidth};
 ghost use Rattle.mw_symmem.specs.declared.side.Side.TheVariants as side;
 ghost use Rattle.mw_symmem.specs.Memory.{IsOfWidth, IsRead};
-ghost use Rattle.mw_symmem.specs.Words.{term_of};
+ghost use Rattle.mw_term.specs.WordList.{term_of};
 ghost use Rattle.mw_symmem.specs.Workspace.{GoesOn, IsWorkspace, KeepsWrites};
 ghost use Rattle.mw_symboard.specs.Growth.{Grew};
 ghost use Rattle.mw_symboard.specs.Kinds.{AreInputs, IsSourceKind};

@@ -22,12 +22,12 @@ use Rattle.mw_term.specs.declared.op.Op.TheVariants.{Var}
 use Rattle.mw_term.specs.Table.{Table, Extends, IsTable, op_width, term_width}
 use Rattle.mw_term.specs.Values.{IsTermOf, Keeps, term_value}
 use Rattle.mw_symmem.specs.declared.side.Side.TheVariants.{Board, Machine}
-use Rattle.mw_symmem.specs.declared.turn.SymEvent.{SymEvent}
-use Rattle.mw_symmem.specs.declared.turn.SymEvent.TheVariants.{Out, Taken}
+use Rattle.mw_term.specs.declared.event.SymEvent.{SymEvent}
+use Rattle.mw_term.specs.declared.event.SymEvent.TheVariants.{Out, Taken}
 use Rattle.mw_term.specs.declared.word.Word.{Word}
 use Rattle.mw_symmem.specs.Kinds.{kind_is}
-use Rattle.mw_term.specs.WordList.{variable}
-use Rattle.mw_symmem.specs.Words.{IsVariable, AreOf, term_of, is_of}
+use Rattle.mw_term.specs.WordList.{variable, term_of, is_of}
+use Rattle.mw_symmem.specs.Words.{IsVariable, AreOf}
 use Rattle.mw_symmem.specs.Memory.{Memory, IsMemory, IsImage, IsHeld, IsOfWidth, FitImage, held_by, valued, writes_of, with_write}
 use Rattle.mw_symmem.specs.Memory as memories
 use Rattle.mw_symmem.specs.Workspace.{IsWorkspace, GoesOn}

@@ -4,7 +4,7 @@ use Rattle.std.specs.Prelude.{Option, Some, None, slice_get}
 use Rattle.mw_macro.specs.Machine.{Description, IsFormed}
 use Rattle.mw_term.specs.declared.kinds.WordKind.TheVariants.{Input}
 use Rattle.mw_term.specs.Table.{Table}
-use Rattle.mw_symmem.specs.declared.turn.SymEvent.{SymEvent}
+use Rattle.mw_term.specs.declared.event.SymEvent.{SymEvent}
 use Rattle.mw_term.specs.declared.word.Word.{Word}
 use Rattle.mw_term.specs.WordList.{variable}
 use Rattle.mw_symmem.specs.Words.{IsVariable}

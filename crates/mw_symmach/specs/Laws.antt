@@ -8,7 +8,7 @@ use Rattle.mw_term.specs.declared.kinds.DecidedKind.{DecidedKind}
 use Rattle.mw_term.specs.Assigned.{Given}
 use Rattle.mw_term.specs.Table.{Table}
 use Rattle.mw_term.specs.Values.{term_value}
-use Rattle.mw_symmem.specs.declared.turn.SymEvent.{SymEvent}
+use Rattle.mw_term.specs.declared.event.SymEvent.{SymEvent}
 use Rattle.mw_symmem.specs.declared.turn.Turn.{Turn}
 use Rattle.mw_symmem.specs.declared.turn.Turn.TheVariants.{Ask, Finished}
 use Rattle.mw_term.specs.declared.word.Word.{Word}

@@ -12,8 +12,8 @@ use Rattle.mw_term.specs.Assigned.{Given}
 use Rattle.mw_term.specs.Table.{Table}
 use Rattle.mw_term.specs.Values.{term_value}
 use Rattle.mw_symmem.specs.declared.side.Side.TheVariants.{Machine}
-use Rattle.mw_symmem.specs.declared.turn.SymEvent.{SymEvent}
-use Rattle.mw_symmem.specs.declared.turn.SymEvent.TheVariants.{Out, Taken}
+use Rattle.mw_term.specs.declared.event.SymEvent.{SymEvent}
+use Rattle.mw_term.specs.declared.event.SymEvent.TheVariants.{Out, Taken}
 use Rattle.mw_term.specs.declared.word.Word.{Word}
 use Rattle.mw_symmem.specs.Words.{IsVariable}
 use Rattle.mw_symmem.specs.Memory.{Memory, IsImage, IsOfWidth, FitImage, held_by}

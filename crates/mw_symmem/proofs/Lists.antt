@@ -7,9 +7,9 @@ use Rattle.mw_term.specs.declared.kinds.WordKind.{WordKind}
 use Rattle.mw_term.specs.declared.word.Word.{Word}
 use Rattle.mw_symmem.specs.declared.key.Key.{Key}
 use Rattle.mw_symmem.specs.Kept.{with_number, IsKept}
-use Rattle.mw_symmem.specs.Kinds.{same_kind, kind_is, kind_own}
-use Rattle.mw_term.specs.WordList.{plain, variable}
-use Rattle.mw_symmem.specs.Words.{number_from, number_of, is_of, term_of, IsVariable, HaveOwnKinds}
+use Rattle.mw_term.specs.WordList.{same_kind, plain, variable, number_from, number_of, is_of, term_of}
+use Rattle.mw_symmem.specs.Kinds.{kind_is, kind_own}
+use Rattle.mw_symmem.specs.Words.{IsVariable, HaveOwnKinds}
 
 -- what a place of a list with one more has: an item of the list, or that one
 pub pushed : {X : Type 0} (xs : List X) (x : X) (i : ℕ) (found : X) → slice_get (xs ++ x ∷ []) i ≡ Some found

@@ -4,8 +4,8 @@ use Rattle.std.specs.HashMap.{HashMap, get, get_by}
 use Rattle.mw_term.specs.declared.kinds.WordKind.{WordKind}
 use Rattle.mw_term.specs.declared.word.Word.{Word}
 use Rattle.mw_symmem.specs.declared.key.Key.{Key}
-use Rattle.mw_symmem.specs.Kinds.{same_kind}
-use Rattle.mw_symmem.specs.Words.{number_of, term_of, HaveOwnKinds}
+use Rattle.mw_term.specs.WordList.{same_kind, number_of, term_of}
+use Rattle.mw_symmem.specs.Words.{HaveOwnKinds}
 
 -- a term with a number, where it has none yet
 abbrev pub with_number : (ℕ → Option ℕ) → (term number : ℕ) → ℕ → Option ℕ

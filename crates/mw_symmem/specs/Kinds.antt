@@ -6,17 +6,8 @@ use Rattle.std.proofs.lemmas.Bool.{eqb-true, eq-eqb}
 use Rattle.std.proofs.lemmas.Bool as bool
 use Rattle.mw_term.specs.declared.kinds.WordKind.{WordKind}
 use Rattle.mw_term.specs.declared.kinds.WordKind.TheVariants.{Element, Line, Noise, Base, Input, Probe}
+use Rattle.mw_term.specs.WordList.{same_kind}
 use Rattle.mw_symmem.specs.declared.key.Key.{Key}
-
--- two kinds are one
-abbrev pub same_kind : (a b : WordKind) → Bool
-same_kind (Element m) (Element n) = m == n
-same_kind (Line m) (Line n) = m == n
-same_kind (Noise m) (Noise n) = m == n
-same_kind (Base m) (Base n) = m == n
-same_kind (Input m) (Input n) = m == n
-same_kind Probe Probe = true
-same_kind a b = false
 
 -- the number within a kind, 0 where it has none
 abbrev pub number_in : WordKind → ℕ

@@ -5,30 +5,8 @@ use Rattle.mw_term.specs.declared.kinds.WordKind.{WordKind}
 use Rattle.mw_term.specs.declared.op.Op.{Op}
 use Rattle.mw_term.specs.declared.op.Op.TheVariants.{Var}
 use Rattle.mw_term.specs.Table.{Table, table_of}
-use Rattle.mw_term.specs.WordList.{variable}
+use Rattle.mw_term.specs.WordList.{variable, same_kind}
 use Rattle.mw_term.specs.declared.word.Word.{Word}
-use Rattle.mw_symmem.specs.Kinds.{same_kind}
-
--- ---- what a list answers
-
--- the number of the first word with a term, where words are numbered from `number` on
-abbrev pub number_from : (number : ℕ) → List Word → (term : ℕ) → Option ℕ
-number_from number [] term = None
-number_from number (w ∷ rest) term = if w.term == term then Some number else number_from (number + 1) rest term
-
--- the least number of a word with a term
-abbrev pub number_of : List Word → (term : ℕ) → Option ℕ
-number_of words term = number_from 1 words term
-
--- whether a word is a variable of a kind
-abbrev pub is_of : Option WordKind → WordKind → Bool
-is_of None kind = false
-is_of (Some own) kind = same_kind own kind
-
--- the term of the first variable of a kind
-abbrev pub term_of : List Word → WordKind → Option ℕ
-term_of [] kind = None
-term_of (w ∷ rest) kind = if is_of w.kind kind then Some w.term else term_of rest kind
 
 -- a word of this place, from 0, is a variable with this term and of this kind
 abbrev pub IsVariable : List Word → (place term : ℕ) → WordKind → Type 0

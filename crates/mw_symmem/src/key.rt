@@ -3,7 +3,8 @@ ghost use Rattle.std.specs.Prelude.{◌≡◌};
 ghost use Rattle.std.specs.Hash as fed;
 ghost use Rattle.std.specs.Cmp.{partial_equiv_from_equiv};
 ghost use Rattle.std.proofs.Common.{ap};
-ghost use Rattle.mw_symmem.specs.Kinds.{number_in, same_kind, kind_is, kinds_law};
+ghost use Rattle.mw_term.specs.WordList.{same_kind};
+ghost use Rattle.mw_symmem.specs.Kinds.{number_in, kind_is, kinds_law};
 
 use mw_term::WordKind;
 use std::hash::{Hash, Hasher};

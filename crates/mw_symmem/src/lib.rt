@@ -17,7 +17,8 @@ pub use laws::{
 };
 pub use memory::SymMemory;
 pub use side::Side;
-pub use turn::{SymEvent, Turn};
+pub use mw_term::SymEvent;
+pub use turn::Turn;
 pub use words::Words;
 
 #[cfg(test)]

@@ -14,12 +14,3 @@ pub enum Turn {
     /// Its cycle or step is done.
     Finished,
 }
-
-/// What happens at an output or an input of a run.
-#[derive(Clone, Copy, Debug, PartialEq, Eq)]
-pub enum SymEvent {
-    /// The word of this term is put out.
-    Out(Term),
-    /// The word of this term is taken in.
-    Taken(Term),
-}

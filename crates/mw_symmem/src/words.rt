@@ -6,10 +6,9 @@ ghost use Rattle.mw_term.specs.Table.{Extends, Fits, IsWidth, IsTable};
 ghost use Rattle.mw_term.specs.Values.{IsTermOf, Keeps};
 ghost use Rattle.mw_term.specs.declared.kinds.WordKind.{WordKind};
 ghost use Rattle.mw_symmem.specs.Kept.{with_number};
-ghost use Rattle.mw_symmem.specs.Kinds.{same_kind};
+ghost use Rattle.mw_term.specs.WordList.{same_kind, plain, variable, with_variable, with_word, number_of, term_of};
 ghost use Rattle.mw_symmem.specs.Listed.{Lists};
-ghost use Rattle.mw_term.specs.WordList.{plain, variable, with_variable, with_word};
-ghost use Rattle.mw_symmem.specs.Words.{number_of, term_of, HaveOwnKinds, AreOf, IsNoVariable};
+ghost use Rattle.mw_symmem.specs.Words.{HaveOwnKinds, AreOf, IsNoVariable};
 
 use crate::key::Key;
 use mw_base::NoMemory;

@@ -1,9 +1,8 @@
 -- The words of a case, under way. They are numbered from 1. A constant is no word: it stands among the terms before what
 -- it is needed for.
-use Rattle.std.specs.Prelude.{◌≡◌, ℕ, ◌+◌, ◌-◌, ◌≤◌, List, [], ◌∷◌, ◌++◌, length, ◌==◌, if◌then◌else◌}
-use Rattle.std.specs.Prelude.{Option, Some, None, slice_get}
+use Rattle.std.specs.Prelude.{ℕ, ◌+◌, ◌-◌, List, [], ◌∷◌, ◌++◌, length, ◌==◌, if◌then◌else◌, Bool, true, false, Option, Some, None}
 use Rattle.mw_term.specs.declared.kinds.WordKind.{WordKind}
-use Rattle.mw_term.specs.declared.kinds.WordKind.TheVariants.{Base}
+use Rattle.mw_term.specs.declared.kinds.WordKind.TheVariants.{Element, Line, Noise, Base, Input, Probe}
 use Rattle.mw_term.specs.declared.op.Op.{Op}
 use Rattle.mw_term.specs.declared.op.Op.TheVariants.{Con, Var, Not, Sum, Eq, Ite, Part, Join}
 use Rattle.mw_term.specs.declared.word.Word.{Word}
@@ -38,6 +37,37 @@ pub record Ended : Type 0 where
 abbrev pub ended : (term : ℕ) → WordList → Ended
 ended term l = record { list = l; term = term }
 
+-- ---- what a list answers
+
+-- the number of the first word with a term, where words are numbered from `number` on
+abbrev pub number_from : (number : ℕ) → List Word → (term : ℕ) → Option ℕ
+number_from number [] term = None
+number_from number (w ∷ rest) term = if w.term == term then Some number else number_from (number + 1) rest term
+
+-- the least number of a word with a term
+abbrev pub number_of : List Word → (term : ℕ) → Option ℕ
+number_of words term = number_from 1 words term
+
+-- two kinds are one
+abbrev pub same_kind : (a b : WordKind) → Bool
+same_kind (Element m) (Element n) = m == n
+same_kind (Line m) (Line n) = m == n
+same_kind (Noise m) (Noise n) = m == n
+same_kind (Base m) (Base n) = m == n
+same_kind (Input m) (Input n) = m == n
+same_kind Probe Probe = true
+same_kind a b = false
+
+-- whether a word is a variable of a kind
+abbrev pub is_of : Option WordKind → WordKind → Bool
+is_of None kind = false
+is_of (Some own) kind = same_kind own kind
+
+-- the term of the first variable of a kind
+abbrev pub term_of : List Word → WordKind → Option ℕ
+term_of [] kind = None
+term_of (w ∷ rest) kind = if is_of w.kind kind then Some w.term else term_of rest kind
+
 -- ---- one more
 
 -- a constant
@@ -53,6 +83,15 @@ abbrev pub with_variable : WordKind → (width : ℕ) → WordList → Ended
 with_variable kind width l =
     ended (length l.ops)
     (list_of (l.ops ++ Var (length l.words + 1) width ∷ []) (l.words ++ variable (length l.ops) kind ∷ []) l.reads)
+
+-- a variable that is there, or else a new one
+abbrev pub variable_or : Option ℕ → WordKind → (width : ℕ) → WordList → Ended
+variable_or (Some term) kind width l = ended term l
+variable_or None kind width l = with_variable kind width l
+
+-- the variable of the input of a number, made where it isn't there yet
+abbrev pub with_input : (number width : ℕ) → WordList → Ended
+with_input number width l = variable_or (term_of l.words (Input number)) (Input number) width l
 
 -- ---- forms that many words have
 
@@ -136,10 +175,3 @@ memory_read_words width address writes l =
 -- the table of a list, with a board's map
 abbrev pub table_in : (map : List ℕ) → WordList → Table
 table_in map l = table_of l.ops map
-
--- a term is the word of this number
-pub record IsWord (l : WordList) (number term : ℕ) : Type 0 where
-  pub word : Word
-  pub some : 1 ≤ number
-  pub its : slice_get l.words (number - 1) ≡ Some word
-  pub is : word.term ≡ term

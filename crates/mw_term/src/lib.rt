@@ -3,6 +3,7 @@
 
 mod assignment;
 mod earlier;
+mod event;
 mod kinds;
 mod laws;
 mod op;
@@ -11,6 +12,7 @@ mod word;
 mod words;
 
 pub use assignment::Assignment;
+pub use event::SymEvent;
 pub use kinds::{DecidedKind, WordKind};
 pub use laws::{
     counts_are_apart, fixed_are_before, later_has_two, maps_are_short, ops_are_words,

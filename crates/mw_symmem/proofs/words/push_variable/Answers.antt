@@ -1,6 +1,7 @@
 use Rattle.std.proofs.Common.{ap, sym, ◌∙◌}
 use Rattle.std.specs.HashMap.{get_by}
-use Rattle.mw_symmem.specs.Kinds.{same_kind, kind_is}
+use Rattle.mw_term.specs.WordList.{same_kind}
+use Rattle.mw_symmem.specs.Kinds.{kind_is}
 use Rattle.mw_symmem.proofs.Lists.{undone}
 use Rattle.mw_symmem.proofs.words.push_variable.Goals as goal
 

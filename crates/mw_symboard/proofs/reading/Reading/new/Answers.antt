@@ -2,7 +2,7 @@ use Rattle.std.proofs.Common.{◌≡◌, ℕ, ◌+◌, Some, slice_index, ap, sy
 use Rattle.mw_alu.specs.Instruction.{destination_of}
 use Rattle.mw_term.specs.declared.kinds.WordKind.TheVariants.{Line, Noise}
 use Rattle.mw_symmem.specs.Memory.{IsOfWidth}
-use Rattle.mw_symmem.specs.Words.{term_of}
+use Rattle.mw_term.specs.WordList.{term_of}
 use Rattle.mw_symmem.specs.Workspace.{GoesOn}
 use Rattle.mw_symboard.specs.Kinds.{IsCycleKind, IsSourceKind}
 use Rattle.mw_symboard.specs.Made.{IsFrom, IsMasked}

@@ -1,5 +1,5 @@
 use Rattle.std.proofs.Common.{◌≡◌, None}
-use Rattle.mw_symmem.specs.Words.{term_of}
+use Rattle.mw_term.specs.WordList.{term_of}
 use Rattle.mw_symmem.proofs.Lists.{after_variable}
 use Rattle.mw_symmem.proofs.words.Words.push_variable.Goals as goal
 
