@@ -25,7 +25,7 @@ dropped_after (suc n) (next first behind) act rest is = dropped_after n behind a
 dropped_next : (n : ℕ) (all : Acts) (act : Act) (rest : Acts) → dropped n all ≡ next act rest → dropped (n + 1) all ≡ rest
 dropped_next n all act rest is = rw add-one (dropped_after n all act rest is)
 
-then_assoc : (xs ys zs : Acts) → then_acts (then_acts xs ys) zs ≡ then_acts xs (then_acts ys zs)
+pub then_assoc : (xs ys zs : Acts) → then_acts (then_acts xs ys) zs ≡ then_acts xs (then_acts ys zs)
 then_assoc nothing ys zs = refl
 then_assoc (next act xs) ys zs = ap (next act) (then_assoc xs ys zs)
 

@@ -1,5 +1,5 @@
 -- Elements that are 0 before the first statement.
-use Rattle.std.proofs.Common.{◌≡◌, ℕ, zero, suc, ◌+◌, ◌-◌, ◌<◌, List, [], ◌∷◌, ◌++◌, length, map, replicate, slice_index, append-nil, append_assoc, refl, ap, ap₂, arith, sym, subst, take_all, add-one, ◌∙◌}
+use Rattle.std.proofs.Common.{◌≡◌, ℕ, zero, suc, ◌+◌, ◌-◌, ◌<◌, List, [], ◌∷◌, ◌++◌, length, map, replicate, slice_index, append-nil, append_assoc, refl, ap, ap₂, arith, sym, subst, take_all, add-one, ◌∙◌, take, drop}
 use Rattle.std.specs.Prelude.{slice_get, Option, Some, None}
 use Rattle.mw_macro.specs.DescribedStep.{now}
 use Rattle.mw_macro.specs.Machine.{Description, IsFormed}
@@ -18,6 +18,11 @@ use Rattle.mw_symmach.specs.Given.{Gives}
 use Rattle.mw_symmach.specs.Steps.{parts_of, event_of, IsOfStep, Stands}
 use Rattle.mw_symmach.specs.Turns.{Stepping, HasTerms, IsStepping, Waits, now_in, values_in, with_parts}
 use Rattle.mw_symmach.specs.Zeros.{AreWide, HaveZeros}
+use Rattle.mw_macro.specs.StepWords.{underway, with_zeros}
+use Rattle.mw_term.specs.MemoryRead.{Held}
+use Rattle.mw_term.specs.WordList.{AllEnded, list_of}
+use Rattle.mw_symmem.specs.Listed.{list_in}
+use Rattle.mw_symmach.specs.Walks.{underway_in, underway_of}
 use Rattle.mw_symmach.proofs.Making.{values_same}
 
 -- ---- lists
@@ -200,3 +205,19 @@ begun_stepping d told tnew words m old new values request before is =
       few = before.stepping.few;
       at = before.stepping.at;
     })
+
+pub begun_listed : (d : Description) (told tnew : Table) (words : List Word) (m : Memory) (old new : Stepping) (values : List ℕ)
+    (request : ℕ) → Before d told tnew words m old values request
+    → new ≡ with_parts old (parts_of (values ++ request ∷ []) old.parts.events old.parts.taken) None
+    → ((ws : List Word) (reads : List Held)
+    → with_zeros (take (length d.names - d.registers) (drop d.registers d.shape.widths)) old.parts.values
+    (list_of told.ops ws reads)
+    ≡ record { list = list_of tnew.ops ws reads; terms = values })
+    → underway_in tnew words m new.parts ≡ underway_of d told words m old
+begun_listed d told tnew words m old new values request before is listed =
+    let parts : new.parts ≡ parts_of (values ++ request ∷ []) old.parts.events old.parts.taken =
+    ap (λ (o : Stepping). o.parts) is in
+    let terms = subst (λ r. HasTerms d told words m old.parts r) before.asks before.stepping.terms in
+    rw (parts, before.asks)
+    (ap₂ (λ es n. underway (list_in tnew words m) (values ++ request ∷ []) m.machine es n) terms.1 terms.2
+    ∙ sym (ap (λ (x : AllEnded). underway x.list (x.terms ++ request ∷ []) m.machine [] 0) (listed words m.reads)))

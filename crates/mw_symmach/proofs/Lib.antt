@@ -9,3 +9,4 @@ pub mod Listing
 pub mod Making
 pub mod Single
 pub mod Turning
+pub mod Walking

@@ -25,6 +25,7 @@ use Rattle.mw_symmach.specs.Places.{left_of, then_acts, reads_first, AsksNext, C
 use Rattle.mw_symmach.specs.Steps.{Parts, IsOfStep, Stands, now_of, event_of}
 use Rattle.mw_symmach.specs.Turns.{Stepping, Scene, Asks, HasTerms, IsDecided, IsSaid, IsStart, IsStepping, IsTurn, StandsAt, bits_to_come, come_to, end_of, entered, entered_by, given_so, is_asked, left_by, left_in, now_in, reads_behind, reads_by, reads_to_come, turn_of, values_in, with_parts}
 use Rattle.mw_symmach.proofs.AtIf.{at_if_within, left_at_if}
+use Rattle.mw_symmach.specs.Walks.{Walks, asked_by, chosen, underway_in, underway_of}
 use Rattle.mw_symmach.proofs.Carrying.{after_then, branches_then, total_then}
 
 -- ---- a step at its start
@@ -400,3 +401,34 @@ decided d t words m o bit asked stepping =
         at = at;
       };
     }
+
+-- ---- the words of a turn
+
+-- a bit that was given goes on in its list
+pub left_given : (d : Description) (t : Table) (words : List Word) (m : Memory) (o : Stepping) (bit : Bool)
+    → is_asked o.pending ≡ true → IsStepping d t words m o → left_in d (given_so o bit) ≡ chosen bit (left_in d o)
+left_given d t words m o bit asked stepping =
+    let is = asked_is o.pending asked in
+    let at : IsAtIf d.acts o.levels o.position =
+    subst (λ p. StandsAt d.acts o.levels o.position p) is stepping.at in
+    let left = left_at_if d.acts o.levels o.position at in
+    let here : left_in d o ≡ next (choose at.condition at.one at.other) left.behind =
+    ap (left_by d.acts o.levels o.position) is ∙ left.here in
+    left.within bit ∙ sym (ap (chosen bit) here)
+
+asked_again : (asked : Option ℕ) → asked_by (turn_of asked) ≡ asked
+asked_again None = refl
+asked_again (Some term) = refl
+
+pub went_listed : (d : Description) (t0 t1 t2 : Table) (w0 w2 : List Word) (m0 m2 : Memory) (old begun o new : Stepping)
+    (position : ℕ) (asked : Option ℕ) → is_asked old.pending ≡ false → begun ≡ with_parts old begun.parts None
+    → o ≡ entered begun → underway_in t1 w0 m0 begun.parts ≡ underway_of d t0 w0 m0 old
+    → Walks d.shape (underway_in t1 w0 m0 o.parts) (underway_in t2 w2 m2 new.parts) (left_of d.acts o.levels o.position)
+    (left_of d.acts new.levels position) asked
+    → Walks d.shape (underway_of d t0 w0 m0 old) (underway_in t2 w2 m2 (come_to new position asked).parts) (left_in d old)
+    (left_in d (come_to new position asked)) (asked_by (turn_of asked))
+went_listed d t0 t1 t2 w0 w2 m0 m2 old begun o new position asked idle stands is listed walks =
+    let from = rw is at walks in
+    let inside = rw (entered_parts begun, entered_left d begun (begun_idle old begun stands idle), left_before d old begun stands,
+    listed) at from in
+    rw (come_parts new position asked, come_left d new position asked, asked_again asked) inside

@@ -5,4 +5,5 @@ pub mod Laws
 pub mod Places
 pub mod Steps
 pub mod Turns
+pub mod Walks
 pub mod Zeros

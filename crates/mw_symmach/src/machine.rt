@@ -1,5 +1,5 @@
 // One step of a described machine on terms.
-ghost use Rattle.std.specs.Prelude.{◌≡◌, ℕ, ◌+◌, ◌-◌, ◌<◌, ◌≤◌, ◌^◌, List, [], ◌∷◌, ◌++◌, length, slice_index, true, false, Bool, None, Some, IfOk, OnOk};
+ghost use Rattle.std.specs.Prelude.{◌≡◌, ℕ, ◌+◌, ◌-◌, ◌<◌, ◌≤◌, ◌^◌, List, [], ◌∷◌, ◌++◌, drop, length, slice_index, take, true, false, Bool, None, Some, IfOk, OnOk};
 ghost use Rattle.mw_macro.specs.declared.counts.Counted.TheVariants.{Reads, Events};
 ghost use Rattle.mw_macro.specs.Branches.{branches_of};
 ghost use Rattle.mw_macro.specs.Counts.{total};
@@ -8,6 +8,10 @@ ghost use Rattle.mw_macro.specs.DescribedStep.{step_of};
 ghost use Rattle.mw_macro.specs.Machine.{Description};
 ghost use Rattle.mw_macro.specs.State.{MachineState};
 ghost use Rattle.mw_symmach.specs.declared.machine.Pending.TheVariants as pendings;
+ghost use Rattle.mw_macro.specs.StepWords.{begun_words, with_zeros};
+ghost use Rattle.mw_term.specs.MemoryRead.{Held};
+ghost use Rattle.mw_term.specs.WordList.{list_of};
+ghost use Rattle.mw_symmem.specs.Listed.{list_in};
 ghost use Rattle.mw_term.specs.Assigned.{Given};
 ghost use Rattle.mw_term.specs.Table.{IsTable, Table};
 ghost use Rattle.mw_term.specs.declared.word.Word.{Word};
@@ -15,7 +19,8 @@ ghost use Rattle.mw_symmem.specs.Memory.{Memory};
 ghost use Rattle.mw_symmem.specs.Workspace.{GoesOn};
 ghost use Rattle.mw_symmach.specs.Places.{left_of, Reaches, StopsAt};
 ghost use Rattle.mw_symmach.specs.Steps.{IsOfStep, Stands, parts_of};
-ghost use Rattle.mw_symmach.specs.Turns.{Scene, IsStart, Waits, IsStepping, IsTurn, IsDecided, bits_to_come, end_of, is_asked, given_so, now_in, entered, reads_to_come, with_parts, turn_of, come_to};
+ghost use Rattle.mw_symmach.specs.Turns.{Scene, IsStart, Waits, IsStepping, IsTurn, IsDecided, bits_to_come, left_in, end_of, is_asked, given_so, now_in, entered, reads_to_come, with_parts, turn_of, come_to};
+ghost use Rattle.mw_symmach.specs.Walks.{Walks, asked_by, chosen, underway_in, underway_of};
 ghost use Rattle.mw_symmach.specs.Zeros.{AreWide, HaveZeros};
 
 use crate::level::Level;
@@ -78,6 +83,10 @@ impl SymMach {
             → IsStart t m given registers.now request x state bit
             → (bits_to_come (description_of machine.now) t given m x s ≡ branches_of (description_of machine.now) state bit x.inputs 0)
             × (end_of (description_of machine.now) t given m x s ≡ step_of (description_of machine.now) state bit x.inputs 0)) }
+        ensures left { IfOk result (λ s. left_in (description_of machine.now) s ≡ (description_of machine.now).acts) }
+        ensures listed { IfOk result (λ s. (t : Table) (words : List Word) (m : Memory)
+            → underway_of (description_of machine.now) t words m s
+            ≡ begun_words (description_of machine.now) registers.now request m.machine (list_in t words m)) }
         ensures registers { IfOk result (λ s. s.parts.values ≡ registers.now) }
         ensures events { IfOk result (λ s. s.parts.events ≡ []) }
         ensures idle { IfOk result (λ s. is_asked s.pending ≡ false) }
@@ -115,6 +124,11 @@ impl SymMach {
         ensures zeros { OnOk result (HaveZeros terms.old terms.new (description_of machine.now).shape.widths
             self.old.parts.values self.new.parts.values
             (length (description_of machine.now).names - (description_of machine.now).registers)) }
+        ensures listed { OnOk result ((words : List Word) (reads : List Held)
+            → with_zeros (take (length (description_of machine.now).names - (description_of machine.now).registers)
+            (drop (description_of machine.now).registers (description_of machine.now).shape.widths)) self.old.parts.values
+            (list_of terms.old.ops words reads)
+            ≡ record { list = list_of terms.new.ops words reads; terms = self.new.parts.values }) }
         ensures same { OnOk result (self.new ≡ with_parts self.old
             (parts_of self.new.parts.values self.old.parts.events self.old.parts.taken) self.old.request) }
     {
@@ -152,6 +166,8 @@ impl SymMach {
         ensures same { OnOk result ((given : Given) (image : List ℕ)
             → now_in (description_of machine.now) terms.new given memory.now image self.new
             ≡ now_in (description_of machine.now) terms.old given memory.now image self.old) }
+        ensures listed { OnOk result (underway_in terms.new words.now memory.now self.new.parts
+            ≡ underway_of (description_of machine.now) terms.old words.now memory.now self.old) }
         ensures goes { OnOk result (GoesOn IsOfStep terms.old terms.new words.now words.now memory.now memory.now) }
         ensures stepping { OnOk result (IsStepping (description_of machine.now) terms.new words.now memory.now self.new) }
     {
@@ -198,6 +214,10 @@ impl SymMach {
         requires few { length memory.old.reads + reads_to_come (description_of machine.now) self.old ≤ 2 ^ 32 }
         requires stepping { IsStepping (description_of machine.now) terms.old words.old memory.old self.old }
         ensures turn { IfOk result (IsTurn (description_of machine.now) terms.old terms.new words.new memory.old memory.new self.old self.new) }
+        ensures listed { IfOk result (λ turn. Walks (description_of machine.now).shape
+            (underway_of (description_of machine.now) terms.old words.old memory.old self.old)
+            (underway_in terms.new words.new memory.new self.new.parts)
+            (left_in (description_of machine.now) self.old) (left_in (description_of machine.now) self.new) (asked_by turn)) }
         ensures goes { OnOk result (GoesOn IsOfStep terms.old terms.new words.old words.new memory.old memory.new) }
         ensures board { OnOk result (memory.new.board ≡ memory.old.board) }
         ensures few { OnOk result (length memory.new.reads + reads_to_come (description_of machine.now) self.new
@@ -226,6 +246,10 @@ impl SymMach {
             + total Events (left_of (description_of machine.now).acts self.old.levels self.old.position) < 2 ^ 32 }
         ensures reaches { IfOk result (λ reached. Reaches (description_of machine.now).shape terms.old terms.new words.old words.new
             memory.old memory.new self.old.parts self.new.parts
+            (left_of (description_of machine.now).acts self.old.levels self.old.position)
+            (left_of (description_of machine.now).acts self.new.levels reached.position) reached.asked) }
+        ensures listed { IfOk result (λ reached. Walks (description_of machine.now).shape
+            (underway_in terms.old words.old memory.old self.old.parts) (underway_in terms.new words.new memory.new self.new.parts)
             (left_of (description_of machine.now).acts self.old.levels self.old.position)
             (left_of (description_of machine.now).acts self.new.levels reached.position) reached.asked) }
         ensures stops { IfOk result (λ reached. StopsAt (description_of machine.now).acts self.new.levels reached.position reached.asked) }
@@ -270,6 +294,8 @@ impl SymMach {
     pub fn decide(&mut self, value: bool)
         requires asked { is_asked self.old.pending ≡ true }
         ensures new { self.new ≡ given_so self.old value }
+        ensures left { (d : Description) (t : Table) (words : List Word) (m : Memory) → IsStepping d t words m self.old
+            → left_in d self.new ≡ chosen value (left_in d self.old) }
         ensures decided { (d : Description) (t : Table) (words : List Word) (m : Memory)
             → IsStepping d t words m self.old → IsDecided d t words m self.old self.new value }
     {

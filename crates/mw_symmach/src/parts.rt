@@ -1,12 +1,18 @@
 // The parts of a described step on terms, and single statements.
-ghost use Rattle.std.specs.Prelude.{◌≡◌, ℕ, ◌+◌, ◌-◌, ◌<◌, ◌≤◌, ◌^◌, [], ◌∷◌, ◌++◌, true, length, slice_index, IfOk, OnOk};
+ghost use Rattle.std.specs.Prelude.{◌≡◌, ℕ, ◌+◌, ◌-◌, ◌<◌, ◌≤◌, ◌^◌, List, [], ◌∷◌, ◌++◌, true, drop, length, slice_index, take, Some, IfOk, OnOk};
 ghost use Rattle.mw_expr.specs.Tree.{view};
 ghost use Rattle.mw_expr.specs.Widths.{width_of};
 ghost use Rattle.mw_macro.specs.Counts.{reads, own_reads, own_events, total};
 ghost use Rattle.mw_macro.specs.declared.counts.Counted.TheVariants.{Reads, Events};
 ghost use Rattle.mw_macro.specs.Right.{is_right, are_right, is_asked};
 ghost use Rattle.mw_macro.specs.Statements.{Acts, act_of, acts, assign, write, put, take_in, choose};
+ghost use Rattle.mw_macro.specs.StepWords.{assign_words, put_words, take_words, with_zeros, write_words};
+ghost use Rattle.mw_term.specs.declared.word.Word.{Word};
+ghost use Rattle.mw_term.specs.MemoryRead.{Held};
 ghost use Rattle.mw_term.specs.Table.{IsTable, IsWidth};
+ghost use Rattle.mw_term.specs.WordList.{list_of, with_input};
+ghost use Rattle.mw_symmem.specs.Listed.{Lists};
+ghost use Rattle.mw_symmach.specs.Walks.{ActWalks, Walks, underway_in};
 ghost use Rattle.mw_symmach.specs.Places.{dropped, IsAsked, IsDone, Reaches};
 ghost use Rattle.mw_symmach.specs.Steps.{IsInput, Stands, Acted, parts_of};
 ghost use Rattle.mw_symmach.specs.Zeros.{AreWide, HaveZeros};
@@ -55,7 +61,8 @@ fn input_term(
     words: &mut Words,
 ) -> Result<Term, NoMemory>
     requires { IsWidth width }
-    ensures { IfOk result (IsInput terms.old terms.new words.old words.new width number) }
+    ensures input { IfOk result (IsInput terms.old terms.new words.old words.new width number) }
+    ensures listed { IfOk result (Lists (with_input number width) terms.old terms.new words.old words.new) }
 {
     if let Some(term) = words.find(WordKind::Input(number)) {
         return Ok(term);
@@ -93,6 +100,10 @@ impl Parts {
         requires wide { AreWide terms.old widths.now self.old.values }
         ensures zeros { OnOk result (HaveZeros terms.old terms.new widths.now self.old.values self.new.values
             (elements - length self.old.values)) }
+        ensures listed { OnOk result ((words : List Word) (reads : List Held)
+            → with_zeros (take (elements - length self.old.values) (drop (length self.old.values) widths.now)) self.old.values
+            (list_of terms.old.ops words reads)
+            ≡ record { list = list_of terms.new.ops words reads; terms = self.new.values }) }
         ensures events { OnOk result (self.new.events ≡ self.old.events) }
         ensures taken { OnOk result (self.new.taken ≡ self.old.taken) }
     {
@@ -137,8 +148,10 @@ impl Parts {
         requires stands { Stands shape.now terms.old words.old memory.old self.old }
         requires right { is_right shape.now (assign target (view expr.now)) ≡ true }
         requires few { length memory.old.reads + own_reads (assign target (view expr.now)) ≤ 2 ^ 32 }
-        ensures { OnOk result (Acted shape.now terms.old terms.new words.old words.new memory.old memory.new self.old
+        ensures acted { OnOk result (Acted shape.now terms.old terms.new words.old words.new memory.old memory.new self.old
             self.new (assign target (view expr.now))) }
+        ensures listed { OnOk result (underway_in terms.new words.new memory.new self.new
+            ≡ assign_words shape.now target (view expr.now) (underway_in terms.old words.old memory.old self.old)) }
     {
         let _shape = shape;
         let term = expr_term(
@@ -168,8 +181,10 @@ impl Parts {
         requires stands { Stands shape.now terms.old words.old memory.old self.old }
         requires right { is_right shape.now (write (view address.now) (view expr.now)) ≡ true }
         requires few { length memory.old.reads + own_reads (write (view address.now) (view expr.now)) ≤ 2 ^ 32 }
-        ensures { OnOk result (Acted shape.now terms.old terms.new words.old words.new memory.old memory.new self.old
+        ensures acted { OnOk result (Acted shape.now terms.old terms.new words.old words.new memory.old memory.new self.old
             self.new (write (view address.now) (view expr.now))) }
+        ensures listed { OnOk result (underway_in terms.new words.new memory.new self.new
+            ≡ write_words shape.now (view address.now) (view expr.now) (underway_in terms.old words.old memory.old self.old)) }
     {
         let _shape = shape;
         let place = expr_term(
@@ -207,8 +222,10 @@ impl Parts {
         requires stands { Stands shape.now terms.old words.old memory.old self.old }
         requires right { is_right shape.now (put (view expr.now)) ≡ true }
         requires few { length memory.old.reads + own_reads (put (view expr.now)) ≤ 2 ^ 32 }
-        ensures { OnOk result (Acted shape.now terms.old terms.new words.old words.new memory.old memory.new self.old
+        ensures acted { OnOk result (Acted shape.now terms.old terms.new words.old words.new memory.old memory.new self.old
             self.new (put (view expr.now))) }
+        ensures listed { OnOk result (underway_in terms.new words.new memory.new self.new
+            ≡ put_words shape.now (view expr.now) (underway_in terms.old words.old memory.old self.old)) }
     {
         let _shape = shape;
         let term = expr_term(
@@ -237,8 +254,10 @@ impl Parts {
         requires stands { Stands shape.now terms.old words.old _memory.now self.old }
         requires right { is_right shape.now (take_in target) ≡ true }
         requires few { self.old.taken + 1 < 2 ^ 32 }
-        ensures { OnOk result (Acted shape.now terms.old terms.new words.old words.new _memory.now _memory.now self.old
+        ensures acted { OnOk result (Acted shape.now terms.old terms.new words.old words.new _memory.now _memory.now self.old
             self.new (take_in target)) }
+        ensures listed { OnOk result (underway_in terms.new words.new _memory.now self.new
+            ≡ take_words shape.now target (underway_in terms.old words.old _memory.now self.old)) }
     {
         let term = input_term(alloc, self.taken, shape.word, terms, words)?;
         self.events.push(SymEvent::Taken(term))?;
@@ -260,10 +279,13 @@ impl Parts {
         requires stands { Stands shape.now terms.old words.old memory.old self.now }
         requires few { length memory.old.reads + reads (view condition.now) ≤ 2 ^ 32 }
         requires bit { is_asked 1 (width_of shape.now (view condition.now)) ≡ true }
-        ensures { IfOk result (λ term. (one other : Acts)
+        ensures asked { IfOk result (λ term. (one other : Acts)
             → is_right shape.now (choose (view condition.now) one other) ≡ true
             → IsAsked shape.now terms.old terms.new words.old words.new memory.old memory.new self.now
             (choose (view condition.now) one other) term) }
+        ensures listed { IfOk result (λ term. (one other : Acts)
+            → ActWalks shape.now (underway_in terms.old words.old memory.old self.now)
+            (underway_in terms.new words.new memory.new self.now) (choose (view condition.now) one other) (Some term)) }
     {
         let _shape = shape;
         let term = expr_term(
@@ -292,8 +314,10 @@ impl Parts {
         requires right { is_right shape.now (act_of statement.now) ≡ true }
         requires few_reads { length memory.old.reads + own_reads (act_of statement.now) ≤ 2 ^ 32 }
         requires few_events { self.old.taken + own_events (act_of statement.now) < 2 ^ 32 }
-        ensures { IfOk result (IsDone shape.now terms.old terms.new words.old words.new memory.old memory.new self.old
+        ensures done { IfOk result (IsDone shape.now terms.old terms.new words.old words.new memory.old memory.new self.old
             self.new (act_of statement.now)) }
+        ensures listed { IfOk result (ActWalks shape.now (underway_in terms.old words.old memory.old self.old)
+            (underway_in terms.new words.new memory.new self.new) (act_of statement.now)) }
     {
         match statement {
             Statement::Assign { target, value } => {
@@ -334,9 +358,12 @@ impl Parts {
         requires right { are_right shape.now (acts statements.now) ≡ true }
         requires few_reads { length memory.old.reads + total Reads (dropped from (acts statements.now)) ≤ 2 ^ 32 }
         requires few_events { self.old.taken + total Events (dropped from (acts statements.now)) < 2 ^ 32 }
-        ensures { IfOk result (λ reached. Reaches shape.now terms.old terms.new words.old words.new memory.old memory.new
+        ensures reaches { IfOk result (λ reached. Reaches shape.now terms.old terms.new words.old words.new memory.old memory.new
             self.old self.new (dropped from (acts statements.now)) (dropped reached.position (acts statements.now))
             reached.asked) }
+        ensures listed { IfOk result (λ reached. Walks shape.now (underway_in terms.old words.old memory.old self.old)
+            (underway_in terms.new words.new memory.new self.new) (dropped from (acts statements.now))
+            (dropped reached.position (acts statements.now)) reached.asked) }
     {
         for position in from..statements.len() {
             let asked = self.act(alloc, shape, &statements[position], terms, words, memory)?;

@@ -6,6 +6,7 @@ ghost use Rattle.mw_macro.specs.Right.{are_right};
 ghost use Rattle.mw_macro.specs.Statements.{acts};
 ghost use Rattle.mw_symmach.specs.Places.{left_of, Reaches, StopsAt};
 ghost use Rattle.mw_symmach.specs.Steps.{Stands};
+ghost use Rattle.mw_symmach.specs.Walks.{Walks, underway_in};
 
 use crate::level::Level;
 use crate::parts::{Parts, Reached};
@@ -38,6 +39,9 @@ pub(crate) fn go_on(
         + total Events (left_of (acts statements.now) (drop level levels.old.items) position) < 2 ^ 32 }
     ensures reaches { IfOk result (λ reached. Reaches shape.now terms.old terms.new words.old words.new memory.old
         memory.new parts.old parts.new (left_of (acts statements.now) (drop level levels.old.items) position)
+        (left_of (acts statements.now) (drop level levels.new.items) reached.position) reached.asked) }
+    ensures listed { IfOk result (λ reached. Walks shape.now (underway_in terms.old words.old memory.old parts.old)
+        (underway_in terms.new words.new memory.new parts.new) (left_of (acts statements.now) (drop level levels.old.items) position)
         (left_of (acts statements.now) (drop level levels.new.items) reached.position) reached.asked) }
     ensures stops { IfOk result (λ reached. StopsAt (acts statements.now) (drop level levels.new.items) reached.position reached.asked) }
     ensures front { OnOk result (take level levels.new.items ≡ take level levels.old.items) }

@@ -1,6 +1,10 @@
 // Elements that are 0 before the first statement.
-ghost use Rattle.std.specs.Prelude.{◌≡◌, ℕ, ◌-◌, ◌<◌, ◌≤◌, length, slice_index, OnOk};
+ghost use Rattle.std.specs.Prelude.{◌≡◌, ℕ, ◌-◌, ◌<◌, ◌≤◌, List, drop, length, slice_index, take, OnOk};
+ghost use Rattle.mw_macro.specs.StepWords.{with_zeros};
+ghost use Rattle.mw_term.specs.declared.word.Word.{Word};
+ghost use Rattle.mw_term.specs.MemoryRead.{Held};
 ghost use Rattle.mw_term.specs.Table.{IsTable, IsWidth};
+ghost use Rattle.mw_term.specs.WordList.{list_of};
 ghost use Rattle.mw_symmach.specs.Zeros.{AreWide, HaveZeros};
 
 use crate::nodes::constant;
@@ -21,8 +25,12 @@ pub(crate) fn push_zeros(
     requires elements { elements ≤ length widths.now }
     requires count { length values.old.items ≤ elements }
     requires wide { AreWide terms.old widths.now values.old.items }
-    ensures { OnOk result (HaveZeros terms.old terms.new widths.now values.old.items values.new.items
+    ensures zeros { OnOk result (HaveZeros terms.old terms.new widths.now values.old.items values.new.items
         (elements - length values.old.items)) }
+    ensures listed { OnOk result ((words : List Word) (reads : List Held)
+        → with_zeros (take (elements - length values.old.items) (drop (length values.old.items) widths.now)) values.old.items
+        (list_of terms.old.ops words reads)
+        ≡ record { list = list_of terms.new.ops words reads; terms = values.new.items }) }
 {
     for element in values.len()..elements {
         let zero = constant(alloc, 0, widths[element], terms)?;

@@ -1,7 +1,7 @@
 use Rattle.std.proofs.Common.{ap, refl, sym, ◌∙◌}
 use Rattle.mw_macro.specs.Described.{description_of}
 use Rattle.mw_symmach.specs.Turns.{Stepping}
-use Rattle.mw_symmach.proofs.Beginning.{Before, begun_goes_on, begun_is, begun_same, begun_stepping}
+use Rattle.mw_symmach.proofs.Beginning.{Before, begun_goes_on, begun_is, begun_listed, begun_same, begun_stepping}
 use Rattle.mw_symmach.proofs.machine.SymMach.begin.Goals as goal
 
 pub returns : goal.returns
@@ -28,6 +28,7 @@ returns c =
       begun = ap (λ (o : Stepping). o.request) is;
       stands = rw is refl;
       same = λ given image. begun_same d t0 t1 words m old new values request given image before is;
+      listed = begun_listed d t0 t1 words m old new values request before is c.in_ok-add_temporaries.ensures.listed;
       goes = begun_goes_on d t0 t1 words m old values request before;
       stepping = begun_stepping d t0 t1 words m old new values request before is;
     }

@@ -1,7 +1,7 @@
 use Rattle.std.proofs.Common.{◌∙◌, ap}
 use Rattle.mw_macro.specs.Described.{description_of}
 use Rattle.mw_symmach.specs.Turns.{Stepping}
-use Rattle.mw_symmach.proofs.Turning.{Went, entered_request, may_go_on, position_fits, went_board, went_few, went_goes, went_on, went_stepping, went_turn}
+use Rattle.mw_symmach.proofs.Turning.{Went, entered_request, may_go_on, position_fits, went_board, went_few, went_goes, went_listed, went_on, went_stepping, went_turn}
 use Rattle.mw_symmach.proofs.machine.SymMach.sym_step.Goals as goal
 
 pub enter-requires : goal.enter-requires
@@ -48,6 +48,9 @@ returns c =
     record {
       turn = rw (c.turn.ensures.said, c.turn.ensures.new)
           (went_turn d t0 t1 t2 w0 w2 m0 m2 c.args.self.now begun new position asked went);
+      listed = rw (c.turn.ensures.said, c.turn.ensures.new)
+          (went_listed d t0 t1 t2 w0 w2 m0 m2 c.args.self.now begun c.enter.new.self new position asked c.requires.idle
+          c.in_ok-begin.ensures.stands c.in_ok-enter.ensures c.in_ok-begin.ensures.listed c.in_ok-reached.ensures.listed);
       goes = went_goes d t0 t1 t2 w0 w2 m0 m2 c.args.self.now begun new position asked went;
       board = went_board d t0 t1 t2 w0 w2 m0 m2 c.args.self.now begun new position asked went;
       few = rw c.turn.ensures.new (went_few d t0 t1 t2 w0 w2 m0 m2 c.args.self.now begun new position asked went);
