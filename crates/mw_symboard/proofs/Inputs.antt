@@ -85,7 +85,7 @@ inputs_by_read board told tnew wold wnew mold mnew goes inputs n a at =
     width_stays told tnew board.width a goes.later.extends goes.later.keeps (inputs n a old)
 
 pub goes_by_base : (told tnew : Table) (wold wnew : List Word) (mold mnew : Memory) (side : Side)
-    (address base term : ℕ) → AddsRead tnew wold wnew mold side address term
+    (address base term : ℕ) → AddsRead wold wnew mold
     → mnew ≡ with_read mold (held address base) → IsMemory tnew wnew mnew → AreOf tnew wnew → Extends told tnew
     → Keeps told tnew → IsTable tnew → GoesOn IsBase told tnew wold wnew mold mnew
 goes_by_base told tnew wold wnew mold mnew side address base term adds read memory of extends keeps table =

@@ -197,7 +197,7 @@ read_address t0 t1 w0 w1 m0 m1 elements side e a ready made = record {
 
 pub made_memory : (t0 t1 t2 : Table) (w0 w1 w2 : List Word) (m0 m1 m2 : Memory) (elements : List ℕ) (side : Side)
     (e : Tree) (a base term : ℕ) → IsReady t0 w0 m0 elements (tree.memory e)
-    → IsMade t0 t1 w0 w1 m0 m1 elements side e a → IsRead t2 m2 side a term → AddsRead t2 w1 w2 m1 side a term
+    → IsMade t0 t1 w0 w1 m0 m1 elements side e a → IsRead t2 m2 side a term → AddsRead w1 w2 m1
     → IsOfWidth t2 m1.word term → m2 ≡ with_read m1 (held a base) → IsMemory t2 w2 m2 → AreOf t2 w2 → Extends t1 t2
     → Keeps t1 t2 → IsTable t2 → IsMade t0 t2 w0 w2 m0 m2 elements side (tree.memory e) term
 made_memory t0 t1 t2 w0 w1 w2 m0 m1 m2 elements side e a base term ready made means adds wide is_read now of extends
@@ -232,7 +232,7 @@ made_memory t0 t1 t2 w0 w1 w2 m0 m1 m2 elements side e a base term ready made me
 -- the read's answer, where memory didn't run out
 pub read_result : {E : Type 0} (r : Result ℕ E) (t0 t1 t2 : Table) (w0 w1 w2 : List Word) (m0 m1 m2 : Memory)
     (elements : List ℕ) (side : Side) (e : Tree) (a : ℕ) → IsReady t0 w0 m0 elements (tree.memory e)
-    → IsMade t0 t1 w0 w1 m0 m1 elements side e a → IfOk r (IsRead t2 m2 side a) → IfOk r (AddsRead t2 w1 w2 m1 side a)
+    → IsMade t0 t1 w0 w1 m0 m1 elements side e a → IfOk r (IsRead t2 m2 side a) → OnOk r (AddsRead w1 w2 m1)
     → IfOk r (IsOfWidth t2 m1.word) → OnOk r ((base : ℕ) × (m2 ≡ with_read m1 (held a base)))
     → OnOk r (IsMemory t2 w2 m2) → OnOk r (AreOf t2 w2) → OnOk r (Extends t1 t2) → OnOk r (Keeps t1 t2)
     → OnOk r (IsTable t2) → IfOk r (IsMade t0 t2 w0 w2 m0 m2 elements side (tree.memory e))

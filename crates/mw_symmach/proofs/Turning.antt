@@ -429,6 +429,10 @@ pub went_listed : (d : Description) (t0 t1 t2 : Table) (w0 w2 : List Word) (m0 m
     (left_in d (come_to new position asked)) (asked_by (turn_of asked))
 went_listed d t0 t1 t2 w0 w2 m0 m2 old begun o new position asked idle stands is listed walks =
     let from = rw is at walks in
-    let inside = rw (entered_parts begun, entered_left d begun (begun_idle old begun stands idle), left_before d old begun stands,
-    listed) at from in
+    let inside = rw (
+      entered_parts begun,
+      entered_left d begun (begun_idle old begun stands idle),
+      left_before d old begun stands,
+      listed,
+    ) at from in
     rw (come_parts new position asked, come_left d new position asked, asked_again asked) inside

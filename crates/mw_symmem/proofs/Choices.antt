@@ -113,3 +113,11 @@ pub base_push : (t : Table) (reads : List Held) (same : List ℕ) (i : ℕ) (rea
     → IsBaseValue t (drop i reads) (drop i same) base (made ++ next ∷ []) next
 base_push t reads same i read s base made so_far next inside beside read_is s_is is has =
     rw (dropped reads i read inside read_is, dropped same i s beside s_is) (made, so_far, refl, is, has)
+
+-- there is a word for each read
+pub same_count : (t : Table) (address : ℕ) (reads : List Held) (same : List ℕ) → AreSame t address reads same
+    → length same ≡ length reads
+same_count t address [] [] are = refl
+same_count t address [] (s ∷ same) are = absurd are
+same_count t address (read ∷ reads) [] are = absurd are
+same_count t address (read ∷ reads) (s ∷ same) are = ap suc (same_count t address reads same are.1)

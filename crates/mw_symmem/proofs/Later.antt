@@ -231,7 +231,7 @@ read_kinds K same rest base n is place term kind at =
 
 -- a read of the memory
 pub goes_by_read : (K : WordKind → Type 0) (told tnew : Table) (wold wnew : List Word) (mold mnew : Memory)
-    (side : Side) (address base term : ℕ) → ((n : ℕ) → K (Base n)) → AddsRead tnew wold wnew mold side address term
+    (side : Side) (address base term : ℕ) → ((n : ℕ) → K (Base n)) → AddsRead wold wnew mold
     → mnew ≡ with_read mold (held address base) → IsMemory tnew wnew mnew → AreOf tnew wnew → Extends told tnew
     → Keeps told tnew → IsTable tnew → GoesOn K told tnew wold wnew mold mnew
 goes_by_read K told tnew wold wnew mold mnew side address base term is adds read memory of extends keeps table = record {

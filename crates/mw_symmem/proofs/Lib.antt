@@ -6,7 +6,6 @@ pub mod Listed
 pub mod Lists
 pub mod Made
 pub mod Meaning
-pub mod Parts
 pub mod Reached
 pub mod Reading
 pub mod Stays

@@ -23,7 +23,6 @@ use Rattle.mw_symmem.proofs.Lists.{pushed, behind, pushed_there, among, seam, no
 use Rattle.mw_symmem.proofs.Growth.{extends_then, keeps_then, op_stays, has_made, has_stays, width_stays, map_both}
 use Rattle.mw_symmem.proofs.Choices.{same_stays, base_stays, bit_of_same}
 use Rattle.mw_symmem.proofs.Meaning.{base_meaning, side_meaning}
-use Rattle.mw_symmem.proofs.Parts.{read_are, read_last}
 
 -- ---- widths
 
@@ -297,16 +296,12 @@ module _ (told t : Table) (old new : List Word) (m : Memory) (side : Side) (addr
   pub read_width : IsOfWidth t m.word value
   read_width = value_width
 
-  pub read_adds : AddsRead t old new m side address value
+  pub read_adds : AddsRead old new m
   read_adds = record {
     same = made.same;
     base = base;
     rest = made.made ++ made.over;
     words = made.words;
-    each = read_are t address (length front + 1) m.word m.reads (writes_of m side) made.same made.made made.over base
-        made.middle value made.are made.has made.base_is made.side_is;
-    last = read_last t address m.reads (writes_of m side) made.same made.made made.over base made.middle value
-        made.base_is made.side_is;
   }
 
   same_writes : (s : Side) → writes_of (with_read m (held address base)) s ≡ writes_of m s

@@ -1,12 +1,11 @@
 -- One base image under the writes of two sides.
 use Rattle.std.specs.Prelude.{◌≡◌, ℕ, ◌+◌, ◌<◌, ◌≤◌, ◌^◌, List, [], ◌∷◌, ◌++◌, length, map, take, Some, slice_get, slice_index}
 use Rattle.std.specs.Prelude.{slice_set, Option, ◌==◌, if◌then◌else◌}
-use Rattle.std.specs.List.{AllZip}
 use Rattle.mw_term.specs.declared.kinds.WordKind.TheVariants.{Base}
 use Rattle.mw_term.specs.declared.op.Op.{Op}
 use Rattle.mw_term.specs.declared.op.Op.TheVariants.{Var}
 use Rattle.mw_term.specs.Assigned.{Given}
-use Rattle.mw_term.specs.MemoryRead.{Held, held, read_words}
+use Rattle.mw_term.specs.MemoryRead.{Held, held}
 use Rattle.mw_term.specs.Table.{Table, Extends, IsTable, IsWidth, Fits, term_width}
 use Rattle.mw_term.specs.Values.{IsTermOf, Keeps, term_value}
 use Rattle.mw_symmem.specs.declared.side.Side.{Side}
@@ -150,18 +149,13 @@ pub record Has (t : Table) (op : Op) (term : ℕ) : Type 0 where
   pub is : IsTermOf t t op term
   pub op_is : slice_get t.ops term ≡ Some op
 
--- The words that a memory read adds to a list: those of (a), then the variable of the next base read, then the others;
--- and each is, in the new table, the term of its op, with its width and value.
-pub record AddsRead (t : Table) (old new : List Word) (m : Memory) (side : Side) (address : ℕ) (term : ℕ) : Type 0 where
+-- The words that a memory read adds to a list: some that are no variables, the variable of the next base read, and others
+-- that are none.
+pub record AddsRead (old new : List Word) (m : Memory) : Type 0 where
   pub same : List ℕ
   pub base : ℕ
   pub rest : List ℕ
   pub words : new ≡ (old ++ map plain same) ++ variable base (Base (length m.reads)) ∷ map plain rest
-  pub each : AllZip (Has t)
-      (read_words (slice_index (same ++ base ∷ rest)) address (length (old ++ map plain same) + 1) m.word m.reads
-      (writes_of m side))
-      (same ++ base ∷ rest)
-  pub last : slice_index (base ∷ rest) (length rest) ≡ term
 
 -- ---- every image is reached
 

@@ -16,8 +16,8 @@ pub use laws::{
     stays_with_words, stays_with_writes,
 };
 pub use memory::SymMemory;
-pub use side::Side;
 pub use mw_term::SymEvent;
+pub use side::Side;
 pub use turn::Turn;
 pub use words::Words;
 

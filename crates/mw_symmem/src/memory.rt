@@ -119,7 +119,7 @@ impl SymMemory {
         requires memory { IsMemory terms.old words.old self.old }
         requires address { IsOfWidth terms.old self.old.address address }
         ensures means { IfOk result (IsRead terms.new self.new side address) }
-        ensures adds { IfOk result (AddsRead terms.new words.old words.new self.old side address) }
+        ensures adds { OnOk result (AddsRead words.old words.new self.old) }
         ensures listed { IfOk result (ListsOver (memory_read_words self.old.word address (writes_of self.old side))
             terms.old terms.new words.old words.new self.old self.new) }
         ensures width { IfOk result (IsOfWidth terms.new self.old.word) }

@@ -269,7 +269,6 @@ part_terms-returns-clause-listed t c =
     let listed = rw (drop_all l.part-index c.args.parts.now (omega (arith, c.loop-part-test.false))) at l.invariant.listed in
     (sym listed.0, sym listed.1 ∙ append-nil l.made.items)
 
-
 pub expr_term-returns-in-Element-clause-listed : goal.expr_term-returns-in-Element-clause-listed
 expr_term-returns-in-Element-clause-listed t c =
     let seen : view c.args.expr.now ≡ tree.element c.in-Element.element = rw c.in-Element.is (search (rules, the_lemmas)) in

@@ -44,8 +44,7 @@ loop-read-preserved c =
       listed = λ reads'.
           (let before = rw (dropped reads i read c.loop-read-test.true c.read-item.is) at (c.loop-read.invariant.listed reads') in
           let first = rw c.address.ensures at (one.listed reads') in
-          let others = λ (x : Ended). with_same c.args.address (drop (i + 1) reads) x.list in
-          (
+          let others = λ (x : Ended). with_same c.args.address (drop (i + 1) reads) x.list in (
             ap (λ x. (others x).list) first ∙ before.0,
             rw (c.in_ok-push.ensures.items, append_assoc)
                 (ap (λ x. c.loop-read.same.items ++ x.term ∷ (others x).terms) first ∙ before.1),

@@ -3,8 +3,7 @@ use Rattle.mw_term.specs.declared.kinds.WordKind.TheVariants.{Base}
 use Rattle.mw_term.specs.declared.op.Op.TheVariants.{Var}
 use Rattle.mw_symmem.proofs.Lists.{absent, plain_behind}
 use Rattle.mw_symmem.proofs.Growth.{extends_then, keeps_then, has_made, width_stays}
-use Rattle.mw_symmem.proofs.Choices.{bit_stays}
-use Rattle.mw_symmem.proofs.Parts.{same_count}
+use Rattle.mw_symmem.proofs.Choices.{bit_stays, same_count}
 use Rattle.mw_symmem.proofs.Reading.{read_listed}
 use Rattle.mw_symmem.proofs.Made.{pair_of, same_bits, variable_width, base_width, side_held, done}
 use Rattle.mw_symmem.proofs.memory.SymMemory.make.Goals as goal
