@@ -1,6 +1,5 @@
 // Calls that no command shows yet.
 mod cycles;
-mod described;
 mod diagrams;
 mod expressions;
 mod machines;
@@ -10,25 +9,13 @@ mod parts;
 mod plain;
 mod relations;
 mod runs;
-mod stepping;
-mod symbolic;
-mod texts;
+mod steps;
 mod tokens;
 mod trees;
-mod valued;
-mod workspace;
 
-use crate::fault::{Fault, wrong};
-use crate::row::{File, contents_in};
+use mw_rowfile::{Fault, File, contents, wrong};
+use mw_symrows::symbolic;
 use std::alloc::Global;
-
-/// The contents of the file that a call reads.
-fn contents<'a>(files: &'a [File], name: &str) -> Result<&'a [u8], Fault> {
-    match contents_in(files, name) {
-        Some(contents) => Ok(contents),
-        None => Err(wrong("the call reads a file that isn't there")),
-    }
-}
 
 /// What a call gives. The first word is its name.
 pub fn made(alloc: Global, words: &[String], files: &[File]) -> Result<Vec<u8>, Fault> {
@@ -46,10 +33,13 @@ pub fn made(alloc: Global, words: &[String], files: &[File]) -> Result<Vec<u8>, 
         "diagrams" => diagrams::read(alloc, contents(files, "text")?),
         "alu" => parts::alu_table(alloc, given),
         "slice" => parts::slice_table(alloc, given),
-        "described" => described::run(alloc, given, contents(files, "text")?),
+        "described" => steps::run(alloc, given, files),
+        "step-words" => steps::words(alloc, given, files),
+        "joint" => steps::beside(alloc, given, files),
         "step" => parts::stepped(alloc, given),
         "cycle" => cycles::run(alloc, given, files),
         "symbolic" => symbolic::run(alloc, given, files),
+        "cycle-words" => symbolic::words(alloc, given, files),
         "run" => runs::cycles(alloc, given, files),
         "until" => runs::until(alloc, given, files),
         _ => Err(wrong("no such call")),

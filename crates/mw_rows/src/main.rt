@@ -7,16 +7,9 @@
 #![tactic(auto)]
 
 mod calls;
-mod fault;
-mod line;
-mod named;
-mod reader;
-mod row;
 mod run;
-mod spelled;
 
-use fault::Fault;
-use reader::rows_of;
+use mw_rowfile::{Fault, rows_of};
 use run::run_rows;
 use std::env::{self, Env};
 use std::fs::{self, Files};

@@ -2,9 +2,8 @@
 ghost use Rattle.std.specs.Prelude.{◌<◌};
 
 use crate::calls::made;
-use crate::fault::{Fault, wrong};
-use crate::row::{Change, End, File, Row, RowFiles, Rows, Work};
 use mw_outside::{MemoryShelf, MemorySink};
+use mw_rowfile::{Change, End, Fault, File, Row, RowFiles, Rows, Work, wrong};
 use mw_top::bench;
 use std::alloc::Global;
 

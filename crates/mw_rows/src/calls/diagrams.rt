@@ -7,9 +7,9 @@
 ghost use Rattle.std.specs.Prelude.{◌<◌, ℕ, length, IfOk, OnOk};
 ghost use Rattle.mw_dd.specs.Nodes.{IsDd};
 
-use crate::fault::{Fault, wrong};
 use mw_base::NoMemory;
 use mw_dd::{Dd, DdFault, Diagrams};
+use mw_rowfile::{Fault, wrong};
 use std::alloc::Global;
 
 /// Why words gave no function.

@@ -6,12 +6,12 @@ ghost use Rattle.std.specs.Prelude.{◌≡◌, ℕ, ◌<◌, ◌≤◌, ◌^◌,
 ghost use Rattle.mw_expr.specs.Text.{IsShape};
 ghost use Rattle.mw_expr.specs.Values.{AreWords, IsImage};
 
-use super::texts::push_refusal;
 use super::trees::push_tree;
-use crate::fault::{Fault, wrong};
-use crate::named::{hexadecimal, set_word, word};
 use mw_base::{Cause, Cursor, Items, Line, Name, append_hex, lines};
 use mw_expr::{Expr, Shape, parse_expr, value, width_of};
+use mw_rowfile::named::{hexadecimal, set_word, word};
+use mw_rowfile::texts::push_refusal;
+use mw_rowfile::{Fault, wrong};
 use std::alloc::Global;
 
 /// The words of a call, as far as they were taken.

@@ -1,12 +1,12 @@
 // `call machine`: reads the file `text`. Its machine: the memory, the registers, the temporaries, and the statements, in which
 // expressions are trees and each `if` has both lists; or one line has the first fault.
-use super::texts::push_refusal;
 use super::trees::push_tree;
-use crate::fault::{Fault, wrong};
 use mw_base::{Name, append_decimal};
 use mw_descfile::read_machine;
 use mw_expr::Expr;
 use mw_macro::{Machine, Statement};
+use mw_rowfile::texts::push_refusal;
+use mw_rowfile::{Fault, File, contents, wrong};
 use std::alloc::Global;
 
 /// Appends a blank and a number.
@@ -121,6 +121,18 @@ fn names_of(alloc: Global, machine: &Machine) -> Result<Vec<Name>, Fault> {
     }
     names.push(Name::new(alloc, b"request")?)?;
     Ok(names)
+}
+
+/// The machine of a file.
+pub(super) fn machine_in(alloc: Global, files: &[File], name: &str) -> Result<Machine, Fault> {
+    let text = contents(files, name)?;
+    if text.len() > 1_048_576 {
+        return Err(wrong("a text that is too long"));
+    }
+    match read_machine(alloc, text) {
+        Ok(machine) => Ok(machine),
+        Err(_) => Err(wrong("the machine is refused")),
+    }
 }
 
 /// The lines of the machine of a text, or of its first fault.

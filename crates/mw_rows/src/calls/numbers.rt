@@ -1,6 +1,6 @@
 // `call number TEXT`: the number that the text spells, in decimal, or the cause for which it spells none.
-use crate::fault::{Fault, wrong};
 use mw_base::number;
+use mw_rowfile::{Fault, wrong};
 use std::alloc::Global;
 
 /// A line with the number that the one word spells, or with the cause for which it spells none.

@@ -9,15 +9,14 @@ ghost use Rattle.mw_macro.specs.Described.{description_of};
 ghost use Rattle.mw_rel.specs.Job.{AreForEachOther};
 ghost use Rattle.mw_rel.specs.Views.{job_of, relation_of};
 
-use super::cycles::file_words;
+use super::machines::machine_in;
 use super::runs::{Machine, machine_of};
-use super::{contents, texts};
-use crate::fault::{Fault, wrong};
-use crate::named::{hexadecimal, number_of, set_word, word};
-use crate::row::{File, contents_in};
 use mw_cycle::Env;
-use mw_descfile::{read_machine, read_relation};
+use mw_descfile::read_relation;
 use mw_rel::{Begin, Job, Pair, Relation, complete, free, holds};
+use mw_rowfile::named::{hexadecimal, number_of, set_word, word};
+use mw_rowfile::states::file_words;
+use mw_rowfile::{Fault, File, contents, contents_in, texts, wrong};
 use std::alloc::Global;
 
 /// The text of a file that a reader takes.
@@ -29,15 +28,6 @@ pub(super) fn text_of<'a>(files: &'a [File], name: &str) -> Result<&'a [u8], Fau
         return Err(wrong("a text that is too long"));
     }
     Ok(text)
-}
-
-/// The machine of the file `k`.
-pub(super) fn described(alloc: Global, files: &[File]) -> Result<mw_macro::Machine, Fault> {
-    let text = text_of(files, "k")?;
-    match read_machine(alloc, text) {
-        Ok(machine) => Ok(machine),
-        Err(_) => Err(wrong("the machine is refused")),
-    }
 }
 
 /// The relation of a file between a board with its microprogram and a machine.
@@ -85,7 +75,7 @@ fn job_with(
 /// The job of the files `b`, `m` and `k`, and of the relation of another one.
 fn read_job(alloc: Global, files: &[File], name: &str) -> Result<Job, Fault> {
     let micro = machine_of(alloc, files)?;
-    match described(alloc, files) {
+    match machine_in(alloc, files, "k") {
         Ok(machine) => job_with(alloc, micro, machine, files, name),
         Err(fault) => Err(fault),
     }

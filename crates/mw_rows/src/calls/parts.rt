@@ -1,10 +1,11 @@
 // The parts of a board, one by one.
 ghost use Rattle.std.specs.Prelude.{◌<◌, IfOk};
 
-use crate::fault::{Fault, wrong};
-use crate::named::{address_of, bit_of, number_of, sequencer_of};
 use mw_alu::{AluOut, Pins, alu};
 use mw_base::{NoMemory, Width, append_padded};
+use mw_rowfile::named::{address_of, bit_of, number_of, sequencer_of};
+use mw_rowfile::texts::sequencer;
+use mw_rowfile::{Fault, wrong};
 use mw_slice::{Slice, SliceOut};
 use std::alloc::Global;
 
@@ -126,7 +127,7 @@ pub fn stepped(alloc: Global, given: &[String]) -> Result<Vec<u8>, Fault> {
         Err(fault) => return Err(fault),
     };
     let next = seq.step(ins, pass, d, ci, rld, noise);
-    let after = super::texts::sequencer(alloc, seq)?;
+    let after = sequencer(alloc, seq)?;
     let line = format!(in alloc; "next={next:x} {after}\n")?;
     Ok(Vec::from_slice(alloc, line.as_bytes())?)
 }

@@ -11,17 +11,15 @@ ghost use Rattle.mw_rel.specs.Lines.{reads_of};
 ghost use Rattle.mw_rel.specs.Relation.{related, IsFormed, IsFormedLine, IsFormedBoundary};
 ghost use Rattle.mw_rel.specs.Seen.{line_of, lines_of, boundary_of, boundaries_of};
 
-use super::contents;
-use super::cycles::board_of;
-use super::pairs::described;
-use crate::fault::{Fault, wrong};
-use crate::named::{address, hexadecimal, word};
-use crate::row::File;
+use super::machines::machine_in;
 use mw_base::{Cause, Items};
 use mw_board::{Board, Store};
 use mw_expr::{Expr, Shape};
 use mw_macro::Machine;
 use mw_rel::{Boundary, Job, Line, Relation, shape_of};
+use mw_rowfile::named::{address, hexadecimal, word};
+use mw_rowfile::states::board_of;
+use mw_rowfile::{Fault, File, contents, wrong};
 use std::alloc::Global;
 
 /// The number of an element, or another of 32 bits.
@@ -229,7 +227,7 @@ fn refusal_in(
 /// Why there is no job of a board and of these files.
 fn refusal_with(alloc: Global, board: Board, files: &[File]) -> Result<Option<Cause>, Fault> {
     let text = contents(files, "text")?;
-    match described(alloc, files) {
+    match machine_in(alloc, files, "k") {
         Ok(machine) => refusal_in(alloc, board, machine, text),
         Err(fault) => Err(fault),
     }

@@ -3,17 +3,17 @@
 // its lines, in which expressions are trees; or one line has the first fault.
 ghost use Rattle.std.specs.Prelude.{◌<◌, ◌^◌, length};
 
-use super::pairs::{described, text_of};
+use super::machines::machine_in;
+use super::pairs::text_of;
 use super::runs::{Machine as Micro, machine_of};
-use super::texts::push_refusal;
 use super::trees::push_tree;
-use crate::fault::{Fault, wrong};
-use crate::row::File;
 use mw_base::{Name, Refusal};
 use mw_board::Board;
 use mw_descfile::read_relation;
 use mw_macro::Machine;
 use mw_rel::{Boundary, Line};
+use mw_rowfile::texts::push_refusal;
+use mw_rowfile::{Fault, File, wrong};
 use std::alloc::Global;
 
 /// Appends a name behind the letter of its side.
@@ -117,7 +117,7 @@ fn between(alloc: Global, micro: &Micro, machine: &Machine, text: &[u8]) -> Resu
 /// The same between a board with its microprogram and the machine of the file `k`.
 fn of_micro(alloc: Global, micro: &Micro, files: &[File]) -> Result<Vec<u8>, Fault> {
     let text = text_of(files, "text")?;
-    let machine = described(alloc, files)?;
+    let machine = machine_in(alloc, files, "k")?;
     between(alloc, micro, &machine, text)
 }
 

@@ -5,15 +5,13 @@
 ghost use Rattle.mw_cycle.specs.Environment.{IsEnvironment};
 ghost use Rattle.mw_cycle.specs.State.{Fits};
 
-use super::cycles::board_of;
-use super::{contents, texts};
-use crate::fault::{Fault, wrong};
-use crate::named::{address, bit_of, number_of};
-use crate::row::File;
 use mw_asm::{Assembled, assemble};
 use mw_base::{Event, append_hex};
 use mw_board::Board;
 use mw_cycle::{Clock, Datapath, State, Whole};
+use mw_rowfile::named::{address, bit_of, number_of};
+use mw_rowfile::states::board_of;
+use mw_rowfile::{Fault, File, contents, texts, wrong};
 use mw_sim::{Late, Parts, Start, read_start, run_cycles, run_to_boundary};
 use std::alloc::Global;
 

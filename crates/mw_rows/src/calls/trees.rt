@@ -1,7 +1,7 @@
 // Expressions as trees: an operation stands in parentheses, with its sign or word before its parts.
-use crate::fault::{Fault, wrong};
 use mw_base::Name;
 use mw_expr::{Expr, Pair2};
+use mw_rowfile::{Fault, wrong};
 use std::alloc::Global;
 
 /// What a sign between two operands begins with.

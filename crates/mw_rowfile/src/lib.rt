@@ -1,0 +1,15 @@
+//! Files of rows: their lines, sets and rows, why not all of them were run, and what the calls of rows read and print alike.
+#![tactic(auto)]
+
+mod fault;
+mod line;
+pub mod named;
+mod reader;
+mod row;
+mod spelled;
+pub mod states;
+pub mod texts;
+
+pub use fault::{Fault, wrong};
+pub use reader::rows_of;
+pub use row::{Change, End, File, Row, RowFiles, Rows, Set, Work, contents, contents_in};

@@ -1,0 +1,113 @@
+// What calls read of files and words: a board, microwords, a state, and what the outside has for a cycle.
+ghost use Rattle.std.specs.Prelude.{◌<◌};
+
+use crate::fault::{Fault, wrong};
+use crate::named::{address, bit_of, hexadecimal, number_of, sequencer_of, set_word, word};
+use crate::row::{File, contents};
+use crate::spelled::words_of;
+use mw_base::Items;
+use mw_board::{Board, Store};
+use mw_boardfile::read_board;
+use mw_cycle::{CycleIn, State};
+use std::alloc::Global;
+
+/// The words of a file.
+pub fn file_words(alloc: Global, files: &[File], name: &str) -> Result<Vec<String>, Fault> {
+    match str::from_utf8(contents(files, name)?) {
+        Ok(text) => words_of(alloc, text),
+        Err(_) => Err(wrong("a file that is no text")),
+    }
+}
+
+/// The board of a file.
+pub fn board_of(alloc: Global, files: &[File], name: &str) -> Result<Board, Fault> {
+    match read_board(alloc, contents(files, name)?) {
+        Ok(board) => Ok(board),
+        Err(_) => Err(wrong("the board is refused")),
+    }
+}
+
+/// A store of hexadecimal microwords.
+pub fn store_of(alloc: Global, files: &[File]) -> Result<Store, Fault> {
+    let mut words = Vec::new(alloc);
+    for text in &file_words(alloc, files, "store")? {
+        match u128::from_str_radix(text, 16) {
+            Ok(word) => words.push(word)?,
+            Err(_) => return Err(wrong("no microword")),
+        }
+    }
+    Ok(Store {
+        words: Items::from_vec(words),
+    })
+}
+
+/// Sets a register, named as `rN`, or a memory word, named as `memA`.
+fn set_named_word(state: &mut State, name: &str, value: u32) -> Result<(), Fault> {
+    if let Some(place) = name.strip_prefix("mem") {
+        return set_word(&mut state.memory, hexadecimal(place)?, value);
+    }
+    match name.strip_prefix('r') {
+        Some(number) => match number.parse::<u64>() {
+            Ok(number) => set_word(&mut state.regs, number, value),
+            Err(_) => Err(wrong("no such register")),
+        },
+        None => Err(wrong("no such part of a state")),
+    }
+}
+
+/// Sets a part of a state, but for the sequencer.
+fn set_part(state: &mut State, name: &str, number: u64) -> Result<(), Fault> {
+    match name {
+        "at" => state.at = address(number)?,
+        "q" => state.q = word(number)?,
+        "mar" => state.mar = word(number)?,
+        "ir" => state.ir = word(number)?,
+        "flips" => match u16::try_from(number) {
+            Ok(flips) => state.flips = flips,
+            Err(_) => return Err(wrong("no flip-flops")),
+        },
+        _ => return set_named_word(state, name, word(number)?),
+    }
+    Ok(())
+}
+
+fn is_of_sequencer(name: &str) -> bool {
+    matches!(name, "pc" | "r" | "sp" | "stack")
+}
+
+/// The state of a file; what isn't named is 0, but for the sequencer, which is named whole.
+pub fn state_of(alloc: Global, board: &Board, files: &[File]) -> Result<State, Fault> {
+    let mut state = State::new(alloc, board)?;
+    let words = file_words(alloc, files, "state")?;
+    for part in &words {
+        match part.split_once('=') {
+            Some((name, _)) if is_of_sequencer(name) => {}
+            Some((name, number)) => {
+                let number = hexadecimal(number)?;
+                set_part(&mut state, name, number)?;
+            }
+            None => return Err(wrong("a part of a state is NAME=NUMBER")),
+        }
+    }
+    match sequencer_of(&words) {
+        Ok(seq) => {
+            state.seq = seq;
+            Ok(state)
+        }
+        Err(fault) => Err(fault),
+    }
+}
+
+/// What the outside has for the cycle.
+pub fn given_of(given: &[String]) -> Result<CycleIn, Fault> {
+    if given.len() != 3 {
+        return Err(wrong("`cycle` has three numbers"));
+    }
+    let noise = number_of(given, "noise")?;
+    let line = bit_of(given, "line")?;
+    let input = word(number_of(given, "input")?)?;
+    match u16::try_from(noise) {
+        Ok(noise) => Ok(CycleIn { noise, line, input }),
+        Err(_) => Err(wrong("`noise=` has fourteen bits")),
+    }
+}

@@ -1,8 +1,0 @@
-use Rattle.mw_rows.proofs.Underway.{first_push, wide_variable}
-use Rattle.mw_rows.proofs.calls.stepping.first_variable.Goals as goal
-
-pub returns-clause-wide : goal.returns-clause-wide
-returns-clause-wide c = wide_variable _ _ _ _ _ c.in_ok-term.ensures.made
-
-pub returns-clause-first : goal.returns-clause-first
-returns-clause-first c = rw c.in_ok-term.ensures.words (first_push _ _ _ c.requires.first c.requires.kind)

@@ -1,9 +1,0 @@
-use Rattle.mw_symboard.proofs.Variables.{wide_variable}
-use Rattle.mw_rows.proofs.Starting.{free_push}
-use Rattle.mw_rows.proofs.calls.workspace.variable.Goals as goal
-
-pub returns-clause-wide : goal.returns-clause-wide
-returns-clause-wide c = wide_variable _ _ _ _ _ c.in_ok-term.ensures.made
-
-pub returns-clause-free : goal.returns-clause-free
-returns-clause-free c = rw c.in_ok-term.ensures.words (free_push _ _ _ c.requires.free c.requires.kind)
