@@ -1,13 +1,10 @@
 pub mod Answered
-pub mod Counts
+pub mod Declared
 pub mod Differences
-pub mod Grown
-pub mod Joining
 pub mod Loops
-pub mod Meanings
+pub mod Memoryless
+pub mod Numbered
 pub mod QuestionLines
-pub mod Questions
 pub mod Shown
-pub mod Sided
+pub mod SideTerms
 pub mod Sides
-pub mod Signs

@@ -1,13 +1,14 @@
 -- What the answers to a question mean.
-use Rattle.std.specs.Prelude.{ℕ, ◌+◌, ◌%◌, ◌^◌, List, [], ◌∷◌, slice_index}
+use Rattle.std.specs.Prelude.{◌≡◌, ℕ, ◌+◌, ◌%◌, ◌^◌, List, [], ◌∷◌, Some, slice_index}
 use Rattle.mw_expr.specs.Values.{AreWords}
 use Rattle.mw_term.specs.Assigned.{Given}
 use Rattle.mw_dd.specs.Diagrams.{IsNoLater}
+use Rattle.mw_term.specs.WordList.{number_of}
 use Rattle.mw_blast.specs.Causes.{IsOver}
 use Rattle.mw_check.specs.declared.equality.Equality.{Equality}
 use Rattle.mw_check.specs.declared.equality.Equality.TheVariants.{Yes, No, Unknown}
 use Rattle.mw_check.specs.Question.{Asked, AgreeUnder, AlwaysAgree}
-use Rattle.mw_check.specs.QuestionWords.{words_of, IsWord}
+use Rattle.mw_check.specs.QuestionWords.{words_of, table_for}
 
 -- the assignment that gives the variables these values: they are the words with numbers from 1
 unfoldable pub given_values : (values : List ℕ) → Given
@@ -29,8 +30,8 @@ pub record IsFirstDifference (q : Asked) (values : List ℕ) : Type 0 where
 -- an operation of the word of this number, in the question's list, is over a budget at this bit
 pub record IsOverBudget (q : Asked) (word bit budget : ℕ) : Type 0 where
   pub term : ℕ
-  pub its : IsWord (words_of q).ops word term
-  pub over : IsOver (words_of q) term bit budget
+  pub its : number_of (words_of q).words term ≡ Some word
+  pub over : IsOver (table_for q) term bit budget
 
 -- what an answer says of a question that was asked within a budget
 abbrev pub IsAnswer : Asked → (budget : ℕ) → Equality → Type 0

@@ -4,7 +4,7 @@ pub mod Made
 pub mod Question
 pub mod QuestionExamples
 pub mod QuestionKept
+pub mod QuestionTerms
 pub mod QuestionText
 pub mod QuestionViews
 pub mod QuestionWords
-pub mod WordCounts

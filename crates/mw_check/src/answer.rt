@@ -1,5 +1,5 @@
 // Whether the sides of a question are equal.
-ghost use Rattle.std.specs.Prelude.{◌≡◌, ◌+◌, ◌<◌, ◌≤◌, ◌%◌, ◌^◌, ℕ, List, [], All, None, length, not, take, IfOk, IfErr, IfSome, OnOk};
+ghost use Rattle.std.specs.Prelude.{◌≡◌, ◌<◌, ◌≤◌, ◌%◌, ◌^◌, ℕ, List, [], All, None, Some, IsSome, length, not, IfOk, IfErr, IfSome};
 ghost use Rattle.mw_blast.specs.Bits.{AreBits};
 ghost use Rattle.mw_blast.specs.Causes.{IsCause};
 ghost use Rattle.mw_blast.specs.declared.fault.BlastFault.TheVariants as blast;
@@ -7,70 +7,82 @@ ghost use Rattle.mw_term.specs.Assigned.{given_by};
 ghost use Rattle.mw_term.specs.Cofactors.{Agree};
 ghost use Rattle.mw_term.specs.Functions.{always};
 ghost use Rattle.mw_term.specs.Table.{table_of, IsTable};
+ghost use Rattle.mw_term.specs.WordList.{number_of};
 ghost use Rattle.mw_dd.specs.Diagrams.{IsFirst};
 ghost use Rattle.mw_dd.specs.Nodes.{IsDd, function_of};
 ghost use Rattle.mw_check.specs.declared.equality.Equality.TheVariants as equality;
 ghost use Rattle.mw_check.specs.Equal.{values_from, IsFirstDifference, IsOverBudget, IsAnswer};
 ghost use Rattle.mw_check.specs.Question.{asked_of, IsQuestion, AlwaysAgree};
-ghost use Rattle.mw_check.specs.QuestionWords.{ended_at, variables_from, places_from, words_of, question_nodes, word_count};
+ghost use Rattle.mw_check.specs.QuestionTerms.{AreDeclared, IsListOf};
 
 use crate::equality::Equality;
-use crate::nodes::{nodes, push};
 use crate::question::Question;
-use crate::word_list::WordList;
 use mw_base::{Items, NoMemory};
 use mw_blast::{Blast, BlastFault};
 use mw_dd::{Dd, Diagrams};
-use mw_term::{Assignment, Op, Term};
+use mw_symmach::expr_term;
+use mw_symmem::{Side, SymMemory, Words};
+use mw_term::{Assignment, Op, Term, Terms, WordKind};
 use std::alloc::Global;
 
-/// One variable for each of some widths, as words with numbers from 1, at the head of a list.
-fn variables(alloc: Global, ops: &mut Vec<Op>, widths: &[u8]) -> Result<Vec<Term>, NoMemory>
-    requires { ops.old.items ≡ [] }
-    ensures ops { OnOk result (ops.new.items ≡ variables_from 1 widths.now) }
-    ensures elements { IfOk result (λ terms. terms.items ≡ places_from 0 widths.now) }
+/// One variable for each of some widths, at the head of a list.
+fn variables(
+    alloc: Global,
+    terms: &mut Terms,
+    words: &mut Words,
+    widths: &[u8],
+) -> Result<Vec<Term>, NoMemory>
+    requires terms { terms.old ≡ table_of [] [] }
+    requires table { IsTable terms.old }
+    requires words { words.old ≡ [] }
+    requires widths { All (λ w. (1 ≤ w) × (w ≤ 32)) widths.now }
+    ensures { IfOk result (λ elements. AreDeclared widths.now terms.new words.new elements.items) }
 {
-    let mut terms = Vec::new(alloc);
+    let mut elements = Vec::new(alloc);
     for i in 0..widths.len() {
-        terms.push(push(ops, Op::Var(i as u64 + 1, widths[i]))?)?;
+        let Ok(number) = u32::try_from(i) else {
+            return Err(NoMemory);
+        };
+        elements.push(words.fresh(alloc, terms, WordKind::Element(number), widths[i])?)?;
     }
-    Ok(terms)
+    Ok(elements)
 }
 
-/// The ops of the list of a question, and the term at its end, which is 1 where both sides are equal.
-fn question_nodes(alloc: Global, ops: &mut Vec<Op>, question: &Question) -> Result<Term, NoMemory>
-    requires none { ops.old.items ≡ [] }
+/// The list of a question, as terms and their words, and the term at its end, which is 1 where both sides have one value.
+fn question_term(
+    alloc: Global,
+    terms: &mut Terms,
+    words: &mut Words,
+    question: &Question,
+) -> Result<Term, NoMemory>
+    requires terms { terms.old ≡ table_of [] [] }
+    requires table { IsTable terms.old }
+    requires words { words.old ≡ [] }
     requires question { IsQuestion (asked_of question.now) }
-    ensures { IfOk result (λ term. ended_at term ops.new.items ≡ question_nodes (asked_of question.now)) }
+    ensures { IfOk result (IsListOf (asked_of question.now) terms.new words.new) }
 {
-    let shape = &question.shape;
-    let elements = variables(alloc, ops, shape.widths.as_slice())?;
-    let left = nodes(ops, alloc, shape, &elements, &question.left)?;
-    let right = nodes(ops, alloc, shape, &elements, &question.right)?;
-    push(ops, Op::Eq(left, right))
-}
-
-/// The list of these ops, each of which fits those before it.
-fn listed(alloc: Global, ops: &[Op]) -> Result<WordList, NoMemory>
-    requires { IsTable (table_of ops.now []) }
-    ensures { IfOk result (λ words. words ≡ table_of ops.now []) }
-{
-    let mut words = WordList::new(alloc)?;
-    for op in ops {
-        words.build(alloc, *op)?;
-    }
-    Ok(words)
-}
-
-/// The list of a question, and the term at its end, which is 1 where both sides are equal.
-fn question_words(alloc: Global, question: &Question) -> Result<(WordList, Term), NoMemory>
-    requires { IsQuestion (asked_of question.now) }
-    ensures words { IfOk result (λ pair. pair.0 ≡ words_of (asked_of question.now)) }
-    ensures end { IfOk result (λ pair. pair.1 ≡ (question_nodes (asked_of question.now)).term) }
-{
-    let mut ops = Vec::new(alloc);
-    let same = question_nodes(alloc, &mut ops, question)?;
-    Ok((listed(alloc, &ops)?, same))
+    let elements = variables(alloc, terms, words, question.shape.widths.as_slice())?;
+    // A question reads no memory, so this one may have any widths.
+    let mut memory = SymMemory::new(alloc, 1, 1);
+    let left = expr_term(
+        alloc,
+        &question.left,
+        &elements,
+        Side::Board,
+        terms,
+        words,
+        &mut memory,
+    )?;
+    let right = expr_term(
+        alloc,
+        &question.right,
+        &elements,
+        Side::Board,
+        terms,
+        words,
+        &mut memory,
+    )?;
+    words.add(alloc, terms, Op::Eq(left, right))
 }
 
 /// The first assignment under which a function doesn't hold; none where it always holds.
@@ -120,34 +132,36 @@ fn values_of(alloc: Global, given: &Assignment, widths: &[u8]) -> Result<Items<u
 /// - `NoMemory`: memory ran out.
 fn bits_within(
     alloc: Global,
-    words: &WordList,
+    terms: &Terms,
     dds: &mut Diagrams,
     term: Term,
     budget: u32,
 ) -> Result<Vec<Dd>, BlastFault>
-    requires { term < length words.now.ops }
-    ensures bits { IfOk result (λ bits. AreBits words.now dds.new term bits.items) }
-    ensures over { IfErr result (IsCause words.now term budget) }
+    requires { term < length terms.now.ops }
+    ensures bits { IfOk result (λ bits. AreBits terms.now dds.new term bits.items) }
+    ensures over { IfErr result (IsCause terms.now term budget) }
 {
     let mut blast = Blast::new(alloc);
-    blast.bits(alloc, words.terms(), dds, term, budget)
+    blast.bits(alloc, terms, dds, term, budget)
 }
 
-/// The answer where bits weren't made.
+/// The answer where bits weren't made. A term that is over the budget is a word.
 ///
 /// # Errors
 ///
 /// Memory ran out.
-fn unknown(words: &WordList, fault: BlastFault) -> Result<Equality, NoMemory>
-    requires { (term bit : ℕ) → fault ≡ blast.Over term bit → term < length words.now.ops }
-    ensures { IfOk result (λ e. (term : ℕ) × (bit : ℕ) × (fault ≡ blast.Over term bit)
-        × (e ≡ equality.Unknown (word_count (take (term + 1) words.now.ops)) bit)) }
+fn unknown(words: &Words, fault: BlastFault) -> Result<Equality, NoMemory>
+    requires { (term bit : ℕ) → fault ≡ blast.Over term bit → IsSome (number_of words.now term) }
+    ensures { IfOk result (λ e. (term : ℕ) × (bit : ℕ) × (word : ℕ) × (fault ≡ blast.Over term bit)
+        × (number_of words.now term ≡ Some word) × (e ≡ equality.Unknown word bit)) }
 {
     match fault {
-        BlastFault::Over(term, bit) => Ok(Equality::Unknown {
-            word: words.number(term),
-            bit,
-        }),
+        BlastFault::Over(term, bit) => {
+            let Some(word) = words.word_of(term) else {
+                unreachable!()
+            };
+            Ok(Equality::Unknown { word, bit })
+        }
         BlastFault::NoMemory => Err(NoMemory),
     }
 }
@@ -156,17 +170,17 @@ fn unknown(words: &WordList, fault: BlastFault) -> Result<Equality, NoMemory>
 fn answer(
     alloc: Global,
     question: &Question,
-    words: &WordList,
+    terms: &Terms,
+    words: &Words,
     same: Term,
     budget: u32,
 ) -> Result<Equality, NoMemory>
     requires question { IsQuestion (asked_of question.now) }
-    requires words { words.now ≡ words_of (asked_of question.now) }
-    requires end { same ≡ (question_nodes (asked_of question.now)).term }
+    requires list { IsListOf (asked_of question.now) terms.now words.now same }
     ensures { IfOk result (IsAnswer (asked_of question.now) budget) }
 {
     let mut dds = Diagrams::new(alloc)?;
-    let bits = match bits_within(alloc, words, &mut dds, same, budget) {
+    let bits = match bits_within(alloc, terms, &mut dds, same, budget) {
         Ok(bits) => bits,
         Err(fault) => return unknown(words, fault),
     };
@@ -200,6 +214,8 @@ pub fn equal(alloc: Global, question: &Question, nodes: u32) -> Result<Equality,
     ensures unknown { IfOk result (λ e. (word bit : ℕ) → e ≡ equality.Unknown word bit
         → IsOverBudget (asked_of question.now) word bit nodes) }
 {
-    let (words, same) = question_words(alloc, question)?;
-    answer(alloc, question, &words, same, nodes)
+    let mut terms = Terms::new(alloc, &[])?;
+    let mut words = Words::new(alloc);
+    let same = question_term(alloc, &mut terms, &mut words, question)?;
+    answer(alloc, question, &terms, &words, same, nodes)
 }

@@ -5,17 +5,15 @@ mod answer;
 mod comparison;
 mod equality;
 mod laws;
-mod nodes;
 mod question;
 mod question_text;
 mod side;
 mod variables;
-mod word_list;
 
 pub use answer::equal;
 pub use comparison::{Compared, compare};
 pub use equality::Equality;
-pub use laws::{nodes_have_values, steps_show_one_thing};
+pub use laws::steps_show_one_thing;
 pub use question::Question;
 pub use question_text::{read_question, texts_ask_questions};
 

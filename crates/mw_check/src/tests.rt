@@ -1,7 +1,5 @@
 // Each public function, once with ample memory. Comparisons are tested by the commands above.
-use crate::{
-    Equality, equal, nodes_have_values, read_question, steps_show_one_thing, texts_ask_questions,
-};
+use crate::{Equality, equal, read_question, steps_show_one_thing, texts_ask_questions};
 use mw_expr::width_of;
 use std::test::Fail;
 
@@ -20,7 +18,6 @@ fn reads_a_question(rt: HostRuntime) -> Result<(), Fail> {
 
 #[test]
 fn says_yes_and_unknown(rt: HostRuntime) -> Result<(), Fail> {
-    nodes_have_values();
     let question = read_question(rt.alloc(), b"var x 8\nvar y 8\nleft x + y\nright y + x")?;
     let within = equal(rt.alloc(), &question, 1_000_000)?;
     assert!(rt; matches!(within, Equality::Yes));
