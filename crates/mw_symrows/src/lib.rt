@@ -1,4 +1,4 @@
-//! Calls of the symbolic parts for rows: a cycle of a board and a step of a described machine on terms.
+//! Calls of the symbolic parts for rows: cycles of a board, a step of a described machine, and both on the same terms.
 #![tactic(auto)]
 
 mod beside;
