@@ -28,7 +28,7 @@ use Rattle.mw_term.specs.declared.word.Word.{Word}
 use Rattle.mw_symmem.specs.Kinds.{kind_is}
 use Rattle.mw_term.specs.WordList.{variable, term_of, is_of}
 use Rattle.mw_symmem.specs.Words.{IsVariable, AreOf}
-use Rattle.mw_symmem.specs.Memory.{Memory, IsMemory, IsImage, IsHeld, IsOfWidth, FitImage, held_by, valued, writes_of, with_write}
+use Rattle.mw_symmem.specs.Memory.{Memory, IsImage, IsHeld, IsOfWidth, FitImage, held_by, valued, with_write}
 use Rattle.mw_symmem.specs.Memory as memories
 use Rattle.mw_symmem.specs.Workspace.{IsWorkspace, GoesOn}
 use Rattle.mw_symmem.proofs.Later.{goes_nowhere, goes_by_variable, writes_itself, image_before, images_fit_before, held_by_stays, width_later, goes_as, goes_then, later_itself, workspace_with_write, reads_with_write}

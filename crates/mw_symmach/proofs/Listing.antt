@@ -3,14 +3,12 @@ use Rattle.std.proofs.Common.{◌≡◌, ℕ, ◌+◌, ◌-◌, List, [], ◌∷
 use Rattle.std.specs.Prelude.{unwrap_or, false, ◌==◌}
 use Rattle.std.proofs.lemmas.Bool.Decides.{nat_tests}
 use Rattle.mw_expr.specs.declared.expr.Pair2.{Pair2}
-use Rattle.mw_expr.specs.declared.shape.Shape.{Shape}
 use Rattle.mw_expr.specs.Tree.{Tree, Trees}
 use Rattle.mw_expr.specs.Tree as tree
 use Rattle.mw_expr.specs.Values.{bits}
 use Rattle.mw_macro.specs.ExpressionWords.{expression_words, words_of_parts, join_words, sign_words, all_joined}
 use Rattle.mw_term.specs.declared.op.Op.TheVariants.{Ite, Join, Part}
 use Rattle.mw_term.specs.declared.word.Word.{Word}
-use Rattle.mw_term.specs.MemoryRead.{Held}
 use Rattle.mw_term.specs.Table.{Table, term_width}
 use Rattle.mw_term.specs.WordList.{WordList, Ended, AllEnded, ended, list_of, memory_read_words, with_constant, with_part, with_word, with_zeros_above}
 use Rattle.mw_symmem.specs.declared.side.Side.{Side}

@@ -1,12 +1,11 @@
 -- The words of statements, one after another.
-use Rattle.std.proofs.Common.{◌≡◌, ℕ, zero, suc, ◌+◌, ◌-◌, List, [], ◌∷◌, ◌++◌, ◌<◌, drop, length, take, ap, ap₂, refl, sym, ◌∙◌, arith}
+use Rattle.std.proofs.Common.{◌≡◌, ℕ, suc, ◌+◌, ◌-◌, List, [], ◌∷◌, ◌++◌, ◌<◌, drop, length, take, ap, refl, sym, ◌∙◌, arith}
 use Rattle.std.specs.Prelude.{Bool, true, false, if◌then◌else◌, Option, Some, None, slice_index, slice_set}
 use Rattle.mw_expr.specs.declared.shape.Shape.{Shape}
 use Rattle.mw_expr.specs.Tree.{Tree}
 use Rattle.mw_macro.specs.ExpressionWords.{expression_words}
 use Rattle.mw_macro.specs.Statements.{Act, choose, Acts, nothing, next}
-use Rattle.mw_macro.specs.StepWords.{Underway, underway, Come, going, stopped, then_by, then_behind, act_words, acts_words, assign_words, put_words, take_words, write_words}
-use Rattle.mw_term.specs.declared.event.SymEvent.{SymEvent}
+use Rattle.mw_macro.specs.StepWords.{Underway, underway, stopped, then_by, then_behind, act_words, acts_words, assign_words, put_words, take_words, write_words}
 use Rattle.mw_term.specs.declared.event.SymEvent.TheVariants.{Out, Taken}
 use Rattle.mw_term.specs.declared.word.Word.{Word}
 use Rattle.mw_term.specs.MemoryRead.{Held, held}

@@ -1,5 +1,5 @@
 -- The words of a memory read are those of the word table.
-use Rattle.std.proofs.Common.{◌≡◌, ℕ, List, [], ◌∷◌, ◌++◌, length, ap, refl, sym, ◌∙◌}
+use Rattle.std.proofs.Common.{◌≡◌, ℕ, List, [], ◌∷◌, ◌++◌, length, ap, sym, ◌∙◌}
 use Rattle.mw_term.specs.declared.kinds.WordKind.TheVariants.{Base}
 use Rattle.mw_term.specs.declared.word.Word.{Word}
 use Rattle.mw_term.specs.MemoryRead.{Held, held}

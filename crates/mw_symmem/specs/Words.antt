@@ -1,11 +1,10 @@
 -- The words of a case, in their order.
-use Rattle.std.specs.Prelude.{◌≡◌, ℕ, ◌+◌, ◌<◌, List, [], ◌∷◌, length, Option, Some, None, Bool, false, ◌==◌, slice_get}
-use Rattle.std.specs.Prelude.{if◌then◌else◌}
+use Rattle.std.specs.Prelude.{◌≡◌, ℕ, ◌+◌, ◌<◌, List, [], length, Some, slice_get}
 use Rattle.mw_term.specs.declared.kinds.WordKind.{WordKind}
 use Rattle.mw_term.specs.declared.op.Op.{Op}
 use Rattle.mw_term.specs.declared.op.Op.TheVariants.{Var}
 use Rattle.mw_term.specs.Table.{Table, table_of}
-use Rattle.mw_term.specs.WordList.{variable, same_kind}
+use Rattle.mw_term.specs.WordList.{variable}
 use Rattle.mw_term.specs.declared.word.Word.{Word}
 
 -- a word of this place, from 0, is a variable with this term and of this kind

@@ -1,4 +1,4 @@
-use Rattle.std.proofs.Common.{◌≡◌, ◌+◌, ◌∷◌, drop, length, arith, slice_index, subst, sym, ◌<◌, ap, ◌∙◌, [], List}
+use Rattle.std.proofs.Common.{◌≡◌, ◌+◌, ◌∷◌, drop, length, arith, slice_index, subst, sym, ◌<◌, ap, ◌∙◌}
 use Rattle.std.proofs.lemmas.List.{get_or_read}
 use Rattle.mw_symmach.proofs.Beside.{JoinsBy, joins_first, joins_next, next_fits, at_place}
 use Rattle.std.proofs.lemmas.List.{drop_all}

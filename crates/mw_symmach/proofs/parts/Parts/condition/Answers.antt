@@ -1,4 +1,4 @@
-use Rattle.std.proofs.Common.{subst, sym, ◌≡◌}
+use Rattle.std.proofs.Common.{subst, sym}
 use Rattle.mw_expr.specs.Tree.{view}
 use Rattle.mw_macro.specs.Statements.{choose}
 use Rattle.mw_symmach.specs.Steps.{Stands, parts_of}
