@@ -1,22 +1,21 @@
 -- The variables of a question, one after another.
-use Rattle.std.proofs.Common.{◌≡◌, inl, inr, ℕ, zero, suc, ◌+◌, ◌%◌, ◌^◌, ◌<◌, ◌≤◌, List, [], ◌∷◌, ◌++◌, length, map, slice_index, refl, ap, ap₂, sym, ◌∙◌, arith, length-append, subst}
-use Rattle.std.specs.Prelude.{Bool, true, false, ◌==◌, if◌then◌else◌, Option, Some, None}
+use Rattle.std.proofs.Common.{◌≡◌, inl, inr, ℕ, zero, suc, ◌+◌, ◌%◌, ◌^◌, ◌<◌, List, [], ◌∷◌, ◌++◌, length, map, slice_index, refl, ap, ap₂, sym, ◌∙◌, arith, length-append, subst}
+use Rattle.std.specs.Prelude.{false, if◌then◌else◌, Some}
 use Rattle.std.proofs.lemmas.Bool.Decides.{nat_tests}
 use Rattle.std.proofs.lemmas.List.{map_push}
-use Rattle.mw_term.specs.declared.kinds.WordKind.{WordKind}
 use Rattle.mw_term.specs.declared.kinds.WordKind.TheVariants.{Element, Base}
 use Rattle.mw_term.specs.declared.op.Op.TheVariants.{Var}
 use Rattle.mw_term.specs.declared.word.Word.{Word}
 use Rattle.mw_term.specs.Assigned.{Given}
 use Rattle.mw_term.specs.Table.{Table, table_of, op_width, term_width, IsTable, Extends}
 use Rattle.mw_term.specs.Values.{op_value, term_value, IsTermOf, Keeps}
-use Rattle.mw_term.specs.WordList.{WordList, Ended, AllEnded, list_of, ended, variable, with_variable, same_kind, term_of}
+use Rattle.mw_term.specs.WordList.{WordList, Ended, AllEnded, variable, with_variable, same_kind, term_of}
 use Rattle.mw_symmem.specs.Listed.{Lists}
 use Rattle.mw_symmem.specs.Words.{AreOf, IsVariable}
 use Rattle.mw_symmem.proofs.Listed.{are_of_at_first}
 use Rattle.mw_symmem.proofs.Lists.{pushed, kind_of, term_variable}
 use Rattle.mw_check.specs.Equal.{values_from}
-use Rattle.mw_check.specs.QuestionTerms.{AreDeclared, ended_at}
+use Rattle.mw_check.specs.QuestionTerms.{AreDeclared}
 use Rattle.mw_check.specs.QuestionWords.{no_words, with_variables}
 
 -- ---- lists with one more

@@ -1,5 +1,5 @@
 -- A tree that reads no memory is the same over every memory.
-use Rattle.std.proofs.Common.{◌≡◌, ℕ, ◌+◌, ◌-◌, List, [], ◌∷◌, slice_index, refl, ap, ap₂, arith, ◌∙◌}
+use Rattle.std.proofs.Common.{◌≡◌, ℕ, ◌+◌, ◌-◌, List, ◌∷◌, refl, ap, ap₂, arith, ◌∙◌}
 use Rattle.std.specs.Prelude.{Bool, true, false, ◌||◌, ◌==◌, if◌then◌else◌, unwrap_or, slice_get}
 use Rattle.mw_base.specs.Words as words
 use Rattle.mw_expr.specs.declared.shape.Shape.{Shape}

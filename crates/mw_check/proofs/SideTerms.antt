@@ -1,6 +1,6 @@
 -- The sides of a question as terms, and whether both have one value.
-use Rattle.std.proofs.Common.{◌≡◌, ℕ, zero, suc, ◌+◌, ◌^◌, ◌<◌, ◌≤◌, List, [], ◌∷◌, length, map, slice_index, refl, ap, ap₂, sym, ◌∙◌, arith, subst}
-use Rattle.std.specs.Prelude.{◌==◌, Option, Some, Result, Ok, Err, IsOk, IfOk, IsSome, slice_get}
+use Rattle.std.proofs.Common.{◌≡◌, ℕ, zero, suc, ◌^◌, ◌<◌, List, [], ◌∷◌, length, map, slice_index, refl, ap, ap₂, sym, ◌∙◌, arith, subst}
+use Rattle.std.specs.Prelude.{◌==◌, Option, Some, Result, Ok, Err, IsOk, IfOk, IsSome}
 use Rattle.std.proofs.lemmas.Bool.{false≢true}
 use Rattle.std.proofs.lemmas.Option.{same_Some}
 use Rattle.mw_base.specs.Words.{num}
@@ -14,7 +14,7 @@ use Rattle.mw_macro.specs.ExpressionWords.{expression_words}
 use Rattle.mw_term.specs.declared.op.Op.TheVariants.{Eq}
 use Rattle.mw_term.specs.declared.word.Word.{Word}
 use Rattle.mw_term.specs.Assigned.{Given}
-use Rattle.mw_term.specs.Table.{Table, table_of, op_width, widths_of, term_width, Extends, Fits}
+use Rattle.mw_term.specs.Table.{Table, table_of, op_width, term_width, Extends, Fits}
 use Rattle.mw_term.specs.Values.{op_value, term_value, IsTermOf, Keeps}
 use Rattle.mw_term.specs.WordList.{WordList, Ended, AllEnded, ended, list_of, with_word}
 use Rattle.mw_term.proofs.Tables.{widths_count}
@@ -27,7 +27,7 @@ use Rattle.mw_symmach.specs.Expressions.{AreTerms, values_at, shape_over, IsRead
 use Rattle.mw_check.specs.Equal.{values_from}
 use Rattle.mw_check.specs.Question.{Asked, IsSide, IsQuestion}
 use Rattle.mw_check.specs.QuestionTerms.{AreDeclared, IsListOf, ended_at, side_value}
-use Rattle.mw_check.specs.QuestionWords.{variables, question_words, words_of, table_for}
+use Rattle.mw_check.specs.QuestionWords.{words_of}
 use Rattle.mw_check.proofs.Declared.{widths_kept, values_kept}
 use Rattle.mw_check.proofs.Memoryless.{reads_none, width_free, value_free, words_free}
 

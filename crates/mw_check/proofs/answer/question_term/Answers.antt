@@ -1,5 +1,4 @@
 use Rattle.std.proofs.Common.{[]}
-use Rattle.mw_expr.specs.Tree.{view}
 use Rattle.mw_term.specs.declared.op.Op.TheVariants.{Eq}
 use Rattle.mw_term.specs.Values.{IsTermOf}
 use Rattle.mw_term.specs.WordList.{with_word}
