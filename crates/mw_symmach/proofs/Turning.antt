@@ -10,7 +10,8 @@ use Rattle.mw_macro.specs.Counts.{total}
 use Rattle.mw_macro.specs.DescribedStep.{Now, now, after_all, begun, ended, step_of}
 use Rattle.mw_macro.specs.Machine.{Description}
 use Rattle.mw_macro.specs.State.{MachineState}
-use Rattle.mw_macro.specs.Statements.{choose, Acts, next}
+use Rattle.mw_macro.specs.Statements.{choose, Acts, next, nothing}
+use Rattle.mw_symmem.specs.declared.turn.Turn.TheVariants.{Finished}
 use Rattle.mw_term.specs.declared.kinds.DecidedKind.TheVariants.{Branch}
 use Rattle.mw_term.specs.Assigned.{Given}
 use Rattle.mw_term.specs.Table.{Table}
@@ -401,6 +402,18 @@ decided d t words m o bit asked stepping =
         at = at;
       };
     }
+
+pub come_request : (o : Stepping) (position : ℕ) (asked : Option ℕ) → (come_to o position asked).request ≡ o.request
+come_request o position None = refl
+come_request o position (Some term) = refl
+
+-- where a step says that it is done, nothing is left
+pub went_done : (d : Description) (t1 t2 : Table) (w0 w2 : List Word) (m0 m2 : Memory) (pold pnew : Parts) (lold : Acts)
+    (o : Stepping) (position : ℕ) (asked : Option ℕ)
+    → Reaches d.shape t1 t2 w0 w2 m0 m2 pold pnew lold (left_of d.acts o.levels position) asked
+    → turn_of asked ≡ Finished → left_in d (come_to o position asked) ≡ nothing
+went_done d t1 t2 w0 w2 m0 m2 pold pnew lold o position None reaches finished = reaches.1
+went_done d t1 t2 w0 w2 m0 m2 pold pnew lold o position (Some term) reaches finished = absurd cc
 
 -- ---- the words of a turn
 

@@ -17,6 +17,8 @@ ghost use Rattle.mw_term.specs.Table.{IsTable, Table};
 ghost use Rattle.mw_term.specs.declared.word.Word.{Word};
 ghost use Rattle.mw_symmem.specs.Memory.{Memory};
 ghost use Rattle.mw_symmem.specs.Workspace.{GoesOn};
+ghost use Rattle.mw_macro.specs.Statements.{nothing};
+ghost use Rattle.mw_symmem.specs.declared.turn.Turn.TheVariants.{Finished};
 ghost use Rattle.mw_symmach.specs.Places.{left_of, Reaches, StopsAt};
 ghost use Rattle.mw_symmach.specs.Steps.{IsOfStep, Stands, parts_of};
 ghost use Rattle.mw_symmach.specs.Turns.{Scene, IsStart, Waits, IsStepping, IsTurn, IsDecided, bits_to_come, left_in, end_of, is_asked, given_so, now_in, entered, reads_to_come, with_parts, turn_of, come_to};
@@ -218,6 +220,8 @@ impl SymMach {
             (underway_of (description_of machine.now) terms.old words.old memory.old self.old)
             (underway_in terms.new words.new memory.new self.new.parts)
             (left_in (description_of machine.now) self.old) (left_in (description_of machine.now) self.new) (asked_by turn)) }
+        ensures done { IfOk result (λ turn. turn ≡ Finished → left_in (description_of machine.now) self.new ≡ nothing) }
+        ensures begun { OnOk result (self.new.request ≡ None) }
         ensures goes { OnOk result (GoesOn IsOfStep terms.old terms.new words.old words.new memory.old memory.new) }
         ensures board { OnOk result (memory.new.board ≡ memory.old.board) }
         ensures few { OnOk result (length memory.new.reads + reads_to_come (description_of machine.now) self.new
