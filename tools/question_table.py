@@ -341,7 +341,7 @@ def answer_words(words, text):
 
 QUESTIONS = """\
 # Questions: whether two expressions agree for all values of their variables, by `equal`. tools/question_table.py prints the
-# rows up to identity-0, and works out the answers from the formats, without the crates; it reads all rows anew. The first six
+# rows up to identity-0, and works out the answers from the formats, without the crates; it reads all rows anew. The first seven
 # are worked by hand. The answers of the rows from identity-0 on come from a second implementation, which shares no code with
 # either.
 """
@@ -367,6 +367,9 @@ WORKED = [
     # ite(y, x, 0), word 4, has itself, and ite(y, 1, 0) where x is 1. No other operation has more than two.
     ("and-commutes-at-2", "x 1, y 1", "x & y", "y & x", 2, "yes\n"),
     ("and-commutes-at-1", "x 1, y 1", "x & y", "y & x", 1, "unknown word 4 bit 0\n"),
+    # No operation of the list has more than 3 joint cofactors; that the sides differ, which is none of these, has 6.
+    ("whether-sides-differ-at-3", "x 1, z 1, y 4, w 4", "{x, y[3:3]}", "{z, w[3:3]}", 3,
+     "no\nset w 0x8\nleft 0x0 right 0x1\n"),
 ]
 
 # Variables, left side, right side; the answers are worked out.
