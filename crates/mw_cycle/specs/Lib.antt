@@ -7,3 +7,8 @@ pub mod Cycle
 pub mod Run
 pub mod Boundary
 pub mod Decided
+pub mod BoardTerms
+pub mod ReadingWords
+pub mod LeavingWords
+pub mod EdgeWords
+pub mod CycleWords

@@ -1,7 +1,5 @@
 -- The parts of a state after the edge, one by one.
-use Rattle.std.proofs.Common.{◌≡◌, inl, inr, ℕ, zero, suc, ◌+◌, ◌-◌, ◌*◌, ◌/◌, ◌%◌, ◌^◌, ◌<◌, ◌≤◌, List, [], ◌∷◌}
-use Rattle.std.proofs.Common.{◌++◌, length, map, slice_index, slice_set, get_or, refl, ap, ap₂, arith, sym, ◌∙◌}
-use Rattle.std.proofs.Common.{get_or-set_same, get_or-set_other}
+use Rattle.std.proofs.Common.{◌≡◌, inl, inr, ℕ, zero, suc, ◌+◌, ◌-◌, ◌*◌, ◌/◌, ◌%◌, ◌^◌, ◌<◌, ◌≤◌, List, [], ◌∷◌, ◌++◌, length, map, slice_index, slice_set, get_or, refl, ap, ap₂, arith, sym, ◌∙◌, get_or-set_same, get_or-set_other}
 use Rattle.std.specs.Prelude.{Bool, true, false, Option, Some, None, ◌==◌, nat_lt, if◌then◌else◌, slice_get}
 use Rattle.std.proofs.lemmas.Bool.{cases_order}
 use Rattle.std.proofs.lemmas.Bool.Decides.{nat_tests}
@@ -25,8 +23,7 @@ use Rattle.mw_term.specs.MemoryRead.{Held as HeldWord}
 use Rattle.mw_term.specs.Table.{Table}
 use Rattle.mw_term.specs.Values.{term_value}
 use Rattle.mw_symmem.specs.Memory.{after, valued}
-use Rattle.mw_symboard.specs.Cycle.{with_pushed}
-use Rattle.mw_symboard.specs.Made.{pushed_word, sp_after}
+use Rattle.mw_cycle.specs.EdgeWords.{with_pushed, pushed_word, sp_after}
 
 -- ---- lists
 

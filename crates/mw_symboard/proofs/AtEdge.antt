@@ -11,9 +11,10 @@ use Rattle.mw_seq.specs.declared.instruction.StackMove.TheVariants as moves
 use Rattle.mw_term.specs.Table.{Table, Extends}
 use Rattle.mw_symmem.specs.Memory.{IsOfWidth}
 use Rattle.mw_symmem.proofs.Meaning.{set_at}
-use Rattle.mw_symboard.specs.Cycle.{IsMar, or_taken, with_pushed, with_taken}
-use Rattle.mw_symboard.specs.Made.{pushed_word, sp_after}
-use Rattle.mw_symboard.specs.Parts.{Parts, AreParts, term_of_part}
+use Rattle.mw_symboard.specs.Cycle.{IsMar}
+use Rattle.mw_cycle.specs.EdgeWords.{or_taken, with_pushed, with_taken, pushed_word, sp_after}
+use Rattle.mw_symboard.specs.Parts.{AreParts}
+use Rattle.mw_cycle.specs.BoardTerms.{Parts, term_of_part}
 use Rattle.mw_symboard.proofs.Standing.{part_stays}
 
 -- ---- one item taken
@@ -127,8 +128,8 @@ module _ (board : BoardParts) (t : Table) (old : Parts) (b : ℕ) (written taken
       (pushed_wide t 12 old.stack pushed old.pc n are.inside (before.wide Pc tt) (before.wide (StackWord n) inside))
 
   -- the parts after an edge are parts of the board
-  pub parts_after : AreParts board t new
-  parts_after = record {
+  pub parts_kept : AreParts board t new
+  parts_kept = record {
     sixteen = ap length are.regs ∙ taken_length old.regs b written ∙ before.sixteen;
     flips = are.count;
     stack = ap length are.stack ∙ pushed_length old.stack pushed old.pc ∙ before.stack;

@@ -13,7 +13,8 @@ use Rattle.mw_term.specs.declared.word.Word.{Word}
 use Rattle.mw_symmem.specs.Memory.{Memory, IsOfWidth}
 use Rattle.mw_symboard.specs.Kinds.{AreInputs}
 use Rattle.mw_symboard.specs.Turns.{AreNoLater, IsSymbolic, Symbolic}
-use Rattle.mw_symboard.specs.Parts.{AreElements, AreParts, Parts, term_of_part}
+use Rattle.mw_symboard.specs.Parts.{AreElements, AreParts}
+use Rattle.mw_cycle.specs.BoardTerms.{Parts, term_of_part}
 use Rattle.mw_symboard.proofs.PartElements.{count_of}
 
 -- the number of an element

@@ -8,10 +8,9 @@ use Rattle.mw_term.specs.declared.word.Word.{Word}
 use Rattle.mw_symmem.specs.Words.{IsNoVariable}
 use Rattle.mw_symmem.specs.Memory.{IsOfWidth}
 use Rattle.mw_symmem.specs.Steps.{Grows}
-use Rattle.mw_symmem.proofs.Growth.{grows_none, grows_then, width_stays}
+use Rattle.mw_symmem.proofs.Growth.{grows_none, grows_then, width_stays, op_stays}
 use Rattle.mw_symmem.proofs.Later.{grows_without_word}
 use Rattle.mw_symmem.proofs.Lists.{pushed_there}
-use Rattle.mw_symmem.proofs.Growth.{op_stays}
 use Rattle.mw_symboard.specs.Growth.{Grew}
 use Rattle.mw_symboard.specs.Made.{Is}
 

@@ -5,13 +5,16 @@ pub mod Deciding
 pub mod Ends
 pub mod Finishing
 pub mod Fitting
+pub mod Going
 pub mod Growing
 pub mod Inputs
+pub mod Listing
 pub mod Loads
 pub mod MadeBits
 pub mod Meaning
 pub mod PartElements
 pub mod Read
+pub mod SameBit
 pub mod Saying
 pub mod SaysAddress
 pub mod SaysBits

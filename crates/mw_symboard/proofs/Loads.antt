@@ -1,6 +1,5 @@
 -- What the flip-flops take, as far as some of them were loaded.
-use Rattle.std.proofs.Common.{◌≡◌, inl, inr, ℕ, zero, suc, ◌<◌, ◌≤◌, List, [], ◌∷◌, ◌++◌, length, length-append}
-use Rattle.std.proofs.Common.{slice_index, refl, ap, sym, arith, ◌∙◌}
+use Rattle.std.proofs.Common.{◌≡◌, inl, inr, ℕ, zero, suc, ◌<◌, ◌≤◌, List, [], ◌∷◌, ◌++◌, length, length-append, slice_index, refl, ap, sym, arith, ◌∙◌}
 use Rattle.std.specs.Prelude.{Some, slice_get}
 use Rattle.std.proofs.lemmas.Bool.{cases_lt}
 use Rattle.mw_board.specs.declared.flipflop.FlipFlop.{FlipFlop}
@@ -13,7 +12,7 @@ use Rattle.mw_symmem.specs.Memory.{IsOfWidth}
 use Rattle.mw_symmem.proofs.Growth.{width_stays}
 use Rattle.mw_symboard.specs.declared.bits.Sources.{Sources}
 use Rattle.mw_symboard.specs.Made.{IsLoaded}
-use Rattle.mw_symboard.specs.Parts.{Parts}
+use Rattle.mw_cycle.specs.BoardTerms.{Parts}
 use Rattle.mw_symboard.proofs.Standing.{loaded_stays}
 
 -- each of the first flip-flops has a term, which is what it takes

@@ -10,12 +10,13 @@ use Rattle.mw_symmem.specs.Memory.{IsOfWidth}
 use Rattle.mw_term.specs.declared.word.Word.{Word}
 use Rattle.mw_symmem.proofs.Lists.{pushed}
 use Rattle.mw_symboard.proofs.Standing.{early_bits_stay, late_bits_stay, bits_stay}
-use Rattle.mw_symboard.specs.declared.bits.MadeBit.{MadeBit}
+use Rattle.mw_cycle.specs.ReadingWords.{MadeBit, Bits, made_term}
+use Rattle.mw_symboard.proofs.SameBit.{made_there}
 use Rattle.mw_symboard.specs.declared.bits.Sources.{Sources}
-use Rattle.mw_symboard.specs.Bits.{Bits, AreBits, AreEarlyBits, AreLateBits}
+use Rattle.mw_symboard.specs.Bits.{AreBits, AreEarlyBits, AreLateBits}
 use Rattle.mw_symboard.specs.Growth.{Grew}
 use Rattle.mw_symboard.specs.Made.{IsEarlyBit, IsBitTerm}
-use Rattle.mw_symboard.specs.Parts.{Parts}
+use Rattle.mw_cycle.specs.BoardTerms.{Parts}
 
 pub early_bits_push : (board : BoardParts) (t : Table) (p : Parts) (sp line : ℕ) (made : List MadeBit) (m : MadeBit)
     → AreEarlyBits board t p sp line made → IsOfWidth t 1 m.term → IsEarlyBit board t p sp line m.bit m.term
@@ -41,9 +42,10 @@ wide_bit told tnew op term made one = record { there = made.there; width_is = ma
 -- a bit that was made once was found
 pub found_early : (board : BoardParts) (t : Table) (p : Parts) (sp line : ℕ) (made : List MadeBit) (bit : Bit) (term : ℕ)
     → AreEarlyBits board t p sp line made
-    → (k : ℕ) × (m : MadeBit) × (slice_get made k ≡ Some m) × (m.bit ≡ bit) × (m.term ≡ term)
+    → Some term ≡ made_term made bit
     → IsOfWidth t 1 term × IsEarlyBit board t p sp line bit term
-found_early board t p sp line made bit term are found =
+found_early board t p sp line made bit term are there =
+    let found = made_there made bit term there in
     let m = found.1 in
     let is = are found.0 m found.2 in (
       subst (λ x. IsOfWidth t 1 x) found.4 is.0,
@@ -53,9 +55,10 @@ found_early board t p sp line made bit term are found =
 
 pub found_late : (board : BoardParts) (t : Table) (p : Parts) (sp : ℕ) (n : Sources) (made : List MadeBit) (bit : Bit)
     (term : ℕ) → AreLateBits board t p sp n made
-    → (k : ℕ) × (m : MadeBit) × (slice_get made k ≡ Some m) × (m.bit ≡ bit) × (m.term ≡ term)
+    → Some term ≡ made_term made bit
     → IsOfWidth t 1 term × IsBitTerm board t p sp n bit term
-found_late board t p sp n made bit term are found =
+found_late board t p sp n made bit term are there =
+    let found = made_there made bit term there in
     let m = found.1 in
     let is = are found.0 m found.2 in (
       subst (λ x. IsOfWidth t 1 x) found.4 is.0,

@@ -1,6 +1,5 @@
 -- What the terms of elements, of D and of F say of a cycle's nets.
-use Rattle.std.proofs.Common.{◌≡◌, inl, inr, ℕ, ◌+◌, ◌-◌, ◌*◌, ◌/◌, ◌%◌, ◌^◌, ◌<◌, ◌≤◌, List, length, slice_index, ap}
-use Rattle.std.proofs.Common.{ap₂, arith, sym, ◌∙◌}
+use Rattle.std.proofs.Common.{◌≡◌, inl, inr, ℕ, ◌+◌, ◌-◌, ◌*◌, ◌/◌, ◌%◌, ◌^◌, ◌<◌, ◌≤◌, List, length, slice_index, ap, ap₂, arith, sym, ◌∙◌}
 use Rattle.std.specs.Prelude.{Bool, Option, Some, None, slice_get, bit_xor}
 use Rattle.std.proofs.lemmas.Nat.{mod_low}
 use Rattle.mw_base.specs.Words.{bit_of, complement, join, num, part}
@@ -24,10 +23,10 @@ use Rattle.mw_term.specs.Table.{Table, IsTable}
 use Rattle.mw_term.specs.declared.word.Word.{Word}
 use Rattle.mw_symmem.specs.Memory.{Memory, IsOfWidth}
 use Rattle.mw_symboard.specs.Made.{IsAddendR, IsAddendS, IsF, IsFrom, IsMasked, IsPart, IsR, IsS, IsWidened}
-use Rattle.mw_symboard.specs.Parts.{AreParts, term_of_part}
+use Rattle.mw_symboard.specs.Parts.{AreParts}
+use Rattle.mw_cycle.specs.BoardTerms.{term_of_part}
 use Rattle.mw_symboard.specs.Seen.{Place, Says, Scene, answer_net, d_net, microword_of}
-use Rattle.mw_symboard.proofs.Saying.{says_and, says_as, says_below, says_con, says_join, says_not, says_or}
-use Rattle.mw_symboard.proofs.Saying.{says_part, says_same, says_sum, says_wide, says_xor}
+use Rattle.mw_symboard.proofs.Saying.{says_and, says_as, says_below, says_con, says_join, says_not, says_or, says_part, says_same, says_sum, says_wide, says_xor}
 
 -- a word is its own low bits
 pub low_bits : (x w : ℕ) → x < 2 ^ w → x % 2 ^ w ≡ x

@@ -6,7 +6,7 @@ use Rattle.mw_board.specs.Elements.{element_count}
 use Rattle.mw_board.proofs.Elements.{count_is}
 use Rattle.mw_cycle.specs.Elements.{element_of, pc_number}
 use Rattle.mw_cycle.proofs.Values.{by_number}
-use Rattle.mw_symboard.specs.Parts.{Parts, term_of_part}
+use Rattle.mw_cycle.specs.BoardTerms.{Parts, term_of_part}
 
 -- how many elements there are
 pub count_of : (board : BoardParts) → element_count board ≡ 21 + length board.flipflop + depth_of board

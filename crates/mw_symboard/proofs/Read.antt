@@ -17,15 +17,16 @@ use Rattle.mw_term.specs.WordList.{term_of}
 use Rattle.mw_symmem.specs.Workspace.{GoesOn, IsLater, IsWorkspace}
 use Rattle.mw_symmem.proofs.Growth.{width_stays}
 use Rattle.mw_symmem.proofs.Later.{goes_as, goes_by_growth, goes_then, reads_itself, writes_itself}
-use Rattle.mw_symboard.specs.declared.bits.MadeBit.{MadeBit}
+use Rattle.mw_cycle.specs.ReadingWords.{MadeBit, y_term}
 use Rattle.mw_symboard.specs.declared.bits.Sources.{Sources}
 use Rattle.mw_symboard.specs.declared.reading.Reading.{Reading}
 use Rattle.mw_symboard.specs.Bits.{AreBits, AreEarlyBits, AreLateBits}
-use Rattle.mw_symboard.specs.Cycle.{AreOperands, IsReading, IsTurned, y_term}
+use Rattle.mw_symboard.specs.Cycle.{AreOperands, IsReading, IsTurned}
 use Rattle.mw_symboard.specs.Growth.{Grew}
 use Rattle.mw_symboard.specs.Kinds.{IsCycleKind, IsSourceKind}
 use Rattle.mw_symboard.specs.Made.{IsFrom, IsMasked, IsR, IsS, IsAddendR, IsAddendS, IsF, IsEarlyBit, IsBitTerm}
-use Rattle.mw_symboard.specs.Parts.{Parts, AreParts}
+use Rattle.mw_symboard.specs.Parts.{AreParts}
+use Rattle.mw_cycle.specs.BoardTerms.{Parts}
 use Rattle.mw_symboard.specs.Seen.{Place}
 use Rattle.mw_symboard.proofs.Growing.{grew_then, wide_later}
 use Rattle.mw_symboard.proofs.Standing.{addend_r_stays, addend_s_stays, early_bit_stays, f_stays, found_stays, from_stays, masked_stays, parts_stay, r_stays, s_stays, sources_stay}

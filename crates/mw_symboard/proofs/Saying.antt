@@ -1,8 +1,6 @@
 -- What a term says of a net, by its op.
-use Rattle.std.proofs.Common.{◌≡◌, inl, inr, ℕ, suc, ◌+◌, ◌-◌, ◌/◌, ◌%◌, ◌^◌, ◌<◌, List, [], ◌∷◌, ◌++◌, length}
-use Rattle.std.proofs.Common.{slice_index, refl, ap, ap₂, arith, sym, subst, ◌∙◌}
-use Rattle.std.specs.Prelude.{Bool, true, false, Option, Some, slice_get, ◌==◌, bit_and, bit_or, bit_xor}
-use Rattle.std.specs.Prelude.{if◌then◌else◌, ◌⊎◌}
+use Rattle.std.proofs.Common.{◌≡◌, inl, inr, ℕ, suc, ◌+◌, ◌-◌, ◌/◌, ◌%◌, ◌^◌, ◌<◌, List, [], ◌∷◌, ◌++◌, length, slice_index, refl, ap, ap₂, arith, sym, subst, ◌∙◌}
+use Rattle.std.specs.Prelude.{Bool, true, false, Option, Some, slice_get, ◌==◌, bit_and, bit_or, bit_xor, if◌then◌else◌, ◌⊎◌}
 use Rattle.std.proofs.lemmas.Nat.{mod_below}
 use Rattle.std.proofs.lemmas.Option.{same_Some}
 use Rattle.mw_base.specs.Carries.{carry_at}
@@ -25,7 +23,8 @@ use Rattle.mw_symmem.specs.Memory.{Memory}
 use Rattle.mw_symmem.specs.Workspace.{GoesOn, IsWorkspace, KeepsWrites}
 use Rattle.mw_symmem.proofs.Later.{held_by_stays, image_before, images_fit_before, width_later}
 use Rattle.mw_symboard.specs.Made.{Is}
-use Rattle.mw_symboard.specs.Parts.{AreParts, term_of_part}
+use Rattle.mw_symboard.specs.Parts.{AreParts}
+use Rattle.mw_cycle.specs.BoardTerms.{term_of_part}
 use Rattle.mw_symboard.specs.Seen.{IsSeen, Place, Says, Scene}
 
 -- the test of a bit as a number is the bit

@@ -20,12 +20,12 @@ use Rattle.mw_term.specs.Table.{Table, IsTable}
 use Rattle.mw_term.specs.declared.word.Word.{Word}
 use Rattle.mw_symmem.specs.Memory.{Memory}
 use Rattle.mw_symboard.specs.declared.bits.Sources.{Sources}
-use Rattle.mw_symboard.specs.Made.{Is, IsBitTerm, IsEarlyBit, IsLoaded, carry_op, overflow_op}
+use Rattle.mw_symboard.specs.Made.{Is, IsBitTerm, IsEarlyBit, IsLoaded, sources_of}
+use Rattle.mw_cycle.specs.ReadingWords.{carry_op, overflow_op}
 use Rattle.mw_symboard.specs.Parts.{AreParts}
 use Rattle.mw_symboard.specs.Seen.{Place, Says, Scene, answer_net, bit_net, early_net, microword_of}
 use Rattle.mw_symboard.proofs.Meaning.{carry_in_net, first_net, low_bits, r_net, s_net, says_element, second_net}
-use Rattle.mw_symboard.proofs.Saying.{says_as, says_below, says_bit, says_con, says_cout, says_eq, says_not, says_ovf}
-use Rattle.mw_symboard.proofs.Saying.{says_same, says_xor}
+use Rattle.mw_symboard.proofs.Saying.{says_as, says_below, says_bit, says_con, says_cout, says_eq, says_not, says_ovf, says_same, says_xor}
 
 -- ---- of plain bits
 
@@ -123,7 +123,7 @@ module _ {board : BoardParts} {store : List ℕ} {t : Table} {words : List Word}
   says_carry_by false n term table says sum is = says_bit 14 n.noise 12 term (λ x. x.outside.noise) table is says.noise
 
   -- the carry, or a bit of the noise
-  pub says_carry : (n : Sources) (term : ℕ) → IsTable t → SaySources board store t words m p n → Is t (carry_op n) term
+  pub says_carry : (n : Sources) (term : ℕ) → IsTable t → SaySources board store t words m p n → Is t (carry_op (sources_of n)) term
       → Says board store t words m p 1 term (λ x. num (carry_net (answer_net board store p x) x.outside))
   unfolding answer_of operands_of alu_of
   says_carry n term table says is =
@@ -153,7 +153,7 @@ module _ {board : BoardParts} {store : List ℕ} {t : Table} {words : List Word}
 
   -- the overflow, or a bit of the noise
   pub says_overflow : (n : Sources) (term : ℕ) → IsTable t → SaySources board store t words m p n
-      → Is t (overflow_op n) term
+      → Is t (overflow_op (sources_of n)) term
       → Says board store t words m p 1 term (λ x. num (overflow_net (answer_net board store p x) x.outside))
   unfolding answer_of operands_of alu_of
   says_overflow n term table says is =

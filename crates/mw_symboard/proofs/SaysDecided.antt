@@ -1,6 +1,5 @@
 -- What the decided bits of a cycle say of it.
-use Rattle.std.proofs.Common.{◌≡◌, inl, inr, ℕ, zero, suc, ◌+◌, ◌-◌, ◌*◌, ◌/◌, ◌%◌, ◌^◌, ◌<◌, ◌≤◌, List, [], ◌∷◌, ◌++◌, length}
-use Rattle.std.proofs.Common.{take, refl, ap, ap₂, arith, sym, subst, ◌∙◌}
+use Rattle.std.proofs.Common.{◌≡◌, inl, inr, ℕ, zero, suc, ◌+◌, ◌-◌, ◌*◌, ◌/◌, ◌%◌, ◌^◌, ◌<◌, ◌≤◌, List, [], ◌∷◌, ◌++◌, length, take, refl, ap, ap₂, arith, sym, subst, ◌∙◌}
 use Rattle.std.specs.Prelude.{Bool, true, false, not, ◌&&◌, ◌||◌, ◌==◌, Some, slice_get, if◌then◌else◌}
 use Rattle.std.specs.List.{list_any}
 use Rattle.std.proofs.lemmas.Bool.{cases_lt}
@@ -12,13 +11,11 @@ use Rattle.mw_board.specs.declared.parts.BoardParts.{BoardParts}
 use Rattle.mw_board.specs.Store.{word_at}
 use Rattle.mw_cycle.specs.declared.decided.Decided.{Decided}
 use Rattle.mw_cycle.specs.Cycle.{answer_of, bit_value, next_address, pass_of}
-use Rattle.mw_cycle.specs.Decided.{address_bits, counter_bits, decided, decided_of, decides_counter, decides_pass}
-use Rattle.mw_cycle.specs.Decided.{is_untested, pass_bits}
+use Rattle.mw_cycle.specs.Decided.{address_bits, counter_bits, decided, decided_of, decides_counter, decides_pass, is_untested, pass_bits}
 use Rattle.mw_cycle.specs.Microword.{IsMicroword, points_of}
 use Rattle.mw_seq.specs.declared.instruction.CounterMove.TheVariants.{Counted}
 use Rattle.mw_seq.specs.declared.instruction.Instruction.{Instruction}
-use Rattle.mw_seq.specs.declared.instruction.Instruction.TheVariants.{Jz, Cjs, Jmap, Cjp, Push, Jsrp, Cjv, Jrp, Rfct}
-use Rattle.mw_seq.specs.declared.instruction.Instruction.TheVariants.{Rpct, Crtn, Cjpp, Ldct, Loop, Cont, Twb}
+use Rattle.mw_seq.specs.declared.instruction.Instruction.TheVariants.{Jz, Cjs, Jmap, Cjp, Push, Jsrp, Cjv, Jrp, Rfct, Rpct, Crtn, Cjpp, Ldct, Loop, Cont, Twb}
 use Rattle.mw_seq.specs.Instruction.{effect_of, instruction_of}
 use Rattle.mw_seq.specs.Sequencer.{effect}
 use Rattle.mw_term.specs.declared.kinds.DecidedKind.TheVariants.{Pass, CounterZero, Next}

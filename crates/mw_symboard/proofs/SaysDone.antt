@@ -25,7 +25,8 @@ use Rattle.mw_symmem.specs.Memory.{Memory}
 use Rattle.mw_symboard.specs.declared.leaving.Leaving.{Leaving}
 use Rattle.mw_symboard.specs.declared.reading.Reading.{Reading}
 use Rattle.mw_symboard.specs.Cycle.{IsEdge, IsLeaving, IsReading, bits_before}
-use Rattle.mw_symboard.specs.Parts.{AreParts, Parts, term_of_part}
+use Rattle.mw_symboard.specs.Parts.{AreParts}
+use Rattle.mw_cycle.specs.BoardTerms.{Parts, term_of_part}
 use Rattle.mw_symboard.specs.Seen.{IsSeen, IsStateOf, Place, Scene, after_net, answer_net, microword_of}
 use Rattle.mw_symboard.specs.Shown.{shown, taken_after}
 use Rattle.mw_symboard.specs.Turns.{IsDone, Symbolic, clock_of, event_of}

@@ -27,8 +27,7 @@ use Rattle.mw_symboard.specs.declared.reading.Reading.{Reading}
 use Rattle.mw_symboard.specs.Cycle.{IsCounter, IsLeaving, bits_before, effect_by}
 use Rattle.mw_symboard.specs.Made.{Is}
 use Rattle.mw_symboard.specs.Parts.{AreParts}
-use Rattle.mw_symboard.specs.Seen.{IsSeen, Place, Says, Scene, answer_net, condition_net, direct_net, microword_of}
-use Rattle.mw_symboard.specs.Seen.{next_net, pass_net}
+use Rattle.mw_symboard.specs.Seen.{IsSeen, Place, Says, Scene, answer_net, condition_net, direct_net, microword_of, next_net, pass_net}
 use Rattle.mw_symboard.proofs.Meaning.{says_element}
 use Rattle.mw_symboard.proofs.Saying.{num_is, says_as, says_bit, says_con, says_eq, says_same}
 use Rattle.mw_symboard.proofs.SaysAddress.{says_direct, says_less_one, says_next}

@@ -16,12 +16,12 @@ use Rattle.mw_term.specs.Table.{Table, IsTable}
 use Rattle.mw_term.specs.declared.word.Word.{Word}
 use Rattle.mw_symmem.specs.Memory.{Memory}
 use Rattle.mw_symboard.specs.declared.reading.Reading.{Reading}
-use Rattle.mw_symboard.specs.Cycle.{IsReading, IsTurned, y_term}
+use Rattle.mw_symboard.specs.Cycle.{IsReading, IsTurned}
+use Rattle.mw_cycle.specs.ReadingWords.{y_term}
 use Rattle.mw_symboard.specs.Made.{IsF}
 use Rattle.mw_symboard.specs.Parts.{AreParts}
 use Rattle.mw_symboard.specs.Seen.{Place, Says, Scene, answer_net, condition_net, d_net, microword_of}
-use Rattle.mw_symboard.proofs.Meaning.{carry_in_net, first_net, r_net, s_net, says_addend_r, says_addend_s}
-use Rattle.mw_symboard.proofs.Meaning.{says_answer, says_d, says_element, says_r, says_s, says_source, second_net}
+use Rattle.mw_symboard.proofs.Meaning.{carry_in_net, first_net, r_net, s_net, says_addend_r, says_addend_s, says_answer, says_d, says_element, says_r, says_s, says_source, second_net}
 use Rattle.mw_symboard.proofs.Saying.{says_same}
 use Rattle.mw_symboard.proofs.SaysBits.{SaySources, says_bit_term, says_early, says_turned}
 

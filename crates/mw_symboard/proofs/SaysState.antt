@@ -1,6 +1,5 @@
 -- The parts after the edge have the values of the next state.
-use Rattle.std.proofs.Common.{◌≡◌, inl, inr, ℕ, ◌+◌, ◌%◌, ◌^◌, ◌<◌, ◌≤◌, List, [], ◌∷◌, ◌++◌, length, map}
-use Rattle.std.proofs.Common.{slice_index, slice_set, refl, ap, ap₂, arith, sym, subst, ◌∙◌}
+use Rattle.std.proofs.Common.{◌≡◌, inl, inr, ℕ, ◌+◌, ◌%◌, ◌^◌, ◌<◌, ◌≤◌, List, [], ◌∷◌, ◌++◌, length, map, slice_index, slice_set, refl, ap, ap₂, arith, sym, subst, ◌∙◌}
 use Rattle.std.specs.Prelude.{Bool, true, false, Option, Some, if◌then◌else◌, slice_get}
 use Rattle.std.proofs.lemmas.Nat.{mod_below, pow_pos}
 use Rattle.std.proofs.lemmas.Option.{slice_get_cases}
@@ -19,8 +18,7 @@ use Rattle.mw_board.specs.Valid as valid
 use Rattle.mw_cycle.specs.declared.elements.Element.{Element}
 use Rattle.mw_cycle.specs.declared.elements.Element.TheVariants.{Register, Q, Mar, Ir, FlipFlop, Pc, R, StackWord}
 use Rattle.mw_cycle.specs.Control.{value_at}
-use Rattle.mw_cycle.specs.Cycle.{answer_of, edge, flip_of, load_of, next_address, pass_of, pins_of, state_after}
-use Rattle.mw_cycle.specs.Cycle.{writes_of}
+use Rattle.mw_cycle.specs.Cycle.{answer_of, edge, flip_of, load_of, next_address, pass_of, pins_of, state_after, writes_of}
 use Rattle.mw_cycle.specs.Elements.{IsElement, value_of}
 use Rattle.mw_cycle.specs.Microword.{IsMicroword, points_of}
 use Rattle.mw_cycle.specs.State.{BoardState, Fits}
@@ -37,13 +35,12 @@ use Rattle.mw_term.specs.declared.word.Word.{Word}
 use Rattle.mw_symmem.specs.Memory.{Memory, after, held_by, valued}
 use Rattle.mw_symboard.specs.declared.leaving.Leaving.{Leaving}
 use Rattle.mw_symboard.specs.declared.reading.Reading.{Reading}
-use Rattle.mw_symboard.specs.Cycle.{IsEdge, IsMar, bits_before, effect_by, or_taken, with_pushed, with_taken}
-use Rattle.mw_symboard.specs.Made.{pushed_word, sp_after}
-use Rattle.mw_symboard.specs.Parts.{AreParts, term_of_part}
-use Rattle.mw_symboard.specs.Seen.{IsSeen, IsStateOf, Place, Says, Scene, after_net, answer_net, microword_of}
-use Rattle.mw_symboard.specs.Seen.{next_net, pass_net}
-use Rattle.mw_symboard.proofs.AfterEdge.{after_one_more, flip_bit, flips_below, item_is, moved_sp, moved_words}
-use Rattle.mw_symboard.proofs.AfterEdge.{pushed_below, pushed_both, pushed_length, set_both, sp_within}
+use Rattle.mw_symboard.specs.Cycle.{IsEdge, IsMar, bits_before, effect_by}
+use Rattle.mw_cycle.specs.EdgeWords.{or_taken, with_pushed, with_taken, pushed_word, sp_after}
+use Rattle.mw_symboard.specs.Parts.{AreParts}
+use Rattle.mw_cycle.specs.BoardTerms.{term_of_part}
+use Rattle.mw_symboard.specs.Seen.{IsSeen, IsStateOf, Place, Says, Scene, after_net, answer_net, microword_of, next_net, pass_net}
+use Rattle.mw_symboard.proofs.AfterEdge.{after_one_more, flip_bit, flips_below, item_is, moved_sp, moved_words, pushed_below, pushed_both, pushed_length, set_both, sp_within}
 use Rattle.mw_symboard.proofs.Meaning.{says_element, says_low}
 use Rattle.mw_symboard.proofs.Saying.{says_below, says_con}
 use Rattle.mw_symboard.proofs.SaysBits.{says_loaded}

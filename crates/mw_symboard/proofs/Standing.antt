@@ -1,6 +1,5 @@
 -- What the terms of a cycle are made of stays so in a table with more terms.
-use Rattle.std.proofs.Common.{◌≡◌, inl, inr, ℕ, ◌-◌, ◌<◌, ◌%◌, ◌^◌, List, [], ◌∷◌, ◌++◌, length, slice_index, Bool, true}
-use Rattle.std.proofs.Common.{false, ◌==◌, Option, Some, None}
+use Rattle.std.proofs.Common.{◌≡◌, inl, inr, ℕ, ◌-◌, ◌<◌, ◌%◌, ◌^◌, List, [], ◌∷◌, ◌++◌, length, slice_index, Bool, true, false, ◌==◌, Option, Some, None}
 use Rattle.std.specs.Prelude.{slice_get, if◌then◌else◌}
 use Rattle.mw_base.specs.Words.{num}
 use Rattle.mw_alu.specs.declared.instruction.Destination.{Destination}
@@ -35,17 +34,14 @@ use Rattle.mw_term.specs.declared.word.Word.{Word}
 use Rattle.mw_symmem.specs.Memory.{Memory, IsMemory}
 use Rattle.mw_term.specs.WordList.{is_of, term_of}
 use Rattle.mw_symmem.specs.Workspace.{IsLater, KeepsWrites, ReadsMore}
-use Rattle.mw_symmem.proofs.Growth.{width_stays}
+use Rattle.mw_symmem.proofs.Growth.{width_stays, op_stays}
 use Rattle.mw_symmem.proofs.Later.{reads_stay}
-use Rattle.mw_symmem.proofs.Growth.{op_stays}
-use Rattle.mw_symboard.specs.declared.bits.MadeBit.{MadeBit}
+use Rattle.mw_cycle.specs.ReadingWords.{MadeBit, Bits, carry_op, overflow_op}
 use Rattle.mw_symboard.specs.declared.bits.Sources.{Sources}
-use Rattle.mw_symboard.specs.Bits.{Bits, AreBits, AreEarlyBits, AreLateBits, AreSources}
-use Rattle.mw_symboard.specs.Made.{IsWidened, IsPart, IsFrom, IsMasked, IsR, IsS, IsAddendR, IsAddendS, IsF, IsEarlyBit}
-use Rattle.mw_symboard.specs.Made.{IsBitTerm, carry_op, overflow_op}
-use Rattle.mw_symboard.specs.Made.{IsEntry, IsDirect, IsTop, IsNext, IsLessOne, IsDown, IsUp, IsShiftedDown, IsShiftedUp}
-use Rattle.mw_symboard.specs.Made.{IsWrittenB, IsWrittenQ, IsLoaded, AreLoaded}
-use Rattle.mw_symboard.specs.Parts.{Parts, AreParts, term_of_part}
+use Rattle.mw_symboard.specs.Bits.{AreBits, AreEarlyBits, AreLateBits, AreSources}
+use Rattle.mw_symboard.specs.Made.{IsWidened, IsPart, IsFrom, IsMasked, IsR, IsS, IsAddendR, IsAddendS, IsF, IsEarlyBit, IsBitTerm, IsEntry, IsDirect, IsTop, IsNext, IsLessOne, IsDown, IsUp, IsShiftedDown, IsShiftedUp, IsWrittenB, IsWrittenQ, IsLoaded, AreLoaded, sources_of}
+use Rattle.mw_symboard.specs.Parts.{AreParts}
+use Rattle.mw_cycle.specs.BoardTerms.{Parts, term_of_part}
 
 -- ---- one term
 
@@ -170,8 +166,8 @@ early_bit_stays board told tnew p sp line other term extends is = op_stays told 
 
 pub bit_term_stays : (board : BoardParts) (told tnew : Table) (p : Parts) (sp : ℕ) (n : Sources) (bit : Bit) (term : ℕ)
     → Extends told tnew → IsBitTerm board told p sp n bit term → IsBitTerm board tnew p sp n bit term
-bit_term_stays board told tnew p sp n bits.Carry term extends is = op_stays told tnew term (carry_op n) extends is
-bit_term_stays board told tnew p sp n bits.Overflow term extends is = op_stays told tnew term (overflow_op n) extends is
+bit_term_stays board told tnew p sp n bits.Carry term extends is = op_stays told tnew term (carry_op (sources_of n)) extends is
+bit_term_stays board told tnew p sp n bits.Overflow term extends is = op_stays told tnew term (overflow_op (sources_of n)) extends is
 bit_term_stays board told tnew p sp n bits.FZero term extends is = (
   is.0,
   op_stays told tnew is.0 (Con 0 board.width) extends is.1,

@@ -17,9 +17,8 @@ use Rattle.mw_term.specs.declared.word.Word.{Word}
 use Rattle.mw_symmem.specs.Memory.{Memory}
 use Rattle.mw_term.specs.WordList.{plain, is_of, term_of}
 use Rattle.mw_symmem.specs.Workspace.{IsLater, IsWorkspace}
-use Rattle.mw_symmem.proofs.Growth.{width_stays}
+use Rattle.mw_symmem.proofs.Growth.{width_stays, op_stays}
 use Rattle.mw_symmem.proofs.Later.{reads_itself, writes_itself, goes_by_growth}
-use Rattle.mw_symmem.proofs.Growth.{op_stays}
 use Rattle.mw_symboard.specs.declared.reading.Reading.{Reading}
 use Rattle.mw_symboard.specs.declared.leaving.Leaving.{Leaving}
 use Rattle.mw_symboard.specs.Cycle.{IsCounter, IsLeaving, IsReading, IsTurned, effect_by}

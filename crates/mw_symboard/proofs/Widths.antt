@@ -5,7 +5,8 @@ use Rattle.mw_board.specs.Depth.{depth_of}
 use Rattle.mw_cycle.specs.declared.elements.Element.TheVariants.{Register, Q, Mar, Ir, FlipFlop, Pc, R, StackWord}
 use Rattle.mw_term.specs.Table.{Table}
 use Rattle.mw_symmem.specs.Memory.{IsOfWidth}
-use Rattle.mw_symboard.specs.Parts.{Parts, AreParts}
+use Rattle.mw_symboard.specs.Parts.{AreParts}
+use Rattle.mw_cycle.specs.BoardTerms.{Parts}
 
 pub register_wide : (board : BoardParts) (t : Table) (p : Parts) (n : ℕ) → AreParts board t p → n < 16
     → IsOfWidth t board.width (slice_index p.regs n)

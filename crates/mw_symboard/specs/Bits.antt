@@ -3,15 +3,10 @@ use Rattle.std.specs.Prelude.{◌≡◌, ℕ, List, Some, slice_get}
 use Rattle.mw_board.specs.declared.parts.BoardParts.{BoardParts}
 use Rattle.mw_term.specs.Table.{Table}
 use Rattle.mw_symmem.specs.Memory.{IsOfWidth}
-use Rattle.mw_symboard.specs.declared.bits.MadeBit.{MadeBit}
+use Rattle.mw_cycle.specs.ReadingWords.{Bits, MadeBit}
 use Rattle.mw_symboard.specs.declared.bits.Sources.{Sources}
 use Rattle.mw_symboard.specs.Made.{IsBitTerm, IsEarlyBit}
-use Rattle.mw_symboard.specs.Parts.{Parts}
-
--- the bits that stand before F is made, and those that are made of it
-pub record Bits : Type 0 where
-  pub early : List MadeBit
-  pub late : List MadeBit
+use Rattle.mw_cycle.specs.BoardTerms.{Parts}
 
 -- each early bit that was made is a bit, and what it is called
 abbrev pub AreEarlyBits : BoardParts → Table → Parts → (sp line : ℕ) → List MadeBit → Type 0

@@ -8,6 +8,8 @@ use Rattle.mw_board.specs.declared.parts.BoardParts.{BoardParts}
 use Rattle.mw_board.specs.Depth.{depth_of}
 use Rattle.mw_cycle.specs.declared.decided.Decided.{Decided}
 use Rattle.mw_cycle.specs.declared.microword.Microword.{Microword}
+use Rattle.mw_cycle.specs.EdgeWords.{or_taken, pushed_word, sp_after, with_pushed, with_taken}
+use Rattle.mw_cycle.specs.ReadingWords.{y_term}
 use Rattle.mw_cycle.specs.Decided.{decides_pass, decides_counter}
 use Rattle.mw_seq.specs.declared.instruction.CounterMove.{CounterMove}
 use Rattle.mw_seq.specs.declared.instruction.CounterMove.TheVariants as counters
@@ -23,16 +25,11 @@ use Rattle.mw_symboard.specs.declared.bits.Sources.{Sources}
 use Rattle.mw_symboard.specs.declared.reading.Reading.{Reading}
 use Rattle.mw_symboard.specs.declared.leaving.Leaving.{Leaving}
 use Rattle.mw_symboard.specs.Bits.{AreBits, AreSources}
-use Rattle.mw_symboard.specs.Made.{Is, IsFrom, IsMasked, IsR, IsS, IsAddendR, IsAddendS, IsF, IsEarlyBit, IsBitTerm, IsDirect, IsNext, IsLessOne, IsWrittenB, IsWrittenQ, AreLoaded, IsPart, sp_after, pushed_word}
-use Rattle.mw_symboard.specs.Parts.{Parts}
+use Rattle.mw_symboard.specs.Made.{Is, IsFrom, IsMasked, IsR, IsS, IsAddendR, IsAddendS, IsF, IsEarlyBit, IsBitTerm, IsDirect, IsNext, IsLessOne, IsWrittenB, IsWrittenQ, AreLoaded, IsPart}
+use Rattle.mw_cycle.specs.BoardTerms.{Parts}
 use Rattle.mw_symboard.specs.Seen.{Place}
 
 -- ---- what was read
-
--- Y is A in RAMA, and else F
-abbrev pub y_term : Destination → (a f : ℕ) → ℕ
-y_term Rama a f = a
-y_term other a f = f
 
 -- a bit turned over where polarity is 1
 abbrev pub IsTurned : (polarity : Bool) → Table → (bit term : ℕ) → Type 0
@@ -126,21 +123,6 @@ pub record IsLeaving (board : BoardParts) (m : Microword) (t : Table) (p : Place
   pub r_wide : IsOfWidth t 12 l.r
 
 -- ---- the edge
-
--- a list in which an item takes what there is to take
-abbrev pub with_taken : List ℕ → (place : ℕ) → Option ℕ → List ℕ
-with_taken items place None = items
-with_taken items place (Some taken) = slice_set items place taken
-
--- an item that takes what there is to take
-abbrev pub or_taken : (old : ℕ) → Option ℕ → ℕ
-or_taken old None = old
-or_taken old (Some taken) = taken
-
--- a list in which the item of a place, if there is one, takes this
-abbrev pub with_pushed : List ℕ → Option ℕ → (taken : ℕ) → List ℕ
-with_pushed items None taken = items
-with_pushed items (Some place) taken = slice_set items place taken
 
 -- the bits from a place on, as a number of so many bits, the first highest
 abbrev pub number_in : List Decided → (place count : ℕ) → ℕ

@@ -1,7 +1,9 @@
+pub mod Along
 pub mod Bits
 pub mod Cycle
 pub mod Growth
 pub mod Kinds
+pub mod Listed
 pub mod Made
 pub mod Parts
 pub mod Seen

@@ -19,7 +19,10 @@ use Rattle.mw_board.specs.declared.parts.BoardParts.{BoardParts}
 use Rattle.mw_board.specs.Depth.{depth_of}
 use Rattle.mw_cycle.specs.declared.microword.Microword.{Microword}
 use Rattle.mw_cycle.specs.Control.{in_field}
+use Rattle.mw_cycle.specs.BoardTerms.{Parts}
 use Rattle.mw_cycle.specs.Cycle.{load_of}
+use Rattle.mw_cycle.specs.ReadingWords as words
+use Rattle.mw_cycle.specs.ReadingWords.{carry_op, overflow_op}
 use Rattle.mw_seq.specs.declared.instruction.AddressFrom.{AddressFrom}
 use Rattle.mw_seq.specs.declared.instruction.AddressFrom.TheVariants as addresses
 use Rattle.mw_seq.specs.declared.instruction.Instruction.{Instruction}
@@ -35,7 +38,6 @@ use Rattle.mw_term.specs.declared.word.Word.{Word}
 use Rattle.mw_term.specs.WordList.{term_of}
 use Rattle.mw_symmem.specs.Memory.{Memory, IsRead}
 use Rattle.mw_symboard.specs.declared.bits.Sources.{Sources}
-use Rattle.mw_symboard.specs.Parts.{Parts}
 
 -- a term has this op
 abbrev pub Is : Table → Op → (term : ℕ) → Type 0
@@ -125,18 +127,22 @@ IsEarlyBit board t p sp line (bits.Ir n) term = Is t (Part p.ir n 1) term
 IsEarlyBit board t p sp line (bits.Flip n) term = term ≡ slice_index p.flips n
 IsEarlyBit board t p sp line other term = Is t (Con 0 1) term
 
--- the carry out of a sum, and of another function bit 12 of the noise
-abbrev pub carry_op : Sources → Op
-carry_op n = if is_sum n.function then Cout n.first n.second n.carry else Part n.noise 12 1
-
--- the overflow of a sum, and of another function bit 13 of the noise
-abbrev pub overflow_op : Sources → Op
-overflow_op n = if is_sum n.function then Ovf n.first n.second n.carry else Part n.noise 13 1
+-- what bits are made of
+abbrev pub sources_of : Sources → words.Sources
+sources_of n = record {
+  line = n.line;
+  noise = n.noise;
+  function = n.function;
+  first = n.first;
+  second = n.second;
+  carry = n.carry;
+  f = n.f;
+}
 
 -- a bit, once F is made
 abbrev pub IsBitTerm : BoardParts → Table → Parts → (sp : ℕ) → Sources → Bit → (term : ℕ) → Type 0
-IsBitTerm board t p sp n bits.Carry term = Is t (carry_op n) term
-IsBitTerm board t p sp n bits.Overflow term = Is t (overflow_op n) term
+IsBitTerm board t p sp n bits.Carry term = Is t (carry_op (sources_of n)) term
+IsBitTerm board t p sp n bits.Overflow term = Is t (overflow_op (sources_of n)) term
 IsBitTerm board t p sp n bits.FZero term = (zero : ℕ) × Is t (Con 0 board.width) zero × Is t (Eq n.f zero) term
 IsBitTerm board t p sp n bits.Sign term = Is t (Part n.f (board.width - 1) 1) term
 IsBitTerm board t p sp n bits.FLow term = Is t (Part n.f 0 1) term
@@ -229,15 +235,3 @@ pub record AreLoaded (board : BoardParts) (m : Microword) (t : Table) (p : Parts
   pub count : length terms ≡ length board.flipflop
   pub each : (k : ℕ) (f : FlipFlop) → slice_get board.flipflop k ≡ Some f
       → IsLoaded (load_of board m f) board t p sp n (slice_index p.flips k) (slice_index terms k)
-
--- the stack pointer after a move
-abbrev pub sp_after : StackMove → (depth sp : ℕ) → ℕ
-sp_after moves.Held depth sp = sp
-sp_after moves.Pushed depth sp = if nat_lt sp depth then sp + 1 else sp
-sp_after moves.Popped depth sp = sp - 1
-sp_after moves.Cleared depth sp = 0
-
--- the word of the stack that takes PC, if one does
-abbrev pub pushed_word : StackMove → (depth sp : ℕ) → Option ℕ
-pushed_word moves.Pushed depth sp = Some (if nat_lt sp depth then sp else depth - 1)
-pushed_word move depth sp = None

@@ -22,7 +22,7 @@ use Rattle.mw_symmem.specs.declared.side.Side.TheVariants as side
 use Rattle.mw_term.specs.declared.word.Word.{Word}
 use Rattle.mw_term.specs.WordList.{term_of}
 use Rattle.mw_symmem.specs.Memory.{Memory, IsImage, IsOfWidth, FitImage, held_by}
-use Rattle.mw_symboard.specs.Parts.{Parts, term_of_part}
+use Rattle.mw_cycle.specs.BoardTerms.{Parts, term_of_part}
 
 -- Where a symbolic board is: its control address and stack pointer, which are numbers, a term for each element, how many
 -- cycles it has finished and how many inputs it has taken, and the bits decided so far of the cycle that it is in.

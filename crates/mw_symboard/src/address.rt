@@ -7,6 +7,8 @@ ghost use Rattle.mw_symmem.specs.Memory.{IsOfWidth};
 ghost use Rattle.mw_symboard.specs.Growth.{Grew};
 ghost use Rattle.mw_symboard.specs.Made.{IsDirect, IsEntry, IsLessOne, IsMapped, IsNext, IsTop};
 ghost use Rattle.mw_symboard.specs.Parts.{AreParts};
+ghost use Rattle.mw_cycle.specs.LeavingWords.{direct_words, entry_words, less_one_words, next_words, top_words};
+ghost use Rattle.mw_symmem.specs.Listed.{Lists};
 
 use crate::make::{constant, part, word};
 use crate::parts::Parts;
@@ -31,6 +33,7 @@ fn entry(
     requires map { terms.old.map ≡ board.now.map_entries }
     ensures is { IfOk result (IsEntry false board.now terms.new ir) }
     ensures wide { IfOk result (IsOfWidth terms.new 12) }
+    ensures listed { IfOk result (Lists (entry_words false board.now ir) terms.old terms.new words.old words.new) }
     ensures grew { OnOk result (Grew terms.old terms.new words.old words.new) }
 {
     let parts = board.parts();
@@ -53,6 +56,7 @@ fn mapped(
     requires map { terms.old.map ≡ board.now.map_entries }
     ensures is { IfOk result (IsMapped board.now terms.new ir) }
     ensures wide { IfOk result (IsOfWidth terms.new 12) }
+    ensures listed { IfOk result (Lists (entry_words (board.now.map_bits == 0) board.now ir) terms.old terms.new words.old words.new) }
     ensures grew { OnOk result (Grew terms.old terms.new words.old words.new) }
 {
     match board.parts().map_bits {
@@ -75,6 +79,7 @@ pub(crate) fn direct(
     requires map { terms.old.map ≡ board.now.map_entries }
     ensures is { IfOk result (IsDirect (instruction_of microword.now.sequencer) board.now microword.now terms.new ir) }
     ensures wide { IfOk result (IsOfWidth terms.new 12) }
+    ensures listed { IfOk result (Lists (direct_words (instruction_of microword.now.sequencer) board.now microword.now ir) terms.old terms.new words.old words.new) }
     ensures grew { OnOk result (Grew terms.old terms.new words.old words.new) }
 {
     match Instruction::of(microword.sequencer) {
@@ -100,6 +105,7 @@ fn top(
     requires noise { IsOfWidth terms.old 14 noise }
     ensures is { IfOk result (IsTop (sp == 0) terms.new parts.now sp noise) }
     ensures wide { IfOk result (IsOfWidth terms.new 12) }
+    ensures listed { IfOk result (Lists (top_words (sp == 0) parts.now sp noise) terms.old terms.new words.old words.new) }
     ensures grew { OnOk result (Grew terms.old terms.new words.old words.new) }
 {
     if sp == 0 {
@@ -127,6 +133,7 @@ pub(crate) fn next(
     requires direct { IsOfWidth terms.old 12 direct }
     ensures is { IfOk result (IsNext terms.new parts.now sp noise direct from) }
     ensures wide { IfOk result (IsOfWidth terms.new 12) }
+    ensures listed { IfOk result (Lists (next_words from parts.now sp noise direct) terms.old terms.new words.old words.new) }
     ensures grew { OnOk result (Grew terms.old terms.new words.old words.new) }
 {
     match from {
@@ -148,6 +155,7 @@ pub(crate) fn less_one(
     requires wide { IsOfWidth terms.old 12 r }
     ensures is { IfOk result (IsLessOne terms.new r) }
     ensures wide { IfOk result (IsOfWidth terms.new 12) }
+    ensures listed { IfOk result (Lists (less_one_words r) terms.old terms.new words.old words.new) }
     ensures grew { OnOk result (Grew terms.old terms.new words.old words.new) }
 {
     let ones = constant(alloc, 0xFFF, 12, terms)?;

@@ -1,15 +1,22 @@
 // The parts of a board after the edge.
-ghost use Rattle.std.specs.Prelude.{◌≡◌, ◌+◌, ◌%◌, ◌<◌, ◌≤◌, ◌^◌, ℕ, length, slice_index, if◌then◌else◌, IfOk, IfSome, OnOk};
+ghost use Rattle.std.specs.Prelude.{◌≡◌, List, ◌+◌, ◌%◌, ◌<◌, ◌≤◌, ◌^◌, ℕ, length, slice_index, if◌then◌else◌, IfOk, IfSome, OnOk};
 ghost use Rattle.mw_base.specs.Words.{num};
 ghost use Rattle.mw_board.specs.Depth.{depth_of};
 ghost use Rattle.mw_cycle.specs.Microword.{IsMicroword};
 ghost use Rattle.mw_symmem.specs.Memory.{IsOfWidth};
 ghost use Rattle.mw_symboard.specs.Bits.{AreBits, AreSources};
-ghost use Rattle.mw_symboard.specs.Cycle.{IsEdge, IsMar, bits_before, effect_by, number_in, or_taken, with_pushed, with_taken};
+ghost use Rattle.mw_symboard.specs.Cycle.{IsEdge, IsMar, bits_before, effect_by, number_in};
+ghost use Rattle.mw_cycle.specs.EdgeWords.{or_taken, with_pushed, with_taken, pushed_word, sp_after};
 ghost use Rattle.mw_symboard.specs.Growth.{Grew};
-ghost use Rattle.mw_symboard.specs.Made.{AreLoaded, IsWrittenB, IsWrittenQ, pushed_word, sp_after};
+ghost use Rattle.mw_symboard.specs.Made.{AreLoaded, IsWrittenB, IsWrittenQ};
 ghost use Rattle.mw_alu.specs.Instruction.{destination_of};
 ghost use Rattle.mw_symboard.specs.Parts.{AreParts};
+ghost use Rattle.mw_cycle.specs.EdgeWords.{edge_made, edge_words, mar_words};
+ghost use Rattle.mw_term.specs.declared.event.SymEvent.{SymEvent};
+ghost use Rattle.mw_term.specs.MemoryRead.{Held};
+ghost use Rattle.mw_term.specs.WordList.{list_of};
+ghost use Rattle.mw_symmem.specs.Listed.{Lists};
+ghost use Rattle.mw_symboard.specs.Listed.{left_of, read_of, standing_after, standing_of};
 
 use crate::edge::{Moved, flips, mar_word, q_word, register_word, stack_move};
 use crate::leaving::{Leaving, address, bits_before, effect};
@@ -59,6 +66,7 @@ fn mar(
     requires y { IsOfWidth terms.old board.now.width y }
     ensures is { IfOk result (IsMar load board.now terms.new old y) }
     ensures wide { IfOk result (IsOfWidth terms.new board.now.address) }
+    ensures listed { IfOk result (Lists (mar_words load board.now old y) terms.old terms.new words.old words.new) }
     ensures grew { OnOk result (Grew terms.old terms.new words.old words.new) }
 {
     if load {
@@ -107,6 +115,14 @@ fn edge_words(
     ensures mar_wide { IfOk result (λ t. IsOfWidth terms.new board.now.address t.mar) }
     ensures source { reading.new.source ≡ reading.old.source }
     ensures y { reading.new.y ≡ reading.old.y }
+    ensures listed { IfOk result (λ t. (reads : List Held) → edge_made board.now microword.now place.now.parts place.now.sp (read_of reading.old)
+        (list_of terms.old.ops words.old reads) ≡ record {
+          list = list_of terms.new.ops words.new reads;
+          register = t.register;
+          q = t.q;
+          flips = t.flips.items;
+          mar = t.mar;
+        }) }
     ensures grew { OnOk result (Grew terms.old terms.new words.old words.new) }
 {
     let sources = reading.sources;
@@ -308,6 +324,13 @@ pub(crate) fn take_edge(
     ensures source { reading.new.source ≡ reading.old.source }
     ensures y { reading.new.y ≡ reading.old.y }
     ensures decided { place.new.decided ≡ place.old.decided }
+    ensures listed { OnOk result ((reads writes : List Held) (events : List SymEvent)
+        → edge_words board.now microword.now (standing_of place.old writes events) (read_of reading.old) (left_of leaving)
+        (effect_by microword.now place.old.decided) place.new.at (list_of terms.old.ops words.old reads)
+        ≡ record {
+          list = list_of terms.new.ops words.new reads;
+          standing = standing_after microword.now place.old place.new (read_of reading.old) writes events;
+        }) }
     ensures grew { OnOk result (Grew terms.old terms.new words.old words.new) }
 {
     let y = reading.y;

@@ -4,12 +4,14 @@ ghost use Rattle.mw_board.specs.Valid.{IsBit};
 ghost use Rattle.mw_term.specs.Table.{Fits, Table, width_over};
 ghost use Rattle.mw_symmem.specs.Memory.{IsOfWidth};
 ghost use Rattle.mw_symmem.specs.Words.{IsNoVariable};
-ghost use Rattle.mw_symboard.specs.declared.bits.MadeBit.{MadeBit};
+ghost use Rattle.mw_cycle.specs.ReadingWords.{MadeBit, bit_words, carry_op, early_once, early_words, late_once, made_term, overflow_op, same_bit, zero_words};
 ghost use Rattle.mw_symboard.specs.Bits.{AreBits, AreEarlyBits, AreLateBits, AreSources};
 ghost use Rattle.mw_symboard.specs.Growth.{Grew};
-ghost use Rattle.mw_symboard.specs.Made.{Is, IsBitTerm, IsEarlyBit, carry_op, overflow_op};
+ghost use Rattle.mw_symboard.specs.Made.{Is, IsBitTerm, IsEarlyBit, sources_of};
 ghost use Rattle.mw_board.specs.declared.bit.Bit.TheVariants as bits;
 ghost use Rattle.mw_symboard.specs.Parts.{AreParts};
+ghost use Rattle.mw_term.specs.WordList.{with_word};
+ghost use Rattle.mw_symboard.specs.Listed.{ListsBit};
 
 use crate::make::{constant, is_zero, word};
 use crate::parts::Parts;
@@ -41,10 +43,18 @@ pub(crate) struct Sources {
 }
 
 /// A bit that was made, and its term.
-#[derive(Clone, Copy)]
+#[derive(Drop)]
 pub(crate) struct MadeBit {
     pub(crate) bit: Bit,
     pub(crate) term: Term,
+}
+
+impl Model for MadeBit {
+    ghost use Rattle.mw_cycle.specs.ReadingWords as made;
+
+    ghost Value = { made.MadeBit };
+
+    ghost view = { λ m. record { bit = m.bit; term = m.term } };
 }
 
 /// The bits of a cycle that were made so far, each once: those that stand before F is made, and those that are made of it.
@@ -55,19 +65,26 @@ pub(crate) struct Bits {
 }
 
 impl Model for Bits {
-    ghost use Rattle.mw_symboard.specs.Bits as made;
+    ghost use Rattle.mw_cycle.specs.ReadingWords as made;
 
     ghost Value = { made.Bits };
 
     ghost view = { λ b. record { early = b.early.items; late = b.late.items } };
 }
 
+/// Two bits are one.
+pub(crate) fn same(a: Bit, b: Bit) -> bool
+    ensures { result ≡ same_bit a b }
+{
+    a == b
+}
+
 /// The term of a bit among those that were made.
 fn find(made: &[MadeBit], bit: Bit) -> Option<Term>
-    ensures { IfSome result (λ term. (k : ℕ) × (m : MadeBit) × (slice_get made.now k ≡ Some m) × (m.bit ≡ bit) × (m.term ≡ term)) }
+    ensures { result ≡ made_term made.now bit }
 {
     for entry in made {
-        if entry.bit == bit {
+        if same(entry.bit, bit) {
             return Some(entry.term);
         }
     }
@@ -76,7 +93,7 @@ fn find(made: &[MadeBit], bit: Bit) -> Option<Term>
 
 /// The carry out of a sum, or bit 12 of the noise where the function is none.
 fn carry_op(sources: &Sources) -> Op
-    ensures { result ≡ carry_op sources.now }
+    ensures { result ≡ carry_op (sources_of sources.now) }
 {
     if sources.function.is_sum() {
         Op::Cout(sources.first, sources.second, sources.carry)
@@ -87,7 +104,7 @@ fn carry_op(sources: &Sources) -> Op
 
 /// The overflow of a sum, or bit 13 of the noise where the function is none.
 fn overflow_op(sources: &Sources) -> Op
-    ensures { result ≡ overflow_op sources.now }
+    ensures { result ≡ overflow_op (sources_of sources.now) }
 {
     if sources.function.is_sum() {
         Op::Ovf(sources.first, sources.second, sources.carry)
@@ -130,6 +147,7 @@ impl Bits {
         ensures wide { IfOk result (IsOfWidth terms.new 1) }
         ensures right { OnOk result (AreEarlyBits board.now terms.new parts.now sp line self.new.early) }
         ensures late { self.new.late ≡ self.old.late }
+        ensures listed { IfOk result (ListsBit (early_once bit (with_word op)) terms.old terms.new words.old words.new self.old self.new) }
         ensures grew { OnOk result (Grew terms.old terms.new words.old words.new) }
     {
         if let Some(term) = find(&self.early, bit) {
@@ -161,6 +179,7 @@ impl Bits {
         ensures is { IfOk result (IsEarlyBit board.now terms.new parts.now sp line bit) }
         ensures right { OnOk result (AreEarlyBits board.now terms.new parts.now sp line self.new.early) }
         ensures late { self.new.late ≡ self.old.late }
+        ensures listed { IfOk result (ListsBit (early_words board.now parts.now sp line bit) terms.old terms.new words.old words.new self.old self.new) }
         ensures grew { OnOk result (Grew terms.old terms.new words.old words.new) }
     {
         let top = board.width().bits() - 1;
@@ -207,6 +226,7 @@ impl Bits {
         ensures wide { IfOk result (IsOfWidth terms.new 1) }
         ensures right { OnOk result (AreLateBits board.now terms.new parts.now sp sources.now self.new.late) }
         ensures early { self.new.early ≡ self.old.early }
+        ensures listed { IfOk result (ListsBit (late_once bit (with_word op)) terms.old terms.new words.old words.new self.old self.new) }
         ensures grew { OnOk result (Grew terms.old terms.new words.old words.new) }
     {
         if let Some(term) = find(&self.late, bit) {
@@ -234,6 +254,7 @@ impl Bits {
         ensures wide { IfOk result (IsOfWidth terms.new 1) }
         ensures right { OnOk result (AreLateBits board.now terms.new parts.now sp sources.now self.new.late) }
         ensures early { self.new.early ≡ self.old.early }
+        ensures listed { IfOk result (ListsBit (late_once bits.FZero (zero_words board.now.width sources.now.f)) terms.old terms.new words.old words.new self.old self.new) }
         ensures grew { OnOk result (Grew terms.old terms.new words.old words.new) }
     {
         if let Some(term) = find(&self.late, Bit::FZero) {
@@ -267,6 +288,7 @@ impl Bits {
         ensures is { IfOk result (IsBitTerm board.now terms.new parts.now sp sources.now bit) }
         ensures wide { IfOk result (IsOfWidth terms.new 1) }
         ensures right { OnOk result (AreBits board.now terms.new parts.now sp sources.now self.new) }
+        ensures listed { IfOk result (ListsBit (bit_words board.now parts.now sp (sources_of sources.now) bit) terms.old terms.new words.old words.new self.old self.new) }
         ensures grew { OnOk result (Grew terms.old terms.new words.old words.new) }
     {
         let top = board.width().bits() - 1;

@@ -16,14 +16,22 @@ ghost use Rattle.mw_symboard.specs.declared.reading.Reading.{Reading};
 ghost use Rattle.mw_base.specs.Words.{num};
 ghost use Rattle.mw_cycle.specs.Decided.{decides_counter, decides_pass};
 ghost use Rattle.mw_symboard.specs.Bits.{AreBits, AreSources};
-ghost use Rattle.mw_symboard.specs.Cycle.{IsEdge, bits_before};
+ghost use Rattle.mw_symboard.specs.Cycle.{IsEdge, bits_before, effect_by};
 ghost use Rattle.mw_symboard.specs.Seen.{IsSeen, Scene, microword_of};
 ghost use Rattle.mw_symboard.specs.Growth.{Grew};
 ghost use Rattle.mw_symboard.specs.Kinds.{AreInputs, IsCycleKind};
-ghost use Rattle.mw_symboard.specs.Parts.{AreElements, AreParts, term_of_part};
+ghost use Rattle.mw_symboard.specs.Parts.{AreElements, AreParts};
+ghost use Rattle.mw_cycle.specs.BoardTerms.{term_of_part};
 ghost use Rattle.mw_symmem.specs.declared.turn.Turn.TheVariants.{Ask};
 ghost use Rattle.mw_term.specs.declared.kinds.DecidedKind.{DecidedKind};
 ghost use Rattle.mw_symboard.specs.Turns.{AreNoLater, Asks, IsDone, IsSymbolic, IsTurn, cycle_left, decided_so, reads_to_come, shown_by, written_if};
+ghost use Rattle.mw_cycle.specs.EdgeWords.{edge_words};
+ghost use Rattle.mw_term.specs.declared.event.SymEvent.{SymEvent};
+ghost use Rattle.mw_term.specs.MemoryRead.{Held};
+ghost use Rattle.mw_term.specs.WordList.{list_of};
+ghost use Rattle.mw_symmem.specs.Listed.{list_in};
+ghost use Rattle.mw_symboard.specs.Along.{Ends, GoesAlong, ListsTurn, StopsAt};
+ghost use Rattle.mw_symboard.specs.Listed.{left_of, read_of, standing_after, standing_of};
 
 use crate::after::take_edge;
 use crate::leaving::{Leaving, bits_before};
@@ -102,6 +110,7 @@ impl SymBoard {
         ensures decided { IfOk result (λ b. b.place.decided ≡ []) }
         ensures events { IfOk result (λ b. b.events ≡ []) }
         ensures asked { IfOk result (λ b. b.asked ≡ None) }
+        ensures reading { IfOk result (λ b. b.reading ≡ None) }
         ensures symbolic { IfOk result (λ b. (store : List ℕ) (t : Table) (words : List Word) (m : Memory) → address < 2 ^ 12
             → sp ≤ depth_of board.now → AreElements board.now t elements.now → AreInputs board.now t words → AreNoLater 0 words
             → IsSymbolic board.now store t words m b) }
@@ -191,6 +200,7 @@ impl SymBoard {
         ensures goes { OnOk result (GoesOn (IsCycleKind self.old.place.cycle self.old.place.taken) terms.old terms.new words.old words.new memory.old memory.new) }
         ensures writes { OnOk result (KeepsWrites memory.old memory.new) }
         ensures reads { OnOk result (length memory.new.reads ≤ length memory.old.reads + reads_to_come self.old) }
+        ensures listed { OnOk result (GoesAlong board.now store.now.words memory.old.board self.old self.new (list_in terms.old words.old memory.old) (list_in terms.new words.new memory.new)) }
         ensures symbolic { OnOk result (IsSymbolic board.now store.now.words terms.new words.new memory.new self.new) }
     {
         if self.reading.is_some() {
@@ -242,6 +252,7 @@ impl SymBoard {
             × Asks board.now store.now.words terms.now words.now memory.now self.new kind term }
         ensures place { self.new.place ≡ self.old.place }
         ensures events { self.new.events ≡ self.old.events }
+        ensures listed { (kind : DecidedKind) (term : ℕ) → result ≡ Ask kind term → StopsAt board.now store.now.words memory.now.board self.old self.new (list_in terms.now words.now memory.now) (list_in terms.now words.now memory.now) kind term }
         ensures symbolic { IsSymbolic board.now store.now.words terms.now words.now memory.now self.new }
     {
         let condition = self.condition();
@@ -268,6 +279,7 @@ impl SymBoard {
         ensures place { self.new.place ≡ self.old.place }
         ensures events { self.new.events ≡ self.old.events }
         ensures grew { OnOk result (Grew terms.old terms.new words.old words.new) }
+        ensures listed { IfOk result (λ turn. (kind : DecidedKind) (term : ℕ) → turn ≡ Ask kind term → StopsAt board.now store.now.words memory.now.board self.old self.new (list_in terms.old words.old memory.now) (list_in terms.new words.new memory.now) kind term) }
         ensures symbolic { OnOk result (IsSymbolic board.now store.now.words terms.new words.new memory.now self.new) }
     {
         let zero = constant(alloc, 0, 12, terms)?;
@@ -294,6 +306,7 @@ impl SymBoard {
         ensures place { self.new.place ≡ self.old.place }
         ensures events { self.new.events ≡ self.old.events }
         ensures grew { OnOk result (Grew terms.old terms.new words.old words.new) }
+        ensures listed { IfOk result (λ turn. (kind : DecidedKind) (term : ℕ) → turn ≡ Ask kind term → StopsAt board.now store.now.words memory.now.board self.old self.new (list_in terms.old words.old memory.now) (list_in terms.new words.new memory.now) kind term) }
         ensures symbolic { OnOk result (IsSymbolic board.now store.now.words terms.new words.new memory.now self.new) }
     {
         let microword = self.microword(board, store);
@@ -337,6 +350,7 @@ impl SymBoard {
         ensures reading { self.new.reading ≡ self.old.reading }
         ensures asked { self.new.asked ≡ self.old.asked }
         ensures grew { OnOk result (Grew terms.old terms.new words.old words.new) }
+        ensures listed { OnOk result (GoesAlong board.now store.now.words memory.now.board self.old self.new (list_in terms.old words.old memory.now) (list_in terms.new words.new memory.now)) }
         ensures symbolic { OnOk result (IsSymbolic board.now store.now.words terms.new words.new memory.now self.new) }
     {
         if self.leaving.is_some() {
@@ -405,6 +419,7 @@ impl SymBoard {
         ensures place { self.new.place ≡ self.old.place }
         ensures events { self.new.events ≡ self.old.events }
         ensures grew { OnOk result (Grew terms.old terms.new words.old words.new) }
+        ensures listed { IfOk result (λ turn. (kind : DecidedKind) (term : ℕ) → turn ≡ Ask kind term → StopsAt board.now store.now.words memory.now.board self.old self.new (list_in terms.old words.old memory.now) (list_in terms.new words.new memory.now) kind term) }
         ensures symbolic { OnOk result (IsSymbolic board.now store.now.words terms.new words.new memory.now self.new) }
     {
         let microword = self.microword(board, store);
@@ -451,6 +466,13 @@ impl SymBoard {
         ensures reading { self.new.reading ≡ self.old.reading }
         ensures leaving { self.new.leaving ≡ self.old.leaving }
         ensures asked { self.new.asked ≡ self.old.asked }
+        ensures listed { OnOk result ((reads writes : List Held) (events : List SymEvent)
+            → edge_words board.now microword.now (standing_of self.old.place writes events) (read_of reading.old) (left_of leaving)
+            (effect_by microword.now self.old.place.decided) self.new.place.at (list_of terms.old.ops words.old reads)
+            ≡ record {
+              list = list_of terms.new.ops words.new reads;
+              standing = standing_after microword.now self.old.place self.new.place (read_of reading.old) writes events;
+            }) }
         ensures grew { OnOk result (Grew terms.old terms.new words.old words.new) }
     {
         take_edge(
@@ -498,6 +520,7 @@ impl SymBoard {
         ensures more { OnOk result (ReadsMore memory.old memory.new) }
         ensures grew { OnOk result (Grew terms.old terms.new words.old words.new) }
         ensures workspace { OnOk result (IsWorkspace terms.new words.new memory.new) }
+        ensures listed { OnOk result (Ends board.now store.now.words memory.old memory.new self.old self.new (list_in terms.old words.old memory.old) (list_in terms.new words.new memory.new)) }
         ensures symbolic { OnOk result (IsSymbolic board.now store.now.words terms.new words.new memory.new self.new) }
     {
         let microword = self.microword(board, store);
@@ -571,6 +594,7 @@ impl SymBoard {
         ensures goes { OnOk result (GoesOn (IsCycleKind self.old.place.cycle self.old.place.taken) terms.old terms.new words.old words.new memory.old memory.new) }
         ensures reads { OnOk result (length memory.new.reads ≤ length memory.old.reads + reads_to_come self.old) }
         ensures machine { OnOk result (memory.new.machine ≡ memory.old.machine) }
+        ensures listed { IfOk result (ListsTurn board.now store.now.words memory.old memory.new self.old self.new (list_in terms.old words.old memory.old) (list_in terms.new words.new memory.new)) }
         ensures symbolic { OnOk result (IsSymbolic board.now store.now.words terms.new words.new memory.new self.new) }
     {
         self.begin(alloc, board, store, terms, words, memory)?;

@@ -1,5 +1,5 @@
 // What the parts of a board take at the edge.
-ghost use Rattle.std.specs.Prelude.{◌≡◌, ℕ, ◌<◌, ◌≤◌, length, slice_index, IfOk, IfSome, OnOk};
+ghost use Rattle.std.specs.Prelude.{◌≡◌, List, [], ℕ, ◌<◌, ◌≤◌, length, slice_index, IfOk, IfSome, OnOk};
 ghost use Rattle.mw_alu.specs.Instruction.{destination_of};
 ghost use Rattle.mw_board.specs.declared.bit.Load.TheVariants as loads;
 ghost use Rattle.mw_board.specs.Valid.{IsBit, IsLoad};
@@ -7,8 +7,14 @@ ghost use Rattle.mw_cycle.specs.Microword.{IsMicroword};
 ghost use Rattle.mw_symmem.specs.Memory.{IsOfWidth};
 ghost use Rattle.mw_symboard.specs.Bits.{AreBits, AreSources};
 ghost use Rattle.mw_symboard.specs.Growth.{Grew};
-ghost use Rattle.mw_symboard.specs.Made.{AreLoaded, IsLoaded, IsPart, IsShiftedDown, IsShiftedUp, IsWrittenB, IsWrittenQ, pushed_word, sp_after};
+ghost use Rattle.mw_symboard.specs.Made.{AreLoaded, IsLoaded, IsPart, IsShiftedDown, IsShiftedUp, IsWrittenB, IsWrittenQ, sources_of};
+ghost use Rattle.mw_cycle.specs.EdgeWords.{pushed_word, sp_after};
 ghost use Rattle.mw_symboard.specs.Parts.{AreParts};
+ghost use Rattle.mw_cycle.specs.EdgeWords.{flips_words, linked_down_words, linked_up_words, loaded_words, q_words, register_words, turned_by_carry_words};
+ghost use Rattle.mw_term.specs.MemoryRead.{Held};
+ghost use Rattle.mw_term.specs.WordList.{with_part};
+ghost use Rattle.mw_symmem.specs.Listed.{Lists};
+ghost use Rattle.mw_symboard.specs.Listed.{ListsFrom, ListsTaken, loaded_in};
 
 use crate::bits::{Bits, Sources};
 use crate::make::{part, shifted_down, shifted_up, word};
@@ -43,6 +49,7 @@ fn linked_down(
     ensures is { IfOk result (IsShiftedDown board.now terms.new parts.now sp sources.now link shifted) }
     ensures wide { IfOk result (λ taken. IfSome taken (IsOfWidth terms.new board.now.width)) }
     ensures right { OnOk result (AreBits board.now terms.new parts.now sp sources.now bits.new) }
+    ensures listed { IfOk result (ListsTaken (linked_down_words board.now parts.now sp (sources_of sources.now) link shifted) terms.old terms.new words.old words.new bits.old bits.new) }
     ensures grew { OnOk result (Grew terms.old terms.new words.old words.new) }
 {
     let width = board.width().bits();
@@ -72,6 +79,7 @@ fn linked_up(
     ensures is { IfOk result (IsShiftedUp board.now terms.new parts.now sp sources.now link shifted) }
     ensures wide { IfOk result (λ taken. IfSome taken (IsOfWidth terms.new board.now.width)) }
     ensures right { OnOk result (AreBits board.now terms.new parts.now sp sources.now bits.new) }
+    ensures listed { IfOk result (ListsTaken (linked_up_words board.now parts.now sp (sources_of sources.now) link shifted) terms.old terms.new words.old words.new bits.old bits.new) }
     ensures grew { OnOk result (Grew terms.old terms.new words.old words.new) }
 {
     let width = board.width().bits();
@@ -99,6 +107,7 @@ pub(crate) fn register_word(
     ensures is { IfOk result (IsWrittenB (destination_of microword.now.instruction) board.now microword.now terms.new parts.now sp sources.now) }
     ensures wide { IfOk result (λ taken. IfSome taken (IsOfWidth terms.new board.now.width)) }
     ensures right { OnOk result (AreBits board.now terms.new parts.now sp sources.now bits.new) }
+    ensures listed { IfOk result (ListsTaken (register_words (destination_of microword.now.instruction) board.now microword.now parts.now sp (sources_of sources.now)) terms.old terms.new words.old words.new bits.old bits.new) }
     ensures grew { OnOk result (Grew terms.old terms.new words.old words.new) }
 {
     match Destination::of(microword.instruction) {
@@ -150,6 +159,7 @@ pub(crate) fn q_word(
     ensures is { IfOk result (IsWrittenQ (destination_of microword.now.instruction) board.now microword.now terms.new parts.now sp sources.now) }
     ensures wide { IfOk result (λ taken. IfSome taken (IsOfWidth terms.new board.now.width)) }
     ensures right { OnOk result (AreBits board.now terms.new parts.now sp sources.now bits.new) }
+    ensures listed { IfOk result (ListsTaken (q_words (destination_of microword.now.instruction) board.now microword.now parts.now sp (sources_of sources.now)) terms.old terms.new words.old words.new bits.old bits.new) }
     ensures grew { OnOk result (Grew terms.old terms.new words.old words.new) }
 {
     match Destination::of(microword.instruction) {
@@ -205,6 +215,7 @@ fn turned_by_carry(
     ensures is { IfOk result (IsLoaded loads.XorCarry board.now terms.new parts.now sp sources.now old) }
     ensures wide { IfOk result (IsOfWidth terms.new 1) }
     ensures right { OnOk result (AreBits board.now terms.new parts.now sp sources.now bits.new) }
+    ensures listed { IfOk result (ListsFrom (turned_by_carry_words board.now parts.now sp (sources_of sources.now) old) terms.old terms.new words.old words.new bits.old bits.new) }
     ensures grew { OnOk result (Grew terms.old terms.new words.old words.new) }
 {
     let carry = bits.bit(alloc, Bit::Carry, board, parts, sp, sources, terms, words)?;
@@ -233,6 +244,7 @@ pub(crate) fn loaded(
     ensures is { IfOk result (IsLoaded load board.now terms.new parts.now sp sources.now old) }
     ensures wide { IfOk result (IsOfWidth terms.new 1) }
     ensures right { OnOk result (AreBits board.now terms.new parts.now sp sources.now bits.new) }
+    ensures listed { IfOk result (ListsFrom (loaded_words load board.now parts.now sp (sources_of sources.now) old) terms.old terms.new words.old words.new bits.old bits.new) }
     ensures grew { OnOk result (Grew terms.old terms.new words.old words.new) }
 {
     match load {
@@ -271,6 +283,9 @@ pub(crate) fn flips(
     ensures are { IfOk result (λ flips. AreLoaded board.now microword.now terms.new parts.now sp sources.now flips.items) }
     ensures wide { IfOk result (λ flips. (k : ℕ) → k < length board.now.flipflop → IsOfWidth terms.new 1 (slice_index flips.items k)) }
     ensures right { OnOk result (AreBits board.now terms.new parts.now sp sources.now bits.new) }
+    ensures listed { IfOk result (λ flips. (reads : List Held)
+        → flips_words board.now microword.now parts.now sp (sources_of sources.now) board.now.flipflop parts.now.flips
+        (loaded_in terms.old words.old reads bits.old []) ≡ loaded_in terms.new words.new reads bits.new flips.items) }
     ensures grew { OnOk result (Grew terms.old terms.new words.old words.new) }
 {
     let mut flips = Vec::new(alloc);
@@ -296,6 +311,7 @@ pub(crate) fn mar_word(
     requires wide { IsOfWidth terms.old board.now.width y }
     ensures is { IfOk result (IsPart terms.new board.now.width y 0 board.now.address) }
     ensures wide { IfOk result (IsOfWidth terms.new board.now.address) }
+    ensures listed { IfOk result (Lists (with_part board.now.width y 0 board.now.address) terms.old terms.new words.old words.new) }
     ensures grew { OnOk result (Grew terms.old terms.new words.old words.new) }
 {
     part(

@@ -4,6 +4,8 @@ ghost use Rattle.mw_term.specs.declared.op.Op.TheVariants as ops;
 ghost use Rattle.mw_symmem.specs.Memory.{IsOfWidth};
 ghost use Rattle.mw_symboard.specs.Growth.{Grew};
 ghost use Rattle.mw_symboard.specs.Made.{Is, IsAddendR, IsAddendS, IsF, IsR, IsS};
+ghost use Rattle.mw_cycle.specs.ReadingWords.{exnor_words, f_words, first_words, notrs_words, r_words, s_words, second_words};
+ghost use Rattle.mw_symmem.specs.Listed.{Lists};
 
 use crate::make::{constant, word};
 use mw_alu::{Function, Source};
@@ -28,6 +30,7 @@ pub(crate) fn r(
     requires d { IsOfWidth terms.old width d }
     ensures is { IfOk result (IsR terms.new width source a d) }
     ensures wide { IfOk result (IsOfWidth terms.new width) }
+    ensures listed { IfOk result (Lists (r_words width source a d) terms.old terms.new words.old words.new) }
     ensures grew { OnOk result (Grew terms.old terms.new words.old words.new) }
 {
     match source {
@@ -55,6 +58,7 @@ pub(crate) fn s(
     requires q { IsOfWidth terms.old width q }
     ensures is { IfOk result (IsS terms.new width source a b q) }
     ensures wide { IfOk result (IsOfWidth terms.new width) }
+    ensures listed { IfOk result (Lists (s_words width source a b q) terms.old terms.new words.old words.new) }
     ensures grew { OnOk result (Grew terms.old terms.new words.old words.new) }
 {
     match source {
@@ -78,6 +82,7 @@ pub(crate) fn addend_r(
     requires wide { IsOfWidth terms.old width r }
     ensures is { IfOk result (IsAddendR terms.new function r) }
     ensures wide { IfOk result (IsOfWidth terms.new width) }
+    ensures listed { IfOk result (Lists (first_words function r) terms.old terms.new words.old words.new) }
     ensures grew { OnOk result (Grew terms.old terms.new words.old words.new) }
 {
     match function {
@@ -99,6 +104,7 @@ pub(crate) fn addend_s(
     requires wide { IsOfWidth terms.old width s }
     ensures is { IfOk result (IsAddendS terms.new function s) }
     ensures wide { IfOk result (IsOfWidth terms.new width) }
+    ensures listed { IfOk result (Lists (second_words function s) terms.old terms.new words.old words.new) }
     ensures grew { OnOk result (Grew terms.old terms.new words.old words.new) }
 {
     match function {
@@ -120,6 +126,7 @@ fn not_r_and_s(
     requires s { IsOfWidth terms.old width s }
     ensures is { IfOk result (λ f. (turned : ℕ) × Is terms.new (ops.Not r) turned × Is terms.new (ops.And turned s) f) }
     ensures wide { IfOk result (IsOfWidth terms.new width) }
+    ensures listed { IfOk result (Lists (notrs_words r s) terms.old terms.new words.old words.new) }
     ensures grew { OnOk result (Grew terms.old terms.new words.old words.new) }
 {
     let turned = word(alloc, Op::Not(r), terms, words)?;
@@ -140,6 +147,7 @@ fn alike(
     requires s { IsOfWidth terms.old width s }
     ensures is { IfOk result (λ f. (differing : ℕ) × Is terms.new (ops.Xor r s) differing × Is terms.new (ops.Not differing) f) }
     ensures wide { IfOk result (IsOfWidth terms.new width) }
+    ensures listed { IfOk result (Lists (exnor_words r s) terms.old terms.new words.old words.new) }
     ensures grew { OnOk result (Grew terms.old terms.new words.old words.new) }
 {
     let differing = word(alloc, Op::Xor(r, s), terms, words)?;
@@ -166,6 +174,7 @@ pub(crate) fn f(
     requires carry { IsOfWidth terms.old 1 carry }
     ensures is { IfOk result (IsF terms.new function operands.0 operands.1 addends.0 addends.1 carry) }
     ensures wide { IfOk result (IsOfWidth terms.new width) }
+    ensures listed { IfOk result (Lists (f_words function operands.0 operands.1 addends.0 addends.1 carry) terms.old terms.new words.old words.new) }
     ensures grew { OnOk result (Grew terms.old terms.new words.old words.new) }
 {
     let (r, s) = operands;

@@ -1,5 +1,5 @@
 // What is known of a cycle's end once pass and the counter are decided.
-ghost use Rattle.std.specs.Prelude.{◌≡◌, ◌+◌, ◌*◌, ◌<◌, ◌≤◌, ◌^◌, length, IfOk, OnOk};
+ghost use Rattle.std.specs.Prelude.{◌≡◌, List, ◌+◌, ◌*◌, ◌<◌, ◌≤◌, ◌^◌, length, IfOk, OnOk};
 ghost use Rattle.mw_base.specs.Words.{num};
 ghost use Rattle.mw_board.specs.Depth.{depth_of};
 ghost use Rattle.mw_cycle.specs.Microword.{IsMicroword};
@@ -7,6 +7,11 @@ ghost use Rattle.mw_symmem.specs.Memory.{IsOfWidth};
 ghost use Rattle.mw_symboard.specs.Cycle.{IsCounter, IsLeaving, bits_before, effect_by, number_in, value_in};
 ghost use Rattle.mw_symboard.specs.Growth.{Grew};
 ghost use Rattle.mw_symboard.specs.Parts.{AreParts};
+ghost use Rattle.mw_cycle.specs.LeavingWords.{counter_words, leaving_words};
+ghost use Rattle.mw_term.specs.MemoryRead.{Held};
+ghost use Rattle.mw_term.specs.WordList.{list_of};
+ghost use Rattle.mw_symmem.specs.Listed.{Lists};
+ghost use Rattle.mw_symboard.specs.Listed.{left_of};
 
 use crate::address::{direct, less_one, next};
 use crate::path::Path;
@@ -96,6 +101,7 @@ fn counter(
     requires direct { IsOfWidth terms.old 12 direct }
     ensures is { IfOk result (IsCounter rld counter terms.new old direct) }
     ensures wide { IfOk result (IsOfWidth terms.new 12) }
+    ensures listed { IfOk result (Lists (counter_words rld counter old direct) terms.old terms.new words.old words.new) }
     ensures grew { OnOk result (Grew terms.old terms.new words.old words.new) }
 {
     if rld {
@@ -127,6 +133,9 @@ impl Leaving {
         requires sp { place.now.sp ≤ depth_of board.now }
         requires noise { IsOfWidth terms.old 14 noise }
         ensures is { IfOk result (IsLeaving board.now microword.now terms.new place.now noise) }
+        ensures listed { IfOk result (λ leaving. (reads : List Held) → leaving_words board.now microword.now place.now.parts place.now.sp noise
+            (effect_by microword.now place.now.decided) (list_of terms.old.ops words.old reads)
+            ≡ record { list = list_of terms.new.ops words.new reads; leaving = left_of leaving }) }
         ensures grew { OnOk result (Grew terms.old terms.new words.old words.new) }
     {
         let parts = &place.parts;

@@ -9,6 +9,10 @@ ghost use Rattle.mw_symmem.specs.Steps.{Grows};
 ghost use Rattle.mw_symmem.specs.Words.{IsNoVariable};
 ghost use Rattle.mw_symboard.specs.Growth.{Grew};
 ghost use Rattle.mw_symboard.specs.Made.{Is, IsDown, IsPart, IsUp, IsWidened};
+ghost use Rattle.mw_cycle.specs.EdgeWords.{down_words, up_words};
+ghost use Rattle.mw_cycle.specs.ReadingWords.{zero_words};
+ghost use Rattle.mw_term.specs.WordList.{with_constant, with_part, with_word, with_zeros_above};
+ghost use Rattle.mw_symmem.specs.Listed.{Lists};
 
 use mw_base::NoMemory;
 use mw_symmem::Words;
@@ -26,6 +30,7 @@ pub(crate) fn constant(
     requires below { value < 2 ^ width }
     ensures is { IfOk result (Is terms.new (Con value width)) }
     ensures wide { IfOk result (IsOfWidth terms.new width) }
+    ensures listed { IfOk result (λ term. (words : List Word) → Lists (with_constant value width) terms.old terms.new words words term) }
     ensures grows { OnOk result ((words : List Word) → Grows terms.old terms.new words words []) }
     ensures grew { OnOk result ((words : List Word) → Grew terms.old terms.new words words) }
 {
@@ -44,6 +49,7 @@ pub(crate) fn word(
     requires none { IsNoVariable op }
     ensures is { IfOk result (Is terms.new op) }
     ensures made { IfOk result (IsTermOf terms.old terms.new op) }
+    ensures listed { IfOk result (Lists (with_word op) terms.old terms.new words.old words.new) }
     ensures grew { OnOk result (Grew terms.old terms.new words.old words.new) }
     ensures grows { IfOk result (λ term. Grows terms.old terms.new words.old words.new (term ∷ [])) }
 {
@@ -65,6 +71,7 @@ pub(crate) fn widened(
     requires most { to ≤ 32 }
     ensures is { IfOk result (IsWidened terms.new from to narrow) }
     ensures wide { IfOk result (IsOfWidth terms.new to) }
+    ensures listed { IfOk result (Lists (with_zeros_above from to narrow) terms.old terms.new words.old words.new) }
     ensures grew { OnOk result (Grew terms.old terms.new words.old words.new) }
 {
     if from == to {
@@ -91,6 +98,7 @@ pub(crate) fn part(
     requires within { low + width ≤ whole_width }
     ensures is { IfOk result (IsPart terms.new whole_width whole low width) }
     ensures wide { IfOk result (IsOfWidth terms.new width) }
+    ensures listed { IfOk result (Lists (with_part whole_width whole low width) terms.old terms.new words.old words.new) }
     ensures grew { OnOk result (Grew terms.old terms.new words.old words.new) }
 {
     if width == whole_width {
@@ -115,6 +123,7 @@ pub(crate) fn shifted_down(
     requires most { width ≤ 32 }
     ensures is { IfOk result (IsDown terms.new width shifted high) }
     ensures wide { IfOk result (IsOfWidth terms.new width) }
+    ensures listed { IfOk result (Lists (down_words width shifted high) terms.old terms.new words.old words.new) }
     ensures grew { OnOk result (Grew terms.old terms.new words.old words.new) }
 {
     let rest = word(alloc, Op::Part(shifted, 1, width - 1), terms, words)?;
@@ -137,6 +146,7 @@ pub(crate) fn shifted_up(
     requires most { width ≤ 32 }
     ensures is { IfOk result (IsUp terms.new width shifted low) }
     ensures wide { IfOk result (IsOfWidth terms.new width) }
+    ensures listed { IfOk result (Lists (up_words width shifted low) terms.old terms.new words.old words.new) }
     ensures grew { OnOk result (Grew terms.old terms.new words.old words.new) }
 {
     let rest = word(alloc, Op::Part(shifted, 0, width - 1), terms, words)?;
@@ -156,6 +166,7 @@ pub(crate) fn is_zero(
     requires wide { IsOfWidth terms.old width tested }
     ensures is { IfOk result (λ term. (zero : ℕ) × Is terms.new (Con 0 width) zero × Is terms.new (Eq tested zero) term) }
     ensures wide { IfOk result (IsOfWidth terms.new 1) }
+    ensures listed { IfOk result (Lists (zero_words width tested) terms.old terms.new words.old words.new) }
     ensures grew { OnOk result (Grew terms.old terms.new words.old words.new) }
 {
     let zero = constant(alloc, 0, width, terms)?;

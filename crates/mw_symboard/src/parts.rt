@@ -3,7 +3,7 @@ ghost use Rattle.std.specs.Prelude.{◌≡◌, ℕ, ◌+◌, ◌<◌, ◌≤◌,
 ghost use Rattle.mw_board.specs.Elements.{element_count};
 ghost use Rattle.mw_cycle.specs.Elements.{element_of, IsElement};
 ghost use Rattle.mw_board.specs.Depth.{depth_of};
-ghost use Rattle.mw_symboard.specs.Parts.{term_of_part};
+ghost use Rattle.mw_cycle.specs.BoardTerms.{term_of_part};
 
 use mw_base::NoMemory;
 use mw_board::Board;
@@ -34,7 +34,7 @@ pub(crate) struct Parts {
 }
 
 impl Model for Parts {
-    ghost use Rattle.mw_symboard.specs.Parts as terms;
+    ghost use Rattle.mw_cycle.specs.BoardTerms as terms;
 
     ghost Value = { terms.Parts };
 

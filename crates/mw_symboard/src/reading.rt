@@ -1,8 +1,10 @@
 // What a cycle reads before its edge.
-ghost use Rattle.std.specs.Prelude.{◌≡◌, ◌⊎◌, ℕ, ◌+◌, ◌<◌, ◌≤◌, ◌^◌, [], ◌∷◌, ◌++◌, length, slice_index, true, Some, None, IfOk, OnOk};
+ghost use Rattle.std.specs.Prelude.{◌≡◌, ◌⊎◌, List, map, ℕ, ◌+◌, ◌<◌, ◌≤◌, ◌^◌, [], ◌∷◌, ◌++◌, length, slice_index, true, Some, None, IfOk, OnOk};
 ghost use Rattle.mw_alu.specs.Instruction.{destination_of, source_of};
 ghost use Rattle.mw_board.specs.declared.parts.BoardParts.{BoardParts};
+ghost use Rattle.mw_board.specs.declared.bit.Bit.TheVariants as kinds;
 ghost use Rattle.mw_board.specs.Valid.{IsBit, IsLoad};
+ghost use Rattle.mw_cycle.specs.Boundary.{numbers};
 ghost use Rattle.mw_term.specs.declared.kinds.WordKind.TheVariants.{Line, Noise};
 ghost use Rattle.mw_term.specs.declared.op.Op.TheVariants.{Var};
 ghost use Rattle.mw_term.specs.Table.{Extends, IsTable};
@@ -10,18 +12,27 @@ ghost use Rattle.mw_term.specs.Values.{IsTermOf, Keeps};
 ghost use Rattle.mw_board.specs.Depth.{depth_of};
 ghost use Rattle.mw_cycle.specs.Microword.{IsMicroword};
 ghost use Rattle.mw_symmem.specs.Memory.{Memory, IsOfWidth};
-ghost use Rattle.mw_term.specs.WordList.{variable, term_of};
+ghost use Rattle.mw_term.specs.WordList.{ended, list_of, term_of, variable, with_variable};
 ghost use Rattle.mw_symmem.specs.Words.{AreOf};
 ghost use Rattle.mw_symmem.specs.Workspace.{GoesOn, IsWorkspace, KeepsWrites};
 ghost use Rattle.mw_symboard.specs.Bits.{AreBits, AreSources};
-ghost use Rattle.mw_symboard.specs.Cycle.{AreOperands, IsReading, IsTurned, y_term};
+ghost use Rattle.mw_symboard.specs.Cycle.{AreOperands, IsReading, IsTurned};
+ghost use Rattle.mw_cycle.specs.ReadingWords.{y_term};
 ghost use Rattle.mw_symboard.specs.Growth.{Grew};
 ghost use Rattle.mw_symboard.specs.Kinds.{AreInputs, IsCycleKind};
 ghost use Rattle.mw_symboard.specs.Made.{IsAddendR, IsAddendS, IsBitTerm, IsR, IsS};
 ghost use Rattle.mw_symboard.specs.Parts.{AreParts};
 ghost use Rattle.mw_symboard.specs.Turns.{AreNoLater};
+ghost use Rattle.mw_cycle.specs.ReadingWords.{addends_words, all_read_words, bits_in_order, condition_words, is_read, link_reads, load_reads, operands_words, read_words, reading_words, sources_words, turned_words};
+ghost use Rattle.mw_cycle.specs.Cycle.{load_of};
+ghost use Rattle.std.specs.List.{list_any};
+ghost use Rattle.mw_term.specs.declared.event.SymEvent.{SymEvent};
+ghost use Rattle.mw_term.specs.MemoryRead.{Held};
+ghost use Rattle.mw_symmem.specs.Listed.{Lists, list_in};
+ghost use Rattle.mw_symboard.specs.Listed.{ListsFrom, bits_made, operands_in, reading_in, sources_in, standing_of};
+ghost use Rattle.mw_symboard.specs.Made.{sources_of};
 
-use crate::bits::{Bits, Sources};
+use crate::bits::{Bits, Sources, same};
 use crate::function::{addend_r, addend_s, f, r, s};
 use crate::make::word;
 use crate::parts::Parts;
@@ -52,18 +63,20 @@ pub(crate) struct Reading {
 
 /// A load reads a bit.
 fn load_reads(load: Load, bit: Bit) -> bool
-    ensures { result ≡ true → (width flipflops : ℕ) → IsLoad width flipflops load → IsBit width flipflops bit }
+    ensures exact { result ≡ load_reads load bit }
+    ensures valid { result ≡ true → (width flipflops : ℕ) → IsLoad width flipflops load → IsBit width flipflops bit }
 {
     match load {
         Load::Hold | Load::Invert => false,
-        Load::XorCarry => bit == Bit::Carry,
-        Load::Take(taken) => taken == bit,
+        Load::XorCarry => same(bit, Bit::Carry),
+        Load::Take(taken) => same(taken, bit),
     }
 }
 
 /// A flip-flop's chosen load reads a bit.
 fn flipflop_reads(board: &Board, microword: &Microword, bit: Bit) -> bool
-    ensures { result ≡ true → IsBit board.now.width (length board.now.flipflop) bit }
+    ensures exact { result ≡ list_any (λ f. load_reads (load_of board.now microword.now f) bit) board.now.flipflop }
+    ensures valid { result ≡ true → IsBit board.now.width (length board.now.flipflop) bit }
 {
     for flipflop in board.parts().flipflop.as_slice() {
         if load_reads(microword.load(board, flipflop), bit) {
@@ -76,13 +89,14 @@ fn flipflop_reads(board: &Board, microword: &Microword, bit: Bit) -> bool
 /// A link that the destination uses reads a bit.
 fn link_reads(microword: &Microword, bit: Bit) -> bool
     requires { microword.now.instruction < 512 }
-    ensures { result ≡ true → (microword.now.ram_link ≡ bit) ⊎ (microword.now.q_link ≡ bit) }
+    ensures exact { result ≡ link_reads (destination_of microword.now.instruction) microword.now bit }
+    ensures valid { result ≡ true → (microword.now.ram_link ≡ bit) ⊎ (microword.now.q_link ≡ bit) }
 {
     match Destination::of(microword.instruction) {
         Destination::Ramqd | Destination::Ramqu => {
-            microword.ram_link == bit || microword.q_link == bit
+            same(microword.ram_link, bit) || same(microword.q_link, bit)
         }
-        Destination::Ramd | Destination::Ramu => microword.ram_link == bit,
+        Destination::Ramd | Destination::Ramu => same(microword.ram_link, bit),
         _ => false,
     }
 }
@@ -90,9 +104,10 @@ fn link_reads(microword: &Microword, bit: Bit) -> bool
 /// The condition, a link that is used, or a chosen load reads a bit, which then is one of the board's.
 fn is_read(board: &Board, microword: &Microword, bit: Bit) -> bool
     requires { IsMicroword board.now microword.now }
-    ensures { result ≡ true → IsBit board.now.width (length board.now.flipflop) bit }
+    ensures exact { result ≡ is_read board.now microword.now bit }
+    ensures valid { result ≡ true → IsBit board.now.width (length board.now.flipflop) bit }
 {
-    if microword.condition == bit {
+    if same(microword.condition, bit) {
         return true;
     }
     if link_reads(microword, bit) {
@@ -130,6 +145,7 @@ fn make_read(
     requires sources { AreSources board.now terms.old sources.now }
     requires right { AreBits board.now terms.old place.now.parts place.now.sp sources.now bits.old }
     ensures right { OnOk result (AreBits board.now terms.new place.now.parts place.now.sp sources.now bits.new) }
+    ensures listed { OnOk result ((reads : List Held) → read_words board.now microword.now place.now.parts place.now.sp (sources_of sources.now) bit (bits_made terms.old words.old reads bits.old) ≡ bits_made terms.new words.new reads bits.new) }
     ensures grew { OnOk result (Grew terms.old terms.new words.old words.new) }
 {
     if !is_read(board, microword, bit) {
@@ -145,6 +161,64 @@ fn make_read(
         terms,
         words,
     )?;
+    Ok(())
+}
+
+/// Makes those of some bits that are read, each once, in their order.
+fn make_all(
+    alloc: Global,
+    in_order: &[Bit],
+    board: &Board,
+    microword: &Microword,
+    place: &Place,
+    sources: &Sources,
+    bits: &mut Bits,
+    terms: &mut Terms,
+    words: &mut Words,
+) -> Result<(), NoMemory>
+    requires microword { IsMicroword board.now microword.now }
+    requires parts { AreParts board.now terms.old place.now.parts }
+    requires sources { AreSources board.now terms.old sources.now }
+    requires right { AreBits board.now terms.old place.now.parts place.now.sp sources.now bits.old }
+    ensures right { OnOk result (AreBits board.now terms.new place.now.parts place.now.sp sources.now bits.new) }
+    ensures listed { OnOk result ((reads : List Held) → all_read_words board.now microword.now place.now.parts place.now.sp (sources_of sources.now)
+        in_order.now (bits_made terms.old words.old reads bits.old) ≡ bits_made terms.new words.new reads bits.new) }
+    ensures grew { OnOk result (Grew terms.old terms.new words.old words.new) }
+{
+    for bit in in_order {
+        make_read(
+            alloc, *bit, board, microword, place, sources, bits, terms, words,
+        )?;
+    }
+    Ok(())
+}
+
+/// Makes those bits of the instruction register that are read, each once, by rising numbers.
+fn make_ir_bits(
+    alloc: Global,
+    board: &Board,
+    microword: &Microword,
+    place: &Place,
+    sources: &Sources,
+    bits: &mut Bits,
+    terms: &mut Terms,
+    words: &mut Words,
+) -> Result<(), NoMemory>
+    requires microword { IsMicroword board.now microword.now }
+    requires parts { AreParts board.now terms.old place.now.parts }
+    requires sources { AreSources board.now terms.old sources.now }
+    requires right { AreBits board.now terms.old place.now.parts place.now.sp sources.now bits.old }
+    ensures right { OnOk result (AreBits board.now terms.new place.now.parts place.now.sp sources.now bits.new) }
+    ensures listed { OnOk result ((reads : List Held) → all_read_words board.now microword.now place.now.parts place.now.sp (sources_of sources.now)
+        (map kinds.Ir (numbers 0 board.now.width)) (bits_made terms.old words.old reads bits.old) ≡ bits_made terms.new words.new reads bits.new) }
+    ensures grew { OnOk result (Grew terms.old terms.new words.old words.new) }
+{
+    for number in 0..board.width().bits() {
+        let bit = Bit::Ir(number);
+        make_read(
+            alloc, bit, board, microword, place, sources, bits, terms, words,
+        )?;
+    }
     Ok(())
 }
 
@@ -164,20 +238,14 @@ fn make_bits(
     requires sources { AreSources board.now terms.old sources.now }
     requires right { AreBits board.now terms.old place.now.parts place.now.sp sources.now bits.old }
     ensures right { OnOk result (AreBits board.now terms.new place.now.parts place.now.sp sources.now bits.new) }
+    ensures listed { OnOk result ((reads : List Held) → all_read_words board.now microword.now place.now.parts place.now.sp (sources_of sources.now)
+        (bits_in_order board.now) (bits_made terms.old words.old reads bits.old) ≡ bits_made terms.new words.new reads bits.new) }
     ensures grew { OnOk result (Grew terms.old terms.new words.old words.new) }
 {
-    for bit in IN_ORDER {
-        make_read(
-            alloc, bit, board, microword, place, sources, bits, terms, words,
-        )?;
-    }
-    for number in 0..board.width().bits() {
-        let bit = Bit::Ir(number);
-        make_read(
-            alloc, bit, board, microword, place, sources, bits, terms, words,
-        )?;
-    }
-    Ok(())
+    make_all(
+        alloc, &IN_ORDER, board, microword, place, sources, bits, terms, words,
+    )?;
+    make_ir_bits(alloc, board, microword, place, sources, bits, terms, words)
 }
 
 /// A bit, turned over where polarity is 1.
@@ -191,6 +259,7 @@ fn turned(
     requires wide { IsOfWidth terms.old 1 bit }
     ensures is { IfOk result (IsTurned polarity terms.new bit) }
     ensures wide { IfOk result (IsOfWidth terms.new 1) }
+    ensures listed { IfOk result (Lists (turned_words polarity bit) terms.old terms.new words.old words.new) }
     ensures grew { OnOk result (Grew terms.old terms.new words.old words.new) }
 {
     if !polarity {
@@ -219,6 +288,7 @@ fn condition(
         × IsTurned microword.now.polarity terms.new bit term) }
     ensures wide { IfOk result (IsOfWidth terms.new 1) }
     ensures right { OnOk result (AreBits board.now terms.new place.now.parts place.now.sp sources.now bits.new) }
+    ensures listed { IfOk result (ListsFrom (condition_words board.now microword.now place.now.parts place.now.sp (sources_of sources.now)) terms.old terms.new words.old words.new bits.old bits.new) }
     ensures grew { OnOk result (Grew terms.old terms.new words.old words.new) }
 {
     let bit = bits.bit(
@@ -253,6 +323,7 @@ fn noise_word(
     ensures words { IfOk result (λ term. words.new ≡ words.old ++ variable term (Noise cycle) ∷ []) }
     ensures made { IfOk result (IsTermOf terms.old terms.new (Var (length words.old + 1) 14)) }
     ensures of { OnOk result (AreOf terms.old words.old → AreOf terms.new words.new) }
+    ensures listed { IfOk result (Lists (with_variable (Noise cycle) 14) terms.old terms.new words.old words.new) }
     ensures extends { Extends terms.old terms.new }
     ensures keeps { Keeps terms.old terms.new }
     ensures table { IsTable terms.new }
@@ -272,6 +343,9 @@ fn line_and_noise(
     ensures noise { IfOk result (λ v. term_of words.new (Noise cycle) ≡ Some v.noise) }
     ensures line_wide { IfOk result (λ v. IsOfWidth terms.new 1 v.line) }
     ensures noise_wide { IfOk result (λ v. IsOfWidth terms.new 14 v.noise) }
+    ensures listed { IfOk result (λ v. (reads : List Held)
+        → (let line = with_variable (Line cycle) 1 (list_of terms.old.ops words.old reads) in
+        (line.term ≡ v.line) × (with_variable (Noise cycle) 14 line.list ≡ ended v.noise (list_of terms.new.ops words.new reads)))) }
     ensures goes { OnOk result ((taken : ℕ) (m : Memory) → IsWorkspace terms.old words.old m
         → GoesOn (IsCycleKind cycle taken) terms.old terms.new words.old words.new m m) }
     ensures inputs { OnOk result ((board : BoardParts) → AreInputs board terms.old words.old → AreInputs board terms.new words.new) }
@@ -309,6 +383,8 @@ fn operands(
         parts.now.regs microword.now.a_address) (slice_index parts.now.regs microword.now.b_address) parts.now.q o.1) }
     ensures r_wide { IfOk result (λ o. IsOfWidth terms.new board.now.width o.0) }
     ensures s_wide { IfOk result (λ o. IsOfWidth terms.new board.now.width o.1) }
+    ensures listed { IfOk result (λ o. (reads : List Held) → operands_words board.now microword.now parts.now d (list_of terms.old.ops words.old reads)
+        ≡ operands_in terms.new words.new reads o) }
     ensures grew { OnOk result (Grew terms.old terms.new words.old words.new) }
 {
     let width = board.width().bits();
@@ -335,6 +411,8 @@ fn addends(
     ensures second { IfOk result (λ a. IsAddendS terms.new function operands.1 a.1) }
     ensures first_wide { IfOk result (λ a. IsOfWidth terms.new width a.0) }
     ensures second_wide { IfOk result (λ a. IsOfWidth terms.new width a.1) }
+    ensures listed { IfOk result (λ a. (reads : List Held) → addends_words function operands.0 operands.1 (list_of terms.old.ops words.old reads)
+        ≡ operands_in terms.new words.new reads a) }
     ensures grew { OnOk result (Grew terms.old terms.new words.old words.new) }
 {
     let (r, s) = operands;
@@ -366,6 +444,8 @@ fn make_sources(
     ensures noise { IfOk result (λ n. n.noise ≡ variables.noise) }
     ensures are { IfOk result (AreOperands board.now microword.now terms.new place.now.parts place.now.sp d) }
     ensures right { IfOk result (λ n. AreBits board.now terms.new place.now.parts place.now.sp n bits.new) }
+    ensures listed { IfOk result (λ n. (reads : List Held) → sources_words board.now microword.now place.now.parts place.now.sp variables.line variables.noise d
+        (list_of terms.old.ops words.old reads) ≡ sources_in terms.new words.new reads n bits.new) }
     ensures grew { OnOk result (Grew terms.old terms.new words.old words.new) }
 {
     let Variables { line, noise } = variables;
@@ -425,6 +505,9 @@ impl Reading {
         requires inputs { AreInputs board.now terms.old words.old }
         requires none { AreNoLater place.now.cycle words.old }
         ensures is { IfOk result (IsReading board.now microword.now terms.new words.new memory.new place.now) }
+        ensures listed { IfOk result (λ reading. (events : List SymEvent)
+            → reading_words board.now microword.now (standing_of place.now memory.old.board events)
+            (list_in terms.old words.old memory.old) ≡ reading_in terms.new words.new memory.new reading) }
         ensures goes { OnOk result (GoesOn (IsCycleKind place.now.cycle place.now.taken) terms.old terms.new words.old words.new memory.old memory.new) }
         ensures reads { OnOk result (length memory.new.reads ≤ length memory.old.reads + 1) }
         ensures writes { OnOk result (KeepsWrites memory.old memory.new) }

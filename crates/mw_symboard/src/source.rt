@@ -6,12 +6,14 @@ ghost use Rattle.mw_term.specs.declared.kinds.WordKind.TheVariants.{Input};
 ghost use Rattle.mw_term.specs.Table.{IsWidth};
 ghost use Rattle.mw_symmem.specs.declared.side.Side.TheVariants as side;
 ghost use Rattle.mw_symmem.specs.Memory.{IsOfWidth, IsRead};
-ghost use Rattle.mw_term.specs.WordList.{term_of};
+ghost use Rattle.mw_term.specs.WordList.{memory_read_words, term_of, with_input};
 ghost use Rattle.mw_symmem.specs.Workspace.{GoesOn, IsWorkspace, KeepsWrites};
 ghost use Rattle.mw_symboard.specs.Growth.{Grew};
 ghost use Rattle.mw_symboard.specs.Kinds.{AreInputs, IsSourceKind};
 ghost use Rattle.mw_symboard.specs.Made.{IsFrom, IsMasked};
 ghost use Rattle.mw_symboard.specs.Parts.{AreParts};
+ghost use Rattle.mw_cycle.specs.ReadingWords.{masked_words, source_words};
+ghost use Rattle.mw_symmem.specs.Listed.{Lists, ListsOver};
 
 use crate::make::{constant, widened, word};
 use crate::parts::Parts;
@@ -36,6 +38,7 @@ fn fresh_input(
     requires inputs { AreInputs board.now terms.old words.old }
     ensures is { IfOk result (λ term. term_of words.new (Input number) ≡ Some term) }
     ensures wide { IfOk result (IsOfWidth terms.new board.now.width) }
+    ensures listed { IfOk result (Lists (with_input number board.now.width) terms.old terms.new words.old words.new) }
     ensures goes { OnOk result (GoesOn (IsSourceKind number) terms.old terms.new words.old words.new memory.now memory.now) }
     ensures inputs { OnOk result (AreInputs board.now terms.new words.new) }
 {
@@ -56,6 +59,7 @@ pub(crate) fn input(
     requires inputs { AreInputs board.now terms.old words.old }
     ensures is { IfOk result (λ term. term_of words.new (Input number) ≡ Some term) }
     ensures wide { IfOk result (IsOfWidth terms.new board.now.width) }
+    ensures listed { IfOk result (Lists (with_input number board.now.width) terms.old terms.new words.old words.new) }
     ensures goes { OnOk result (GoesOn (IsSourceKind number) terms.old terms.new words.old words.new memory.now memory.now) }
     ensures inputs { OnOk result (AreInputs board.now terms.new words.new) }
 {
@@ -83,6 +87,7 @@ fn read_source(
     requires inputs { AreInputs board.now terms.old words.old }
     ensures is { IfOk result (IsRead terms.new memory.new side.Board mar) }
     ensures wide { IfOk result (IsOfWidth terms.new board.now.width) }
+    ensures listed { IfOk result (ListsOver (memory_read_words board.now.width mar memory.old.board) terms.old terms.new words.old words.new memory.old memory.new) }
     ensures goes { OnOk result (GoesOn (IsSourceKind taken) terms.old terms.new words.old words.new memory.old memory.new) }
     ensures reads { OnOk result (length memory.new.reads ≤ length memory.old.reads + 1) }
     ensures writes { OnOk result (KeepsWrites memory.old memory.new) }
@@ -112,6 +117,7 @@ pub(crate) fn from_source(
     requires inputs { AreInputs board.now terms.old words.old }
     ensures is { IfOk result (IsFrom board.now microword.now.word terms.new words.new memory.new parts.now taken microword.now.d.from) }
     ensures wide { IfOk result (IsOfWidth terms.new board.now.width) }
+    ensures listed { IfOk result (ListsOver (source_words board.now microword.now.word parts.now memory.old.board taken microword.now.d.from) terms.old terms.new words.old words.new memory.old memory.new) }
     ensures goes { OnOk result (GoesOn (IsSourceKind taken) terms.old terms.new words.old words.new memory.old memory.new) }
     ensures reads { OnOk result (length memory.new.reads ≤ length memory.old.reads + 1) }
     ensures writes { OnOk result (KeepsWrites memory.old memory.new) }
@@ -146,6 +152,7 @@ fn seen_through(
     requires wide { IsOfWidth terms.old width whole }
     ensures is { IfOk result (IsMasked terms.new width (Some mask) whole) }
     ensures wide { IfOk result (IsOfWidth terms.new width) }
+    ensures listed { IfOk result (Lists (masked_words width (Some mask) whole) terms.old terms.new words.old words.new) }
     ensures grew { OnOk result (Grew terms.old terms.new words.old words.new) }
 {
     let constant = constant(alloc, mask, width, terms)?;
@@ -167,6 +174,7 @@ pub(crate) fn masked(
     requires wide { IsOfWidth terms.old width whole }
     ensures is { IfOk result (IsMasked terms.new width mask whole) }
     ensures wide { IfOk result (IsOfWidth terms.new width) }
+    ensures listed { IfOk result (Lists (masked_words width mask whole) terms.old terms.new words.old words.new) }
     ensures grew { OnOk result (Grew terms.old terms.new words.old words.new) }
 {
     match mask {

@@ -17,20 +17,6 @@ use Rattle.mw_symmem.specs.Memory.{Memory, writes_of}
 use Rattle.mw_symmach.specs.Expressions.{AreTerms, IsMade, Runs, shape_over}
 use Rattle.mw_symmach.proofs.Making.{shape_same}
 
-apart : (m n : ℕ) → ¬ (m ≡ n) → (m == n) ≡ false
-apart m n differ = grind (arith, nat_tests)
-
--- fewer bits than all are a word
-pub fewer_bits : (whole_width whole low width : ℕ) (l : WordList) → ¬ (width ≡ whole_width)
-    → with_part whole_width whole low width l ≡ with_word (Part whole low width) l
-fewer_bits whole_width whole low width l differ = rw (apart width whole_width differ) refl
-
--- more bits have zeros above them
-pub more_bits : (from to term : ℕ) (l : WordList) → ¬ (from ≡ to)
-    → with_zeros_above from to term l
-    ≡ with_word (Join (with_constant 0 (to - from) l).term term) (with_constant 0 (to - from) l).list
-more_bits from to term l differ = rw (apart from to differ) refl
-
 -- words without a read behind others
 pub then_list : (first : WordList → Ended) (next : ℕ → WordList → Ended) (t0 t1 t2 : Table) (w0 w1 w2 : List Word)
     (m0 m1 : Memory) (a term : ℕ) → ListsOver first t0 t1 w0 w1 m0 m1 a → Lists (next a) t1 t2 w1 w2 term

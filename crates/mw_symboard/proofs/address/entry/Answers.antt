@@ -5,6 +5,8 @@ use Rattle.mw_symboard.specs.Made.{IsPart}
 use Rattle.mw_symboard.proofs.Fitting.{fits_tab, wide_tab, map_size_is}
 use Rattle.mw_symboard.proofs.Growing.{grew_then}
 use Rattle.mw_symboard.proofs.Standing.{part_stays}
+use Rattle.mw_term.specs.WordList.{list_of, with_part, with_word}
+use Rattle.mw_term.specs.declared.op.Op.TheVariants.{Tab}
 use Rattle.mw_symboard.proofs.address.entry.Goals as goal
 
 pub word-requires-clause-fits : goal.word-requires-clause-fits
@@ -40,3 +42,14 @@ pub returns-clause-grew : goal.returns-clause-grew
 returns-clause-grew c =
     grew_then c.args.terms.now c.part.new.terms c.word.new.terms c.args.words.now c.part.new.words c.word.new.words
     c.in_ok-index.ensures.grew c.in_ok-term.ensures.grew
+
+pub returns-clause-listed : goal.returns-clause-listed
+returns-clause-listed c = λ reads.
+    (let board = c.args.board.now in
+    let width : c.bits-width.result ≡ board.width = c.bits-width.ensures.exact ∙ c.width.ensures.exact in
+    c.in_ok-term.ensures.listed reads
+    ∙ ap (λ x. with_word (Tab x.term) x.list)
+    (c.in_ok-index.ensures.listed reads
+    ∙ ap (λ (p : BoardParts). with_part c.bits-width.result c.args.ir p.map_low p.map_bits (list_of c.args.terms.now.ops c.args.words.now reads))
+    c.parts-parts.ensures.exact
+    ∙ ap (λ w. with_part w c.args.ir board.map_low board.map_bits (list_of c.args.terms.now.ops c.args.words.now reads)) width))

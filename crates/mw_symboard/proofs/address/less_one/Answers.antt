@@ -1,6 +1,8 @@
-use Rattle.mw_term.specs.declared.op.Op.TheVariants.{Con}
+use Rattle.mw_term.specs.declared.op.Op.TheVariants.{Con, Sum}
 use Rattle.mw_symboard.proofs.Fitting.{fits_sum, wide_sum}
 use Rattle.mw_symboard.proofs.Growing.{grew_then, is_later, wide_later}
+use Rattle.std.proofs.Common.{ap, ◌∙◌}
+use Rattle.mw_term.specs.WordList.{with_constant, with_word}
 use Rattle.mw_symboard.proofs.address.less_one.Goals as goal
 
 pub word-requires-clause-fits : goal.word-requires-clause-fits
@@ -49,3 +51,12 @@ returns-clause-grew c =
     (grew_then c.args.terms.now c.constant.new.terms c.constant-2.new.terms ws ws ws (c.in_ok-ones.ensures.grew ws)
     (c.in_ok-zero.ensures.grew ws))
     c.in_ok-term.ensures.grew
+
+pub returns-clause-listed : goal.returns-clause-listed
+returns-clause-listed c = λ reads.
+    (let ws = c.args.words.now in
+    let ones = c.in_ok-ones.ones in
+    c.in_ok-term.ensures.listed reads
+    ∙ ap (λ x. with_word (Sum c.args.r ones x.term) x.list) (c.in_ok-zero.ensures.listed ws reads)
+    ∙ ap (λ x. (let zero = with_constant 0 1 x.list in with_word (Sum c.args.r x.term zero.term) zero.list))
+    (c.in_ok-ones.ensures.listed ws reads))

@@ -13,3 +13,6 @@ returns-clause-wide c =
     let inside : i < length stack = omega (arith, there, parts.stack) in
     let s : c.index.result.now ≡ slice_index stack i = get_or_read stack i c.index.result.now inside c.index.ensures 0 in
     rw s (stack_wide _ _ _ i parts there)
+
+pub returns-then-sp-eq0-clause-listed : goal.returns-then-sp-eq0-clause-listed
+returns-then-sp-eq0-clause-listed c = rw c.if-sp-eq0.true c.in_ok-term.ensures.listed

@@ -1,7 +1,8 @@
 use Rattle.std.proofs.Common.{sym, subst}
 use Rattle.mw_alu.specs.Instruction.{destination_of}
 use Rattle.mw_cycle.specs.declared.elements.Element.TheVariants.{Mar}
-use Rattle.mw_symboard.specs.Parts.{Parts, AreParts}
+use Rattle.mw_symboard.specs.Parts.{AreParts}
+use Rattle.mw_cycle.specs.BoardTerms.{Parts}
 use Rattle.mw_symboard.specs.Seen.{Place}
 use Rattle.mw_symboard.proofs.Growing.{grew_then, wide_later}
 use Rattle.mw_symboard.proofs.Standing.{all_loaded_stay, written_b_stays, written_q_stays}

@@ -1,13 +1,16 @@
-use Rattle.std.proofs.Common.{◌≡◌, ◌∙◌, ◌<◌, [], ◌∷◌, List, length, length-append, slice_index, Some, ap, sym, refl, subst, arith, rules}
+use Rattle.std.proofs.Common.{◌≡◌, ◌∙◌, ℕ, ◌<◌, ◌≤◌, [], ◌∷◌, List, get_or, length, length-append, slice_index, Some, ap, sym, refl, subst, arith, rules}
 use Rattle.std.specs.Prelude.{slice_get}
 use Rattle.std.proofs.lemmas.Option.{slice_get_read, slice_get_within}
 use Rattle.mw_board.specs.declared.bit.Load.{Load}
 use Rattle.mw_board.specs.declared.flipflop.FlipFlop.{FlipFlop}
 use Rattle.mw_cycle.specs.Cycle.{load_of}
-use Rattle.mw_symboard.specs.Made.{IsLoaded}
 use Rattle.mw_symboard.proofs.Growing.{grew_then, wide_later}
 use Rattle.mw_symboard.proofs.Loads.{one_so_far}
 use Rattle.mw_symboard.proofs.Widths.{flip_wide}
+use Rattle.mw_cycle.specs.EdgeWords.{loaded_words, with_flip}
+use Rattle.mw_symboard.proofs.Listing.{flip_on, flips_all}
+use Rattle.mw_symboard.specs.Listed.{bits_made, loaded_in}
+use Rattle.mw_symboard.specs.Made.{IsLoaded, sources_of}
 use Rattle.mw_symboard.proofs.edge.flips.Goals as goal
 
 pub loaded-requires-clause-old : goal.loaded-requires-clause-old
@@ -64,7 +67,32 @@ loop-flipflop-preserved c =
       so_far = rw c.in_ok-push.ensures.items
           (one_so_far board m t1 t2 p c.args.sp c.args.sources.now terms f c.in_ok-term.term e.grew.1.extends
           e.grew.1.keeps before.so_far here is e.wide);
+      listed = λ reads.
+          (let n = sources_of c.args.sources.now in
+          let i = c.loop-flipflop.flipflop-index in
+          let made = bits_made t1 c.loop-flipflop.words reads c.loop-flipflop.bits in
+          let after = λ (flips : List ℕ). loaded_in t2 c.loaded.new.words reads c.loaded.new.bits flips in
+          let inside : i < length board.flipflop = omega (arith, many, c.loop-flipflop-test.true) in
+          let there : i < length p.flips = omega (arith, inside, c.requires.parts.flips) in
+          let item : f ≡ get_or board.flipflop i f =
+          subst (λ (xs : List FlipFlop). f ≡ get_or xs i f) flipflops c.flipflop-item.is in
+          let was : c.old_value-old.result ≡ slice_index p.flips i = old ∙ ap (slice_index p.flips) before.count in
+          let step = ap (λ x. with_flip terms (loaded_words x board p c.args.sp n c.old_value-old.result made))
+          (sym c.load-load.ensures.exact)
+          ∙ ap (with_flip terms) (sym (e.listed reads)) ∙ ap after (sym c.in_ok-push.ensures.items) in
+          before.listed reads
+          ∙ flip_on board m p c.args.sp n board.flipflop p.flips i f c.old_value-old.result
+          (loaded_in t1 c.loop-flipflop.words reads c.loop-flipflop.bits terms) (after c.push.new.self.items) inside item there was step);
     }
+
+pub returns-clause-listed : goal.returns-clause-listed
+returns-clause-listed c = λ reads.
+    (let flipflops : c.as_slice-flipflop-items.result.now ≡ c.args.board.now.flipflop = search rules in
+    let many : length c.as_slice-flipflop-items.result.now ≡ length c.args.board.now.flipflop = ap length flipflops in
+    let past : length c.args.board.now.flipflop ≤ c.loop-flipflop.flipflop-index = omega (arith, many, c.loop-flipflop-test.false) in
+    c.loop-flipflop.invariant.listed reads
+    ∙ flips_all c.args.board.now c.args.microword.now c.args.parts.now c.args.sp (sources_of c.args.sources.now)
+    c.args.board.now.flipflop c.args.parts.now.flips c.loop-flipflop.flipflop-index _ past)
 
 pub returns-clause-are : goal.returns-clause-are
 returns-clause-are c =

@@ -2,6 +2,10 @@ use Rattle.mw_board.specs.declared.bit.Bit.TheVariants.{Carry}
 use Rattle.mw_symboard.proofs.Fitting.{fits_xor, wide_xor}
 use Rattle.mw_symboard.proofs.Growing.{grew_then, wide_later}
 use Rattle.mw_symboard.proofs.Standing.{bit_term_stays, bits_stay}
+use Rattle.std.proofs.Common.{ap, ◌∙◌}
+use Rattle.mw_term.specs.WordList.{with_word}
+use Rattle.mw_cycle.specs.ReadingWords.{BitEnded, bit_ended}
+use Rattle.mw_term.specs.declared.op.Op.TheVariants.{Xor}
 use Rattle.mw_symboard.proofs.edge.turned_by_carry.Goals as goal
 
 pub word-requires-clause-fits : goal.word-requires-clause-fits
@@ -34,3 +38,8 @@ pub returns-clause-grew : goal.returns-clause-grew
 returns-clause-grew c =
     grew_then c.args.terms.now c.bit.new.terms c.word.new.terms c.args.words.now c.bit.new.words c.word.new.words
     c.in_ok-carry.ensures.grew c.in_ok-term.ensures.grew
+
+pub returns-clause-listed : goal.returns-clause-listed
+returns-clause-listed c = λ reads.
+    (ap (bit_ended c.bit.new.self) (c.in_ok-term.ensures.listed reads)
+    ∙ ap (λ (b : BitEnded). bit_ended b.bits (with_word (Xor c.args.old b.term) b.list)) (c.in_ok-carry.ensures.listed reads))

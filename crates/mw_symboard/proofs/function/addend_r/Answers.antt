@@ -11,3 +11,6 @@ returns-in-Subr-clause-wide c =
     let tnew = c.word.new.terms in
     IfOk-weaker c.word.result (IsTermOf told tnew (Not c.args.r)) (IsOfWidth tnew c.args.width)
     (λ term made. wide_not told tnew c.args.width c.args.r term made c.requires.wide) c.word.ensures.made
+
+pub returns-in-Subr-clause-listed : goal.returns-in-Subr-clause-listed
+returns-in-Subr-clause-listed c = rw c.in-Subr.is c.word.ensures.listed

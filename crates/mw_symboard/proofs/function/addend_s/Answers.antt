@@ -11,3 +11,6 @@ returns-in-Subs-clause-wide c =
     let tnew = c.word.new.terms in
     IfOk-weaker c.word.result (IsTermOf told tnew (Not c.args.s)) (IsOfWidth tnew c.args.width)
     (λ term made. wide_not told tnew c.args.width c.args.s term made c.requires.wide) c.word.ensures.made
+
+pub returns-in-Subs-clause-listed : goal.returns-in-Subs-clause-listed
+returns-in-Subs-clause-listed c = rw c.in-Subs.is c.word.ensures.listed

@@ -1,6 +1,8 @@
 use Rattle.mw_term.specs.declared.op.Op.TheVariants.{Xor}
 use Rattle.mw_symboard.proofs.Fitting.{fits_not, fits_xor, wide_not, wide_xor}
 use Rattle.mw_symboard.proofs.Growing.{grew_then, is_later}
+use Rattle.std.proofs.Common.{ap, ◌∙◌}
+use Rattle.mw_term.specs.WordList.{with_complement}
 use Rattle.mw_symboard.proofs.function.alike.Goals as goal
 
 pub word-requires-clause-fits : goal.word-requires-clause-fits
@@ -32,3 +34,7 @@ pub returns-clause-grew : goal.returns-clause-grew
 returns-clause-grew c =
     grew_then c.args.terms.now c.word.new.terms c.word-2.new.terms c.args.words.now c.word.new.words c.word-2.new.words
     c.in_ok-differing.ensures.grew c.in_ok-term.ensures.grew
+
+pub returns-clause-listed : goal.returns-clause-listed
+returns-clause-listed c = λ reads.
+    (c.in_ok-term.ensures.listed reads ∙ ap (λ x. with_complement x.term x.list) (c.in_ok-differing.ensures.listed reads))

@@ -1,6 +1,8 @@
-use Rattle.mw_term.specs.declared.op.Op.TheVariants.{Not}
+use Rattle.mw_term.specs.declared.op.Op.TheVariants.{Not, And}
 use Rattle.mw_symboard.proofs.Fitting.{fits_not, fits_and, wide_not, wide_and}
 use Rattle.mw_symboard.proofs.Growing.{grew_then, is_later, wide_later}
+use Rattle.std.proofs.Common.{ap, ◌∙◌}
+use Rattle.mw_term.specs.WordList.{with_word}
 use Rattle.mw_symboard.proofs.function.not_r_and_s.Goals as goal
 
 pub word-requires-clause-fits : goal.word-requires-clause-fits
@@ -35,3 +37,7 @@ pub returns-clause-grew : goal.returns-clause-grew
 returns-clause-grew c =
     grew_then c.args.terms.now c.word.new.terms c.word-2.new.terms c.args.words.now c.word.new.words c.word-2.new.words
     c.in_ok-turned.ensures.grew c.in_ok-term.ensures.grew
+
+pub returns-clause-listed : goal.returns-clause-listed
+returns-clause-listed c = λ reads.
+    (c.in_ok-term.ensures.listed reads ∙ ap (λ x. with_word (And x.term c.args.s) x.list) (c.in_ok-turned.ensures.listed reads))

@@ -1,6 +1,8 @@
-use Rattle.mw_term.specs.declared.op.Op.TheVariants.{Con}
+use Rattle.mw_term.specs.declared.op.Op.TheVariants.{Con, Eq}
 use Rattle.mw_symboard.proofs.Fitting.{fits_eq, wide_equal}
 use Rattle.mw_symboard.proofs.Growing.{grew_then, is_later, wide_later}
+use Rattle.std.proofs.Common.{ap, ◌∙◌}
+use Rattle.mw_term.specs.WordList.{with_word}
 use Rattle.mw_symboard.proofs.make.is_zero.Goals as goal
 
 pub word-requires-clause-fits : goal.word-requires-clause-fits
@@ -28,3 +30,8 @@ returns-clause-grew c =
     let ws = c.args.words.now in
     grew_then c.args.terms.now c.constant.new.terms c.word.new.terms ws ws c.word.new.words
     (c.in_ok-zero.ensures.grew ws) c.in_ok-term.ensures.grew
+
+pub returns-clause-listed : goal.returns-clause-listed
+returns-clause-listed c = λ reads.
+    (c.in_ok-term.ensures.listed reads
+    ∙ ap (λ x. with_word (Eq c.args.tested x.term) x.list) (c.in_ok-zero.ensures.listed c.args.words.now reads))

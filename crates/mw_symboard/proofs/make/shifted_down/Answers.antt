@@ -1,7 +1,8 @@
-use Rattle.std.proofs.Common.{◌-◌, arith}
-use Rattle.mw_term.specs.declared.op.Op.TheVariants.{Part}
+use Rattle.std.proofs.Common.{◌-◌, arith, ap, ◌∙◌}
+use Rattle.mw_term.specs.declared.op.Op.TheVariants.{Part, Join}
 use Rattle.mw_symboard.proofs.Fitting.{fits_join, fits_part, wide_join, wide_part}
 use Rattle.mw_symboard.proofs.Growing.{grew_then, is_later, wide_later}
+use Rattle.mw_term.specs.WordList.{with_word}
 use Rattle.mw_symboard.proofs.make.shifted_down.Goals as goal
 
 pub word-requires-clause-fits : goal.word-requires-clause-fits
@@ -40,3 +41,8 @@ pub returns-clause-grew : goal.returns-clause-grew
 returns-clause-grew c =
     grew_then c.args.terms.now c.word.new.terms c.word-2.new.terms c.args.words.now c.word.new.words c.word-2.new.words
     c.in_ok-rest.ensures.grew c.in_ok-term.ensures.grew
+
+pub returns-clause-listed : goal.returns-clause-listed
+returns-clause-listed c = λ reads.
+    (c.in_ok-term.ensures.listed reads
+    ∙ ap (λ x. with_word (Join c.args.high x.term) x.list) (c.in_ok-rest.ensures.listed reads))

@@ -1,7 +1,9 @@
-use Rattle.std.proofs.Common.{◌-◌, inr, arith}
-use Rattle.mw_term.specs.declared.op.Op.TheVariants.{Con}
+use Rattle.std.proofs.Common.{◌-◌, inr, arith, ap, sym, ◌∙◌}
+use Rattle.mw_term.specs.declared.op.Op.TheVariants.{Con, Join}
 use Rattle.mw_symboard.proofs.Fitting.{fits_join, wide_join}
 use Rattle.mw_symboard.proofs.Growing.{grew_then, is_later, wide_later}
+use Rattle.mw_term.specs.WordList.{list_of, with_word}
+use Rattle.mw_symmem.proofs.Forms.{more_bits}
 use Rattle.mw_symboard.proofs.make.widened.Goals as goal
 
 pub word-requires-clause-fits : goal.word-requires-clause-fits
@@ -36,3 +38,9 @@ returns-clause-grew c =
     let ws = c.args.words.now in
     grew_then c.args.terms.now c.constant.new.terms c.word.new.terms ws ws c.word.new.words
     (c.in_ok-zeros.ensures.grew ws) c.in_ok-term.ensures.grew
+
+pub returns-clause-listed : goal.returns-clause-listed
+returns-clause-listed c = λ reads.
+    (c.in_ok-term.ensures.listed reads
+    ∙ ap (λ x. with_word (Join x.term c.args.narrow) x.list) (c.in_ok-zeros.ensures.listed c.args.words.now reads)
+    ∙ sym (more_bits c.args.from c.args.to c.args.narrow (list_of c.args.terms.now.ops c.args.words.now reads) c.if-from-to.false))

@@ -1,6 +1,8 @@
-use Rattle.std.proofs.Common.{◌+◌, length}
+use Rattle.std.proofs.Common.{◌+◌, length, ap, sym, ◌∙◌}
 use Rattle.mw_symmem.proofs.Growth.{width_stays}
 use Rattle.mw_symboard.proofs.Variables.{absent_noise, goes_by_both, inputs_after, line_there, noise_there, none_after, wide_variable}
+use Rattle.mw_term.specs.WordList.{Ended, with_variable}
+use Rattle.mw_term.specs.declared.kinds.WordKind.TheVariants.{Noise}
 use Rattle.mw_symboard.proofs.reading.line_and_noise.Goals as goal
 
 pub noise_word-requires : goal.noise_word-requires
@@ -54,3 +56,10 @@ returns-clause-none c =
     none_after c.args.cycle c.args.terms.now c.fresh.new.terms c.noise_word.new.terms c.args.words.now c.fresh.new.self
     c.noise_word.new.words c.in_ok-line.line c.in_ok-noise.noise c.requires.none c.in_ok-line.ensures.words
     c.in_ok-noise.ensures.words
+
+pub returns-clause-listed : goal.returns-clause-listed
+returns-clause-listed c = λ reads. (
+  sym (ap (λ (x : Ended). x.term) (c.in_ok-line.ensures.listed reads)),
+  ap (λ (x : Ended). with_variable (Noise c.args.cycle) 14 x.list) (sym (c.in_ok-line.ensures.listed reads))
+      ∙ sym (c.in_ok-noise.ensures.listed reads),
+)

@@ -1,20 +1,28 @@
-use Rattle.mw_symboard.proofs.Growing.{grew_none, grew_then}
+use Rattle.std.proofs.Common.{ap, ◌∙◌}
+use Rattle.std.proofs.lemmas.Result.{on_ok_weaker}
+use Rattle.mw_cycle.specs.ReadingWords.{all_read_words, bits_of_words}
+use Rattle.std.specs.Prelude.{map}
+use Rattle.mw_board.specs.declared.bit.Bit.TheVariants.{Ir}
+use Rattle.mw_cycle.specs.Boundary.{numbers}
+use Rattle.mw_symboard.proofs.Listing.{read_behind}
+use Rattle.mw_symboard.specs.Made.{sources_of}
+use Rattle.mw_symboard.proofs.Growing.{grew_then}
+use Rattle.mw_symboard.specs.Listed.{bits_made}
 use Rattle.mw_symboard.proofs.reading.make_bits.Goals as goal
 
-pub loop-bit-init : goal.loop-bit-init
-loop-bit-init c = record { grew = grew_none c.args.terms.now c.args.words.now; right = c.requires.right }
+pub returns-clause-listed : goal.returns-clause-listed
+returns-clause-listed c =
+    on_ok_weaker c.make_ir_bits.result
+    (λ two. λ reads.
+    (let read = all_read_words c.args.board.now c.args.microword.now c.args.place.now.parts c.args.place.now.sp
+    (sources_of c.args.sources.now) in
+    read_behind c.args.board.now c.args.microword.now c.args.place.now.parts c.args.place.now.sp (sources_of c.args.sources.now)
+    bits_of_words (map Ir (numbers 0 c.args.board.now.width)) (bits_made c.args.terms.now c.args.words.now reads c.args.bits.now)
+    ∙ ap (read (map Ir (numbers 0 c.args.board.now.width))) (c.in_ok-make_all.ensures.listed reads) ∙ two reads))
+    c.make_ir_bits.ensures.listed
 
-pub loop-bit-preserved : goal.loop-bit-preserved
-loop-bit-preserved c = record {
-  grew = grew_then c.args.terms.now c.loop-bit.terms c.make_read.new.terms c.args.words.now c.loop-bit.words
-      c.make_read.new.words c.loop-bit.invariant.grew c.in_ok-make_read.ensures.grew;
-  right = c.in_ok-make_read.ensures.right;
-}
-
-pub loop-number-preserved : goal.loop-number-preserved
-loop-number-preserved c = record {
-  grew = grew_then c.args.terms.now c.loop-number.terms c.make_read-in-loop-number.new.terms c.args.words.now
-      c.loop-number.words c.make_read-in-loop-number.new.words c.loop-number.invariant.grew
-      c.in_ok-make_read-2.ensures.grew;
-  right = c.in_ok-make_read-2.ensures.right;
-}
+pub returns-clause-grew : goal.returns-clause-grew
+returns-clause-grew c =
+    on_ok_weaker c.make_ir_bits.result
+    (λ two. grew_then c.args.terms.now c.make_all.new.terms c.make_ir_bits.new.terms c.args.words.now c.make_all.new.words
+    c.make_ir_bits.new.words c.in_ok-make_all.ensures.grew two) c.make_ir_bits.ensures.grew

@@ -1,8 +1,12 @@
-use Rattle.std.proofs.Common.{◌≡◌, ℕ, subst, ◌∙◌}
+use Rattle.std.proofs.Common.{◌≡◌, ℕ, subst, ◌∙◌, List}
 use Rattle.mw_symmem.specs.Memory.{IsOfWidth}
 use Rattle.mw_symboard.proofs.Growing.{grew_then, wide_later}
 use Rattle.mw_symboard.proofs.Read.{no_late_bits, operands_are}
 use Rattle.mw_symboard.proofs.Standing.{early_bits_stay}
+use Rattle.mw_term.specs.WordList.{list_of}
+use Rattle.mw_term.specs.declared.word.Word.{Word}
+use Rattle.mw_term.specs.Table.{Table}
+use Rattle.mw_symboard.proofs.Listing.{none_made, sources_are}
 use Rattle.mw_symboard.proofs.reading.make_sources.Goals as goal
 
 pub returns-clause-are : goal.returns-clause-are
@@ -56,3 +60,15 @@ returns-clause-grew c =
     let two = grew_then t0 c.operands.new.terms c.addends.new.terms w0 c.operands.new.words c.addends.new.words one
     c.in_ok-first.ensures.grew in
     grew_then t0 c.addends.new.terms c.f.new.terms w0 c.addends.new.words c.f.new.words two c.in_ok-f.ensures.grew
+
+pub returns-clause-listed : goal.returns-clause-listed
+returns-clause-listed c = λ reads.
+    (let list = λ (t : Table) (words : List Word). list_of t.ops words reads in
+    rw (← c.place.view_is)
+    (sources_are c.args.board.now c.args.microword.now c.place.inside.parts c.place.inside.sp c.args.variables.line c.args.variables.noise c.args.d c.of-function.result
+    (list c.args.terms.now c.args.words.now) (list c.early.new.terms c.early.new.words)
+    (list c.operands.new.terms c.operands.new.words) (list c.addends.new.terms c.addends.new.words)
+    (list c.f.new.terms c.f.new.words) c.in_ok-carry.carry c.in_ok-r.r c.in_ok-r.s c.in_ok-first.first c.in_ok-first.second
+    c.in_ok-f.f c.args.bits.now c.early.new.self c.of-function.ensures
+    (none_made c.args.bits.now c.requires.early c.requires.late) (c.in_ok-carry.ensures.listed reads)
+    (c.in_ok-r.ensures.listed reads) (c.in_ok-first.ensures.listed reads) (c.in_ok-f.ensures.listed reads)))

@@ -1,6 +1,7 @@
 use Rattle.std.proofs.Common.{◌≡◌, sym, slice_index, subst}
 use Rattle.mw_alu.specs.Instruction.{source_of}
-use Rattle.mw_symboard.specs.Parts.{Parts, AreParts}
+use Rattle.mw_symboard.specs.Parts.{AreParts}
+use Rattle.mw_cycle.specs.BoardTerms.{Parts}
 use Rattle.mw_symboard.proofs.Growing.{grew_then, wide_later}
 use Rattle.mw_symboard.proofs.Read.{r_at}
 use Rattle.mw_symboard.proofs.Widths.{q_wide, register_wide}

@@ -1,6 +1,7 @@
-use Rattle.std.proofs.Common.{◌≡◌, ◌∙◌, ◌+◌, length}
+use Rattle.std.proofs.Common.{◌≡◌, ◌∙◌, ◌+◌, length, ap, sym}
 use Rattle.mw_term.specs.declared.kinds.WordKind.TheVariants.{Input}
 use Rattle.mw_symboard.proofs.Inputs.{goes_by_input, inputs_with, variable_found, wide_variable}
+use Rattle.mw_term.specs.WordList.{list_of, variable_or, with_variable}
 use Rattle.mw_symboard.proofs.source.fresh_input.Goals as goal
 
 pub returns-clause-is : goal.returns-clause-is
@@ -30,3 +31,11 @@ returns-clause-inputs c =
     rw e.words
     (inputs_with c.args.board.now c.args.terms.now c.fresh.new.terms c.args.words.now c.in_ok-term.term c.args.number
     e.extends e.keeps c.requires.absent (rw width at wide) c.requires.inputs)
+
+pub returns-clause-listed : goal.returns-clause-listed
+returns-clause-listed c = λ reads.
+    (let width : c.bits.result ≡ c.args.board.now.width = c.bits.ensures.exact ∙ c.width.ensures.exact in
+    c.in_ok-term.ensures.listed reads
+    ∙ ap (λ w. with_variable (Input c.args.number) w (list_of c.args.terms.now.ops c.args.words.now reads)) width
+    ∙ sym (ap (λ there. variable_or there (Input c.args.number) c.args.board.now.width
+    (list_of c.args.terms.now.ops c.args.words.now reads)) c.requires.absent))

@@ -1,9 +1,14 @@
-use Rattle.std.proofs.Common.{◌≡◌, ◌<◌, length, slice_index, subst, arith}
+use Rattle.std.proofs.Common.{◌≡◌, ◌<◌, length, slice_index, subst, arith, ◌∙◌, ap, sym}
 use Rattle.std.proofs.lemmas.List.{get_or_read}
 use Rattle.mw_board.specs.declared.bit.DFrom.{DFrom}
 use Rattle.mw_board.specs.Valid.{IsFrom}
 use Rattle.mw_symboard.proofs.Inputs.{constant_ok, goes_ok, inputs_ok}
 use Rattle.mw_symboard.proofs.Widths.{flip_wide, ir_wide, mar_wide}
+use Rattle.mw_term.specs.WordList.{with_constant}
+use Rattle.mw_cycle.specs.ReadingWords.{source_words}
+use Rattle.mw_symboard.proofs.Listing.{constant_over}
+use Rattle.std.specs.Prelude.{◌%◌, ◌^◌, slice_get}
+use Rattle.mw_cycle.specs.Control.{in_field}
 use Rattle.mw_symboard.proofs.source.from_source.Goals as goal
 
 pub read_source-requires-clause-wide : goal.read_source-requires-clause-wide
@@ -83,3 +88,24 @@ returns-in-Flip-clause-inputs c =
     inputs_ok c.widened-in-Flip.result c.args.board.now c.args.terms.now c.widened-in-Flip.new.terms c.args.words.now
     c.widened-in-Flip.new.words
     c.requires.inputs (c.widened-in-Flip.ensures.grew)
+
+pub returns-in-Zero-clause-listed : goal.returns-in-Zero-clause-listed
+returns-in-Zero-clause-listed c =
+    let board = c.args.board.now in
+    let width : c.bits-width.result ≡ board.width = c.bits-width.ensures.exact ∙ c.width.ensures.exact in
+    constant_over c.constant.result 0 c.bits-width.result _ c.args.terms.now c.constant.new.terms c.args.words.now
+    c.args.memory.now
+    (λ l. ap (λ w. with_constant 0 w l) width
+    ∙ sym (ap (λ from. source_words board c.args.microword.now.word c.args.parts.now c.args.memory.now.board c.args.taken from l)
+    c.in-Zero.is)) c.constant.ensures.listed
+
+pub returns-in-Field-clause-listed : goal.returns-in-Field-clause-listed
+returns-in-Field-clause-listed c =
+    let board = c.args.board.now in
+    let width : c.bits-width.result ≡ board.width = c.bits-width.ensures.exact ∙ c.width.ensures.exact in
+    constant_over c.constant-in-Field.result c.field.result c.bits-width.result _ c.args.terms.now c.constant-in-Field.new.terms
+    c.args.words.now c.args.memory.now
+    (λ l. ap (λ n. with_constant n c.bits-width.result l) c.field.ensures.exact
+    ∙ ap (λ w. with_constant (in_field (slice_get board.fields c.in-Field.number) c.args.microword.now.word % 2 ^ board.width) w l) width
+    ∙ sym (ap (λ from. source_words board c.args.microword.now.word c.args.parts.now c.args.memory.now.board c.args.taken from l)
+    c.in-Field.is)) c.constant-in-Field.ensures.listed

@@ -1,6 +1,8 @@
-use Rattle.mw_term.specs.declared.op.Op.TheVariants.{Con}
+use Rattle.mw_term.specs.declared.op.Op.TheVariants.{Con, And}
 use Rattle.mw_symboard.proofs.Fitting.{fits_and, wide_and}
 use Rattle.mw_symboard.proofs.Growing.{grew_then, is_later, wide_later}
+use Rattle.std.proofs.Common.{ap, ◌∙◌}
+use Rattle.mw_term.specs.WordList.{with_word}
 use Rattle.mw_symboard.proofs.source.seen_through.Goals as goal
 
 pub word-requires-clause-fits : goal.word-requires-clause-fits
@@ -31,3 +33,8 @@ returns-clause-grew c =
     let ws = c.args.words.now in
     grew_then c.args.terms.now c.constant.new.terms c.word.new.terms ws ws c.word.new.words
     (c.in_ok-constant.ensures.grew ws) c.in_ok-term.ensures.grew
+
+pub returns-clause-listed : goal.returns-clause-listed
+returns-clause-listed c = λ reads.
+    (c.in_ok-term.ensures.listed reads
+    ∙ ap (λ x. with_word (And c.args.whole x.term) x.list) (c.in_ok-constant.ensures.listed c.args.words.now reads))

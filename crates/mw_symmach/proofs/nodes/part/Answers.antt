@@ -1,7 +1,7 @@
 use Rattle.std.proofs.Common.{arith, ◌≡◌, ◌+◌, ◌-◌, sym, ◌∙◌}
 use Rattle.mw_term.specs.Table.{term_width}
 use Rattle.mw_term.specs.WordList.{list_of}
-use Rattle.mw_symmach.proofs.Listing.{fewer_bits}
+use Rattle.mw_symmem.proofs.Forms.{fewer_bits}
 use Rattle.mw_symmach.proofs.Single.{gives_whole, gives_part}
 use Rattle.mw_symmach.proofs.nodes.part.Goals as goal
 

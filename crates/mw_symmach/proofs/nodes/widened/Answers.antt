@@ -4,7 +4,7 @@ use Rattle.mw_symmach.proofs.Single.{fits_zeros, gives_widened}
 use Rattle.mw_term.specs.declared.op.Op.TheVariants.{Join}
 use Rattle.mw_term.specs.Table.{term_width}
 use Rattle.mw_term.specs.WordList.{list_of, with_word}
-use Rattle.mw_symmach.proofs.Listing.{more_bits}
+use Rattle.mw_symmem.proofs.Forms.{more_bits}
 use Rattle.mw_symmach.proofs.nodes.widened.Goals as goal
 
 pub add-requires-clause-fits : goal.add-requires-clause-fits

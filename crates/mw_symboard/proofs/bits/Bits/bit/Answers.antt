@@ -1,4 +1,7 @@
 use Rattle.mw_symboard.proofs.MadeBits.{after_early, after_late}
+use Rattle.mw_symboard.proofs.Listing.{no_late_bit, said_bit}
+use Rattle.mw_symboard.specs.Made.{sources_of}
+use Rattle.mw_cycle.specs.ReadingWords.{bit_words, early_words}
 use Rattle.mw_symboard.proofs.bits.Bits.bit.Goals as goal
 
 pub returns-in-Carry-clause-right : goal.returns-in-Carry-clause-right
@@ -45,3 +48,12 @@ returns-in_default-clause-right c =
     after_early c.early.result c.args.board.now c.args.terms.now c.early.new.terms c.args.words.now c.early.new.words
     c.args.parts.now c.args.sp c.args.sources.now c.args.self.now c.early.new.self c.early.ensures.late c.requires.right
     c.early.ensures.right c.early.ensures.grew
+
+pub returns-in_default-clause-listed : goal.returns-in_default-clause-listed
+returns-in_default-clause-listed c =
+    let no = c.in_default in
+    said_bit c.early.result (early_words c.args.board.now c.args.parts.now c.args.sp c.args.sources.now.line c.args.bit)
+    (bit_words c.args.board.now c.args.parts.now c.args.sp (sources_of c.args.sources.now) c.args.bit) c.args.terms.now c.early.new.terms c.args.words.now c.early.new.words c.args.self.now c.early.new.self
+    (λ l. no_late_bit c.args.board.now c.args.parts.now c.args.sp (sources_of c.args.sources.now) c.args.bit c.args.self.now l
+    no.not-Carry no.not-Overflow no.not-FZero no.not-Sign no.not-FLow no.not-FHigh)
+    c.early.ensures.listed

@@ -1,10 +1,15 @@
-use Rattle.std.proofs.Common.{◌≡◌, ◌∙◌, ◌-◌, ◌<◌, ◌≤◌, length, slice_index, subst, arith}
+use Rattle.std.proofs.Common.{◌≡◌, ◌∙◌, ◌-◌, ◌<◌, ◌≤◌, length, slice_index, subst, arith, ap, sym}
 use Rattle.std.proofs.lemmas.List.{get_or_read}
 use Rattle.mw_board.specs.declared.bit.Bit.{Bit}
 use Rattle.mw_board.specs.Valid.{IsBit}
 use Rattle.mw_symboard.proofs.Fitting.{fits_part}
 use Rattle.mw_symboard.proofs.MadeBits.{after_constant}
 use Rattle.mw_symboard.proofs.Widths.{q_wide, ir_wide, flip_wide}
+use Rattle.mw_cycle.specs.ReadingWords.{early_words, bit_ended}
+use Rattle.mw_symboard.proofs.Listing.{constant_bit, no_early_bit}
+use Rattle.mw_term.specs.WordList.{with_constant}
+use Rattle.std.specs.Prelude.{◌==◌}
+use Rattle.mw_base.specs.Words.{num}
 use Rattle.mw_symboard.proofs.bits.Bits.early.Goals as goal
 
 pub early_word-requires-clause-fits : goal.early_word-requires-clause-fits
@@ -58,3 +63,25 @@ returns-in_default-clause-right c =
     after_constant c.constant-in_default.result c.args.board.now c.args.terms.now c.constant-in_default.new.terms
     c.args.parts.now c.args.sp c.args.line
     c.args.self.now.early c.requires.right c.constant-in_default.ensures.grew
+
+pub returns-in-One-clause-listed : goal.returns-in-One-clause-listed
+returns-in-One-clause-listed c =
+    constant_bit c.constant.result 1 (early_words c.args.board.now c.args.parts.now c.args.sp c.args.line c.args.bit) c.args.terms.now c.constant.new.terms c.args.words.now c.args.self.now
+    (λ l. sym (ap (λ (bit : Bit). early_words c.args.board.now c.args.parts.now c.args.sp c.args.line bit c.args.self.now l) c.in-One.is))
+    c.constant.ensures.listed
+
+pub returns-in-Full-clause-listed : goal.returns-in-Full-clause-listed
+returns-in-Full-clause-listed c =
+    let full = c.from.ensures ∙ ap (λ depth. num (c.args.sp == depth)) c.depth.ensures in
+    constant_bit c.constant-in-Full.result c.from.result (early_words c.args.board.now c.args.parts.now c.args.sp c.args.line c.args.bit) c.args.terms.now c.constant-in-Full.new.terms c.args.words.now c.args.self.now
+    (λ l. ap (λ n. bit_ended c.args.self.now (with_constant n 1 l)) full
+    ∙ sym (ap (λ (bit : Bit). early_words c.args.board.now c.args.parts.now c.args.sp c.args.line bit c.args.self.now l) c.in-Full.is))
+    c.constant-in-Full.ensures.listed
+
+pub returns-in_default-clause-listed : goal.returns-in_default-clause-listed
+returns-in_default-clause-listed c =
+    let no = c.in_default in
+    constant_bit c.constant-in_default.result 0 (early_words c.args.board.now c.args.parts.now c.args.sp c.args.line c.args.bit) c.args.terms.now c.constant-in_default.new.terms c.args.words.now c.args.self.now
+    (λ l. no_early_bit c.args.board.now c.args.parts.now c.args.sp c.args.line c.args.bit c.args.self.now l no.not-One no.not-QLow
+    no.not-QHigh no.not-Line no.not-Full no.not-Ir no.not-Flip)
+    c.constant-in_default.ensures.listed

@@ -1,5 +1,9 @@
 use Rattle.mw_symboard.proofs.MadeBits.{late_bits_push, found_late, wide_bit}
 use Rattle.mw_symboard.proofs.Standing.{late_bits_stay}
+use Rattle.std.proofs.Common.{List, ap, sym, ◌∙◌}
+use Rattle.mw_term.specs.WordList.{ended, list_of, with_word}
+use Rattle.mw_cycle.specs.ReadingWords.{MadeBit, made_term}
+use Rattle.mw_symboard.proofs.Listing.{late_made}
 use Rattle.mw_symboard.proofs.bits.Bits.late_word.Goals as goal
 
 pub returns-in-Some-clause-is : goal.returns-in-Some-clause-is
@@ -29,3 +33,12 @@ returns-clause-right c =
     e.grows.keeps right)
     (wide_bit told tnew c.args.op c.in_ok-term.term e.made c.requires.one)
     (c.requires.means tnew c.in_ok-term.term e.is))
+
+pub returns-clause-listed : goal.returns-clause-listed
+returns-clause-listed c = λ reads.
+    (let e = c.in_ok-term.ensures in
+    let none = sym c.in_default.is ∙ c.find.ensures ∙ ap (λ (xs : List MadeBit). made_term xs c.args.bit) c.deref.ensures.value in
+    rw (← c.self.view_is)
+    (late_made c.args.bit (with_word c.args.op) _ (list_of c.args.terms.now.ops c.args.words.now reads)
+    (ended c.in_ok-term.term (list_of c.word.new.terms.ops c.word.new.words reads)) c.push.new.self.items none (e.listed reads)
+    c.in_ok-push.ensures.items))

@@ -1,10 +1,18 @@
-use Rattle.std.proofs.Common.{◌≡◌, ◌+◌, ◌-◌, length, arith, ap, ◌∙◌}
+use Rattle.std.proofs.Common.{◌≡◌, ◌+◌, ◌-◌, length, arith, ap, ◌∙◌, suc, sym}
 use Rattle.mw_term.specs.declared.kinds.DecidedKind.TheVariants.{Next}
 use Rattle.mw_symboard.specs.Cycle.{bits_before}
 use Rattle.mw_symboard.specs.Seen.{microword_of}
 use Rattle.mw_symboard.proofs.Fitting.{fits_part, wide_part}
 use Rattle.mw_symboard.proofs.Staying.{symbolic_stays, workspace_grown}
 use Rattle.mw_symboard.proofs.Turning.{asking_keeps, leaving_known, next_asked}
+use Rattle.std.specs.Prelude.{Some}
+use Rattle.mw_cycle.specs.CycleWords.{stopped}
+use Rattle.mw_term.specs.declared.op.Op.TheVariants.{Part}
+use Rattle.mw_term.specs.WordList.{Ended, with_word}
+use Rattle.mw_symmem.specs.Listed.{list_in}
+use Rattle.mw_symboard.specs.Along.{StopsAt, address_bits_of, left_of_address, standing_in}
+use Rattle.mw_symboard.specs.Listed.{read_of}
+use Rattle.mw_symboard.proofs.Going.{address_goes, address_stops, asked_one, stops_behind, with_bit}
 use Rattle.mw_symboard.proofs.board.SymBoard.ask_next.Goals as goal
 
 pub word-requires-clause-fits : goal.word-requires-clause-fits
@@ -49,3 +57,32 @@ returns-clause-symbolic c =
     (asking_keeps c.args.board.now c.args.store.now.words c.word.new.terms c.word.new.words c.args.memory.now c.args.self.now _
     (symbolic_stays c.args.board.now c.args.store.now.words c.args.terms.now c.word.new.terms c.args.words.now c.word.new.words
     c.args.memory.now c.args.self.now c.requires.workspace c.in_ok-bit.ensures.grew c.requires.symbolic))
+
+pub returns-clause-listed : goal.returns-clause-listed
+returns-clause-listed c = λ kind term is.
+    (let board = c.args.board.now in
+    let store = c.args.store.now.words in
+    let o = c.args.self.now in
+    let writes = c.args.memory.now.board in
+    let reads = c.args.memory.now.reads in
+    let r = c.requires.begun.0 in
+    let leaving = c.requires.leaving.0 in
+    let m = microword_of board store o.place in
+    let l0 = list_in c.args.terms.now c.args.words.now c.args.memory.now in
+    let l1 = list_in c.word.new.terms c.word.new.words c.args.memory.now in
+    let s = standing_in o writes in
+    let place = c.bits_before.result + 11 - c.known.result in
+    let before : c.bits_before.result ≡ bits_before m = c.bits_before.ensures.exact ∙ ap bits_before c.microword-microword.ensures.exact in
+    let known : c.known.result ≡ length o.place.decided = c.known.ensures.exact in
+    let left = leaving_known board store c.args.terms.now o.place o.reading o.leaving r leaving c.requires.begun.1
+    c.requires.leaving.1 c.requires.symbolic.leaving in
+    let number : 12 - address_bits_of m o.place ≡ suc place = omega (arith, before, known, left.1, c.requires.few) in
+    let made = c.in_ok-bit.ensures.listed reads
+    ∙ ap (λ x. with_word (Part x place 1) l0) (c.next_address.ensures leaving c.requires.leaving.1) in
+    asked_one c.ask.result (Next place) kind c.in_ok-bit.bit term (λ k t. StopsAt board store writes o c.ask.new.self l0 l1 k t)
+    c.ask.ensures.turn is
+    (stops_behind board store writes o c.ask.new.self r leaving l0 l1 (Next place) c.in_ok-bit.bit (Some (Next place))
+    c.ask.ensures.new c.requires.begun.1 c.requires.leaving.1
+    (address_stops board m o.place s (read_of r) leaving l0 place number ∙ ap (stopped s) (sym made))
+    (λ bit bits. (address_goes board m o.place s (read_of r) leaving l0 place (Next place) bit bits number left.1
+    ∙ ap (λ (x : Ended). left_of_address board m (with_bit o.place (Next place) bit) s (read_of r) leaving bits x.list) (sym made)))))

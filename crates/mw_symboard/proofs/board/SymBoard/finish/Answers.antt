@@ -1,16 +1,26 @@
-use Rattle.std.proofs.Common.{◌≡◌, arith, ◌+◌, [], ◌∷◌, ◌++◌, List, ap, sym, subst, ◌∙◌}
+use Rattle.std.proofs.Common.{◌≡◌, arith, ◌+◌, [], ◌∷◌, ◌++◌, List, ap, sym, subst, ◌∙◌, ap₂}
 use Rattle.std.specs.Prelude.{None, if◌then◌else◌}
-use Rattle.mw_term.specs.MemoryRead.{held}
+use Rattle.mw_term.specs.MemoryRead.{held, Held}
 use Rattle.mw_cycle.specs.declared.elements.Element.TheVariants.{Mar}
 use Rattle.mw_term.specs.declared.word.Word.{Word}
 use Rattle.mw_symmem.proofs.Later.{goes_by_growth}
 use Rattle.mw_symboard.specs.Kinds.{AreInputs}
-use Rattle.mw_symboard.specs.Seen.{microword_of}
-use Rattle.mw_symboard.specs.Turns.{AreNoLater, Symbolic}
+use Rattle.mw_symboard.specs.Seen.{microword_of, Place}
+use Rattle.mw_symboard.specs.Turns.{AreNoLater, Symbolic, cycle_left}
 use Rattle.mw_symboard.proofs.Growing.{wide_later}
 use Rattle.mw_symboard.proofs.Staying.{events_stay, inputs_stay, none_stay, workspace_grown}
 use Rattle.mw_symboard.proofs.Turning.{read_known}
 use Rattle.mw_symboard.proofs.Finishing.{at_the_end, ended_done, ended_symbolic, shown_keeps, taken_few, written_board, written_machine, written_workspace}
+use Rattle.mw_cycle.specs.BoardTerms.{Standing}
+use Rattle.mw_cycle.specs.CycleWords.{done}
+use Rattle.mw_cycle.specs.EdgeWords.{edge_words, with_write_if}
+use Rattle.mw_term.specs.WordList.{list_of}
+use Rattle.mw_symmem.specs.Listed.{list_in}
+use Rattle.mw_symboard.specs.Along.{left_by, standing_in}
+use Rattle.mw_symboard.specs.Cycle.{bits_before, effect_by, number_in}
+use Rattle.mw_symboard.specs.Listed.{left_of, read_of, standing_after, standing_of}
+use Rattle.mw_symboard.proofs.Going.{address_ends, left_cycle, reads_after, shown_is, with_shown, writes_after}
+use Rattle.mw_symboard.proofs.Listing.{stands}
 use Rattle.mw_symboard.proofs.board.SymBoard.finish.Goals as goal
 
 pub returns-clause-workspace : goal.returns-clause-workspace
@@ -124,3 +134,56 @@ returns-clause-done c = λ given x seen.
     (written_board (microword_of board store o.place).memory_write m o.place.parts.mar r.y) in
     rw (c.leave_cycle.ensures, c.in_ok-show.ensures.shown, exact, c.edge.ensures.source, c.edge.ensures.y)
     (ended_done board store tnew wnew m c.write_memory.new.memory o e r l at_end cycle taken events wrote given x seen))
+
+pub returns-clause-listed : goal.returns-clause-listed
+returns-clause-listed c =
+    let board = c.args.board.now in
+    let store = c.args.store.now.words in
+    let o = c.args.self.now in
+    let memory = c.args.memory.now in
+    let writes = memory.board in
+    let e = c.edge.new.self in
+    let r = c.take_reading-reading.result in
+    let l = c.take_leaving-leaving.result in
+    let m = microword_of board store o.place in
+    let s = standing_in o writes in
+    let l0 = list_in c.args.terms.now c.args.words.now memory in
+    let tnew = c.edge.new.terms in
+    let wnew = c.edge.new.words in
+    let mnew = c.write_memory.new.memory in
+    let exact = c.microword-microword.ensures.exact in
+    let left : c.take_leaving-leaving.new.self ≡ record o { reading = None; leaving = None } =
+    c.take_leaving-leaving.ensures.new ∙ ap (λ (x : Symbolic). record x { leaving = None }) c.take_reading-reading.ensures.new in
+    let place = ap (λ (x : Symbolic). x.place) left in
+    let is_left = sym (ap (λ (x : Symbolic). x.leaving) c.take_reading-reading.ensures.new) ∙ c.take_leaving-leaving.ensures.taken in
+    let cycle : e.place.cycle ≡ o.place.cycle = c.edge.ensures.cycle ∙ ap (λ (x : Symbolic). x.place.cycle) left in
+    let taken : e.place.taken ≡ o.place.taken = c.edge.ensures.inputs ∙ ap (λ (x : Symbolic). x.place.taken) left in
+    let events : e.events ≡ o.events = c.edge.ensures.events ∙ ap (λ (x : Symbolic). x.events) left in
+    let edge = rw exact at c.in_ok-edge.ensures.is in
+    let at : e.place.at ≡ number_in o.place.decided (bits_before m) 12 =
+    edge.at ∙ ap (λ (p : Place). number_in p.decided (bits_before m) 12) place in
+    let words = subst (λ (p : Place). edge_words board m (standing_of p writes o.events) (read_of r) (left_of l)
+    (effect_by m p.decided) e.place.at l0
+    ≡ stands (list_of tnew.ops wnew memory.reads) (standing_after m p e.place (read_of r) writes o.events)) place
+    (rw exact at (c.in_ok-edge.ensures.listed memory.reads writes o.events)) in
+    let wrote : mnew.board ≡ with_write_if m.memory_write o.place.parts.mar r.y writes =
+    rw (c.in_ok-write_memory.ensures, exact, c.mar-mar.ensures, left, c.edge.ensures.y)
+    (writes_after m.memory_write memory o.place.parts.mar r.y) in
+    let read : mnew.reads ≡ memory.reads =
+    rw c.in_ok-write_memory.ensures (reads_after c.microword-microword.result.memory_write memory c.mar-mar.result c.edge.new.reading.y) in
+    let ended : c.leave_cycle.new.self ≡ cycle_left (with_shown m.d.from m.out c.edge.new.reading.source c.edge.new.reading.y e) =
+    c.leave_cycle.ensures ∙ ap cycle_left (rw exact at c.in_ok-show.ensures.shown
+    ∙ shown_is m.d.from m.out c.edge.new.reading.source c.edge.new.reading.y e) in
+    record {
+      here = λ bits.
+          (ap₂ (λ x y. left_by board store o.place s x y bits l0) c.take_reading-reading.ensures.taken is_left
+          ∙ address_ends board m o.place s (read_of r) l l0
+          (stands (list_of tnew.ops wnew memory.reads) (standing_after m o.place e.place (read_of r) writes o.events)) e.place.at
+          c.requires.all at words bits
+          ∙ ap (λ (x : Standing). done bits (stands (list_of tnew.ops wnew memory.reads) x))
+          (left_cycle m c.edge.new.reading.source c.edge.new.reading.y o e (read_of r) writes mnew.board cycle taken events
+          c.edge.ensures.source c.edge.ensures.y wrote ∙ sym (ap (λ (x : Symbolic). standing_in x mnew.board) ended))
+          ∙ ap (λ (hs : List Held). done bits (stands (list_of tnew.ops wnew hs) (standing_in c.leave_cycle.new.self mnew.board)))
+          (sym read));
+      before = ap (λ (x : Symbolic). x.reading) ended ∙ c.edge.ensures.reading ∙ ap (λ (x : Symbolic). x.reading) left;
+    }

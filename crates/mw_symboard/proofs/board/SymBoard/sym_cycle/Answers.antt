@@ -1,4 +1,4 @@
-use Rattle.std.proofs.Common.{◌+◌, ap, arith, sym, ◌∙◌}
+use Rattle.std.proofs.Common.{◌+◌, ap, arith, sym, ◌∙◌, refl, subst, ◌≡◌}
 use Rattle.mw_term.specs.MemoryRead.{Held}
 use Rattle.std.specs.Prelude.{List}
 use Rattle.mw_symmem.specs.declared.side.Side.TheVariants as side
@@ -9,6 +9,11 @@ use Rattle.mw_symboard.specs.Turns.{with_reads}
 use Rattle.mw_symboard.proofs.Growing.{grew_then}
 use Rattle.mw_symboard.proofs.Staying.{workspace_grown}
 use Rattle.mw_symboard.proofs.Finishing.{asked_turn, done_from, goes_further, with_reads_is}
+use Rattle.mw_symmem.specs.Listed.{list_in}
+use Rattle.mw_symboard.specs.Along.{StopsAt, GoesAlong, standing_in, words_left}
+use Rattle.mw_symboard.proofs.Going.{stops_later, goes_on}
+use Rattle.mw_cycle.specs.CycleWords.{done}
+use Rattle.mw_symboard.proofs.Listing.{stands}
 use Rattle.mw_symboard.proofs.board.SymBoard.sym_cycle.Goals as goal
 
 pub returns-then-known-before-clause-turn : goal.returns-then-known-before-clause-turn
@@ -89,3 +94,48 @@ returns-then-known-before-2-clause-machine c = c.in_ok-begin.ensures.writes.each
 
 pub returns-clause-machine : goal.returns-clause-machine
 returns-clause-machine c = c.in_ok-finish.ensures.machine ∙ c.in_ok-begin.ensures.writes.each side.Machine
+
+pub returns-then-known-before-clause-listed : goal.returns-then-known-before-clause-listed
+returns-then-known-before-clause-listed c =
+    let asks = c.in_ok-turn.ensures.asks in
+    stops_later c.args.board.now c.args.store.now.words c.args.memory.now.board c.args.self.now c.begin.new.self c.ask_test.new.self
+    _ (list_in c.begin.new.terms c.begin.new.words c.begin.new.memory) _ c.args.memory.now c.begin.new.memory c.in_ok-turn.turn asks.0 asks.1
+    asks.2 c.begin.ensures.place c.begin.ensures.events refl c.in_ok-begin.ensures.listed
+    (subst (λ (ws : List Held). StopsAt c.args.board.now c.args.store.now.words ws c.begin.new.self c.ask_test.new.self
+    (list_in c.begin.new.terms c.begin.new.words c.begin.new.memory) (list_in c.ask_test.new.terms c.ask_test.new.words c.begin.new.memory)
+    asks.0 asks.1) (c.in_ok-begin.ensures.writes.each side.Board) (c.in_ok-turn.ensures.listed asks.0 asks.1 asks.2))
+
+pub returns-then-known-before-2-clause-listed : goal.returns-then-known-before-2-clause-listed
+returns-then-known-before-2-clause-listed c =
+    let asks = c.in_ok-turn-2.ensures.asks in
+    let writes = c.in_ok-begin.ensures.writes.each side.Board in
+    stops_later c.args.board.now c.args.store.now.words c.args.memory.now.board c.args.self.now c.prepare.new.self c.ask_next.new.self
+    _ (list_in c.prepare.new.terms c.prepare.new.words c.begin.new.memory) _ c.args.memory.now c.begin.new.memory c.in_ok-turn-2.turn asks.0 asks.1
+    asks.2 (c.prepare.ensures.place ∙ c.begin.ensures.place) (c.prepare.ensures.events ∙ c.begin.ensures.events) refl
+    (goes_on c.args.board.now c.args.store.now.words c.args.memory.now.board c.args.self.now c.begin.new.self c.prepare.new.self _ _ _
+    c.in_ok-begin.ensures.listed
+    (subst (λ (ws : List Held). GoesAlong c.args.board.now c.args.store.now.words ws c.begin.new.self c.prepare.new.self
+    (list_in c.begin.new.terms c.begin.new.words c.begin.new.memory) (list_in c.prepare.new.terms c.prepare.new.words c.begin.new.memory))
+    writes c.in_ok-prepare.ensures.listed))
+    (subst (λ (ws : List Held). StopsAt c.args.board.now c.args.store.now.words ws c.prepare.new.self c.ask_next.new.self
+    (list_in c.prepare.new.terms c.prepare.new.words c.begin.new.memory) (list_in c.ask_next.new.terms c.ask_next.new.words c.begin.new.memory)
+    asks.0 asks.1) writes (c.in_ok-turn-2.ensures.listed asks.0 asks.1 asks.2))
+
+pub returns-clause-listed : goal.returns-clause-listed
+returns-clause-listed c =
+    let board = c.args.board.now in
+    let store = c.args.store.now.words in
+    let before = c.args.memory.now.board in
+    let writes = c.in_ok-begin.ensures.writes.each side.Board in
+    let e = c.in_ok-finish.ensures.listed in
+    let l0 = list_in c.args.terms.now c.args.words.now c.args.memory.now in
+    let l1 = list_in c.begin.new.terms c.begin.new.words c.begin.new.memory in
+    let l2 = list_in c.prepare.new.terms c.prepare.new.words c.begin.new.memory in
+    let on = goes_on board store before c.args.self.now c.begin.new.self c.prepare.new.self l0 l1 l2 c.in_ok-begin.ensures.listed
+    (subst (λ (ws : List Held). GoesAlong board store ws c.begin.new.self c.prepare.new.self l1 l2) writes c.in_ok-prepare.ensures.listed) in
+    record {
+      here = λ bits. (on bits ∙ subst (λ (ws : List Held). words_left board store c.prepare.new.self ws bits l2
+          ≡ done bits (stands (list_in c.finish.new.terms c.finish.new.words c.finish.new.memory)
+          (standing_in c.finish.new.self c.finish.new.memory.board))) writes (e.here bits));
+      before = e.before;
+    }

@@ -1,11 +1,11 @@
-use Rattle.std.proofs.Common.{◌≡◌, ℕ, ◌+◌, Some, slice_index, ap, sym, subst, ◌∙◌}
+use Rattle.std.proofs.Common.{◌≡◌, ℕ, ◌+◌, Some, slice_index, ap, sym, subst, ◌∙◌, List}
 use Rattle.mw_alu.specs.Instruction.{destination_of}
 use Rattle.mw_term.specs.declared.kinds.WordKind.TheVariants.{Line, Noise}
 use Rattle.mw_symmem.specs.Memory.{IsOfWidth}
-use Rattle.mw_term.specs.WordList.{term_of}
+use Rattle.mw_term.specs.WordList.{term_of, ended, list_of, with_variable}
 use Rattle.mw_symmem.specs.Workspace.{GoesOn}
 use Rattle.mw_symboard.specs.Kinds.{IsCycleKind, IsSourceKind}
-use Rattle.mw_symboard.specs.Made.{IsFrom, IsMasked}
+use Rattle.mw_symboard.specs.Made.{IsFrom, IsMasked, sources_of}
 use Rattle.mw_symboard.specs.Parts.{AreParts}
 use Rattle.mw_symboard.specs.Seen.{Place}
 use Rattle.mw_symboard.specs.Turns.{AreNoLater}
@@ -14,6 +14,12 @@ use Rattle.mw_symboard.proofs.Growing.{grew_then, wide_later}
 use Rattle.mw_symboard.proofs.Standing.{parts_stay}
 use Rattle.mw_symboard.proofs.Variables.{grew_inputs, grew_none_later, source_none_later}
 use Rattle.mw_symboard.proofs.Widths.{register_wide}
+use Rattle.mw_term.specs.declared.word.Word.{Word}
+use Rattle.mw_term.specs.MemoryRead.{Held}
+use Rattle.mw_term.specs.Table.{Table}
+use Rattle.mw_cycle.specs.ReadingWords.{masked_words, source_words}
+use Rattle.mw_symboard.specs.Listed.{standing_of}
+use Rattle.mw_symboard.proofs.Listing.{reading_are}
 use Rattle.mw_symboard.proofs.reading.Reading.new.Goals as goal
 
 pub from_source-requires-clause-workspace : goal.from_source-requires-clause-workspace
@@ -175,3 +181,35 @@ returns-clause-none c =
     let begun = subst (λ (q : Place). AreNoLater (q.cycle + 1) w1) c.place.view_is c.in_ok-variables.ensures.none in
     grew_none_later (cycle + 1) t2 t6 w2 w6 all
     (source_none_later (cycle + 1) c.place.inside.taken w1 w2 goes.more goes.words goes.kinds begun)
+
+pub returns-clause-listed : goal.returns-clause-listed
+returns-clause-listed c = λ events.
+    (let board = c.args.board.now in
+    let m = c.args.microword.now in
+    let p = c.args.place.now in
+    let s = standing_of p c.args.memory.now.board events in
+    let before = c.args.memory.now.reads in
+    let reads = c.from_source.new.memory.reads in
+    let parts = ap (λ (x : Place). x.parts) c.place.view_is in
+    let cycle = ap (λ (x : Place). x.cycle) c.place.view_is in
+    let taken = ap (λ (x : Place). x.taken) c.place.view_is in
+    let width : c.bits-width.result ≡ board.width = c.bits-width.ensures.exact ∙ c.width.ensures.exact in
+    let list = λ (t : Table) (words : List Word) (reads : List Held). list_of t.ops words reads in
+    let l0 = list c.args.terms.now c.args.words.now before in
+    let l1 = list c.line_and_noise.new.terms c.line_and_noise.new.words before in
+    let l2 = list c.from_source.new.terms c.from_source.new.words reads in
+    let variables = subst (λ k. (let line = with_variable (Line k) 1 l0 in
+    (line.term ≡ c.in_ok-variables.variables.line)
+    × (with_variable (Noise k) 14 line.list ≡ ended c.in_ok-variables.variables.noise l1))) cycle
+    (c.in_ok-variables.ensures.listed before) in
+    reading_are board m s l0 l1 l2 (list c.masked.new.terms c.masked.new.words reads)
+    (list c.make_sources.new.terms c.make_sources.new.words reads) (list c.make_bits.new.terms c.make_bits.new.words reads)
+    (list c.condition.new.terms c.condition.new.words reads) c.in_ok-variables.variables.line c.in_ok-variables.variables.noise
+    c.in_ok-source.source c.in_ok-d.d c.y-y.result c.in_ok-condition.condition (sources_of c.in_ok-sources.sources)
+    c.make_sources.new.bits c.make_bits.new.bits c.condition.new.bits variables.0 variables.1
+    (c.in_ok-source.ensures.listed
+    ∙ ap (λ x. source_words board m.word x s.writes c.place.inside.taken m.d.from l1) parts
+    ∙ ap (λ x. source_words board m.word p.parts s.writes x m.d.from l1) taken)
+    (c.in_ok-d.ensures.listed reads ∙ ap (λ w. masked_words w m.d.mask c.in_ok-source.source l2) width)
+    (c.in_ok-sources.ensures.listed reads) (c.in_ok-make_bits.ensures.listed reads) (c.in_ok-condition.ensures.listed reads)
+    c.y-y.ensures)
