@@ -1,6 +1,6 @@
 -- The words of the comparison of both sides at the boundary reached, behind those of the segment and of the described
 -- step.
-use Rattle.std.specs.Prelude.{ℕ, ◌+◌, List, [], ◌∷◌, ◌++◌, Bool, true, false, not, ◌&&◌, ◌==◌, if◌then◌else◌}
+use Rattle.std.specs.Prelude.{◌≡◌, ℕ, ◌+◌, List, [], ◌∷◌, ◌++◌, Bool, true, false, not, ◌&&◌, ◌==◌, if◌then◌else◌}
 use Rattle.std.specs.Prelude.{Option, Some, None, slice_index}
 use Rattle.mw_expr.specs.declared.shape.Shape.{Shape}
 use Rattle.mw_macro.specs.ExpressionWords.{expression_words}
@@ -11,6 +11,7 @@ use Rattle.mw_term.specs.declared.event.SymEvent.TheVariants.{Out, Taken}
 use Rattle.mw_term.specs.declared.kinds.WordKind.TheVariants.{Probe}
 use Rattle.mw_term.specs.declared.op.Op.TheVariants.{Eq}
 use Rattle.mw_term.specs.MemoryRead.{Held}
+use Rattle.mw_term.specs.Numbered.{IsNumbered}
 use Rattle.mw_term.specs.WordList.{WordList, with_variable, with_word, memory_read_words}
 
 -- Both sides where a segment and a described step end: the events of each, the terms of all elements by number, the
@@ -106,3 +107,8 @@ all_compared s boundary sides l =
 -- the words of a comparison; where every start differs nothing is compared
 unfoldable pub comparison_words : Shape → Boundary → Sides → WordList → Option Compared
 comparison_words s boundary sides l = if is_unlike boundary sides then None else Some (all_compared s boundary sides l)
+
+-- where each term of a list that is no constant has a word, so it is with the words of a comparison
+abbrev pub ComparisonsAreNumbered : Type 0
+ComparisonsAreNumbered = (s : Shape) (boundary : Boundary) (sides : Sides) (l : WordList) (c : Compared)
+    → IsNumbered l → comparison_words s boundary sides l ≡ Some c → IsNumbered c.list

@@ -7,6 +7,7 @@ use Rattle.mw_rel.specs.Free.{is_free}
 use Rattle.mw_rel.specs.Lines.{Line}
 use Rattle.mw_rel.specs.Relation.{Boundary}
 use Rattle.mw_term.specs.declared.kinds.WordKind.TheVariants.{Element}
+use Rattle.mw_term.specs.Numbered.{IsNumbered}
 use Rattle.mw_term.specs.WordList.{WordList, Ended, AllEnded, list_of, with_constant, with_variable}
 
 -- What an element has by itself: a variable, where it is free. Else it is a constant 0 until its line gives it a term;
@@ -40,3 +41,7 @@ unfoldable pub start_words : Shape → Boundary → AllEnded
 start_words s boundary =
     let own = all_own_words boundary 0 s.widths (list_of [] [] []) in
     lines_words s own.terms boundary.lines own
+
+-- each term of that list that is no constant has a word
+abbrev pub StartsAreNumbered : Type 0
+StartsAreNumbered = (s : Shape) (boundary : Boundary) → IsNumbered (start_words s boundary).list
