@@ -1,15 +1,14 @@
 -- Each term of a list that is no constant has a word, whatever an expression or acts add.
-use Rattle.std.proofs.Common.{◌≡◌, ℕ, ◌+◌, ◌-◌, List, [], ◌∷◌, ◌++◌, length, refl}
+use Rattle.std.proofs.Common.{ℕ, ◌+◌, ◌-◌, List, [], ◌∷◌, ◌++◌, length, refl}
 use Rattle.std.specs.Prelude.{Bool, true, false, drop, take, if◌then◌else◌, Option, Some, None}
 use Rattle.mw_expr.specs.declared.expr.Pair2.{Pair2}
 use Rattle.mw_expr.specs.declared.expr.Pair2.TheVariants as sign
 use Rattle.mw_expr.specs.declared.shape.Shape.{Shape}
-use Rattle.mw_expr.specs.Tree.{Tree, element, constant, complement, pair, choice, part, join, widened, memory, Trees, none, more}
+use Rattle.mw_expr.specs.Tree.{element, constant, complement, pair, choice, part, join, widened, memory, Trees, none, more}
 use Rattle.mw_expr.specs.Values.{bits}
 use Rattle.mw_macro.specs.ExpressionWords.{expression_words, words_of_parts, sign_words, beside_words, join_words}
 use Rattle.mw_macro.specs.Laws.{ExpressionsAreNumbered, ActsAreNumbered, StepsAreNumbered}
-use Rattle.mw_macro.specs.Machine.{Description}
-use Rattle.mw_macro.specs.Statements.{Act, assign, write, put, take_in, choose, Acts, nothing, next}
+use Rattle.mw_macro.specs.Statements.{Act, assign, write, put, take_in, choose, nothing, next}
 use Rattle.mw_macro.specs.StepWords.{Underway, Come, then_by, act_words, acts_words, condition_words, with_list, with_zeros, begun_words, step_words}
 use Rattle.mw_term.specs.declared.op.Op.TheVariants.{Not, And, Or, Xor, Eq, Lt, Ite, Join}
 use Rattle.mw_term.specs.MemoryRead.{Held}

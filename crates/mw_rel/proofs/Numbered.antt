@@ -1,12 +1,11 @@
 -- Each term of a start's list, and behind the words of a comparison, that is no constant has a word.
 use Rattle.std.proofs.Common.{◌≡◌, ℕ, ◌+◌, List, [], ◌∷◌, refl, subst}
-use Rattle.std.specs.Prelude.{Bool, true, false, if◌then◌else◌, Option, Some, None}
+use Rattle.std.specs.Prelude.{Bool, true, false, if◌then◌else◌, Some, None}
 use Rattle.std.proofs.lemmas.Option.{same_Some}
 use Rattle.mw_expr.specs.declared.shape.Shape.{Shape}
 use Rattle.mw_macro.specs.ExpressionWords.{expression_words}
 use Rattle.mw_macro.proofs.Numbered.{numbered_expression}
-use Rattle.mw_rel.specs.ComparisonWords.{Sides, Subject, event, line, Compared, compared_in, with_comparison, with_events, with_line, with_lines, with_memory, is_unlike, all_compared, comparison_words, ComparisonsAreNumbered}
-use Rattle.mw_rel.specs.ComparisonWords as compares
+use Rattle.mw_rel.specs.ComparisonWords.{Sides, Subject, event, Compared, compared_in, with_comparison, with_events, with_line, with_lines, with_memory, is_unlike, all_compared, comparison_words, ComparisonsAreNumbered}
 use Rattle.mw_rel.specs.Free.{is_free}
 use Rattle.mw_rel.specs.Lines.{Line}
 use Rattle.mw_rel.specs.Relation.{Boundary}

@@ -1,16 +1,15 @@
 -- The words of a whole described step, turn by turn.
-use Rattle.std.proofs.Common.{◌≡◌, ℕ, List, [], ◌∷◌, ◌++◌, Bool, append-nil, append_assoc, refl, ap, ap₂, sym, ◌∙◌}
+use Rattle.std.proofs.Common.{◌≡◌, ℕ, List, [], ◌∷◌, Bool, append-nil, append_assoc, refl, ap, ap₂, sym, ◌∙◌}
 use Rattle.std.specs.Prelude.{Option, None}
 use Rattle.mw_macro.specs.StepWords.{acts_words, step_words}
 use Rattle.mw_macro.specs.Machine.{Description}
 use Rattle.mw_term.specs.Table.{Table}
 use Rattle.mw_term.specs.declared.word.Word.{Word}
-use Rattle.mw_symmem.specs.declared.turn.Turn.{Turn}
 use Rattle.mw_symmem.specs.declared.turn.Turn.TheVariants.{Ask, Finished}
 use Rattle.mw_symmem.specs.Memory.{Memory}
 use Rattle.mw_symmach.specs.Along.{StepsBeginAlong, TurnsGoAlong, BitsGoAlong}
-use Rattle.mw_symmach.specs.Turns.{Stepping, given_so, left_in}
-use Rattle.mw_symmach.specs.Walks.{chosen, underway_in, underway_by, underway_of}
+use Rattle.mw_symmach.specs.Turns.{Stepping, given_so}
+use Rattle.mw_symmach.specs.Walks.{underway_in, underway_by, underway_of}
 
 pub steps_begin_along : StepsBeginAlong
 unfolding step_words

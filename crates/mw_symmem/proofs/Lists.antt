@@ -10,7 +10,6 @@ use Rattle.mw_symmem.specs.Kept.{with_number, IsKept}
 use Rattle.mw_term.specs.WordList.{same_kind, plain, variable, number_from, number_of, is_of, term_of}
 use Rattle.mw_symmem.specs.Kinds.{kind_is, kind_own}
 use Rattle.mw_symmem.specs.Words.{IsVariable, HaveOwnKinds}
-
 pub use Rattle.mw_term.proofs.Pushed.{pushed, behind, pushed_there, number_push}
 
 -- ---- kinds
