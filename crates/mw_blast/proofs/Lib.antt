@@ -1,6 +1,7 @@
 pub mod Bits
 pub mod Choices
 pub mod Kept
+pub mod Numbers
 pub mod Operations
 pub mod Ops
 pub mod Reached

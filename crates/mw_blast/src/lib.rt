@@ -13,7 +13,7 @@ mod words;
 
 pub use blast::Blast;
 pub use fault::BlastFault;
-pub use laws::{stays_with_diagrams, stays_with_terms};
+pub use laws::{over_have_numbers, stays_with_diagrams, stays_with_terms};
 pub use split::Split;
 
 #[cfg(test)]

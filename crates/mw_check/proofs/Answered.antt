@@ -19,7 +19,7 @@ use Rattle.mw_blast.specs.Bits.{StandsFor, AreBits}
 use Rattle.mw_blast.specs.declared.fault.BlastFault.{BlastFault}
 use Rattle.mw_blast.specs.declared.fault.BlastFault.TheVariants as blast
 use Rattle.mw_blast.specs.Causes.{IsOver, IsCause}
-use Rattle.mw_check.specs.Question.{Asked, IsQuestion, AgreeUnder, AlwaysAgree}
+use Rattle.mw_check.specs.Question.{Asked, AgreeUnder, AlwaysAgree}
 use Rattle.mw_check.specs.QuestionTerms.{IsListOf, side_value}
 use Rattle.mw_check.specs.Equal.{given_values, values_from, IsFirstDifference, IsAnswer}
 use Rattle.mw_check.specs.declared.equality.Equality.{Equality}
@@ -109,13 +109,13 @@ cause_answer q fault t words end budget list cause e is =
     })
 
 -- what is over has a number
-pub cause_numbered : (q : Asked) (fault : BlastFault) (t : Table) (words : List Word) (end budget : ℕ) → IsQuestion q
+pub cause_numbered : (q : Asked) (fault : BlastFault) (t : Table) (words : List Word) (end budget : ℕ)
     → IsListOf q t words end → IsCause t end budget fault → (term j : ℕ) → fault ≡ blast.Over term j
     → IsSome (number_of words term)
-cause_numbered q fault t words end budget is list cause term j over =
+cause_numbered q fault t words end budget list cause term j over =
     let named = rw over at cause in
     subst (λ ws. IsSome (number_of ws term)) (sym list.list)
-    (over_has_number q term j budget is (subst (λ (x : Table). IsOver x term j budget) list.table named.1))
+    (over_has_number q term j budget (subst (λ (x : Table). IsOver x term j budget) list.table named.1))
 
 -- ---- the bit itself
 

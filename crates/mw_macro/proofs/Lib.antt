@@ -1,4 +1,5 @@
 pub mod Accepted
+pub mod Numbered
 pub mod RightAccepted
 pub mod Steps
 pub mod Words

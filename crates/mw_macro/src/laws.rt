@@ -1,5 +1,6 @@
-// Laws of described machines and their steps.
-ghost use Rattle.mw_macro.specs.Laws.{EventsAreFew, StepsTakeFromFirst, TakenAreEvents};
+// Laws of described machines, their steps, and the words of these.
+ghost use Rattle.mw_macro.specs.Laws.{ActsAreNumbered, EventsAreFew, ExpressionsAreNumbered, StepsAreNumbered};
+ghost use Rattle.mw_macro.specs.Laws.{StepsTakeFromFirst, TakenAreEvents};
 ghost use Rattle.mw_macro.specs.Right.{AcceptedAreRight, RightAreAccepted};
 
 /// The law of accepted machines: they are those whose elements, statements and memory reads are few, whose names are free and
@@ -23,4 +24,12 @@ pub fn taken_are_events()
 /// The law of first inputs: a step that takes inputs from a number on is the step from 0 over the inputs without those before it.
 pub fn steps_take_from_first()
     ensures { StepsTakeFromFirst }
+{}
+
+/// The law of numbers: where each term of a list that is no constant has a word, so it is behind the words of an
+/// expression, of acts, and of a described step, along any branch bits.
+pub fn words_are_numbered()
+    ensures expressions { ExpressionsAreNumbered }
+    ensures acts { ActsAreNumbered }
+    ensures steps { StepsAreNumbered }
 {}

@@ -8,6 +8,7 @@ pub mod Decided
 pub mod Elements
 pub mod Found
 pub mod Law
+pub mod Numbered
 pub mod OnLiterals
 pub mod Pairs
 pub mod Relations

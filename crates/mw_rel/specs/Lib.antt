@@ -1,5 +1,6 @@
 pub mod Begin
 pub mod Certified
+pub mod ComparisonWords
 pub mod Completed
 pub mod DescribedRun
 pub mod Differs
@@ -14,4 +15,6 @@ pub mod Rules
 pub mod Seen
 pub mod Shown
 pub mod Start
+pub mod StartWords
 pub mod Views
+pub mod WordExamples

@@ -1,8 +1,10 @@
-// Laws of starts and of what is certified.
+// Laws of starts, of what is certified, and of words.
 ghost use Rattle.mw_rel.specs.Begin.{EachChoiceGivesAPair};
+ghost use Rattle.mw_rel.specs.ComparisonWords.{ComparisonsAreNumbered};
 ghost use Rattle.mw_rel.specs.Free.{PairsAreOne};
 ghost use Rattle.mw_rel.specs.Rules.{AcceptedAreSolved};
 ghost use Rattle.mw_rel.specs.Shown.{DifferencesAreFirst};
+ghost use Rattle.mw_rel.specs.StartWords.{StartsAreNumbered};
 ghost use Rattle.mw_rel.specs.Laws.{SameShowsNothing, StartsFollow, CertifiedWhereNoneDiffers, BoundariesComeInTime};
 
 /// The law of relations: a relation is accepted exactly where it has a boundary, no two boundaries have one address,
@@ -55,4 +57,11 @@ pub fn certified_where_none_differs()
 /// the boundaries met before it.
 pub fn boundaries_come_in_time()
     ensures { BoundariesComeInTime }
+{}
+
+/// The law of numbers: each term of a start's list that is no constant has a word; and where that is so of a list, it
+/// is so with the words of a comparison.
+pub fn words_of_cases_are_numbered()
+    ensures starts { StartsAreNumbered }
+    ensures comparisons { ComparisonsAreNumbered }
 {}

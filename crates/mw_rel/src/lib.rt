@@ -24,7 +24,7 @@ pub use job::{Job, shape_of};
 pub use laws::{
     accepted_are_solved, boundaries_come_in_time, certified_where_none_differs,
     differences_are_first, each_choice_gives_a_pair, pairs_are_one, same_shows_nothing,
-    starts_follow,
+    starts_follow, words_of_cases_are_numbered,
 };
 pub use line::Line;
 pub use pair::{Pair, holds};

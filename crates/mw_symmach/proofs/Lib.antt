@@ -1,4 +1,5 @@
 pub mod Acting
+pub mod Along
 pub mod AtIf
 pub mod Beginning
 pub mod Beside

@@ -1,3 +1,4 @@
+pub mod Along
 pub mod Expressions
 pub mod Given
 pub mod Joined

@@ -12,5 +12,5 @@ mod walk;
 mod zeros;
 
 pub use expression::expr_term;
-pub use laws::{scenes_are_seen_before, terms_are_there, turns_are_of_the_step};
+pub use laws::{scenes_are_seen_before, steps_go_along, terms_are_there, turns_are_of_the_step};
 pub use machine::SymMach;

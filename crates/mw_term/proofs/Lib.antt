@@ -5,5 +5,7 @@ pub mod Fitting
 pub mod Fixed
 pub mod Indexes
 pub mod Kept
+pub mod Numbered
+pub mod Pushed
 pub mod Rows
 pub mod Tables

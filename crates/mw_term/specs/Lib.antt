@@ -4,6 +4,7 @@ pub mod Examples
 pub mod Functions
 pub mod Laws
 pub mod MemoryRead
+pub mod Numbered
 pub mod Rows
 pub mod Table
 pub mod Values

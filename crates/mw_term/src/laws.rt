@@ -1,8 +1,11 @@
 // Laws of terms, of the term table, and of joint cofactors.
+ghost use Rattle.std.specs.Prelude.{[]};
 ghost use Rattle.mw_term.specs.Examples.{RowsAsWritten};
 ghost use Rattle.mw_term.specs.Laws.{CountsAreApart, FixedAreBefore, LaterHasTwo, MapsAreShort, OpsAreWords};
 ghost use Rattle.mw_term.specs.Laws.{RowsMakeValues, TerminalCasesHaveNone, TermsHaveOps, TermsHaveWidths};
 ghost use Rattle.mw_term.specs.Laws.{VariableHasOne};
+ghost use Rattle.mw_term.specs.Numbered.{IsNumbered, StaysWithConstants, StaysWithReads, StaysWithVariables, StaysWithWords};
+ghost use Rattle.mw_term.specs.WordList.{list_of};
 
 /// The law of terms: each term of a table has the width and, under every assignment, the value of its op, and no more
 /// bits.
@@ -61,4 +64,15 @@ pub fn terminal_cases_have_none()
 /// has two joint cofactors.
 pub fn later_has_two()
     ensures { LaterHasTwo }
+{}
+
+/// The law of numbers: in a list without terms each term that is no constant is that of a word, each word's term is one
+/// of the list's, and a constant has no word. A list in which this is so stays so with a constant more, a word that is
+/// none, a variable, or the words of a memory read.
+pub fn terms_are_numbered()
+    ensures first { IsNumbered (list_of [] [] []) }
+    ensures constants { StaysWithConstants }
+    ensures words { StaysWithWords }
+    ensures variables { StaysWithVariables }
+    ensures reads { StaysWithReads }
 {}

@@ -16,8 +16,8 @@ pub use event::SymEvent;
 pub use kinds::{DecidedKind, WordKind};
 pub use laws::{
     counts_are_apart, fixed_are_before, later_has_two, maps_are_short, ops_are_words,
-    rows_as_written, rows_make_values, terminal_cases_have_none, terms_have_ops, terms_have_widths,
-    variable_has_one,
+    rows_as_written, rows_make_values, terminal_cases_have_none, terms_are_numbered,
+    terms_have_ops, terms_have_widths, variable_has_one,
 };
 pub use op::{Op, Term};
 pub use terms::Terms;

@@ -14,3 +14,5 @@ mod microprograms;
 mod starts;
 #[cfg(test)]
 mod terms;
+#[cfg(test)]
+mod words;

@@ -7,7 +7,7 @@ use mw_base::{Cause, Event, Items, Name, NoMemory, is_name};
 use mw_expr::{Expr, Pair2, Shape};
 use mw_macro::{
     MacState, Machine, Statement, accepted_are_right, events_are_few, step, steps_take_from_first,
-    taken_are_events,
+    taken_are_events, words_are_numbered,
 };
 use std::alloc::Global;
 use std::test::Fail;
@@ -182,6 +182,7 @@ fn three_inputs_and_two_outputs(rt: HostRuntime) -> Result<(), Fail> {
     events_are_few();
     taken_are_events();
     steps_take_from_first();
+    words_are_numbered();
     let statements = vec![in alloc;
         Statement::Take(0),
         Statement::Put(Expr::Element(0)),

@@ -10,7 +10,8 @@ use mw_base::NoMemory;
 use mw_term::{
     Assignment, DecidedKind, Op, Term, Terms, WordKind, counts_are_apart, fixed_are_before,
     later_has_two, maps_are_short, ops_are_words, rows_as_written, rows_make_values,
-    terminal_cases_have_none, terms_have_ops, terms_have_widths, variable_has_one,
+    terminal_cases_have_none, terms_are_numbered, terms_have_ops, terms_have_widths,
+    variable_has_one,
 };
 use std::alloc::Global;
 use std::test::Fail;
@@ -227,6 +228,7 @@ fn ops_that_do_not_fit(rt: HostRuntime) -> Result<(), Fail> {
 fn kinds_and_laws(rt: HostRuntime) -> Result<(), Fail> {
     terms_have_ops();
     terms_have_widths();
+    terms_are_numbered();
     ops_are_words();
     maps_are_short();
     rows_as_written();

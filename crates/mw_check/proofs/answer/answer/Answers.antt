@@ -12,7 +12,7 @@ bits_within-requires c = c.requires.list.there
 pub unknown-requires : goal.unknown-requires
 unknown-requires c =
     cause_numbered (asked_of c.args.question.now) c.in-Err.fault c.args.terms.now c.args.words.now c.args.same c.args.budget
-    c.requires.question c.requires.list c.in-Err.ensures.over
+    c.requires.list c.in-Err.ensures.over
 
 pub returns-in-Err : goal.returns-in-Err
 returns-in-Err c =
