@@ -10,8 +10,11 @@ pub mod Inputs
 pub mod Loads
 pub mod MadeBits
 pub mod Meaning
+pub mod OnPaths
 pub mod PartElements
 pub mod Read
+pub mod RunBits
+pub mod Runs
 pub mod Saying
 pub mod SaysAddress
 pub mod SaysBits

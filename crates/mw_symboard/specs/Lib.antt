@@ -2,8 +2,10 @@ pub mod Bits
 pub mod Cycle
 pub mod Growth
 pub mod Kinds
+pub mod Laws
 pub mod Made
 pub mod Parts
+pub mod Paths
 pub mod Seen
 pub mod Shown
 pub mod Turns

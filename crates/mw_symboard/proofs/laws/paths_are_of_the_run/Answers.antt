@@ -1,0 +1,5 @@
+use Rattle.mw_symboard.proofs.OnPaths.{paths_begin, paths_go_on, paths_stay, paths_take_bits}
+use Rattle.mw_symboard.proofs.laws.paths_are_of_the_run.Goals as goal
+
+pub returns : goal.returns
+returns c = record { begin = paths_begin; turns = paths_go_on; bits = paths_take_bits; stay = paths_stay }
