@@ -3,6 +3,7 @@ pub mod AtEdge
 pub mod Begun
 pub mod Deciding
 pub mod Ends
+pub mod Environments
 pub mod Finishing
 pub mod Fitting
 pub mod Growing

@@ -155,7 +155,7 @@ first_or_rest w (Some own) kind term rest is found =
     word_of term kind = record { term = term; kind = kind }
 
 -- the term of a kind is that of a variable of the list
-variable_of : (words : List Word) (kind : WordKind) (term : ℕ) → term_of words kind ≡ Some term
+pub variable_of : (words : List Word) (kind : WordKind) (term : ℕ) → term_of words kind ≡ Some term
     → (place : ℕ) × IsVariable words place term kind
 variable_of [] kind term is = absurd cc
 variable_of (w ∷ words) kind term is = elim (first_or_rest w w.kind kind term (term_of words kind) refl is) [

@@ -9,3 +9,4 @@ pub mod Paths
 pub mod Seen
 pub mod Shown
 pub mod Turns
+pub mod Variables

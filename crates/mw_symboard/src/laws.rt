@@ -1,6 +1,7 @@
 // Laws of runs of a board on terms.
 ghost use Rattle.mw_symboard.specs.Laws.{BitsAreFirst, BitsAreOfTheRun, RunsBegin, RunsFitBefore, RunsStay, TermsAreThere, TurnsAreOfTheRun};
 ghost use Rattle.mw_symboard.specs.Paths.{PathsBegin, PathsGoOn, PathsStay, PathsTakeBits};
+ghost use Rattle.mw_symboard.specs.Variables.{BegunHasVariables, CyclesAreThere, CyclesStay, EnvironmentsAreReached, EnvironmentsAreThere, EnvironmentsStay, VariablesStay};
 
 /// The law of the start: a board that has done nothing is in each run that begins with its terms.
 pub fn runs_begin()
@@ -39,4 +40,23 @@ pub fn paths_are_of_the_run()
     ensures turns { PathsGoOn }
     ensures bits { PathsTakeBits }
     ensures stay { PathsStay }
+{}
+
+/// The law of variables: a cycle that has begun has its line and its noise, of 1 and 14 bits; they stay, and where
+/// those of the finished cycles are there, those of all cycles that have begun are, and no others come while a
+/// described step goes on.
+pub fn variables_are_there()
+    ensures begun { BegunHasVariables }
+    ensures stay { VariablesStay }
+    ensures cycles { CyclesAreThere }
+    ensures cycles_stay { CyclesStay }
+{}
+
+/// The law of environments: for every assignment there is an environment that has the values of the variables of lines,
+/// noise and inputs; for every environment there is an assignment under which it has them, which differs from a given
+/// one in these variables alone; and it has them under each assignment that differs in others alone.
+pub fn environments_are_there()
+    ensures there { EnvironmentsAreThere }
+    ensures reached { EnvironmentsAreReached }
+    ensures stay { EnvironmentsStay }
 {}
