@@ -34,7 +34,7 @@ use Rattle.std.proofs.lemmas.Option.{same_Some}
 use Rattle.mw_symmem.specs.Memory.{Memory, IsMemory, after, valued}
 use Rattle.mw_symmem.specs.Workspace.{IsLater, ReadsMore}
 use Rattle.mw_symmem.proofs.Later.{image_before, images_fit_before, valued_stays}
-use Rattle.mw_symboard.specs.Laws.{BeginsWith, BitsAreFirst, BitsAreOfTheRun, Course, FitsSoFar, IsEnvironmentOf, IsInRun, IsNew, RunsBegin, RunsFitBefore, RunsStay, TermsAreThere, TurnsAreOfTheRun, bits_in, run_in}
+use Rattle.mw_symboard.specs.Laws.{BeginsWith, BitsAreFirst, BitsAreOfTheRun, Course, ElementsHaveTerms, FitsSoFar, IsEnvironmentOf, IsInRun, IsNew, RunsBegin, RunsFitBefore, RunsStay, TurnsAreOfTheRun, bits_in, run_in}
 use Rattle.mw_symboard.specs.Parts.{AreParts, term_of_part}
 use Rattle.mw_symboard.specs.Seen.{AreFirst, IsOutside, IsSeen, IsStateOf, Place, Scene}
 use Rattle.mw_symboard.specs.Turns.{Symbolic, AreEvents, IsDone, clock_of, event_of, event_term, with_reads}
@@ -365,8 +365,8 @@ runs_fit_before board told tnew wold wnew more mold mnew given x workspace later
       },
     )
 
-pub terms_are_there : TermsAreThere
-terms_are_there board store t words m o = (
+pub elements_have_terms : ElementsHaveTerms
+elements_have_terms board store t words m o = (
   λ symbolic. (symbolic.parts, symbolic.events),
   λ parts n below. parts.wide (element_of board n) (is_element board n below),
   λ given x bits is n below. is.state.elements (element_of board n) (is_element board n below),

@@ -154,8 +154,8 @@ RunsFitBefore =
 
 -- There is a term of its width for each element, by its number, and for each event; and in a run each element's term
 -- has the value that the element has in the state.
-abbrev pub TermsAreThere : Type 0
-TermsAreThere =
+abbrev pub ElementsHaveTerms : Type 0
+ElementsHaveTerms =
     (board : BoardParts) (store : List ℕ) (t : Table) (words : List Word) (m : Memory) (o : Symbolic)
     → (IsSymbolic board store t words m o → AreParts board t o.place.parts × AreEvents board t o.events)
     × (AreParts board t o.place.parts → (n : ℕ) → n < element_count board

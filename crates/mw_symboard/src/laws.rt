@@ -1,5 +1,5 @@
 // Laws of runs of a board on terms.
-ghost use Rattle.mw_symboard.specs.Laws.{BitsAreFirst, BitsAreOfTheRun, RunsBegin, RunsFitBefore, RunsStay, TermsAreThere, TurnsAreOfTheRun};
+ghost use Rattle.mw_symboard.specs.Laws.{BitsAreFirst, BitsAreOfTheRun, ElementsHaveTerms, RunsBegin, RunsFitBefore, RunsStay, TurnsAreOfTheRun};
 ghost use Rattle.mw_symboard.specs.Paths.{PathsBegin, PathsGoOn, PathsStay, PathsTakeBits};
 ghost use Rattle.mw_symboard.specs.Variables.{BegunHasVariables, CyclesAreThere, CyclesStay, EnvironmentsAreReached, EnvironmentsAreThere, EnvironmentsStay, VariablesStay};
 
@@ -29,8 +29,8 @@ pub fn runs_fit_before()
 
 /// The law of terms: each element, by its number, and each event has a term of its width, and in a run the term has the
 /// element's value.
-pub fn terms_are_there()
-    ensures { TermsAreThere }
+pub fn elements_have_terms()
+    ensures { ElementsHaveTerms }
 {}
 
 /// The law of paths: a path of the bits that a board on terms asks for, each with its value, is true exactly where

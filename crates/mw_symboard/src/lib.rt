@@ -19,6 +19,6 @@ mod source;
 
 pub use board::SymBoard;
 pub use laws::{
-    environments_are_there, paths_are_of_the_run, runs_begin, runs_fit_before, runs_stay,
-    terms_are_there, turns_are_of_the_run, variables_are_there,
+    elements_have_terms, environments_are_there, paths_are_of_the_run, runs_begin, runs_fit_before,
+    runs_stay, turns_are_of_the_run, variables_are_there,
 };
