@@ -1,7 +1,8 @@
 -- A path of decided bits through the cycles of a board.
-use Rattle.std.proofs.Common.{◌≡◌, ℕ, ◌+◌, ◌<◌, List, ◌++◌, arith, ap, sym, subst, ◌∙◌}
-use Rattle.std.specs.Prelude.{Bool, true, ◌==◌, Some}
+use Rattle.std.proofs.Common.{◌≡◌, ℕ, zero, suc, ◌+◌, ◌<◌, List, ◌++◌, arith, refl, ap, sym, subst, ◌∙◌}
+use Rattle.std.specs.Prelude.{if◌then◌else◌, Bool, true, false, ◌==◌, Some}
 use Rattle.std.proofs.lemmas.Option.{same_Some}
+use Rattle.mw_base.specs.Words.{bit_of}
 use Rattle.mw_board.specs.declared.parts.BoardParts.{BoardParts}
 use Rattle.mw_cycle.specs.declared.decided.Decided.{Decided}
 use Rattle.mw_cycle.specs.Decided.{decided}
@@ -14,10 +15,11 @@ use Rattle.mw_symmem.specs.declared.turn.Turn.{Turn}
 use Rattle.mw_symmem.specs.declared.turn.Turn.TheVariants.{Ask, Finished}
 use Rattle.mw_symmem.specs.Memory.{Memory}
 use Rattle.mw_symmem.specs.Workspace.{IsLater, IsWorkspace, ReadsMore}
+use Rattle.mw_symmem.proofs.Images.{value_within}
 use Rattle.mw_symmem.proofs.Later.{width_later}
 use Rattle.mw_symboard.specs.Laws.{BeginsWith, Course, bits_in}
 use Rattle.mw_symboard.specs.Parts.{AreElements}
-use Rattle.mw_symboard.specs.Paths.{IsOneOf, Origin, PathsBegin, PathsGoOn, PathsStay, PathsTakeBits}
+use Rattle.mw_symboard.specs.Paths.{IsOneOf, Origin, PathsBegin, PathsGoOn, PathsStay, PathsTakeBits, SplitsAreBy}
 use Rattle.mw_symboard.specs.Seen.{Place}
 use Rattle.mw_symboard.specs.Turns.{Symbolic, IsTurn}
 use Rattle.mw_symboard.proofs.RunBits.{first_before}
@@ -105,3 +107,42 @@ paths_stay board store told tnew wold wnew more mold mnew b o bits path workspac
       in_run = λ given x one holds. stays.2 given x bits (is.in_run given x (before given x one) holds);
       only = λ given x one n less first. is.only given x (before given x one) n less first;
     }
+
+-- ---- splits
+
+lowest : (v : ℕ) → v < 2 → bit_of v 0 ≡ (v == 1)
+lowest zero small = refl
+lowest (suc zero) small = refl
+lowest (suc (suc v)) small = absurd (omega (arith, small))
+
+where_one : (b path : Bool) → (if b then path else false) ≡ true → (path ≡ true) × (b ≡ true)
+where_one true path holds = (holds, refl)
+where_one false path holds = absurd cc
+
+where_zero : (b path : Bool) → (if b then false else path) ≡ true → (path ≡ true) × (b ≡ false)
+where_zero true path holds = absurd cc
+where_zero false path holds = (holds, refl)
+
+pub splits_are_by : SplitsAreBy
+splits_are_by t term path next table wide =
+    let own : (given : Given) → bit_of (term_value t given term) 0 ≡ (term_value t given term == 1) =
+    λ given. lowest (term_value t given term) (value_within t given 1 term table wide) in (
+      λ agree. record {
+        so = λ given holds.
+            let both = where_one (bit_of (term_value t given term) 0) (path given) (sym (agree given) ∙ holds) in
+            (both.0, sym (own given) ∙ both.1);
+        only = λ given holds is.
+            agree given
+            ∙ ap (λ (b : Bool). if b then path given else false) (own given ∙ is)
+            ∙ holds;
+      },
+      λ agree. record {
+        so = λ given holds.
+            let both = where_zero (bit_of (term_value t given term) 0) (path given) (sym (agree given) ∙ holds) in
+            (both.0, sym (own given) ∙ both.1);
+        only = λ given holds is.
+            agree given
+            ∙ ap (λ (b : Bool). if b then false else path given) (own given ∙ is)
+            ∙ holds;
+      },
+    )

@@ -1,17 +1,19 @@
 -- A path of decided bits through the cycles of a board on terms: where it is true, the bits are the run's own.
-use Rattle.std.specs.Prelude.{◌≡◌, ℕ, ◌<◌, List, [], ◌∷◌, ◌++◌, length, Bool, true, ◌==◌, Some, slice_get}
+use Rattle.std.specs.Prelude.{◌≡◌, ℕ, ◌<◌, List, [], ◌∷◌, ◌++◌, length, Bool, true, false, ◌==◌, Some, slice_get}
 use Rattle.mw_board.specs.declared.parts.BoardParts.{BoardParts}
 use Rattle.mw_cycle.specs.declared.decided.Decided.{Decided}
 use Rattle.mw_cycle.specs.Decided.{decided}
 use Rattle.mw_term.specs.declared.kinds.DecidedKind.{DecidedKind}
 use Rattle.mw_term.specs.declared.word.Word.{Word}
 use Rattle.mw_term.specs.Assigned.{Given}
-use Rattle.mw_term.specs.Functions.{Function}
-use Rattle.mw_term.specs.Table.{Table}
+use Rattle.mw_term.specs.Cofactors.{Agree}
+use Rattle.mw_term.specs.Functions.{Function, ite, made, never}
+use Rattle.mw_term.specs.Rows.{bit}
+use Rattle.mw_term.specs.Table.{Table, IsTable}
 use Rattle.mw_term.specs.Values.{term_value}
 use Rattle.mw_symmem.specs.declared.turn.Turn.{Turn}
 use Rattle.mw_symmem.specs.declared.turn.Turn.TheVariants.{Ask, Finished}
-use Rattle.mw_symmem.specs.Memory.{Memory}
+use Rattle.mw_symmem.specs.Memory.{Memory, IsOfWidth}
 use Rattle.mw_symmem.specs.Workspace.{GoesOn, IsLater, IsWorkspace, ReadsMore}
 use Rattle.mw_symboard.specs.Kinds.{IsCycleKind}
 use Rattle.mw_symboard.specs.Laws.{BeginsWith, Course, FitsSoFar, IsInRun, IsNew, bits_in}
@@ -91,6 +93,13 @@ PathsTakeBits =
     → IsPath board store t words m b o bits path → IsNext board store t words m b o bits path kind term
     → IsBy t term value path next
     → IsPath board store t words m b (decided_so o kind value) (bits ++ decided kind value ∷ []) next
+
+-- A path that a term of one bit splits in two is, on either side, the path by that value of the bit.
+abbrev pub SplitsAreBy : Type 0
+SplitsAreBy =
+    (t : Table) (term : ℕ) (path next : Function) → IsTable t → IsOfWidth t 1 term
+    → (Agree next (made (ite (bit t term 0) path never)) → IsBy t term true path next)
+    × (Agree next (made (ite (bit t term 0) never path)) → IsBy t term false path next)
 
 -- Other calls keep a path: while they make terms, read the memory and write on the machine's side.
 abbrev pub PathsStay : Type 0

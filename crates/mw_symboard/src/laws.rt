@@ -1,6 +1,6 @@
 // Laws of runs of a board on terms.
 ghost use Rattle.mw_symboard.specs.Laws.{BitsAreFirst, BitsAreOfTheRun, ElementsHaveTerms, RunsBegin, RunsFitBefore, RunsStay, TurnsAreOfTheRun};
-ghost use Rattle.mw_symboard.specs.Paths.{PathsBegin, PathsGoOn, PathsStay, PathsTakeBits};
+ghost use Rattle.mw_symboard.specs.Paths.{PathsBegin, PathsGoOn, PathsStay, PathsTakeBits, SplitsAreBy};
 ghost use Rattle.mw_symboard.specs.Variables.{BegunHasVariables, CyclesAreThere, CyclesStay, EnvironmentsAreReached, EnvironmentsAreThere, EnvironmentsStay, VariablesStay};
 
 /// The law of the start: a board that has done nothing is in each run that begins with its terms.
@@ -39,6 +39,7 @@ pub fn paths_are_of_the_run()
     ensures begin { PathsBegin }
     ensures turns { PathsGoOn }
     ensures bits { PathsTakeBits }
+    ensures splits { SplitsAreBy }
     ensures stay { PathsStay }
 {}
 
