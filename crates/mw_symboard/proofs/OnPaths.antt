@@ -1,5 +1,5 @@
 -- A path of decided bits through the cycles of a board.
-use Rattle.std.proofs.Common.{◌≡◌, ℕ, zero, suc, ◌+◌, ◌<◌, List, ◌++◌, arith, refl, ap, sym, subst, ◌∙◌}
+use Rattle.std.proofs.Common.{◌≡◌, ℕ, zero, suc, ◌+◌, ◌<◌, List, ◌++◌, arith, refl, inl, inr, ap, sym, subst, ◌∙◌}
 use Rattle.std.specs.Prelude.{if◌then◌else◌, Bool, true, false, ◌==◌, Some}
 use Rattle.std.proofs.lemmas.Option.{same_Some}
 use Rattle.mw_base.specs.Words.{bit_of}
@@ -17,9 +17,10 @@ use Rattle.mw_symmem.specs.Memory.{Memory}
 use Rattle.mw_symmem.specs.Workspace.{IsLater, IsWorkspace, ReadsMore}
 use Rattle.mw_symmem.proofs.Images.{value_within}
 use Rattle.mw_symmem.proofs.Later.{width_later}
-use Rattle.mw_symboard.specs.Laws.{BeginsWith, Course, bits_in}
+use Rattle.mw_symmem.proofs.Lists.{pushed}
+use Rattle.mw_symboard.specs.Laws.{BeginsWith, Course, bits_in, run_in}
 use Rattle.mw_symboard.specs.Parts.{AreElements}
-use Rattle.mw_symboard.specs.Paths.{IsOneOf, Origin, PathsBegin, PathsGoOn, PathsStay, PathsTakeBits, SplitsAreBy}
+use Rattle.mw_symboard.specs.Paths.{IsOneOf, Origin, PassedGoOn, PassedStay, PathsBegin, PathsGoOn, PathsStay, PathsTakeBits, SplitsAreBy}
 use Rattle.mw_symboard.specs.Seen.{Place}
 use Rattle.mw_symboard.specs.Turns.{Symbolic, IsTurn}
 use Rattle.mw_symboard.proofs.RunBits.{first_before}
@@ -146,3 +147,20 @@ splits_are_by t term path next table wide =
             ∙ holds;
       },
     )
+
+-- ---- control addresses
+
+pub passed_stay : PassedStay
+passed_stay board store told tnew wold wnew more mold mnew b addresses path next workspace later words reads are so is =
+    λ given x one holds k at there.
+    is given x (one_before board told tnew wold wnew more mold mnew b given x workspace later words reads are one)
+    (so given holds) k at there
+
+pub passed_go_on : PassedGoOn
+passed_go_on board store t words m b o bits addresses path is count passed =
+    λ given x one holds k at there. elim (pushed addresses o.place.at k at there) [
+      | inl h ↦ passed given x one holds k at h.1
+      | inr h ↦
+          let same : k + 1 ≡ o.place.cycle = omega (arith, h.0, count) in
+          ap (λ (n : ℕ). (run_in board store x n).state.at) same ∙ (is.in_run given x one holds).state.at ∙ h.1
+    ]

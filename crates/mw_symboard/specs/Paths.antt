@@ -1,5 +1,5 @@
 -- A path of decided bits through the cycles of a board on terms: where it is true, the bits are the run's own.
-use Rattle.std.specs.Prelude.{◌≡◌, ℕ, ◌<◌, List, [], ◌∷◌, ◌++◌, length, Bool, true, false, ◌==◌, Some, slice_get}
+use Rattle.std.specs.Prelude.{◌≡◌, ℕ, ◌+◌, ◌<◌, List, [], ◌∷◌, ◌++◌, length, Bool, true, false, ◌==◌, Some, slice_get}
 use Rattle.mw_board.specs.declared.parts.BoardParts.{BoardParts}
 use Rattle.mw_cycle.specs.declared.decided.Decided.{Decided}
 use Rattle.mw_cycle.specs.Decided.{decided}
@@ -16,7 +16,7 @@ use Rattle.mw_symmem.specs.declared.turn.Turn.TheVariants.{Ask, Finished}
 use Rattle.mw_symmem.specs.Memory.{Memory, IsOfWidth}
 use Rattle.mw_symmem.specs.Workspace.{GoesOn, IsLater, IsWorkspace, ReadsMore}
 use Rattle.mw_symboard.specs.Kinds.{IsCycleKind}
-use Rattle.mw_symboard.specs.Laws.{BeginsWith, Course, FitsSoFar, IsInRun, IsNew, bits_in}
+use Rattle.mw_symboard.specs.Laws.{BeginsWith, Course, FitsSoFar, IsInRun, IsNew, bits_in, run_in}
 use Rattle.mw_symboard.specs.Parts.{AreElements, AreParts}
 use Rattle.mw_symboard.specs.Seen.{AreFirst}
 use Rattle.mw_symboard.specs.Turns.{Symbolic, AreEvents, IsSymbolic, IsTurn, decided_so}
@@ -56,6 +56,13 @@ abbrev pub AreAll : BoardParts → List ℕ → Table → List Word → Memory �
 AreAll board store t words m b o bits path =
     (given : Given) (x : Course) → IsOneOf board t words m b given x → path given ≡ true
     → bits_in board store x o.place.cycle ≡ bits
+
+-- where the path is true, the run is at these control addresses after its first cycles, one after each
+abbrev pub ArePassed : BoardParts → List ℕ → Table → List Word → Memory → Origin → (addresses : List ℕ)
+    → (path : Function) → Type 0
+ArePassed board store t words m b addresses path =
+    (given : Given) (x : Course) → IsOneOf board t words m b given x → path given ≡ true → (k at : ℕ)
+    → slice_get addresses k ≡ Some at → (run_in board store x (k + 1)).state.at ≡ at
 
 -- a path by a bit: true where the path is, and the term of the bit has this value
 pub record IsBy (t : Table) (term : ℕ) (value : Bool) (path next : Function) : Type 0 where
@@ -109,3 +116,21 @@ PathsStay =
     → wnew ≡ wold ++ more → ReadsMore mold mnew → mnew.board ≡ mold.board → AreParts board told o.place.parts
     → AreEvents board told o.events → IsPath board store told wold mold b o bits path
     → IsPath board store tnew wnew mnew b o bits path
+
+-- The control addresses after the first cycles stay, through turns and other calls, on a path and on each by a bit of
+-- it.
+abbrev pub PassedStay : Type 0
+PassedStay =
+    (board : BoardParts) (store : List ℕ) (told tnew : Table) (wold wnew more : List Word) (mold mnew : Memory)
+    (b : Origin) (addresses : List ℕ) (path next : Function) → IsWorkspace told wold mold → IsLater told tnew
+    → wnew ≡ wold ++ more → ReadsMore mold mnew → AreElements board told b.terms
+    → ((given : Given) → next given ≡ true → path given ≡ true)
+    → ArePassed board store told wold mold b addresses path → ArePassed board store tnew wnew mnew b addresses next
+
+-- After one cycle more it is at the board's control address.
+abbrev pub PassedGoOn : Type 0
+PassedGoOn =
+    (board : BoardParts) (store : List ℕ) (t : Table) (words : List Word) (m : Memory) (b : Origin) (o : Symbolic)
+    (bits : List Decided) (addresses : List ℕ) (path : Function) → IsPath board store t words m b o bits path
+    → o.place.cycle ≡ length addresses + 1 → ArePassed board store t words m b addresses path
+    → ArePassed board store t words m b (addresses ++ o.place.at ∷ []) path

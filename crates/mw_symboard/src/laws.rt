@@ -1,6 +1,6 @@
 // Laws of runs of a board on terms.
 ghost use Rattle.mw_symboard.specs.Laws.{BitsAreFirst, BitsAreOfTheRun, ElementsHaveTerms, RunsBegin, RunsFitBefore, RunsStay, TurnsAreOfTheRun};
-ghost use Rattle.mw_symboard.specs.Paths.{PathsBegin, PathsGoOn, PathsStay, PathsTakeBits, SplitsAreBy};
+ghost use Rattle.mw_symboard.specs.Paths.{PassedGoOn, PassedStay, PathsBegin, PathsGoOn, PathsStay, PathsTakeBits, SplitsAreBy};
 ghost use Rattle.mw_symboard.specs.Variables.{BegunHasVariables, CyclesAreThere, CyclesStay, EnvironmentsAreReached, EnvironmentsAreThere, EnvironmentsStay, VariablesStay};
 
 /// The law of the start: a board that has done nothing is in each run that begins with its terms.
@@ -34,13 +34,15 @@ pub fn elements_have_terms()
 {}
 
 /// The law of paths: a path of the bits that a board on terms asks for, each with its value, is true exactly where
-/// these are the first decided bits of the run, and then the board is in that run.
+/// these are the first decided bits of the run; then the board is in that run, and was at its control addresses.
 pub fn paths_are_of_the_run()
     ensures begin { PathsBegin }
     ensures turns { PathsGoOn }
     ensures bits { PathsTakeBits }
     ensures splits { SplitsAreBy }
     ensures stay { PathsStay }
+    ensures passed_stay { PassedStay }
+    ensures passed { PassedGoOn }
 {}
 
 /// The law of variables: a cycle that has begun has its line and its noise, of 1 and 14 bits; they stay, and where

@@ -1,4 +1,4 @@
-use Rattle.mw_symboard.proofs.OnPaths.{paths_begin, paths_go_on, paths_stay, paths_take_bits, splits_are_by}
+use Rattle.mw_symboard.proofs.OnPaths.{passed_go_on, passed_stay, paths_begin, paths_go_on, paths_stay, paths_take_bits, splits_are_by}
 use Rattle.mw_symboard.proofs.laws.paths_are_of_the_run.Goals as goal
 
 pub returns : goal.returns
@@ -8,4 +8,6 @@ returns c = record {
   bits = paths_take_bits;
   splits = splits_are_by;
   stay = paths_stay;
+  passed_stay = passed_stay;
+  passed = passed_go_on;
 }
