@@ -28,7 +28,7 @@ use Rattle.mw_symboard.specs.declared.reading.Reading.{Reading}
 use Rattle.mw_symboard.specs.Kinds.{AreInputs}
 use Rattle.mw_symboard.specs.Seen.{Place}
 use Rattle.mw_symboard.specs.Turns.{HasRead}
-use Rattle.mw_symboard.specs.Variables.{BegunHasVariables, CyclesAreThere, CyclesStay, EnvironmentsAreReached, EnvironmentsAreThere, EnvironmentsStay, HasCycles, HasVariables, IsOutsideKind, IsOutsideNumber, IsReadKind, VariablesStay}
+use Rattle.mw_symboard.specs.Variables.{BegunHasVariables, CyclesAreThere, CyclesStay, EnvironmentsAreReached, EnvironmentsAreThere, EnvironmentsStay, HasCycles, HasVariables, IsOutsideKind, IsOutsideNumber, IsReadKind, VariablesHaveValues, VariablesStay}
 use Rattle.mw_symboard.proofs.Runs.{variable_of}
 use Rattle.mw_symboard.proofs.Standing.{found_stays}
 use Rattle.mw_symboard.proofs.Turning.{read_known}
@@ -335,15 +335,18 @@ unfolding op_width
 width_of t place term width w table op is =
     sym (terms_have_ops t term (Var (place + 1) width) table op).is.width ∙ is.width_is
 
+pub variables_have_values : VariablesHaveValues
+variables_have_values t words place term kind width given table of is wide =
+    let op = of.variables place term kind is in
+    variable_value t words place term op.0 given table op.1
+    ∙ ap (λ (k : ℕ). given (place + 1) % 2 ^ k) (width_of t place term op.0 width table op.1 wide)
+
 -- and the whole of it, where it has no more bits
 whole_value : (t : Table) (words : List Word) (place term w : ℕ) (kind : WordKind) (given : Given) → IsTable t
     → AreOf t words → IsVariable words place term kind → IsOfWidth t w term → given (place + 1) < 2 ^ w
     → term_value t given term ≡ given (place + 1)
 whole_value t words place term w kind given table of is wide less =
-    let op = of.variables place term kind is in
-    variable_value t words place term op.0 given table op.1
-    ∙ ap (λ (k : ℕ). given (place + 1) % 2 ^ k) (width_of t place term op.0 w table op.1 wide)
-    ∙ mod-eq_of_lt less
+    variables_have_values t words place term kind w given table of is wide ∙ mod-eq_of_lt less
 
 num_below : (b : Bool) → num b < 2
 num_below true = omega arith

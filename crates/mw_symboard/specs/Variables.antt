@@ -1,5 +1,5 @@
 -- The variables of the cycles of a run, and the environments and assignments that go with one another.
-use Rattle.std.specs.Prelude.{◌≡◌, ℕ, ◌+◌, ◌<◌, ◌⊎◌, ◌++◌, List, length, Some}
+use Rattle.std.specs.Prelude.{◌≡◌, ℕ, ◌+◌, ◌%◌, ◌^◌, ◌<◌, ◌⊎◌, ◌++◌, List, length, Some}
 use Rattle.mw_board.specs.declared.parts.BoardParts.{BoardParts}
 use Rattle.mw_cycle.specs.Environment.{Environment, IsEnvironment}
 use Rattle.mw_term.specs.declared.kinds.WordKind.{WordKind}
@@ -7,6 +7,7 @@ use Rattle.mw_term.specs.declared.kinds.WordKind.TheVariants.{Base, Input, Line,
 use Rattle.mw_term.specs.declared.word.Word.{Word}
 use Rattle.mw_term.specs.Assigned.{Given}
 use Rattle.mw_term.specs.Table.{Table, IsTable}
+use Rattle.mw_term.specs.Values.{term_value}
 use Rattle.mw_term.specs.WordList.{term_of}
 use Rattle.mw_symmem.specs.Memory.{Memory, IsOfWidth}
 use Rattle.mw_symmem.specs.Words.{AreOf, HaveOwnKinds, IsVariable}
@@ -63,6 +64,13 @@ CyclesStay =
     (board : BoardParts) (told tnew : Table) (wold wnew more : List Word) (cycles : ℕ) → IsLater told tnew
     → wnew ≡ wold ++ more → HaveKinds IsReadKind more → AreInputs board tnew wnew → HasCycles board told wold cycles
     → HasCycles board tnew wnew cycles
+
+-- A variable has the value that the assignment gives its number, cut to its width.
+abbrev pub VariablesHaveValues : Type 0
+VariablesHaveValues =
+    (t : Table) (words : List Word) (place term : ℕ) (kind : WordKind) (width : ℕ) (given : Given) → IsTable t
+    → AreOf t words → IsVariable words place term kind → IsOfWidth t width term
+    → term_value t given term ≡ given (place + 1) % 2 ^ width
 
 -- For every assignment there is an environment that has the values of all variables.
 abbrev pub EnvironmentsAreThere : Type 0

@@ -1,7 +1,7 @@
 // Laws of runs of a board on terms.
 ghost use Rattle.mw_symboard.specs.Laws.{BitsAreFirst, BitsAreOfTheRun, ElementsHaveTerms, RunsBegin, RunsFitBefore, RunsStay, TurnsAreOfTheRun};
 ghost use Rattle.mw_symboard.specs.Paths.{PassedGoOn, PassedStay, PathsBegin, PathsGoOn, PathsStay, PathsTakeBits, SplitsAreBy};
-ghost use Rattle.mw_symboard.specs.Variables.{BegunHasVariables, CyclesAreThere, CyclesStay, EnvironmentsAreReached, EnvironmentsAreThere, EnvironmentsStay, VariablesStay};
+ghost use Rattle.mw_symboard.specs.Variables.{BegunHasVariables, CyclesAreThere, CyclesStay, EnvironmentsAreReached, EnvironmentsAreThere, EnvironmentsStay, VariablesHaveValues, VariablesStay};
 
 /// The law of the start: a board that has done nothing is in each run that begins with its terms.
 pub fn runs_begin()
@@ -47,10 +47,11 @@ pub fn paths_are_of_the_run()
 
 /// The law of variables: a cycle that has begun has its line and its noise, of 1 and 14 bits; they stay, and where
 /// those of the finished cycles are there, those of all cycles that have begun are, and no others come while a
-/// described step goes on.
+/// described step goes on. A variable has the value that the assignment gives its number.
 pub fn variables_are_there()
     ensures begun { BegunHasVariables }
     ensures stay { VariablesStay }
+    ensures values { VariablesHaveValues }
     ensures cycles { CyclesAreThere }
     ensures cycles_stay { CyclesStay }
 {}
