@@ -1,3 +1,4 @@
+pub mod Cycles
 pub mod Edge
 pub mod Fitting
 pub mod OnLiterals

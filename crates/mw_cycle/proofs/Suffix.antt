@@ -21,7 +21,7 @@ rest_is_environment board env place is = record {
 }
 
 -- what is given at a place of the rest is what the whole gives further on
-given_further : (env : Environment) (place by : Clock) → given_at (rest_at env place) by ≡ given_at env (further place by)
+pub given_further : (env : Environment) (place by : Clock) → given_at (rest_at env place) by ≡ given_at env (further place by)
 given_further env place by =
     rw (get_or-drop place.cycle env.noise by.cycle 0, get_or-drop place.cycle env.line by.cycle false, get_or-drop place.taken env.inputs by.taken 0) refl
 

@@ -1,4 +1,5 @@
-// Laws of runs, of their boundaries and of their environments.
+// Laws of runs, of their decided bits, of their boundaries and of their environments.
+ghost use Rattle.mw_cycle.specs.Decided.{BitsGoOn};
 ghost use Rattle.mw_cycle.specs.Environment.{RestsAreEnvironments};
 ghost use Rattle.mw_cycle.specs.Run.{RunsGoOn};
 ghost use Rattle.mw_cycle.specs.Boundary.{BoundariesGoOn, SegmentsEndAtBoundaries};
@@ -13,6 +14,11 @@ pub fn segments_end_at_boundaries()
 /// environment at the place that it reached.
 pub fn runs_go_on()
     ensures { RunsGoOn }
+{}
+
+/// The law of decided bits: those of n + m cycles of a run are those of its first n, and then those of the m that follow.
+pub fn bits_go_on()
+    ensures { BitsGoOn }
 {}
 
 /// The law of boundaries: from a boundary of a run, the boundaries of what is left of the run are those of the whole.

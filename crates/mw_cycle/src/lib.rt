@@ -17,7 +17,9 @@ pub use datapath::{Datapath, Whole};
 pub use decided::Decided;
 pub use elements::{Element, element_of};
 pub use environment::{Clock, Env};
-pub use laws::{boundaries_go_on, rests_are_environments, runs_go_on, segments_end_at_boundaries};
+pub use laws::{
+    bits_go_on, boundaries_go_on, rests_are_environments, runs_go_on, segments_end_at_boundaries,
+};
 pub use microword::Microword;
 pub use one_cycle::cycle;
 pub use state::{CycleIn, Nets, State};

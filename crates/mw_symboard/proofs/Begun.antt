@@ -18,7 +18,7 @@ use Rattle.mw_cycle.specs.BoardTerms.{Parts, term_of_part}
 use Rattle.mw_symboard.proofs.PartElements.{count_of}
 
 -- the number of an element
-number_of : BoardParts → Element → ℕ
+pub number_of : BoardParts → Element → ℕ
 number_of board (Register n) = n
 number_of board Q = 16
 number_of board Mar = 17
@@ -29,7 +29,7 @@ number_of board R = pc_number board + 1
 number_of board (StackWord n) = pc_number board + 2 + n
 
 -- what has it is that element
-has_number : (board : BoardParts) (e : Element) → IsElement board e → element_of board (number_of board e) ≡ e
+pub has_number : (board : BoardParts) (e : Element) → IsElement board e → element_of board (number_of board e) ≡ e
 unfolding number_of
 has_number board (Register n) is =
     by_number board n (λ e. e ≡ Register n) (λ h. refl) (λ h. absurd (omega (arith, is, h))) (λ h. absurd (omega (arith, is, h)))
@@ -66,7 +66,7 @@ has_number board (StackWord n) is =
     (λ h. ap StackWord (omega arith))
 
 -- and the board has it
-number_below : (board : BoardParts) (e : Element) → IsElement board e → number_of board e < element_count board
+pub number_below : (board : BoardParts) (e : Element) → IsElement board e → number_of board e < element_count board
 unfolding number_of
 number_below board (Register n) is = let count = count_of board in omega (arith, count, is)
 number_below board Q is = let count = count_of board in omega (arith, count)

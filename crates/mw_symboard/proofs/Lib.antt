@@ -3,6 +3,7 @@ pub mod AtEdge
 pub mod Begun
 pub mod Deciding
 pub mod Ends
+pub mod Environments
 pub mod Finishing
 pub mod Fitting
 pub mod Going
@@ -12,9 +13,12 @@ pub mod Listing
 pub mod Loads
 pub mod MadeBits
 pub mod Meaning
+pub mod OnPaths
 pub mod PartElements
 pub mod Read
 pub mod SameBit
+pub mod RunBits
+pub mod Runs
 pub mod Saying
 pub mod SaysAddress
 pub mod SaysBits

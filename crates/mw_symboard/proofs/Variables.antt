@@ -27,7 +27,7 @@ none_if : (b : Bool) (a : ℕ) (rest more : Option ℕ) → (rest ≡ None → m
 none_if true a rest more later is = is
 none_if false a rest more later is = later is
 
-none_both : (xs ys : List Word) (kind : WordKind) → term_of xs kind ≡ None → term_of ys kind ≡ None
+pub none_both : (xs ys : List Word) (kind : WordKind) → term_of xs kind ≡ None → term_of ys kind ≡ None
     → term_of (xs ++ ys) kind ≡ None
 none_both [] ys kind first second = second
 none_both (x ∷ xs) ys kind first second =
@@ -49,7 +49,7 @@ none_head K (Some own) kind term rest owns other none =
 named : (w : Word) (own : WordKind) → w.kind ≡ Some own → Some w ≡ Some (variable w.term own)
 named w own is = ap (λ (k : Option WordKind). Some (record { term = w.term; kind = k })) is
 
-none_kind : (K : WordKind → Type 0) (words : List Word) (kind : WordKind) → HaveKinds K words → (K kind → ⊥)
+pub none_kind : (K : WordKind → Type 0) (words : List Word) (kind : WordKind) → HaveKinds K words → (K kind → ⊥)
     → term_of words kind ≡ None
 none_kind K [] kind kinds other = refl
 none_kind K (w ∷ words) kind kinds other =

@@ -4,8 +4,11 @@ pub mod Cycle
 pub mod Growth
 pub mod Kinds
 pub mod Listed
+pub mod Laws
 pub mod Made
 pub mod Parts
+pub mod Paths
 pub mod Seen
 pub mod Shown
 pub mod Turns
+pub mod Variables

@@ -1,4 +1,5 @@
-//! One cycle of a board on terms: under every assignment it is the cycle of a state.
+//! One cycle of a board on terms: under every assignment it is the cycle of a state, and one cycle after another is a
+//! run.
 #![tactic(auto)]
 
 mod address;
@@ -7,6 +8,7 @@ mod bits;
 mod board;
 mod edge;
 mod function;
+mod laws;
 mod leaving;
 mod make;
 mod parts;
@@ -16,3 +18,7 @@ mod reading;
 mod source;
 
 pub use board::SymBoard;
+pub use laws::{
+    elements_have_terms, environments_are_there, paths_are_of_the_run, runs_begin, runs_fit_before,
+    runs_stay, turns_are_of_the_run, variables_are_there,
+};

@@ -1,0 +1,108 @@
+-- The variables of the cycles of a run, and the environments and assignments that go with one another.
+use Rattle.std.specs.Prelude.{◌≡◌, ℕ, ◌+◌, ◌%◌, ◌^◌, ◌<◌, ◌⊎◌, ◌++◌, List, length, Some}
+use Rattle.mw_board.specs.declared.parts.BoardParts.{BoardParts}
+use Rattle.mw_cycle.specs.Environment.{Environment, IsEnvironment}
+use Rattle.mw_term.specs.declared.kinds.WordKind.{WordKind}
+use Rattle.mw_term.specs.declared.kinds.WordKind.TheVariants.{Base, Input, Line, Noise}
+use Rattle.mw_term.specs.declared.word.Word.{Word}
+use Rattle.mw_term.specs.Assigned.{Given}
+use Rattle.mw_term.specs.Table.{Table, IsTable}
+use Rattle.mw_term.specs.Values.{term_value}
+use Rattle.mw_term.specs.WordList.{term_of}
+use Rattle.mw_symmem.specs.Memory.{Memory, IsOfWidth}
+use Rattle.mw_symmem.specs.Words.{AreOf, HaveOwnKinds, IsVariable}
+use Rattle.mw_symmem.specs.Workspace.{HaveKinds, IsLater}
+use Rattle.mw_symboard.specs.declared.reading.Reading.{Reading}
+use Rattle.mw_symboard.specs.Kinds.{AreInputs}
+use Rattle.mw_symboard.specs.Laws.{IsEnvironmentOf}
+use Rattle.mw_symboard.specs.Turns.{Symbolic, AreNoLater, IsSymbolic}
+
+-- the variables of a cycle are there: its line, of one bit, and its noise, of 14
+pub record HasVariables (t : Table) (words : List Word) (cycle : ℕ) : Type 0 where
+  pub line : ℕ
+  pub noise : ℕ
+  pub is_line : term_of words (Line cycle) ≡ Some line
+  pub is_noise : term_of words (Noise cycle) ≡ Some noise
+  pub line_wide : IsOfWidth t 1 line
+  pub noise_wide : IsOfWidth t 14 noise
+
+-- so are those of so many cycles, and of no later one; and the variables of inputs that there are have the board's
+-- width
+pub record HasCycles (board : BoardParts) (t : Table) (words : List Word) (cycles : ℕ) : Type 0 where
+  pub each : (n : ℕ) → n < cycles → HasVariables t words n
+  pub none : AreNoLater cycles words
+  pub inputs : AreInputs board t words
+
+-- The variables of a cycle stay, with all words that come behind.
+abbrev pub VariablesStay : Type 0
+VariablesStay =
+    (told tnew : Table) (wold wnew more : List Word) (cycle : ℕ) → IsLater told tnew → wnew ≡ wold ++ more
+    → HasVariables told wold cycle → HasVariables tnew wnew cycle
+
+-- A board whose cycle has begun has the cycle's variables; and a cycle of which a bit is decided has begun.
+abbrev pub BegunHasVariables : Type 0
+BegunHasVariables =
+    (board : BoardParts) (store : List ℕ) (t : Table) (words : List Word) (m : Memory) (o : Symbolic)
+    → IsSymbolic board store t words m o
+    → ((reading : Reading) → o.reading ≡ Some reading → HasVariables t words o.place.cycle)
+    × (0 < length o.place.decided → HasVariables t words o.place.cycle)
+
+-- Where the variables of the finished cycles are there, those of all cycles that have begun are.
+abbrev pub CyclesAreThere : Type 0
+CyclesAreThere =
+    (board : BoardParts) (store : List ℕ) (t : Table) (words : List Word) (m : Memory) (o : Symbolic)
+    → IsSymbolic board store t words m o → ((n : ℕ) → n < o.place.cycle → HasVariables t words n)
+    → (cycles : ℕ) × HasCycles board t words cycles
+
+-- what a described step makes: variables of base reads and of inputs
+abbrev pub IsReadKind : WordKind → Type 0
+IsReadKind kind = ((n : ℕ) × (kind ≡ Base n)) ⊎ ((n : ℕ) × (kind ≡ Input n))
+
+-- They stay all those that there are, while others than lines and noise are made.
+abbrev pub CyclesStay : Type 0
+CyclesStay =
+    (board : BoardParts) (told tnew : Table) (wold wnew more : List Word) (cycles : ℕ) → IsLater told tnew
+    → wnew ≡ wold ++ more → HaveKinds IsReadKind more → AreInputs board tnew wnew → HasCycles board told wold cycles
+    → HasCycles board tnew wnew cycles
+
+-- A variable has the value that the assignment gives its number, cut to its width.
+abbrev pub VariablesHaveValues : Type 0
+VariablesHaveValues =
+    (t : Table) (words : List Word) (place term : ℕ) (kind : WordKind) (width : ℕ) (given : Given) → IsTable t
+    → AreOf t words → IsVariable words place term kind → IsOfWidth t width term
+    → term_value t given term ≡ given (place + 1) % 2 ^ width
+
+-- For every assignment there is an environment that has the values of all variables.
+abbrev pub EnvironmentsAreThere : Type 0
+EnvironmentsAreThere =
+    (board : BoardParts) (t : Table) (words : List Word) (cycles : ℕ) (given : Given) → IsTable t → HaveOwnKinds words
+    → HasCycles board t words cycles → (env : Environment) × IsEnvironmentOf board t words given env
+
+-- what the outside of a run gives: lines, noise and inputs
+abbrev pub IsOutsideKind : WordKind → Type 0
+IsOutsideKind kind = ((n : ℕ) × (kind ≡ Line n)) ⊎ (((n : ℕ) × (kind ≡ Noise n)) ⊎ ((n : ℕ) × (kind ≡ Input n)))
+
+-- a number of a list is that of a variable of a line, noise or input
+pub record IsOutsideNumber (words : List Word) (n : ℕ) : Type 0 where
+  pub place : ℕ
+  pub term : ℕ
+  pub kind : WordKind
+  pub number : n ≡ place + 1
+  pub is : IsVariable words place term kind
+  pub outside : IsOutsideKind kind
+
+-- For every assignment and every environment there is a second assignment of which it is an environment, and which
+-- differs from the first in the variables of lines, noise and inputs alone.
+abbrev pub EnvironmentsAreReached : Type 0
+EnvironmentsAreReached =
+    (board : BoardParts) (t : Table) (words : List Word) (cycles : ℕ) (given : Given) (env : Environment) → IsTable t
+    → AreOf t words → HaveOwnKinds words → HasCycles board t words cycles → IsEnvironment board env
+    → (other : Given) × IsEnvironmentOf board t words other env
+    × ((n : ℕ) → ¬ IsOutsideNumber words n → other n ≡ given n)
+
+-- An environment of an assignment is one of each other that differs from it in other variables alone.
+abbrev pub EnvironmentsStay : Type 0
+EnvironmentsStay =
+    (board : BoardParts) (t : Table) (words : List Word) (given other : Given) (env : Environment) → IsTable t
+    → AreOf t words → ((n : ℕ) → IsOutsideNumber words n → other n ≡ given n) → IsEnvironmentOf board t words given env
+    → IsEnvironmentOf board t words other env

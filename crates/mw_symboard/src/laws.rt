@@ -1,0 +1,66 @@
+// Laws of runs of a board on terms.
+ghost use Rattle.mw_symboard.specs.Laws.{BitsAreFirst, BitsAreOfTheRun, ElementsHaveTerms, RunsBegin, RunsFitBefore, RunsStay, TurnsAreOfTheRun};
+ghost use Rattle.mw_symboard.specs.Paths.{PassedGoOn, PassedStay, PathsBegin, PathsGoOn, PathsStay, PathsTakeBits, SplitsAreBy};
+ghost use Rattle.mw_symboard.specs.Variables.{BegunHasVariables, CyclesAreThere, CyclesStay, EnvironmentsAreReached, EnvironmentsAreThere, EnvironmentsStay, VariablesHaveValues, VariablesStay};
+
+/// The law of the start: a board that has done nothing is in each run that begins with its terms.
+pub fn runs_begin()
+    ensures { RunsBegin }
+{}
+
+/// The law of turns: a board on terms asks for the decided bits of its run, one after another through all its cycles,
+/// and has the values of the run's state and events.
+pub fn turns_are_of_the_run()
+    ensures turns { TurnsAreOfTheRun }
+    ensures bits { BitsAreOfTheRun }
+    ensures first { BitsAreFirst }
+{}
+
+/// The law of other calls: a board stays in its run while they make terms, read the memory and write on the machine's
+/// side.
+pub fn runs_stay()
+    ensures { RunsStay }
+{}
+
+/// The law of earlier calls: a run that fits what was read later fitted what was read before.
+pub fn runs_fit_before()
+    ensures { RunsFitBefore }
+{}
+
+/// The law of terms: each element, by its number, and each event has a term of its width, and in a run the term has the
+/// element's value.
+pub fn elements_have_terms()
+    ensures { ElementsHaveTerms }
+{}
+
+/// The law of paths: a path of the bits that a board on terms asks for, each with its value, is true exactly where
+/// these are the first decided bits of the run; then the board is in that run, and was at its control addresses.
+pub fn paths_are_of_the_run()
+    ensures begin { PathsBegin }
+    ensures turns { PathsGoOn }
+    ensures bits { PathsTakeBits }
+    ensures splits { SplitsAreBy }
+    ensures stay { PathsStay }
+    ensures passed_stay { PassedStay }
+    ensures passed { PassedGoOn }
+{}
+
+/// The law of variables: a cycle that has begun has its line and its noise, of 1 and 14 bits; they stay, and where
+/// those of the finished cycles are there, those of all cycles that have begun are, and no others come while a
+/// described step goes on. A variable has the value that the assignment gives its number.
+pub fn variables_are_there()
+    ensures begun { BegunHasVariables }
+    ensures stay { VariablesStay }
+    ensures values { VariablesHaveValues }
+    ensures cycles { CyclesAreThere }
+    ensures cycles_stay { CyclesStay }
+{}
+
+/// The law of environments: for every assignment there is an environment that has the values of the variables of lines,
+/// noise and inputs; for every environment there is an assignment under which it has them, which differs from a given
+/// one in these variables alone; and it has them under each assignment that differs in others alone.
+pub fn environments_are_there()
+    ensures there { EnvironmentsAreThere }
+    ensures reached { EnvironmentsAreReached }
+    ensures stay { EnvironmentsStay }
+{}
