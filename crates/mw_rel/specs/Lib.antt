@@ -1,4 +1,6 @@
 pub mod Begin
+pub mod Case
+pub mod CaseLaws
 pub mod Certified
 pub mod Completed
 pub mod DescribedRun

@@ -1,5 +1,7 @@
 // Laws of starts and of what is certified.
 ghost use Rattle.mw_rel.specs.Begin.{EachChoiceGivesAPair};
+ghost use Rattle.mw_rel.specs.CaseLaws.{BeforeIsAnOrder, CasesHaveOneEnd, KindsAreFixed};
+ghost use Rattle.mw_rel.specs.CaseLaws.{NoCaseGoesOn, OneCaseIsFirst, StartsGoTogether};
 ghost use Rattle.mw_rel.specs.Free.{PairsAreOne};
 ghost use Rattle.mw_rel.specs.Rules.{AcceptedAreSolved};
 ghost use Rattle.mw_rel.specs.Shown.{DifferencesAreFirst};
@@ -55,4 +57,38 @@ pub fn certified_where_none_differs()
 /// the boundaries met before it.
 pub fn boundaries_come_in_time()
     ensures { BoundariesComeInTime }
+{}
+
+/// The law of what is decided next: of two starts at a boundary whose decided bits are the same so far, the next bits
+/// are of one kind, where both have one.
+pub fn kinds_are_fixed()
+    ensures { KindsAreFixed }
+{}
+
+/// The law of prefixes: no case of a boundary is a proper prefix of another.
+pub fn no_case_goes_on()
+    ensures { NoCaseGoesOn }
+{}
+
+/// The law of ends: two starts at a boundary that have one case have the same number of cycles, and both are late or
+/// neither is.
+pub fn cases_have_one_end()
+    ensures { CasesHaveOneEnd }
+{}
+
+/// The law of order: of two different cases of a boundary one comes before the other.
+pub fn one_case_is_first()
+    ensures { OneCaseIsFirst }
+{}
+
+/// The law of what comes before: it is an order, in which nothing comes before itself.
+pub fn before_is_an_order()
+    ensures { BeforeIsAnOrder }
+{}
+
+/// The law of starts that go together: where the first decided bits of a start are those of whole cycles of another one
+/// at its boundary, they are those of as many cycles of its own, and up to the last of these both are at one control
+/// address with one stack pointer.
+pub fn starts_go_together()
+    ensures { StartsGoTogether }
 {}
