@@ -1,4 +1,6 @@
 """The jobs of case_table.py: boards, and of each job its texts and what its microprogram and its machine read."""
+import random
+
 from relation_table import SMALL, SMALL_BOARD, SMALL_MACHINE, SMALL_MICRO
 
 # Each instruction's code, by name.
@@ -114,74 +116,228 @@ def untested(name):
                boundary("LOOP", 2, *lines, sp=1), elements=["m.C"])
 
 
+# Words of the choosing board.
+JUMP_BACK = "dst=1, JUMP, br=LOOP\n"
+ON_LINE = "dst=1, seq=3, LINE, br=2\n"
+ON_INPUT = "D0, INPUT, dst=1, seq=3, FZERO, br=2\n"
+
+# The machine of the small case, whose step does nothing.
+IDLE = "memory 4 4\nregister X 4\nregister Y 4\nstep\n"
+
+EXCLUDING = """\
+memory 2 4
+register X 2
+register Y 1
+step
+if X == 0#2
+Y := 1#1
+else
+if X[0]
+X := X + 1#2
+end
+end
+if X == 2#2
+X := 3#2
+end
+if Y
+end
+if request
+if request
+Y := 0#1
+else
+Y := 1#1
+end
+end
+"""
+TWO_INPUTS = """\
+memory 2 4
+temp T 4
+temp U 4
+step
+take T
+if T == 0#4
+else
+take U
+if U < T
+put U
+end
+end
+"""
+ONE_INPUT = """\
+memory 2 4
+register X 4
+temp T 4
+step
+take T
+if T[0]
+X := T
+else
+if T == 4#4
+X := T
+end
+end
+"""
+WORDS_COMPARED = """\
+memory 2 4
+register M 2
+step
+if mem[M] == 0#4
+else
+if mem[~M] == mem[M]
+M := M + 1#2
+end
+end
+"""
+WRITTEN_FIRST = """\
+memory 2 4
+register M 2
+register I 4
+step
+mem[M] := I
+if mem[M] == I
+if mem[0#2] == 0#4
+end
+end
+"""
+BEHIND_TESTS = """\
+memory 2 4
+register I 4
+step
+if I == 0#4
+if request
+put I
+end
+else
+if I[3]
+I := I - 1#4
+end
+end
+"""
+IN_THREE = """\
+memory 2 4
+register X 1
+step
+if request
+X := ~X
+else
+if X
+put 1#4
+end
+end
+"""
+
+COUNTER = "b.count = zext(m.C, 12)"
+
 JOBS = [
     small("the small case", SMALL_MICRO.decode(), SMALL_MACHINE.decode(), SMALL.decode()),
-    small("the small case, spinning", "def CONT = seq=14\ndef JUMP = seq=3, off=1\nLOOP: dst=1, CONT\nSPIN: dst=1, JUMP, br=SPIN\n",
+    small("the small case, spinning",
+          "def CONT = seq=14\ndef JUMP = seq=3, off=1\nLOOP: dst=1, CONT\nSPIN: dst=1, JUMP, br=SPIN\n",
           SMALL_MACHINE.decode(), SMALL.decode()),
-    small("an empty stack is popped", "LOOP: src=1, fun=0, dst=3, a=1, b=0, seq=10, off=1\ndst=1, seq=3, off=1, br=LOOP\n",
+    small("an empty stack is popped",
+          "LOOP: src=1, fun=0, dst=3, a=1, b=0, seq=10, off=1\ndst=1, seq=3, off=1, br=LOOP\n",
           SMALL_MACHINE.decode(), SMALL.decode(), noise=[range(4096)]),
-    small("a test of nothing", "LOOP: dst=1, seq=3, br=2\ndst=1, seq=3, off=1, br=LOOP\n", SMALL_MACHINE.decode(), SMALL.decode()),
+    small("a test of nothing", "LOOP: dst=1, seq=3, br=2\ndst=1, seq=3, off=1, br=LOOP\n", IDLE, SMALL.decode()),
     *map(counted, CODES),
     *map(untested, ("JZ", "CJP", "JRP", "RFCT", "LOOP", "TWB")),
-    job("a test that is turned over", f"LOOP: dst=1, seq=3, LINE, turn=1, br=2\n{BACK}", NOTHING, boundary("LOOP", 2), line=1),
-    job("late where the line is high", "LOOP: dst=1, seq=3, LINE, br=2\ndst=1, JUMP, br=LOOP\nSPIN: dst=1, JUMP, br=SPIN\n",
-        NOTHING, boundary("LOOP", 4), line=1),
+    job("TWB over an empty stack", f"LOOP: dst=1, seq=15, LINE, br=2\n{BACK}", "memory 2 4\nregister C 1\nstep\n",
+        boundary("LOOP", 2, COUNTER), elements=["m.C"], line=1, noise=[range(4096)]),
+    job("a test that is turned over", f"LOOP: dst=1, seq=3, LINE, turn=1, br=2\n{BACK}", NOTHING, boundary("LOOP", 2),
+        line=1),
+    job("late where the line is high", f"LOOP: {ON_LINE}{JUMP_BACK}SPIN: dst=1, JUMP, br=SPIN\n", NOTHING,
+        boundary("LOOP", 4), line=1),
     job("late only, from one of two boundaries",
-        "LOOP: dst=1, seq=3, LINE, br=3\ndst=1, JUMP, br=LOOP\nAWAY: dst=1, CONT\nSPIN: dst=1, JUMP, br=SPIN\n",
+        f"LOOP: dst=1, seq=3, LINE, br=3\n{JUMP_BACK}AWAY: dst=1, CONT\nSPIN: dst=1, JUMP, br=SPIN\n",
         "memory 2 4\nregister X 4\nstep\nif X[0]\nX := 0#4\nend\n",
         boundary("LOOP", 3, "b.r0 = m.X") + boundary("AWAY", 3, "b.r0 = m.X", pc=3), elements=["m.X"], line=1),
-    job("a word of the program behind the last", "LOOP: dst=1, seq=3, LINE, br=0xFFF\ndst=1, JUMP, br=LOOP\n", NOTHING,
+    job("a word behind the last", f"LOOP: dst=1, seq=3, LINE, br=0xFFF\n{JUMP_BACK}", NOTHING, boundary("LOOP", 2),
+        line=1),
+    job("a bound that is one too small", f"LOOP: {ON_LINE}{JUMP_BACK}dst=1, CONT\n{JUMP_BACK}", NOTHING,
         boundary("LOOP", 2), line=1),
-    job("a bound that is one too small", "LOOP: dst=1, seq=3, LINE, br=2\ndst=1, JUMP, br=LOOP\ndst=1, CONT\ndst=1, JUMP, br=LOOP\n",
-        NOTHING, boundary("LOOP", 2), line=1),
-    job("three boundaries", "LOOP: dst=1, seq=3, LINE, br=2\nNEXT: dst=1, JUMP, br=LOOP\nLAST: dst=1, seq=3, LINE, br=LOOP\ndst=1, JUMP, br=LAST\n",
-        "memory 2 4\nregister X 1\nstep\nif request\nX := ~X\nelse\nif X\nput 1#4\nend\nend\n",
-        boundary("LAST", 2, "b.flag = m.X", pc=3) + boundary("NEXT", 1, "b.flag = m.X", pc=2) + boundary("LOOP", 1, "b.flag = m.X"),
-        elements=["m.X"], line=1),
-    job("undefined carries", f"LOOP: src=7, fun=3, dst=1, seq=3, CARRY, br=2\nsrc=7, fun=4, dst=1, seq=3, test=4, br=LOOP\n{BACK}",
-        NOTHING, boundary("LOOP", 3), noise=[[0, 0x1000, 0x2000, 0x3000]] * 2),
+    job("three boundaries",
+        f"LOOP: {ON_LINE}NEXT: {JUMP_BACK}LAST: dst=1, seq=3, LINE, br=LOOP\ndst=1, JUMP, br=LAST\n", IN_THREE,
+        boundary("LAST", 2, "b.flag = m.X", pc=3) + boundary("NEXT", 1, "b.flag = m.X", pc=2)
+        + boundary("LOOP", 1, "b.flag = m.X"), elements=["m.X"], line=1),
+    job("undefined carries",
+        f"LOOP: src=7, fun=3, dst=1, seq=3, CARRY, br=2\nsrc=7, fun=4, dst=1, seq=3, test=4, br=LOOP\n{BACK}", NOTHING,
+        boundary("LOOP", 3), noise=[[0, 0x1000, 0x2000, 0x3000]] * 2),
     job("a carry that is defined", f"LOOP: src=1, fun=0, dst=3, a=1, b=0, seq=3, CARRY, br=2\n{BACK}",
-        "memory 2 4\nregister X 4\nregister Y 4\nstep\nX := X + Y\n", boundary("LOOP", 2, "b.r0 = m.X", "b.r1 = m.Y"),
-        elements=["m.X", "m.Y"]),
-    job("an input, and a step that takes it", f"LOOP: D0, INPUT, dst=1, seq=3, FZERO, br=2\n{BACK}",
-        "memory 2 4\nregister X 4\ntemp T 4\nstep\ntake T\nif T[0]\nX := T\nelse\nif T == 4#4\nX := T\nend\nend\n",
-        boundary("LOOP", 2), inputs=1),
-    job("two inputs", f"LOOP: D0, INPUT, dst=1, seq=3, FZERO, br=2\nD0, INPUT, dst=1, seq=3, FZERO, br=LOOP\n{BACK}",
-        "memory 2 4\ntemp T 4\ntemp U 4\nstep\ntake T\nif T == 0#4\nelse\ntake U\nif U < T\nput U\nend\nend\n",
+        "memory 2 4\nregister X 4\nregister Y 4\nstep\nX := X + Y\n",
+        boundary("LOOP", 2, "b.r0 = m.X", "b.r1 = m.Y"), elements=["m.X", "m.Y"]),
+    job("an input, and a step that takes it", f"LOOP: {ON_INPUT}{BACK}", ONE_INPUT, boundary("LOOP", 2), inputs=1),
+    job("two inputs", f"LOOP: {ON_INPUT}D0, INPUT, dst=1, seq=3, FZERO, br=LOOP\n{BACK}", TWO_INPUTS,
         boundary("LOOP", 3), inputs=2),
-    job("a word of the memory", f"LOOP: D0, MEMORY, dst=1, seq=3, FZERO, br=2\n{BACK}",
-        "memory 2 4\nregister M 2\nstep\nif mem[M] == 0#4\nelse\nif mem[~M] == mem[M]\nM := M + 1#2\nend\nend\n",
+    job("a word of the memory", f"LOOP: D0, MEMORY, dst=1, seq=3, FZERO, br=2\n{BACK}", WORDS_COMPARED,
         boundary("LOOP", 2, "b.mar = m.M"), elements=["m.M"], memory=range(4)),
     job("a word that is written before it is read",
-        f"LOOP: D0, IR, dst=1, write=1, CONT\nD0, MEMORY, dst=1, seq=3, FZERO, br=3\n{BACK}",
-        "memory 2 4\nregister M 2\nregister I 4\nstep\nmem[M] := I\nif mem[M] == I\nif mem[0#2] == 0#4\nend\nend\n",
+        f"LOOP: D0, IR, dst=1, write=1, CONT\nD0, MEMORY, dst=1, seq=3, FZERO, br=3\n{BACK}", WRITTEN_FIRST,
         boundary("LOOP", 3, "b.mar = m.M", "b.ir = m.I"), elements=["m.M", "m.I"], memory=[0]),
     job("a map over what is read", f"LOOP: D0, MEMORY, dst=1, ir=1, CONT\ndst=1, seq=2\n{BACK}",
-        "memory 2 4\nregister M 2\nstep\nif mem[M][1:0] == 2#2\nput mem[M]\nend\n", boundary("LOOP", 3, "b.mar = m.M"),
-        elements=["m.M"], memory=range(4)),
+        "memory 2 4\nregister M 2\nstep\nif mem[M][1:0] == 2#2\nput mem[M]\nend\n",
+        boundary("LOOP", 3, "b.mar = m.M"), elements=["m.M"], memory=range(4)),
     job("a flip-flop that is tested a cycle later",
         f"LOOP: dst=1, flag=3, CONT\ndst=1, flag=1, seq=3, FLAG, br=3\ndst=1, seq=3, FLAG, br=LOOP\n{BACK}",
-        "memory 2 4\nregister F 1\nstep\nF := request\n", boundary("LOOP", 4, "b.flag = m.F"), elements=["m.F"], line=1),
-    job("a loop that is counted from a constant", f"LOOP: dst=1, seq=12, br=2\nSELF: dst=1, seq=9, br=SELF\n{BACK}", NOTHING,
-        boundary("LOOP", 5)),
-    job("a loop that is counted from anywhere, and late where the counter is great",
-        f"LOOP: dst=1, seq=9, br=LOOP2\nLOOP2: dst=1, seq=9, br=LOOP2\n{BACK}".replace("br=LOOP\n", "br=LOOP\n"),
-        "memory 2 4\nregister C 3\nstep\n", boundary("LOOP", 5, "b.count = zext(m.C, 12)"), elements=["m.C"]),
-    job("the counter is loaded beside its count", f"LOOP: dst=1, seq=8, rld=1, LINE, br=1\ndst=1, seq=15, LINE, br=LOOP\n{BACK}",
-        "memory 2 4\nregister C 1\nstep\n", boundary("LOOP", 4, "b.count = zext(m.C, 12)", "b.stack0 = 1#12", "b.stack1 = 1#12", sp=2),
-        elements=["m.C"], line=4),
-    job("a subroutine", f"LOOP: dst=1, seq=1, LINE, br=SUB\ndst=1, JUMP, br=LOOP\nSUB: D0, INPUT, dst=1, seq=10, FZERO\nD0, dst=1, seq=13, FZERO\n{BACK}",
-        NOTHING, boundary("LOOP", 5), line=1, inputs=1),
-    job("a push onto a full stack", f"LOOP: dst=1, seq=4, LINE, br=3\ndst=1, seq=3, FULL, br=LOOP\ndst=1, JUMP, br=LOOP\n", NOTHING,
-        boundary("LOOP", 3, sp=4), line=1),
-    job("ifs that exclude one another", "LOOP: dst=1, JUMP, br=LOOP\n",
-        "memory 2 4\nregister X 2\nregister Y 1\nstep\nif X == 0#2\nY := 1#1\nelse\nif X[0]\nX := X + 1#2\nend\nend\n"
-        "if X == 2#2\nX := 3#2\nend\nif Y\nend\nif request\nif request\nY := 0#1\nelse\nY := 1#1\nend\nend\n",
-        boundary("LOOP", 1), elements=["m.X", "m.Y"], line=1),
-    job("an if whose lists are empty", "LOOP: dst=1, JUMP, br=LOOP\n", "memory 2 4\nregister X 1\nstep\nif X\nend\nif X\nelse\nend\n",
-        boundary("LOOP", 1), elements=["m.X"]),
+        "memory 2 4\nregister F 1\nstep\nF := request\n", boundary("LOOP", 4, "b.flag = m.F"), elements=["m.F"],
+        line=1),
+    job("a loop that is counted from a constant", f"LOOP: dst=1, seq=12, br=2\nSELF: dst=1, seq=9, br=SELF\n{BACK}",
+        NOTHING, boundary("LOOP", 5)),
+    job("a loop that is counted, and late where the counter is great",
+        f"LOOP: dst=1, seq=9, br=SELF\nSELF: dst=1, seq=9, br=SELF\n{BACK}", "memory 2 4\nregister C 3\nstep\n",
+        boundary("LOOP", 5, COUNTER), elements=["m.C"]),
+    job("the counter is loaded beside its count",
+        f"LOOP: dst=1, seq=8, rld=1, LINE, br=1\ndst=1, seq=15, LINE, br=LOOP\n{BACK}",
+        "memory 2 4\nregister C 1\nstep\n",
+        boundary("LOOP", 4, COUNTER, "b.stack0 = 1#12", "b.stack1 = 1#12", sp=2), elements=["m.C"], line=4),
+    job("a subroutine",
+        f"LOOP: dst=1, seq=1, LINE, br=SUB\n{JUMP_BACK}SUB: D0, INPUT, dst=1, seq=10, FZERO\n"
+        f"D0, dst=1, seq=13, FZERO\n{BACK}", NOTHING, boundary("LOOP", 5), line=1, inputs=1),
+    job("a push onto a full stack",
+        f"LOOP: dst=1, seq=4, LINE, br=3\ndst=1, seq=3, FULL, br=LOOP\n{JUMP_BACK}", NOTHING, boundary("LOOP", 3, sp=4),
+        line=1),
+    job("ifs that exclude one another", f"LOOP: {JUMP_BACK}", EXCLUDING, boundary("LOOP", 1), elements=["m.X", "m.Y"],
+        line=1),
+    job("an if whose lists are empty", f"LOOP: {JUMP_BACK}",
+        "memory 2 4\nregister X 1\nstep\nif X\nend\nif X\nelse\nend\n", boundary("LOOP", 1), elements=["m.X"]),
     job("two tests, and ifs behind both",
-        f"LOOP: D0, IR, dst=1, seq=3, FZERO, br=3\ndst=1, seq=3, IR0, br=LOOP\ndst=1, JUMP, br=LOOP\nlate: dst=1, seq=3, LINE, br=LOOP\n{BACK}",
-        "memory 2 4\nregister I 4\nstep\nif I == 0#4\nif request\nput I\nend\nelse\nif I[3]\nI := I - 1#4\nend\nend\n",
-        boundary("LOOP", 3, "b.ir = m.I"), elements=["m.I"], line=2),
+        f"LOOP: D0, IR, dst=1, seq=3, FZERO, br=3\ndst=1, seq=3, IR0, br=LOOP\n{JUMP_BACK}"
+        f"ZERO: dst=1, seq=3, LINE, br=LOOP\n{BACK}", BEHIND_TESTS, boundary("LOOP", 3, "b.ir = m.I"), elements=["m.I"],
+        line=2),
 ]
+
+# Conditions of the machines of random jobs.
+CONDITIONS = ["I[0]", "I[1]", "F", "C == 0#2", "C < I", "I == C", "request", "F & request", "~F", "1#1"]
+CHANGES = ["I := I + 1#2", "C := I", "F := ~F", "I := {F, request}"]
+
+
+def random_word(at):
+    """A word whose test, instruction and branch are any; what it tests is the line, a flip-flop, ir, D or the stack."""
+    code = random.choice([*range(16), 3, 3, 1, 10, 14])
+    test = random.choice(["FZERO", "LINE", "LINE", "IR0", "FLAG", "FULL"])
+    d = random.choice([", IR", ""])
+    label = "LOOP: " if at == 0 else "HALF: " if at == 3 else ""
+    branch, load = random.choice([0, 0, 1, 2, 3, 4]), random.choice([0, 1, 3])
+    turn, off, rld = random.getrandbits(1), int(random.random() < 0.2), int(random.random() < 0.2)
+    return f"{label}D0, dst=1{d}, seq={code}, {test}, br={branch}, flag={load}, turn={turn}, off={off}, rld={rld}\n"
+
+
+def random_statements(depth):
+    lines = []
+    for _ in range(random.choice([0, 1, 1, 2])):
+        if depth < 3 and random.random() < 0.7:
+            other = ["else", *random_statements(depth + 1)] if random.random() < 0.5 else []
+            lines += [f"if {random.choice(CONDITIONS)}", *random_statements(depth + 1), *other, "end"]
+        else:
+            lines.append(random.choice(CHANGES))
+    return lines
+
+
+def random_job(number):
+    """A job with one or two boundaries, whose words are any."""
+    random.seed(number)
+    words = "".join(map(random_word, range(5)))
+    machine = ["memory 2 4", "register I 2", "register C 2", "register F 1", "step", *random_statements(0)]
+    lines = "b.ir = {0#2, m.I}", COUNTER, "b.flag = m.F", "b.stack0 = 1#12", "b.stack1 = 3#12"
+    relation = boundary("LOOP", 4, *lines, sp=2)
+    if random.random() < 0.5:
+        relation += boundary("HALF", 3, *lines, sp=2, pc=4)
+    return job(f"a random job, {number}", words, "".join(f"{line}\n" for line in machine), relation,
+               elements=["m.I", "m.C", "m.F"], line=4)

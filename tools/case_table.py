@@ -1,9 +1,9 @@
 #!/usr/bin/env python3
 """Lists the cases of the boundaries of small jobs, from all their starts, and prints them as rows.
 
-A start is run as compare_table.py and cycle_table.py state it anew from the formats, and what is decided on its way is written
-down; nothing of the crates is used. case_cases.py has the jobs, and says of each which elements, memory words, lines, noise
-and inputs it reads. These take all their values, and all else is 0.
+A start is run as compare_table.py and cycle_table.py state it anew from the formats, and what is decided on its way is
+written down; nothing of the crates is used. case_cases.py has the jobs, and says of each which elements, memory words,
+lines, noise and inputs it reads. These take all their values, and all else is 0.
 
     case_table.py rows           the rows of `call cases`, and of `call count-cases` where a boundary has very many
     case_table.py --check        no row: starts in which everything is random have no other case
@@ -13,14 +13,19 @@ import random
 import sys
 from itertools import product
 
-from case_cases import BOARDS, JOBS
+from case_cases import BOARDS, JOBS, random_job
 from compare_table import Described, Job, board_state, completed
 from cycle_table import cycle, decided_bits, settings_of
 from rows import file_lines, row_lines
 
 # A boundary with more cases than these has their number in its row.
 MOST_CASES = 64
+LISTS = "inputs", "line", "noise"
 SAMPLES = 400
+RANDOM_JOBS = 24
+HEAD = """\
+# Cases of boundaries, printed by tools/case_table.py from all starts of small jobs, without the crates: what a start
+# decides, how many cycles its segment has, and whether it is late."""
 
 
 class Choice:
@@ -73,18 +78,16 @@ class Case:
 
 def starts(job, boundary, reads):
     """Each start at a boundary, by what is read there."""
-    free = [name for name in reads.get("elements", []) if name not in job.left(boundary)]
-    every = [range(2 ** job.widths[name]) for name in free]
-    every += [range(2 ** job.word)] * (len(reads.get("memory", [])) + reads.get("inputs", 0))
-    every += [range(2)] * reads.get("line", 0) + reads.get("noise", [])
-    sizes = len(free), len(reads.get("memory", [])), reads.get("inputs", 0), reads.get("line", 0), len(reads.get("noise", []))
-    for values in product(*every):
-        parts, left = [], list(values)
-        for size in sizes:
-            parts.append(left[:size])
-            left = left[size:]
-        lists = {"inputs": parts[2], "line": parts[3], "noise": parts[4]}
-        yield Choice(boundary, dict(zip(free, parts[0])), dict(zip(reads.get("memory", []), parts[1])), lists)
+    elements, words, noise = reads.get("elements", []), reads.get("memory", []), reads.get("noise", [])
+    every = [
+        [range(2 ** job.widths[name]) for name in elements],
+        [range(2 ** job.word) for _ in words],
+        [range(2 ** job.word)] * reads.get("inputs", 0),
+        [range(2)] * reads.get("line", 0),
+        noise,
+    ]
+    for values, memory, *lists in product(*(list(product(*each)) for each in every)):
+        yield Choice(boundary, dict(zip(elements, values)), dict(zip(words, memory)), dict(zip(LISTS, lists)))
 
 
 def random_start(job, boundary):
@@ -120,6 +123,26 @@ def job_of(texts):
     return Job(BOARDS[board], micro.encode(), machine.encode(), relation.encode())
 
 
+def reads_noise(texts, reads):
+    """Whether some start goes another way where each bit of the noise is another one."""
+    job = job_of(texts)
+    for at in job.blocks:
+        for start in starts(job, at, reads):
+            found = []
+            for noise in (0, 0x3FFF):
+                start.lists["noise"] = [noise] * job.blocks[at][1]
+                found.append(Case(job, start).bits())
+            if found[0] != found[1]:
+                return True
+    return False
+
+
+def random_jobs():
+    """Random jobs that read no noise, the first of them."""
+    kept = (each for each in map(random_job, range(1000)) if not reads_noise(*each[1:]))
+    return [next(kept) for _ in range(RANDOM_JOBS)]
+
+
 def listed(texts, reads):
     """The cases of each boundary of a job, by its address."""
     job = job_of(texts)
@@ -140,13 +163,14 @@ def counts(boundaries):
 
 
 def print_rows():
-    print("# Cases of boundaries, printed by tools/case_table.py from all starts of small jobs, without the crates: what each\n"
-          "# decides, how many cycles its segment has, and whether it is late.")
+    print(HEAD)
     for name, text in BOARDS.items():
         print("\n".join(["", f"set {name}"] + file_lines("b", text.encode())))
-    for name, texts, reads in JOBS:
+    for name, texts, reads in JOBS + random_jobs():
         found = listed(texts, reads)
-        given = [f"with {texts[0]}"] + [line for file, text in zip("mkr", texts[1:]) for line in file_lines(file, text.encode())]
+        given = [f"with {texts[0]}"]
+        for file, text in zip("mkr", texts[1:]):
+            given += file_lines(file, text.encode())
         many = max(map(len, found.values())) > MOST_CASES
         call, end = ("count-cases", counts) if many else ("cases", report)
         print("\n".join([""] + row_lines(name, given + [f"call {call} b m k r"], "gives", end(found).encode())))
@@ -155,7 +179,7 @@ def print_rows():
 def check():
     """Random starts: none has a case that isn't listed."""
     random.seed(2910)
-    for name, texts, reads in JOBS:
+    for name, texts, reads in JOBS + random_jobs():
         job = job_of(texts)
         for at, found in listed(texts, reads).items():
             seen = set()

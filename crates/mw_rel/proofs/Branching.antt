@@ -1,5 +1,5 @@
 -- The branch bits of two steps of one machine are one, or part at a bit.
-use Rattle.std.proofs.Common.{◌≡◌, inl, inr, ℕ, List, [], ◌∷◌, ◌++◌, map, Bool, true, false, ◌==◌, refl, sym, ap, ◌∙◌, subst}
+use Rattle.std.proofs.Common.{◌≡◌, inl, inr, ℕ, List, [], ◌∷◌, ◌++◌, map, Bool, true, false, ◌==◌, refl, sym, ap, subst}
 use Rattle.std.specs.Prelude.{if◌then◌else◌}
 use Rattle.mw_term.specs.declared.kinds.DecidedKind.TheVariants.{Branch}
 use Rattle.mw_cycle.specs.declared.decided.Decided.{Decided}

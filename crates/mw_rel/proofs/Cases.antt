@@ -1,18 +1,20 @@
 -- The cases of two starts at one boundary are one, or part at a bit.
-use Rattle.std.proofs.Common.{◌≡◌, ◌≢◌, ◌⊎◌, inl, inr, ℕ, zero, suc, ◌+◌, ◌<◌, ◌≤◌, List, [], ◌∷◌, ◌++◌, Bool, true, false, Option, Some, None, refl, sym, ap, ap₂, ◌∙◌, subst, arith}
-use Rattle.std.specs.Prelude.{if◌then◌else◌, slice_get, slice_index_or}
+use Rattle.std.proofs.Common.{◌≡◌, ◌⊎◌, inl, inr, ℕ, zero, suc, ◌<◌, ◌≤◌, List, [], ◌∷◌, ◌++◌, Bool, true, false, Option, Some, None, option_map, refl, sym, ap, ap₂, ◌∙◌, subst, arith}
+use Rattle.std.specs.Prelude.{if◌then◌else◌, slice_index_or}
 use Rattle.std.specs.Option.{is_none, unwrap_or}
 use Rattle.std.proofs.lemmas.Bool.{cases_lt}
 use Rattle.std.proofs.lemmas.List.{append_assoc, append-nil}
+use Rattle.std.proofs.lemmas.Option.{get_or_from_slice_get, slice_get_within}
 use Rattle.mw_cycle.specs.declared.decided.Decided.{Decided}
-use Rattle.mw_cycle.specs.Boundary.{is_named, first_boundary, IsNextBoundary}
+use Rattle.mw_cycle.specs.Boundary.{is_named, first_boundary, first_segment, IsNextBoundary}
 use Rattle.mw_cycle.specs.Environment.{given_at}
 use Rattle.mw_cycle.specs.Run.{run_of, longer_run}
-use Rattle.mw_cycle.specs.State.{BoardState, Fits}
+use Rattle.mw_cycle.specs.State.{Fits}
 use Rattle.mw_cycle.proofs.Times.{next_boundary}
-use Rattle.mw_rel.specs.Case.{bits_of_cycle, bits_of_cycles, end_of, cycles_of, is_late, bits_of_step, case_of, IsStartAt, IsCase, IsPrefix}
-use Rattle.mw_rel.specs.CaseLaws.{AreTogether, KindsAreFixed, NoCaseGoesOn, OneCaseIsFirst, CasesHaveOneEnd, StartsGoTogether}
+use Rattle.mw_rel.specs.Case.{bits_of_cycle, bits_of_cycles, end_of, cycles_of, is_late, bits_of_step, case_of, IsStartAt, IsCase}
+use Rattle.mw_rel.specs.CaseLaws.{AreTogether, KindsAreFixed, NoCaseGoesOn, OneCaseIsFirst, CasesHaveOneEnd, SegmentsHaveCycles, StartsGoTogether}
 use Rattle.mw_rel.specs.Certified.{board_run, at_cycle}
+use Rattle.mw_rel.specs.Free.{no_boundary, numbered}
 use Rattle.mw_rel.specs.Job.{Job, IsJob}
 use Rattle.mw_rel.specs.Relation.{Boundary}
 use Rattle.mw_rel.specs.Start.{Start, IsStart, addresses_of}
@@ -20,6 +22,7 @@ use Rattle.mw_rel.proofs.Boundaries.{found_within}
 use Rattle.mw_rel.proofs.Branching.{steps_meet}
 use Rattle.mw_rel.proofs.Cycles.{run_fits}
 use Rattle.mw_rel.proofs.Deciding.{cycles_meet, cycles_together}
+use Rattle.mw_rel.proofs.Relations.{solved_at}
 use Rattle.mw_rel.proofs.Parting.{ArePart, Meet, meet_on, part_on, part_behind, part_apart, no_prefix, next_kind, one_before}
 
 -- ---- the end of a segment
@@ -385,3 +388,30 @@ starts_go_together job number a b n rest is one two within begins =
             (parts_there job a b go.until a.boundary.bound refl go.ends (omega arith)) before also begins
       ]
     ]
+
+-- ---- cycles and segments
+
+cycles_by : (job : Job) (start : Start) (found : Option ℕ)
+    → first_boundary (addresses_of job) (at_cycle job start) start.boundary.bound ≡ found → 1 ≤ start.boundary.bound
+    → (option_map (board_run job start) found
+    ≡ (if is_none found then None else Some (board_run job start (unwrap_or found start.boundary.bound))))
+    × (0 < unwrap_or found start.boundary.bound)
+    × (is_none found ≡ true → unwrap_or found start.boundary.bound ≡ start.boundary.bound)
+cycles_by job start None is some = (refl, omega arith, λ late. refl)
+cycles_by job start (Some n) is some =
+    let next = next_boundary (addresses_of job) (at_cycle job start) start.boundary.bound n is in
+    (refl, next.0.later, λ late. absurd cc)
+
+bound_some : (job : Job) (number : ℕ) (start : Start) → IsJob job → IsStartAt job number start
+    → 1 ≤ start.boundary.bound
+bound_some job number start is one =
+    let inside = slice_get_within job.relation.boundaries number start.boundary one.there in
+    let there : numbered job number ≡ start.boundary =
+    get_or_from_slice_get job.relation.boundaries number start.boundary no_boundary one.there in
+    subst (λ (b : Boundary). 1 ≤ b.bound) there (solved_at job number is inside).some
+
+pub segments_have_cycles : SegmentsHaveCycles
+unfolding first_segment
+segments_have_cycles job number start is one =
+    let by = cycles_by job start (end_of job start) refl (bound_some job number start is one) in
+    record { segment = by.0; some = by.1; within = cycles_within job start; late = by.2 }

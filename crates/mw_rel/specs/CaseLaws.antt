@@ -1,8 +1,9 @@
 -- Laws of the cases of a boundary.
-use Rattle.std.specs.Prelude.{◌≡◌, ◌≢◌, ◌⊎◌, ℕ, ◌≤◌, List, [], ◌∷◌, ◌++◌}
+use Rattle.std.specs.Prelude.{◌≡◌, ◌≢◌, ◌⊎◌, ℕ, ◌<◌, ◌≤◌, List, [], ◌∷◌, ◌++◌, true, if◌then◌else◌, Some, None}
 use Rattle.mw_cycle.specs.declared.decided.Decided.{Decided}
 use Rattle.mw_rel.specs.Case.{bits_of_cycles, cycles_of, is_late, case_of, IsStartAt, IsCase, IsPrefix, IsBefore, IsProperPrefix}
 use Rattle.mw_rel.specs.Certified.{board_run}
+use Rattle.mw_rel.specs.Differs.{segment_of}
 use Rattle.mw_rel.specs.Job.{Job, IsJob}
 use Rattle.mw_rel.specs.Start.{Start}
 
@@ -40,6 +41,20 @@ StartsGoTogether = (job : Job) (number : ℕ) (a b : Start) (n : ℕ) (rest : Li
     → n ≤ cycles_of job a → case_of job b ≡ bits_of_cycles job a n ++ rest
     → (n ≤ cycles_of job b) × (bits_of_cycles job b n ≡ bits_of_cycles job a n)
     × ((m : ℕ) → m ≤ n → AreTogether job a b m)
+
+-- The segment of a start, where it isn't late, is the run of its cycles; these are one at least, and at most the
+-- bound's number, which they are where it is late.
+pub record HasCycles (job : Job) (start : Start) : Type 0 where
+  pub segment : segment_of job start
+      ≡ (if is_late job start then None else Some (board_run job start (cycles_of job start)))
+  pub some : 0 < cycles_of job start
+  pub within : cycles_of job start ≤ start.boundary.bound
+  pub late : is_late job start ≡ true → cycles_of job start ≡ start.boundary.bound
+
+-- So has each start of a job.
+abbrev pub SegmentsHaveCycles : Type 0
+SegmentsHaveCycles = (job : Job) (number : ℕ) (start : Start) → IsJob job → IsStartAt job number start
+    → HasCycles job start
 
 -- A list comes before another only where that doesn't come before it, and before what comes after that.
 abbrev pub BeforeIsAnOrder : Type 0

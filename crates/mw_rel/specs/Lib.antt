@@ -1,5 +1,6 @@
 pub mod Begin
 pub mod Case
+pub mod CaseExamples
 pub mod CaseLaws
 pub mod Certified
 pub mod Completed

@@ -1,7 +1,7 @@
 // Laws of starts and of what is certified.
 ghost use Rattle.mw_rel.specs.Begin.{EachChoiceGivesAPair};
 ghost use Rattle.mw_rel.specs.CaseLaws.{BeforeIsAnOrder, CasesHaveOneEnd, KindsAreFixed};
-ghost use Rattle.mw_rel.specs.CaseLaws.{NoCaseGoesOn, OneCaseIsFirst, StartsGoTogether};
+ghost use Rattle.mw_rel.specs.CaseLaws.{NoCaseGoesOn, OneCaseIsFirst, SegmentsHaveCycles, StartsGoTogether};
 ghost use Rattle.mw_rel.specs.Free.{PairsAreOne};
 ghost use Rattle.mw_rel.specs.Rules.{AcceptedAreSolved};
 ghost use Rattle.mw_rel.specs.Shown.{DifferencesAreFirst};
@@ -63,6 +63,12 @@ pub fn boundaries_come_in_time()
 /// are of one kind, where both have one.
 pub fn kinds_are_fixed()
     ensures { KindsAreFixed }
+{}
+
+/// The law of cycles: the segment of a start, where it isn't late, is the run of as many cycles as the start has; these
+/// are one at least and at most the bound's number, which they are where it is late.
+pub fn segments_have_cycles()
+    ensures { SegmentsHaveCycles }
 {}
 
 /// The law of prefixes: no case of a boundary is a proper prefix of another.
