@@ -62,7 +62,7 @@ pub record IsCase (job : Job) (number : ℕ) (bits : List Decided) : Type 0 wher
   pub bits_are : case_of job start ≡ bits
 
 -- the bits are the first ones of a start at the boundary: a feasible prefix
-pub record IsPrefix (job : Job) (number : ℕ) (bits : List Decided) : Type 0 where
+pub record IsFeasiblePrefix (job : Job) (number : ℕ) (bits : List Decided) : Type 0 where
   pub start : Start
   pub starts : IsStartAt job number start
   pub rest : List Decided

@@ -1,7 +1,7 @@
 -- Laws of the cases of a boundary.
 use Rattle.std.specs.Prelude.{◌≡◌, ◌≢◌, ◌⊎◌, ℕ, ◌<◌, ◌≤◌, List, [], ◌∷◌, ◌++◌, true, if◌then◌else◌, Some, None}
 use Rattle.mw_cycle.specs.declared.decided.Decided.{Decided}
-use Rattle.mw_rel.specs.Case.{bits_of_cycles, cycles_of, is_late, case_of, IsStartAt, IsCase, IsPrefix, IsBefore, IsProperPrefix}
+use Rattle.mw_rel.specs.Case.{bits_of_cycles, cycles_of, is_late, case_of, IsStartAt, IsCase, IsFeasiblePrefix, IsBefore, IsProperPrefix}
 use Rattle.mw_rel.specs.Certified.{board_run}
 use Rattle.mw_rel.specs.Differs.{segment_of}
 use Rattle.mw_rel.specs.Job.{Job, IsJob}
@@ -15,7 +15,7 @@ pub record AreTogether (job : Job) (a b : Start) (n : ℕ) : Type 0 where
 -- Earlier bits fix the kind of the next.
 abbrev pub KindsAreFixed : Type 0
 KindsAreFixed = (job : Job) (number : ℕ) (bits : List Decided) (x y : Decided) → IsJob job
-    → IsPrefix job number (bits ++ x ∷ []) → IsPrefix job number (bits ++ y ∷ []) → x.kind ≡ y.kind
+    → IsFeasiblePrefix job number (bits ++ x ∷ []) → IsFeasiblePrefix job number (bits ++ y ∷ []) → x.kind ≡ y.kind
 
 -- No case is a proper prefix of another.
 abbrev pub NoCaseGoesOn : Type 0
