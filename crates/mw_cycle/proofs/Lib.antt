@@ -5,5 +5,6 @@ pub mod OnLiterals
 pub mod Ranges
 pub mod Segments
 pub mod Suffix
+pub mod Tested
 pub mod Times
 pub mod Values

@@ -219,7 +219,7 @@ field_below : (there : Option NamedField) (word bits : ℕ) → width_of there �
 field_below (Some f) word bits within = short_below (in_field (Some f) word) f.field.width bits within (part_in f word)
 field_below None word bits within = pow_pos bits
 
-point_below : (fields : List NamedField) (word bits : ℕ) (control : Control) → IsPoint bits fields control
+pub point_below : (fields : List NamedField) (word bits : ℕ) (control : Control) → IsPoint bits fields control
     → value_at fields word control < 2 ^ bits
 point_below fields word bits (controls.Field n) is = field_below (slice_get fields n) word bits is.1
 point_below fields word bits (controls.Fixed value) is = is

@@ -1,4 +1,7 @@
 pub mod Begin
+pub mod Case
+pub mod CaseExamples
+pub mod CaseLaws
 pub mod Certified
 pub mod ComparisonWords
 pub mod Completed

@@ -1,5 +1,7 @@
 // Laws of starts, of what is certified, and of words.
 ghost use Rattle.mw_rel.specs.Begin.{EachChoiceGivesAPair};
+ghost use Rattle.mw_rel.specs.CaseLaws.{BeforeIsAnOrder, CasesHaveOneEnd, KindsAreFixed};
+ghost use Rattle.mw_rel.specs.CaseLaws.{NoCaseGoesOn, OneCaseIsFirst, SegmentsHaveCycles, StartsGoTogether};
 ghost use Rattle.mw_rel.specs.ComparisonWords.{ComparisonsAreNumbered};
 ghost use Rattle.mw_rel.specs.Free.{PairsAreOne};
 ghost use Rattle.mw_rel.specs.Rules.{AcceptedAreSolved};
@@ -57,6 +59,46 @@ pub fn certified_where_none_differs()
 /// the boundaries met before it.
 pub fn boundaries_come_in_time()
     ensures { BoundariesComeInTime }
+{}
+
+/// The law of what is decided next: of two starts at a boundary whose decided bits are the same so far, the next bits
+/// are of one kind, where both have one.
+pub fn kinds_are_fixed()
+    ensures { KindsAreFixed }
+{}
+
+/// The law of cycles: the segment of a start, where it isn't late, is the run of as many cycles as the start has; these
+/// are one at least and at most the bound's number, which they are where it is late.
+pub fn segments_have_cycles()
+    ensures { SegmentsHaveCycles }
+{}
+
+/// The law of prefixes: no case of a boundary is a proper prefix of another.
+pub fn no_case_goes_on()
+    ensures { NoCaseGoesOn }
+{}
+
+/// The law of ends: two starts at a boundary that have one case have the same number of cycles, and both are late or
+/// neither is.
+pub fn cases_have_one_end()
+    ensures { CasesHaveOneEnd }
+{}
+
+/// The law of order: of two different cases of a boundary one comes before the other.
+pub fn one_case_is_first()
+    ensures { OneCaseIsFirst }
+{}
+
+/// The law of what comes before: it is an order, in which nothing comes before itself.
+pub fn before_is_an_order()
+    ensures { BeforeIsAnOrder }
+{}
+
+/// The law of starts that go together: where the first decided bits of a start are those of whole cycles of another one
+/// at its boundary, they are those of as many cycles of its own, and up to the last of these both are at one control
+/// address with one stack pointer.
+pub fn starts_go_together()
+    ensures { StartsGoTogether }
 {}
 
 /// The law of numbers: each term of a start's list that is no constant has a word; and where that is so of a list, it

@@ -1,0 +1,24 @@
+use Rattle.std.proofs.Common.{refl}
+use Rattle.mw_cycle.proofs.OnLiterals.{cycle_on_literals}
+use Rattle.mw_rel.proofs.OnLiterals.{case_on_literals, start_on_literals}
+use Rattle.mw_tests.proofs.cases.worked_ends.Goals as goal
+
+pub returns-clause-added : goal.returns-clause-added
+unfolding cycle_on_literals start_on_literals case_on_literals
+returns-clause-added c = refl
+
+pub returns-clause-in_time : goal.returns-clause-in_time
+unfolding cycle_on_literals start_on_literals case_on_literals
+returns-clause-in_time c = refl
+
+pub returns-clause-spun : goal.returns-clause-spun
+unfolding cycle_on_literals start_on_literals case_on_literals
+returns-clause-spun c = refl
+
+pub returns-clause-late : goal.returns-clause-late
+unfolding cycle_on_literals start_on_literals case_on_literals
+returns-clause-late c = refl
+
+pub returns-clause-asked : goal.returns-clause-asked
+unfolding cycle_on_literals start_on_literals case_on_literals
+returns-clause-asked c = refl
