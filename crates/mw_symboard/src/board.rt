@@ -22,7 +22,7 @@ ghost use Rattle.mw_symboard.specs.Growth.{Grew};
 ghost use Rattle.mw_symboard.specs.Kinds.{AreInputs, IsCycleKind};
 ghost use Rattle.mw_symboard.specs.Parts.{AreElements, AreParts};
 ghost use Rattle.mw_cycle.specs.BoardTerms.{term_of_part};
-ghost use Rattle.mw_symmem.specs.declared.turn.Turn.TheVariants.{Ask};
+ghost use Rattle.mw_symmem.specs.declared.turn.Turn.TheVariants.{Ask, Finished};
 ghost use Rattle.mw_term.specs.declared.kinds.DecidedKind.{DecidedKind};
 ghost use Rattle.mw_symboard.specs.Turns.{AreNoLater, Asks, IsDone, IsSymbolic, IsTurn, cycle_left, decided_so, reads_to_come, shown_by, written_if};
 ghost use Rattle.mw_cycle.specs.EdgeWords.{edge_words};
@@ -594,6 +594,8 @@ impl SymBoard {
         ensures goes { OnOk result (GoesOn (IsCycleKind self.old.place.cycle self.old.place.taken) terms.old terms.new words.old words.new memory.old memory.new) }
         ensures reads { OnOk result (length memory.new.reads ≤ length memory.old.reads + reads_to_come self.old) }
         ensures machine { OnOk result (memory.new.machine ≡ memory.old.machine) }
+        ensures all { IfOk result (λ turn. turn ≡ Finished
+            → length self.old.place.decided ≡ bits_before (microword_of board.now store.now.words self.old.place) + 12) }
         ensures listed { IfOk result (ListsTurn board.now store.now.words memory.old memory.new self.old self.new (list_in terms.old words.old memory.old) (list_in terms.new words.new memory.new)) }
         ensures symbolic { OnOk result (IsSymbolic board.now store.now.words terms.new words.new memory.new self.new) }
     {
