@@ -1,6 +1,7 @@
 pub mod AfterEdge
 pub mod AtEdge
 pub mod Begun
+pub mod CycleAlong
 pub mod Deciding
 pub mod Ends
 pub mod Environments
@@ -14,6 +15,7 @@ pub mod Loads
 pub mod MadeBits
 pub mod Meaning
 pub mod OnPaths
+pub mod NetValues
 pub mod PartElements
 pub mod Read
 pub mod SameBit

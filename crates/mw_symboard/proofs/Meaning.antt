@@ -22,6 +22,7 @@ use Rattle.mw_cycle.specs.Microword.{IsMicroword}
 use Rattle.mw_term.specs.Table.{Table, IsTable}
 use Rattle.mw_term.specs.declared.word.Word.{Word}
 use Rattle.mw_symmem.specs.Memory.{Memory, IsOfWidth}
+use Rattle.mw_symboard.specs.Nets.{first_net, r_net, s_net, carry_in_net, second_net}
 use Rattle.mw_symboard.specs.Made.{IsAddendR, IsAddendS, IsF, IsFrom, IsMasked, IsPart, IsR, IsS, IsWidened}
 use Rattle.mw_symboard.specs.Parts.{AreParts}
 use Rattle.mw_cycle.specs.BoardTerms.{term_of_part}
@@ -39,30 +40,6 @@ whole_part : (low v w x : ℕ) → low ≡ 0 → v ≡ w → x < 2 ^ w → x ≡
 whole_part low v w x none all below =
     let first : x / 2 ^ low ≡ x = ap (λ (k : ℕ). x / 2 ^ k) none ∙ omega arith in
     sym (ap₂ (λ (n k : ℕ). n % 2 ^ k) first all ∙ low_bits x w below)
-
--- the operands R and S that a microword chooses
-abbrev pub r_net : BoardParts → List ℕ → Place → Scene → ℕ
-r_net board store p x =
-    r_of (source_of (microword_of board store p).instruction) (slice_index x.state.regs (microword_of board store p).a_address)
-    (d_net board store p x)
-
-abbrev pub s_net : BoardParts → List ℕ → Place → Scene → ℕ
-s_net board store p x =
-    s_of (source_of (microword_of board store p).instruction) (slice_index x.state.regs (microword_of board store p).a_address)
-    (slice_index x.state.regs (microword_of board store p).b_address) x.state.q
-
--- the carry in
-abbrev pub carry_in_net : BoardParts → List ℕ → Place → Scene → Bool
-carry_in_net board store p x = early_bit board (microword_of board store p).carry_in x.state x.outside
-
--- what a sum adds for R and for S
-abbrev pub first_net : BoardParts → List ℕ → Place → Scene → ℕ
-first_net board store p x =
-    addend_r (function_of (microword_of board store p).instruction) board.width (r_net board store p x)
-
-abbrev pub second_net : BoardParts → List ℕ → Place → Scene → ℕ
-second_net board store p x =
-    addend_s (function_of (microword_of board store p).instruction) board.width (s_net board store p x)
 
 module _ {board : BoardParts} {store : List ℕ} {t : Table} {words : List Word} {m : Memory} {p : Place} where
   -- the term of an element says what the element has

@@ -24,7 +24,8 @@ use Rattle.mw_symboard.specs.Made.{Is, IsBitTerm, IsEarlyBit, IsLoaded, sources_
 use Rattle.mw_cycle.specs.ReadingWords.{carry_op, overflow_op}
 use Rattle.mw_symboard.specs.Parts.{AreParts}
 use Rattle.mw_symboard.specs.Seen.{Place, Says, Scene, answer_net, bit_net, early_net, microword_of}
-use Rattle.mw_symboard.proofs.Meaning.{carry_in_net, first_net, low_bits, r_net, s_net, says_element, second_net}
+use Rattle.mw_symboard.proofs.Meaning.{low_bits, says_element}
+use Rattle.mw_symboard.specs.Nets.{carry_in_net, first_net, r_net, s_net, second_net, SaySources}
 use Rattle.mw_symboard.proofs.Saying.{says_as, says_below, says_bit, says_con, says_cout, says_eq, says_not, says_ovf, says_same, says_xor}
 
 -- ---- of plain bits
@@ -74,17 +75,6 @@ overflow_value function w r s c noise false is first second =
     ap (λ (b : Bool). if b then b && differ into (carry_out function w r s c) else noise) (sym is)
 
 -- ---- of a cycle
-
--- what bits are made of says what it should
-pub record SaySources (board : BoardParts) (store : List ℕ) (t : Table) (words : List Word) (m : Memory) (p : Place)
-    (n : Sources) : Type 0 where
-  pub line : Says board store t words m p 1 n.line (λ x. num x.outside.line)
-  pub noise : Says board store t words m p 14 n.noise (λ x. x.outside.noise)
-  pub function : n.function ≡ function_of (microword_of board store p).instruction
-  pub first : Says board store t words m p board.width n.first (first_net board store p)
-  pub second : Says board store t words m p board.width n.second (second_net board store p)
-  pub carry : Says board store t words m p 1 n.carry (λ x. num (carry_in_net board store p x))
-  pub f : Says board store t words m p board.width n.f (λ x. (answer_net board store p x).f)
 
 module _ {board : BoardParts} {store : List ℕ} {t : Table} {words : List Word} {m : Memory} {p : Place} where
   -- a bit that stands before F is made

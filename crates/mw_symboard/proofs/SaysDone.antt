@@ -32,7 +32,8 @@ use Rattle.mw_symboard.specs.Shown.{shown, taken_after}
 use Rattle.mw_symboard.specs.Turns.{IsDone, Symbolic, clock_of, event_of}
 use Rattle.mw_symboard.proofs.SaysDecided.{seen_all}
 use Rattle.mw_symboard.proofs.SaysLeaving.{says_leaving}
-use Rattle.mw_symboard.proofs.SaysReading.{SaysReading, says_reading}
+use Rattle.mw_symboard.proofs.SaysReading.{says_reading}
+use Rattle.mw_symboard.specs.Nets.{SaysReading}
 use Rattle.mw_symboard.proofs.SaysState.{IsAtEdge, says_state}
 
 -- the event of a cycle whose control address this is

@@ -21,7 +21,8 @@ use Rattle.mw_symboard.specs.Parts.{AreParts}
 use Rattle.mw_symboard.specs.Seen.{Place, Says, Scene, answer_net, microword_of}
 use Rattle.mw_symboard.proofs.Meaning.{low_bits, says_element}
 use Rattle.mw_symboard.proofs.Saying.{says_as, says_below, says_join, says_part, says_wide}
-use Rattle.mw_symboard.proofs.SaysBits.{SaySources, says_bit_term}
+use Rattle.mw_symboard.proofs.SaysBits.{says_bit_term}
+use Rattle.mw_symboard.specs.Nets.{SaySources}
 
 -- a word shifted down, by its parts
 down_parts : (w x : ℕ) (high : Bool) → 1 ≤ w → x < 2 ^ w → join (w - 1) (num high) (part 1 (w - 1) x) ≡ down w x high

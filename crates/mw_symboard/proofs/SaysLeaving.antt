@@ -32,7 +32,7 @@ use Rattle.mw_symboard.proofs.Meaning.{says_element}
 use Rattle.mw_symboard.proofs.Saying.{num_is, says_as, says_bit, says_con, says_eq, says_same}
 use Rattle.mw_symboard.proofs.SaysAddress.{says_direct, says_less_one, says_next}
 use Rattle.mw_symboard.proofs.SaysDecided.{asked_counter, asked_next, asked_pass, counted_is_some, seen_effect}
-use Rattle.mw_symboard.proofs.SaysReading.{SaysReading}
+use Rattle.mw_symboard.specs.Nets.{SaysReading, SaysLeaving, counter_net}
 
 -- a counter that isn't zero
 is_some : (r : ℕ) → (r == 0) ≡ false → 0 < r
@@ -43,19 +43,6 @@ is_some (suc r) none = omega arith
 is_enabled : (disabled asks : Bool) → not disabled && asks ≡ true → disabled ≡ false
 is_enabled false asks is = refl
 is_enabled true asks is = absurd cc
-
--- the register/counter after the edge
-abbrev pub counter_net : BoardParts → List ℕ → Place → Scene → ℕ
-counter_net board store p x =
-    if (microword_of board store p).rld then direct_net board store p x
-    else counter_after (effect (microword_of board store p).sequencer (pass_net board store p x) x.state.seq).counter
-    (direct_net board store p x) x.state.seq.r
-
--- what is known of a cycle's end says what it should
-pub record SaysLeaving (board : BoardParts) (store : List ℕ) (t : Table) (words : List Word) (m : Memory) (p : Place)
-    (made : Leaving) : Type 0 where
-  pub next : Says board store t words m p 12 made.next (next_net board store p)
-  pub r : Says board store t words m p 12 made.r (counter_net board store p)
 
 module _ {board : BoardParts} {store : List ℕ} {t : Table} {words : List Word} {m : Memory} {p : Place} where
   -- the register/counter, by its move

@@ -21,18 +21,10 @@ use Rattle.mw_cycle.specs.ReadingWords.{y_term}
 use Rattle.mw_symboard.specs.Made.{IsF}
 use Rattle.mw_symboard.specs.Parts.{AreParts}
 use Rattle.mw_symboard.specs.Seen.{Place, Says, Scene, answer_net, condition_net, d_net, microword_of}
-use Rattle.mw_symboard.proofs.Meaning.{carry_in_net, first_net, r_net, s_net, says_addend_r, says_addend_s, says_answer, says_d, says_element, says_r, says_s, says_source, second_net}
+use Rattle.mw_symboard.proofs.Meaning.{says_addend_r, says_addend_s, says_answer, says_d, says_element, says_r, says_s, says_source}
+use Rattle.mw_symboard.specs.Nets.{carry_in_net, first_net, r_net, s_net, second_net, SaySources, SaysReading}
 use Rattle.mw_symboard.proofs.Saying.{says_same}
-use Rattle.mw_symboard.proofs.SaysBits.{SaySources, says_bit_term, says_early, says_turned}
-
--- what a cycle has read says what it should
-pub record SaysReading (board : BoardParts) (store : List ℕ) (t : Table) (words : List Word) (m : Memory) (p : Place)
-    (made : Reading) : Type 0 where
-  pub sources : SaySources board store t words m p made.sources
-  pub source : Says board store t words m p board.width made.source
-      (λ x. from_source board (microword_of board store p).word (microword_of board store p).d.from x.state x.outside)
-  pub y : Says board store t words m p board.width made.y (λ x. (answer_net board store p x).y)
-  pub condition : Says board store t words m p 1 made.condition (condition_net board store p)
+use Rattle.mw_symboard.proofs.SaysBits.{says_bit_term, says_early, says_turned}
 
 module _ {board : BoardParts} {store : List ℕ} {t : Table} {words : List Word} {m : Memory} {p : Place} where
   -- Y is A in RAMA, and else F

@@ -46,8 +46,7 @@ use Rattle.mw_symboard.proofs.Saying.{says_below, says_con}
 use Rattle.mw_symboard.proofs.SaysBits.{says_loaded}
 use Rattle.mw_symboard.proofs.SaysDecided.{seen_effect, seen_next}
 use Rattle.mw_symboard.proofs.SaysEdge.{SaysTaken, says_written_b, says_written_q}
-use Rattle.mw_symboard.proofs.SaysLeaving.{SaysLeaving}
-use Rattle.mw_symboard.proofs.SaysReading.{SaysReading}
+use Rattle.mw_symboard.specs.Nets.{SaysLeaving, SaysReading}
 
 -- a destination that doesn't write B gives it 0
 unwritten_b : (destination : Destination) (w f : ℕ) (pins : Pins) → writes_b destination ≡ false

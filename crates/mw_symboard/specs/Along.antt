@@ -1,5 +1,5 @@
 -- The words that are left of a symbolic cycle, along the decided bits that are still to come.
-use Rattle.std.specs.Prelude.{◌≡◌, ℕ, ◌-◌, List, [], ◌∷◌, length, Bool, ◌&&◌, ◌==◌, nat_lt, if◌then◌else◌, Option, Some, None}
+use Rattle.std.specs.Prelude.{◌≡◌, ℕ, ◌-◌, List, [], ◌∷◌, ◌++◌, length, Bool, ◌&&◌, ◌==◌, nat_lt, if◌then◌else◌, Option, Some, None}
 use Rattle.mw_board.specs.declared.parts.BoardParts.{BoardParts}
 use Rattle.mw_cycle.specs.declared.microword.Microword.{Microword}
 use Rattle.mw_cycle.specs.BoardTerms.{Standing}
@@ -9,6 +9,7 @@ use Rattle.mw_cycle.specs.EdgeWords.{Stands}
 use Rattle.mw_cycle.specs.ReadingWords as words
 use Rattle.mw_term.specs.declared.kinds.DecidedKind.{DecidedKind}
 use Rattle.mw_term.specs.MemoryRead.{Held}
+use Rattle.mw_term.specs.Numbered.{IsNumbered}
 use Rattle.mw_term.specs.WordList.{WordList, ended}
 use Rattle.mw_symmem.specs.declared.turn.Turn.{Turn}
 use Rattle.mw_symmem.specs.declared.turn.Turn.TheVariants.{Ask, Finished}
@@ -80,3 +81,40 @@ ListsTurn board store mold mnew old new lold lnew Finished = Ends board store mo
 abbrev pub GoesAlong : BoardParts → List ℕ → (writes : List Held) → (old new : Symbolic) → (lold lnew : WordList) → Type 0
 GoesAlong board store writes old new lold lnew =
     (bits : List Bool) → words_left board store old writes bits lold ≡ words_left board store new writes bits lnew
+
+-- ---- a whole cycle
+
+-- It has come along some bits of a cycle that began at a standing with a list: with all further bits the words of the
+-- cycle are those that are left.
+abbrev pub IsAlong : BoardParts → List ℕ → (start : Standing) → WordList → (bits : List Bool) → (writes : List Held) → Symbolic
+    → (now : WordList) → Type 0
+IsAlong board store start l bits writes o now =
+    (more : List Bool) → cycle_words board store start (bits ++ more) l ≡ words_left board store o writes more now
+
+-- A turn along a cycle: where it asks, the words of the cycle stop at its term, and each value of the bit goes on along the
+-- cycle; where it is finished, the words of the cycle along the bits so far are all there, and it is where they lead.
+abbrev pub GoesAlongCycle : BoardParts → List ℕ → (start : Standing) → WordList → (bits : List Bool) → (mold mnew : Memory)
+    → (old new : Symbolic) → (lnew : WordList) → Turn → Type 0
+GoesAlongCycle board store start l bits mold mnew old new lnew (Ask kind term) =
+    (cycle_words board store start bits l ≡ stopped (standing_in old mold.board) (ended term lnew))
+    × ((bit : Bool) → IsAlong board store start l (bits ++ bit ∷ []) mold.board (decided_so new kind bit) lnew)
+GoesAlongCycle board store start l bits mold mnew old new lnew Finished =
+    cycle_words board store start bits l ≡ done [] (record { list = lnew; standing = standing_in new mnew.board })
+
+-- a cycle begins along no bits
+abbrev pub CyclesBegin : Type 0
+CyclesBegin = (board : BoardParts) (store : List ℕ) (o : Symbolic) (writes : List Held) (l : WordList) → o.reading ≡ None
+    → IsAlong board store (standing_in o writes) l [] writes o l
+
+-- and its turns go along it
+abbrev pub CyclesGoAlong : Type 0
+CyclesGoAlong =
+    (board : BoardParts) (store : List ℕ) (start : Standing) (l : WordList) (bits : List Bool) (mold mnew : Memory)
+    (old new : Symbolic) (lold lnew : WordList) (turn : Turn) → IsAlong board store start l bits mold.board old lold
+    → ListsTurn board store mold mnew old new lold lnew turn
+    → GoesAlongCycle board store start l bits mold mnew old new lnew turn
+
+-- where each term of a list that is no constant has a word, so it is with the words of a cycle, along any bits
+abbrev pub CyclesAreNumbered : Type 0
+CyclesAreNumbered = (board : BoardParts) (store : List ℕ) (start : Standing) (bits : List Bool) (l : WordList) → IsNumbered l
+    → IsNumbered (cycle_words board store start bits l).list

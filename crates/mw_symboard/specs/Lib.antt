@@ -6,6 +6,7 @@ pub mod Kinds
 pub mod Listed
 pub mod Laws
 pub mod Made
+pub mod Nets
 pub mod Parts
 pub mod Paths
 pub mod Seen

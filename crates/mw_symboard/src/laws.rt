@@ -1,5 +1,7 @@
 // Laws of runs of a board on terms.
+ghost use Rattle.mw_symboard.specs.Along.{CyclesAreNumbered, CyclesBegin, CyclesGoAlong};
 ghost use Rattle.mw_symboard.specs.Laws.{BitsAreFirst, BitsAreOfTheRun, ElementsHaveTerms, RunsBegin, RunsFitBefore, RunsStay, TurnsAreOfTheRun};
+ghost use Rattle.mw_symboard.specs.Nets.{NetsHaveValues};
 ghost use Rattle.mw_symboard.specs.Paths.{PassedGoOn, PassedStay, PathsBegin, PathsGoOn, PathsStay, PathsTakeBits, SplitsAreBy};
 ghost use Rattle.mw_symboard.specs.Variables.{BegunHasVariables, CyclesAreThere, CyclesStay, EnvironmentsAreReached, EnvironmentsAreThere, EnvironmentsStay, VariablesHaveValues, VariablesStay};
 
@@ -63,4 +65,23 @@ pub fn environments_are_there()
     ensures there { EnvironmentsAreThere }
     ensures reached { EnvironmentsAreReached }
     ensures stay { EnvironmentsStay }
+{}
+
+/// The law of nets: in every scene in which a cycle is seen, the terms that it has made of what it reads, of each bit and
+/// of its end have the values of the board's nets.
+pub fn nets_have_values()
+    ensures { NetsHaveValues }
+{}
+
+/// The law of a cycle's words: a cycle begins along no bits; a turn that asks stops at the words of the cycle along the bits
+/// so far, and each value of the bit goes on along it; a turn that is finished has added all of them, and the board is
+/// where they lead.
+pub fn cycles_go_along()
+    ensures begin { CyclesBegin }
+    ensures turns { CyclesGoAlong }
+{}
+
+/// The law of numbers: where each term of a list that is no constant has a word, so it is with the words of a cycle.
+pub fn words_of_cycles_are_numbered()
+    ensures { CyclesAreNumbered }
 {}

@@ -19,6 +19,7 @@ mod source;
 
 pub use board::SymBoard;
 pub use laws::{
-    elements_have_terms, environments_are_there, paths_are_of_the_run, runs_begin, runs_fit_before,
-    runs_stay, turns_are_of_the_run, variables_are_there,
+    cycles_go_along, elements_have_terms, environments_are_there, nets_have_values,
+    paths_are_of_the_run, runs_begin, runs_fit_before, runs_stay, turns_are_of_the_run,
+    variables_are_there, words_of_cycles_are_numbered,
 };
