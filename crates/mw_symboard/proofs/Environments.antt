@@ -28,7 +28,7 @@ use Rattle.mw_symboard.specs.declared.reading.Reading.{Reading}
 use Rattle.mw_symboard.specs.Kinds.{AreInputs}
 use Rattle.mw_symboard.specs.Seen.{Place}
 use Rattle.mw_symboard.specs.Turns.{HasRead}
-use Rattle.mw_symboard.specs.Variables.{BegunHasVariables, CyclesAreThere, CyclesStay, EnvironmentsAreReached, EnvironmentsAreThere, EnvironmentsStay, HasCycles, HasVariables, IsOutsideKind, IsOutsideNumber, IsReadKind, VariablesHaveValues, VariablesStay}
+use Rattle.mw_symboard.specs.Variables.{BegunHasVariables, CyclesAreThere, CyclesStay, EnvironmentsAreReached, EnvironmentsAreThere, EnvironmentsStay, HaveVariables, HasVariables, IsOutsideKind, IsOutsideNumber, IsReadKind, VariablesHaveValues, VariablesStay}
 use Rattle.mw_symboard.proofs.Runs.{variable_of}
 use Rattle.mw_symboard.proofs.Standing.{found_stays}
 use Rattle.mw_symboard.proofs.Turning.{read_known}
@@ -77,7 +77,7 @@ begun_has_variables board store t words m o symbolic = (
 cycles_begun : (board : BoardParts) (store : List ℕ) (t : Table) (words : List Word) (m : Memory) (p : Place)
     (read : Option Reading) → AreInputs board t words → HasRead board store t words m p read
     → ((r : Reading) → read ≡ Some r → HasVariables t words p.cycle) → ((n : ℕ) → n < p.cycle → HasVariables t words n)
-    → (cycles : ℕ) × HasCycles board t words cycles
+    → (cycles : ℕ) × HaveVariables board t words cycles
 cycles_begun board store t words m p None inputs has own each =
     (p.cycle, record { each = each; none = has.1; inputs = inputs })
 cycles_begun board store t words m p (Some r) inputs has own each = (

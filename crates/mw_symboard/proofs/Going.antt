@@ -32,7 +32,7 @@ use Rattle.mw_symboard.specs.declared.leaving.Leaving.{Leaving}
 use Rattle.mw_symboard.specs.declared.reading.Reading as read
 use Rattle.mw_symboard.specs.Along.{GoesAlong, ListsTurn, StopsAt, address_bits_of, left_behind_reading, left_by, left_of_address, left_to_test, standing_in, words_left}
 use Rattle.mw_symboard.specs.Cycle.{bits_before, effect_by, number_in, pass_by, value_in, zero_by}
-use Rattle.mw_symboard.specs.Listed.{left_of, read_of, standing_after, standing_of}
+use Rattle.mw_symboard.specs.Listed.{leaving_of, reading_of, standing_after, standing_of}
 use Rattle.mw_symboard.specs.Seen.{Place, microword_of}
 use Rattle.mw_symboard.specs.Turns.{Leaves, Symbolic, cycle_left, decided_so, shown_by, written_if}
 use Rattle.mw_symboard.proofs.Deciding.{value_more, count_more, pass_same, zero_same}
@@ -114,7 +114,7 @@ not_less a b least = grind (arith, nat_tests)
 -- what is known of its end is there, and no bit of the next address is decided
 pub prepares : (board : BoardParts) (m : Microword) (p : Place) (s : Standing) (r : Reading) (leaving : Leaving) (l0 l1 : WordList)
     → length p.decided ≡ bits_before m
-    → leaving_words board m s.parts s.sp r.sources.noise (effect_by m p.decided) l0 ≡ record { list = l1; leaving = left_of leaving }
+    → leaving_words board m s.parts s.sp r.sources.noise (effect_by m p.decided) l0 ≡ record { list = l1; leaving = leaving_of leaving }
     → (bits : List Bool) → left_behind_reading board m p s r bits l0 ≡ left_of_address board m p s r leaving bits l1
 prepares board m p s r leaving l0 l1 many leaves = λ bits.
     (let none : address_bits_of m p ≡ 0 = omega (arith, many) in
@@ -122,7 +122,7 @@ prepares board m p s r leaving l0 l1 many leaves = λ bits.
     else along_leaving board m s r (pass_by m p.decided) (zero_by m p.decided) bits l0)
     (not_less (length p.decided) (bits_before m) (omega (arith, many)))
     ∙ ap (λ (x : ends.Leaves). along_address board m s r x.leaving (effect_by m p.decided) 12 0 bits x.list) leaves
-    ∙ ap (λ k. along_address board m s r (left_of leaving) (effect_by m p.decided) (12 - k)
+    ∙ ap (λ k. along_address board m s r (leaving_of leaving) (effect_by m p.decided) (12 - k)
     (number_in p.decided (bits_before m) k) bits l1) (sym none))
 
 -- it stops at a bit of the next address: the one of this number from the lowest
@@ -130,7 +130,7 @@ pub address_stops : (board : BoardParts) (m : Microword) (p : Place) (s : Standi
     (place : ℕ) → 12 - address_bits_of m p ≡ suc place
     → left_of_address board m p s r leaving [] l ≡ stopped s (with_word (Part leaving.next place 1) l)
 address_stops board m p s r leaving l place is =
-    ap (λ k. along_address board m s r (left_of leaving) (effect_by m p.decided) k
+    ap (λ k. along_address board m s r (leaving_of leaving) (effect_by m p.decided) k
     (number_in p.decided (bits_before m) (address_bits_of m p)) [] l) is
 
 -- the number of the bits so far, with one more
@@ -170,32 +170,32 @@ address_goes board m p s r leaving l place kind bit bits is within =
     let x = decided kind bit in
     let before = bits_before m in
     let k = address_bits_of m p in
-    let after : Come = along_address board m s r (left_of leaving) (effect_by m ds) place (number_in ds before k * 2 + num bit) bits
+    let after : Come = along_address board m s r (leaving_of leaving) (effect_by m ds) place (number_in ds before k * 2 + num bit) bits
     (with_word (Part leaving.next place 1) l).list in
     let more = count_more ds x in
     let next : address_bits_of m (with_bit p kind bit) ≡ k + 1 = omega (arith, more, within) in
     let left : 12 - address_bits_of m (with_bit p kind bit) ≡ place = omega (arith, next, is) in
-    ap (λ n. along_address board m s r (left_of leaving) (effect_by m ds) n (number_in ds before k) (bit ∷ bits) l) is
-    ∙ sym (ap (λ n. along_address board m s r (left_of leaving) (effect_by m (ds ++ x ∷ [])) n
+    ap (λ n. along_address board m s r (leaving_of leaving) (effect_by m ds) n (number_in ds before k) (bit ∷ bits) l) is
+    ∙ sym (ap (λ n. along_address board m s r (leaving_of leaving) (effect_by m (ds ++ x ∷ [])) n
     (number_in (ds ++ x ∷ []) before (address_bits_of m (with_bit p kind bit))) bits
     (with_word (Part leaving.next place 1) l).list) left
-    ∙ ap (λ n. along_address board m s r (left_of leaving) (effect_by m (ds ++ x ∷ [])) place
+    ∙ ap (λ n. along_address board m s r (leaving_of leaving) (effect_by m (ds ++ x ∷ [])) place
     (number_in (ds ++ x ∷ []) before n) bits (with_word (Part leaving.next place 1) l).list) next
-    ∙ ap (λ e. along_address board m s r (left_of leaving) e place (number_in (ds ++ x ∷ []) before (k + 1)) bits
+    ∙ ap (λ e. along_address board m s r (leaving_of leaving) e place (number_in (ds ++ x ∷ []) before (k + 1)) bits
     (with_word (Part leaving.next place 1) l).list) (effect_same m ds x within)
-    ∙ ap (λ n. along_address board m s r (left_of leaving) (effect_by m ds) place n bits
+    ∙ ap (λ n. along_address board m s r (leaving_of leaving) (effect_by m ds) place n bits
     (with_word (Part leaving.next place 1) l).list) (number_next ds x before k (omega (arith, within))))
 
 -- all bits are decided: what is left is the edge
 pub address_ends : (board : BoardParts) (m : Microword) (p : Place) (s : Standing) (r : Reading) (leaving : Leaving) (l : WordList)
     (after : Stands) (at : ℕ) → length p.decided ≡ bits_before m + 12 → at ≡ number_in p.decided (bits_before m) 12
-    → edge_words board m s r (left_of leaving) (effect_by m p.decided) at l ≡ after
+    → edge_words board m s r (leaving_of leaving) (effect_by m p.decided) at l ≡ after
     → (bits : List Bool) → left_of_address board m p s r leaving bits l ≡ done bits after
 address_ends board m p s r leaving l after at many is edge = λ bits.
     (let all : address_bits_of m p ≡ 12 = omega (arith, many) in
-    ap (λ k. along_address board m s r (left_of leaving) (effect_by m p.decided) (12 - k)
+    ap (λ k. along_address board m s r (leaving_of leaving) (effect_by m p.decided) (12 - k)
     (number_in p.decided (bits_before m) k) bits l) all
-    ∙ ap (λ n. done bits (edge_words board m s r (left_of leaving) (effect_by m p.decided) n l)) (sym is)
+    ∙ ap (λ n. done bits (edge_words board m s r (leaving_of leaving) (effect_by m p.decided) n l)) (sym is)
     ∙ ap (done bits) edge)
 
 -- ---- what is left behind the edge
@@ -231,11 +231,6 @@ pub writes_after : (write : Bool) (m : Memory) (address value : ℕ)
     → (written_if write m address value).board ≡ with_write_if write address value m.board
 writes_after true m address value = refl
 writes_after false m address value = refl
-
--- its base reads
-pub reads_after : (write : Bool) (m : Memory) (address value : ℕ) → (written_if write m address value).reads ≡ m.reads
-reads_after true m address value = refl
-reads_after false m address value = refl
 
 -- where it is once its cycle is left
 pub left_cycle : (m : Microword) (source y : ℕ) (old e : Symbolic) (r : Reading) (writes after : List Held)
@@ -313,12 +308,12 @@ not_leaving board store t p r reading (Some l) is leaves few =
 pub stops_before : (board : BoardParts) (store : List ℕ) (writes : List Held) (old new : Symbolic) (r : read.Reading)
     (l0 l1 : WordList) (kind : DecidedKind) (term : ℕ) (asked : Option DecidedKind) → new ≡ record old { asked = asked }
     → old.reading ≡ Some r → old.leaving ≡ None
-    → left_behind_reading board (microword_of board store old.place) old.place (standing_in old writes) (read_of r) [] l0
+    → left_behind_reading board (microword_of board store old.place) old.place (standing_in old writes) (reading_of r) [] l0
     ≡ stopped (standing_in old writes) (ended term l1)
     → ((bit : Bool) (bits : List Bool)
-    → left_behind_reading board (microword_of board store old.place) old.place (standing_in old writes) (read_of r) (bit ∷ bits) l0
+    → left_behind_reading board (microword_of board store old.place) old.place (standing_in old writes) (reading_of r) (bit ∷ bits) l0
     ≡ left_behind_reading board (microword_of board store old.place) (with_bit old.place kind bit) (standing_in old writes)
-    (read_of r) bits l1)
+    (reading_of r) bits l1)
     → StopsAt board store writes old new l0 l1 kind term
 stops_before board store writes old new r l0 l1 kind term asked is reading leaving here goes =
     let left = λ (p : Place) (bits : List Bool) (l : WordList).
@@ -334,12 +329,12 @@ stops_before board store writes old new r l0 l1 kind term asked is reading leavi
 pub stops_behind : (board : BoardParts) (store : List ℕ) (writes : List Held) (old new : Symbolic) (r : read.Reading)
     (leaving : Leaving) (l0 l1 : WordList) (kind : DecidedKind) (term : ℕ) (asked : Option DecidedKind)
     → new ≡ record old { asked = asked } → old.reading ≡ Some r → old.leaving ≡ Some leaving
-    → left_of_address board (microword_of board store old.place) old.place (standing_in old writes) (read_of r) leaving [] l0
+    → left_of_address board (microword_of board store old.place) old.place (standing_in old writes) (reading_of r) leaving [] l0
     ≡ stopped (standing_in old writes) (ended term l1)
     → ((bit : Bool) (bits : List Bool)
-    → left_of_address board (microword_of board store old.place) old.place (standing_in old writes) (read_of r) leaving (bit ∷ bits) l0
+    → left_of_address board (microword_of board store old.place) old.place (standing_in old writes) (reading_of r) leaving (bit ∷ bits) l0
     ≡ left_of_address board (microword_of board store old.place) (with_bit old.place kind bit) (standing_in old writes)
-    (read_of r) leaving bits l1)
+    (reading_of r) leaving bits l1)
     → StopsAt board store writes old new l0 l1 kind term
 stops_behind board store writes old new r leaving l0 l1 kind term asked is reading leaves here goes =
     let left = λ (p : Place) (bits : List Bool) (l : WordList).

@@ -80,13 +80,6 @@ pub constant_over : {E : Type 0} (r : Result ℕ E) (number width : ℕ) (said :
 constant_over r number width said told tnew words m same lists =
     IfOk-weaker r _ _ (λ term each. (each words m.reads ∙ same (list_of told.ops words m.reads))) lists
 
--- words without a read are what is said
-pub said_so : {E : Type 0} (r : Result ℕ E) (first said : WordList → Ended) (told tnew : Table) (wold wnew : List Word)
-    → ((l : WordList) → first l ≡ said l) → IfOk r (Lists first told tnew wold wnew)
-    → IfOk r (Lists said told tnew wold wnew)
-said_so r first said told tnew wold wnew same lists =
-    IfOk-weaker r _ _ (λ term each. λ reads. (each reads ∙ same (list_of told.ops wold reads))) lists
-
 -- and where the memory may be read
 pub said_over : {E : Type 0} (r : Result ℕ E) (first said : WordList → Ended) (told tnew : Table) (wold wnew : List Word)
     (m : Memory) → ((l : WordList) → first l ≡ said l) → IfOk r (Lists first told tnew wold wnew)

@@ -17,7 +17,7 @@ use Rattle.mw_symmem.specs.Memory.{Memory}
 use Rattle.mw_symboard.specs.declared.leaving.Leaving.{Leaving}
 use Rattle.mw_symboard.specs.declared.reading.Reading.{Reading}
 use Rattle.mw_symboard.specs.Cycle.{bits_before, effect_by, number_in, pass_by, zero_by}
-use Rattle.mw_symboard.specs.Listed.{left_of, read_of, standing_of}
+use Rattle.mw_symboard.specs.Listed.{leaving_of, reading_of, standing_of}
 use Rattle.mw_symboard.specs.Seen.{Place, microword_of}
 use Rattle.mw_symboard.specs.Turns.{Symbolic, decided_so}
 
@@ -44,16 +44,16 @@ address_bits_of m p = length p.decided - bits_before m
 -- those of the next address that are left, and of the edge
 abbrev pub left_of_address : BoardParts → Microword → Place → Standing → words.Reading → Leaving → List Bool → WordList → Come
 left_of_address board m p s reading leaving bits l =
-    along_address board m s reading (left_of leaving) (effect_by m p.decided) (12 - address_bits_of m p)
+    along_address board m s reading (leaving_of leaving) (effect_by m p.decided) (12 - address_bits_of m p)
     (number_in p.decided (bits_before m) (address_bits_of m p)) bits l
 
 -- those of a cycle that may have begun
 abbrev pub left_by : BoardParts → List ℕ → Place → Standing → Option Reading → Option Leaving → List Bool → WordList → Come
 left_by board store p s None leaving bits l = cycle_words board store s bits l
 left_by board store p s (Some reading) None bits l =
-    left_behind_reading board (microword_of board store p) p s (read_of reading) bits l
+    left_behind_reading board (microword_of board store p) p s (reading_of reading) bits l
 left_by board store p s (Some reading) (Some leaving) bits l =
-    left_of_address board (microword_of board store p) p s (read_of reading) leaving bits l
+    left_of_address board (microword_of board store p) p s (reading_of reading) leaving bits l
 
 -- The words that are left of its cycle, along further bits, where its side had these writes before the cycle.
 abbrev pub words_left : BoardParts → List ℕ → Symbolic → (writes : List Held) → List Bool → WordList → Come

@@ -30,6 +30,19 @@ ListsBit said told tnew wold wnew bold bnew term =
 abbrev pub bits_made : Table → List Word → (reads : List Held) → Bits → BitsMade
 bits_made t words reads made = record { list = list_of t.ops words reads; bits = made }
 
+-- the same where the list and the bits that were made are one record
+abbrev pub ListsFrom : (said : BitsMade → BitEnded) → (told tnew : Table) → (wold wnew : List Word) → (bold bnew : Bits)
+    → (term : ℕ) → Type 0
+ListsFrom said told tnew wold wnew bold bnew term = ListsBit (λ made l. said (record { list = l; bits = made })) told tnew wold wnew bold bnew term
+
+-- and where what ends is something that is taken, or nothing
+abbrev pub ListsTaken : (said : BitsMade → Takes) → (told tnew : Table) → (wold wnew : List Word) → (bold bnew : Bits)
+    → (taken : Option ℕ) → Type 0
+ListsTaken said told tnew wold wnew bold bnew taken =
+    (reads : List Held) → record { list = list_of tnew.ops wnew reads; bits = bnew; taken = taken } ≡ said (bits_made told wold reads bold)
+
+-- ---- as the definitions of the words have it
+
 -- where a symbolic board is between two cycles
 abbrev pub standing_of : Place → (writes : List Held) → List SymEvent → Standing
 standing_of p writes events = record {
@@ -43,19 +56,8 @@ standing_of p writes events = record {
 }
 
 -- what is known of a cycle's end
-abbrev pub left_of : Leaving → ends.Leaving
-left_of l = record { next = l.next; r = l.r }
-
--- the same from the bits that were made before
-abbrev pub ListsFrom : (said : BitsMade → BitEnded) → (told tnew : Table) → (wold wnew : List Word) → (bold bnew : Bits)
-    → (term : ℕ) → Type 0
-ListsFrom said told tnew wold wnew bold bnew term = ListsBit (λ made l. said (record { list = l; bits = made })) told tnew wold wnew bold bnew term
-
--- and of what there is to take
-abbrev pub ListsTaken : (said : BitsMade → Takes) → (told tnew : Table) → (wold wnew : List Word) → (bold bnew : Bits)
-    → (taken : Option ℕ) → Type 0
-ListsTaken said told tnew wold wnew bold bnew taken =
-    (reads : List Held) → record { list = list_of tnew.ops wnew reads; bits = bnew; taken = taken } ≡ said (bits_made told wold reads bold)
+abbrev pub leaving_of : Leaving → ends.Leaving
+leaving_of l = record { next = l.next; r = l.r }
 
 -- the terms of the flip-flops so far
 abbrev pub loaded_in : Table → List Word → (reads : List Held) → Bits → (flips : List ℕ) → Loaded
@@ -70,12 +72,12 @@ abbrev pub sources_in : Table → List Word → (reads : List Held) → Sources 
 sources_in t words reads n made = record { list = list_of t.ops words reads; sources = sources_of n; bits = made }
 
 -- what a cycle has read
-abbrev pub read_of : Reading → words.Reading
-read_of r = record { sources = sources_of r.sources; bits = r.bits; source = r.source; y = r.y; condition = r.condition }
+abbrev pub reading_of : Reading → words.Reading
+reading_of r = record { sources = sources_of r.sources; bits = r.bits; source = r.source; y = r.y; condition = r.condition }
 
 -- the same in a list
 abbrev pub reading_in : Table → List Word → Memory → Reading → words.HasRead
-reading_in t ws m r = record { list = list_in t ws m; reading = read_of r }
+reading_in t ws m r = record { list = list_in t ws m; reading = reading_of r }
 
 -- where a board is after a cycle from one place to another, with these writes and events before it
 abbrev pub standing_after : Microword → (old new : Place) → words.Reading → (writes : List Held) → List SymEvent → Standing

@@ -1,4 +1,6 @@
 -- What the terms of a cycle's nets are made of, by the word table: a net that only passes a value on is that other term.
+-- These relations are what the values of the terms are shown from; which words there are, and in which order, are the
+-- definitions of mw_cycle (ReadingWords, LeavingWords, EdgeWords). A rule that changes changes in both.
 use Rattle.std.specs.Prelude.{◌≡◌, ℕ, ◌+◌, ◌-◌, ◌%◌, ◌^◌, ◌⊎◌, List, length, Bool, true, false, ◌==◌, nat_lt, if◌then◌else◌, slice_get, slice_index, Option, Some, None}
 use Rattle.mw_base.specs.Words.{num}
 use Rattle.mw_alu.specs.declared.instruction.Destination.{Destination}

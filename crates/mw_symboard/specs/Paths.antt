@@ -44,9 +44,9 @@ pub record IsPath (board : BoardParts) (store : List ℕ) (t : Table) (words : L
       → AreFirst bits (bits_in board store x n) → path given ≡ true
 
 -- where the path is true, the next of the run's own bits is of this kind and has the value of this term
-abbrev pub IsNext : BoardParts → List ℕ → Table → List Word → Memory → Origin → Symbolic → List Decided
+abbrev pub IsNextBit : BoardParts → List ℕ → Table → List Word → Memory → Origin → Symbolic → List Decided
     → (path : Function) → DecidedKind → (term : ℕ) → Type 0
-IsNext board store t words m b o bits path kind term =
+IsNextBit board store t words m b o bits path kind term =
     (given : Given) (x : Course) → IsOneOf board t words m b given x → path given ≡ true → (n : ℕ) → o.place.cycle < n
     → slice_get (bits_in board store x n) (length bits) ≡ Some (decided kind (term_value t given term == 1))
 
@@ -89,7 +89,7 @@ PathsGoOn =
     → IsTurn board store tnew wnew mold mnew old new turn → IsPath board store told wold mold b old bits path
     → IsPath board store tnew wnew mnew b new bits path
     × ((kind : DecidedKind) (term : ℕ) → turn ≡ Ask kind term
-    → IsNext board store tnew wnew mnew b new bits path kind term)
+    → IsNextBit board store tnew wnew mnew b new bits path kind term)
     × (turn ≡ Finished → AreAll board store tnew wnew mnew b new bits path)
 
 -- A path by the bit that is asked for is a path of one bit more.
@@ -97,7 +97,7 @@ abbrev pub PathsTakeBits : Type 0
 PathsTakeBits =
     (board : BoardParts) (store : List ℕ) (t : Table) (words : List Word) (m : Memory) (b : Origin) (o : Symbolic)
     (bits : List Decided) (kind : DecidedKind) (term : ℕ) (value : Bool) (path next : Function)
-    → IsPath board store t words m b o bits path → IsNext board store t words m b o bits path kind term
+    → IsPath board store t words m b o bits path → IsNextBit board store t words m b o bits path kind term
     → IsBy t term value path next
     → IsPath board store t words m b (decided_so o kind value) (bits ++ decided kind value ∷ []) next
 

@@ -26,9 +26,9 @@ pub record HasVariables (t : Table) (words : List Word) (cycle : ℕ) : Type 0 w
   pub line_wide : IsOfWidth t 1 line
   pub noise_wide : IsOfWidth t 14 noise
 
--- so are those of so many cycles, and of no later one; and the variables of inputs that there are have the board's
--- width
-pub record HasCycles (board : BoardParts) (t : Table) (words : List Word) (cycles : ℕ) : Type 0 where
+-- The variables of the first so many cycles are there, and those of no later one; and the variables of inputs that there
+-- are have the board's width.
+pub record HaveVariables (board : BoardParts) (t : Table) (words : List Word) (cycles : ℕ) : Type 0 where
   pub each : (n : ℕ) → n < cycles → HasVariables t words n
   pub none : AreNoLater cycles words
   pub inputs : AreInputs board t words
@@ -39,7 +39,7 @@ VariablesStay =
     (told tnew : Table) (wold wnew more : List Word) (cycle : ℕ) → IsLater told tnew → wnew ≡ wold ++ more
     → HasVariables told wold cycle → HasVariables tnew wnew cycle
 
--- A board whose cycle has begun has the cycle's variables; and a cycle of which a bit is decided has begun.
+-- The variables of its cycle are there where the cycle has begun, and where a bit of it is decided.
 abbrev pub BegunHasVariables : Type 0
 BegunHasVariables =
     (board : BoardParts) (store : List ℕ) (t : Table) (words : List Word) (m : Memory) (o : Symbolic)
@@ -47,23 +47,24 @@ BegunHasVariables =
     → ((reading : Reading) → o.reading ≡ Some reading → HasVariables t words o.place.cycle)
     × (0 < length o.place.decided → HasVariables t words o.place.cycle)
 
--- Where the variables of the finished cycles are there, those of all cycles that have begun are.
+-- Where the variables of the finished cycles are there, there is a number of cycles whose variables are there, and those of
+-- no later one.
 abbrev pub CyclesAreThere : Type 0
 CyclesAreThere =
     (board : BoardParts) (store : List ℕ) (t : Table) (words : List Word) (m : Memory) (o : Symbolic)
     → IsSymbolic board store t words m o → ((n : ℕ) → n < o.place.cycle → HasVariables t words n)
-    → (cycles : ℕ) × HasCycles board t words cycles
+    → (cycles : ℕ) × HaveVariables board t words cycles
 
--- what a described step makes: variables of base reads and of inputs
+-- variables of base reads and of inputs, which other parts may make between two cycles
 abbrev pub IsReadKind : WordKind → Type 0
 IsReadKind kind = ((n : ℕ) × (kind ≡ Base n)) ⊎ ((n : ℕ) × (kind ≡ Input n))
 
--- They stay all those that there are, while others than lines and noise are made.
+-- They stay all that there are, while only variables of base reads and inputs are made.
 abbrev pub CyclesStay : Type 0
 CyclesStay =
     (board : BoardParts) (told tnew : Table) (wold wnew more : List Word) (cycles : ℕ) → IsLater told tnew
-    → wnew ≡ wold ++ more → HaveKinds IsReadKind more → AreInputs board tnew wnew → HasCycles board told wold cycles
-    → HasCycles board tnew wnew cycles
+    → wnew ≡ wold ++ more → HaveKinds IsReadKind more → AreInputs board tnew wnew → HaveVariables board told wold cycles
+    → HaveVariables board tnew wnew cycles
 
 -- A variable has the value that the assignment gives its number, cut to its width.
 abbrev pub VariablesHaveValues : Type 0
@@ -72,11 +73,11 @@ VariablesHaveValues =
     → AreOf t words → IsVariable words place term kind → IsOfWidth t width term
     → term_value t given term ≡ given (place + 1) % 2 ^ width
 
--- For every assignment there is an environment that has the values of all variables.
+-- For every assignment there is an environment that has the values of all variables of lines, noise and inputs.
 abbrev pub EnvironmentsAreThere : Type 0
 EnvironmentsAreThere =
     (board : BoardParts) (t : Table) (words : List Word) (cycles : ℕ) (given : Given) → IsTable t → HaveOwnKinds words
-    → HasCycles board t words cycles → (env : Environment) × IsEnvironmentOf board t words given env
+    → HaveVariables board t words cycles → (env : Environment) × IsEnvironmentOf board t words given env
 
 -- what the outside of a run gives: lines, noise and inputs
 abbrev pub IsOutsideKind : WordKind → Type 0
@@ -96,7 +97,7 @@ pub record IsOutsideNumber (words : List Word) (n : ℕ) : Type 0 where
 abbrev pub EnvironmentsAreReached : Type 0
 EnvironmentsAreReached =
     (board : BoardParts) (t : Table) (words : List Word) (cycles : ℕ) (given : Given) (env : Environment) → IsTable t
-    → AreOf t words → HaveOwnKinds words → HasCycles board t words cycles → IsEnvironment board env
+    → AreOf t words → HaveOwnKinds words → HaveVariables board t words cycles → IsEnvironment board env
     → (other : Given) × IsEnvironmentOf board t words other env
     × ((n : ℕ) → ¬ IsOutsideNumber words n → other n ≡ given n)
 

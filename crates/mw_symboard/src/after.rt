@@ -15,7 +15,7 @@ ghost use Rattle.mw_term.specs.declared.event.SymEvent.{SymEvent};
 ghost use Rattle.mw_term.specs.MemoryRead.{Held};
 ghost use Rattle.mw_term.specs.WordList.{list_of};
 ghost use Rattle.mw_symmem.specs.Listed.{Lists};
-ghost use Rattle.mw_symboard.specs.Listed.{left_of, read_of, standing_after, standing_of};
+ghost use Rattle.mw_symboard.specs.Listed.{leaving_of, reading_of, standing_after, standing_of};
 
 use crate::edge::{Moved, flips, mar_word, q_word, register_word, stack_move};
 use crate::leaving::{Leaving, address, bits_before, effect};
@@ -88,7 +88,7 @@ struct Taken {
 }
 
 /// What the parts take at the edge that is made by words, in the order of the word table.
-fn edge_words(
+fn edge_made(
     alloc: Global,
     board: &Board,
     microword: &Microword,
@@ -114,7 +114,7 @@ fn edge_words(
     ensures mar_wide { IfOk result (λ t. IsOfWidth terms.new board.now.address t.mar) }
     ensures source { reading.new.source ≡ reading.old.source }
     ensures y { reading.new.y ≡ reading.old.y }
-    ensures listed { IfOk result (λ t. (reads : List Held) → edge_made board.now microword.now place.now.parts place.now.sp (read_of reading.old)
+    ensures listed { IfOk result (λ t. (reads : List Held) → edge_made board.now microword.now place.now.parts place.now.sp (reading_of reading.old)
         (list_of terms.old.ops words.old reads) ≡ record {
           list = list_of terms.new.ops words.new reads;
           register = t.register;
@@ -324,16 +324,16 @@ pub(crate) fn take_edge(
     ensures y { reading.new.y ≡ reading.old.y }
     ensures decided { place.new.decided ≡ place.old.decided }
     ensures listed { OnOk result ((reads writes : List Held) (events : List SymEvent)
-        → edge_words board.now microword.now (standing_of place.old writes events) (read_of reading.old) (left_of leaving)
+        → edge_words board.now microword.now (standing_of place.old writes events) (reading_of reading.old) (leaving_of leaving)
         (effect_by microword.now place.old.decided) place.new.at (list_of terms.old.ops words.old reads)
         ≡ record {
           list = list_of terms.new.ops words.new reads;
-          standing = standing_after microword.now place.old place.new (read_of reading.old) writes events;
+          standing = standing_after microword.now place.old place.new (reading_of reading.old) writes events;
         }) }
     ensures grew { OnOk result (Grew terms.old terms.new words.old words.new) }
 {
     let y = reading.y;
-    let taken = edge_words(alloc, board, microword, place, reading, terms, words)?;
+    let taken = edge_made(alloc, board, microword, place, reading, terms, words)?;
     let next = decided_next(place, microword);
     let pc = constant(alloc, u32::from(next.pc), 12, terms)?;
     let moved = moved(board, microword, place);

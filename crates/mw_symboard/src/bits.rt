@@ -57,7 +57,7 @@ impl Model for MadeBit {
     ghost view = { λ m. record { bit = m.bit; term = m.term } };
 }
 
-/// The bits of a cycle that were made so far, each once: those that stand before F is made, and those that are made of it.
+/// The bits of a cycle that were made so far, each once: those that a carry in may read, and those that are made of F.
 #[derive(Drop)]
 pub(crate) struct Bits {
     early: Vec<MadeBit>,

@@ -31,7 +31,7 @@ ghost use Rattle.mw_term.specs.MemoryRead.{Held};
 ghost use Rattle.mw_term.specs.WordList.{list_of};
 ghost use Rattle.mw_symmem.specs.Listed.{list_in};
 ghost use Rattle.mw_symboard.specs.Along.{Ends, GoesAlong, ListsTurn, StopsAt};
-ghost use Rattle.mw_symboard.specs.Listed.{left_of, read_of, standing_after, standing_of};
+ghost use Rattle.mw_symboard.specs.Listed.{leaving_of, reading_of, standing_after, standing_of};
 
 use crate::after::take_edge;
 use crate::leaving::{Leaving, bits_before};
@@ -467,11 +467,11 @@ impl SymBoard {
         ensures leaving { self.new.leaving ≡ self.old.leaving }
         ensures asked { self.new.asked ≡ self.old.asked }
         ensures listed { OnOk result ((reads writes : List Held) (events : List SymEvent)
-            → edge_words board.now microword.now (standing_of self.old.place writes events) (read_of reading.old) (left_of leaving)
+            → edge_words board.now microword.now (standing_of self.old.place writes events) (reading_of reading.old) (leaving_of leaving)
             (effect_by microword.now self.old.place.decided) self.new.place.at (list_of terms.old.ops words.old reads)
             ≡ record {
               list = list_of terms.new.ops words.new reads;
-              standing = standing_after microword.now self.old.place self.new.place (read_of reading.old) writes events;
+              standing = standing_after microword.now self.old.place self.new.place (reading_of reading.old) writes events;
             }) }
         ensures grew { OnOk result (Grew terms.old terms.new words.old words.new) }
     {

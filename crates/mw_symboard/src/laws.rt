@@ -47,9 +47,9 @@ pub fn paths_are_of_the_run()
     ensures passed { PassedGoOn }
 {}
 
-/// The law of variables: a cycle that has begun has its line and its noise, of 1 and 14 bits; they stay, and where
-/// those of the finished cycles are there, those of all cycles that have begun are, and no others come while a
-/// described step goes on. A variable has the value that the assignment gives its number.
+/// The law of variables: a cycle that has begun has its line and its noise, of 1 and 14 bits, and they stay. Where those of
+/// the finished cycles are there, there is a number of cycles whose variables are there, and no later ones; so it stays
+/// while only variables of base reads and inputs come. A variable has the value that the assignment gives its number.
 pub fn variables_are_there()
     ensures begun { BegunHasVariables }
     ensures stay { VariablesStay }

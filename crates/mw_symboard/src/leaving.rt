@@ -11,7 +11,7 @@ ghost use Rattle.mw_cycle.specs.LeavingWords.{counter_words, leaving_words};
 ghost use Rattle.mw_term.specs.MemoryRead.{Held};
 ghost use Rattle.mw_term.specs.WordList.{list_of};
 ghost use Rattle.mw_symmem.specs.Listed.{Lists};
-ghost use Rattle.mw_symboard.specs.Listed.{left_of};
+ghost use Rattle.mw_symboard.specs.Listed.{leaving_of};
 
 use crate::address::{direct, less_one, next};
 use crate::path::Path;
@@ -135,7 +135,7 @@ impl Leaving {
         ensures is { IfOk result (IsLeaving board.now microword.now terms.new place.now noise) }
         ensures listed { IfOk result (λ leaving. (reads : List Held) → leaving_words board.now microword.now place.now.parts place.now.sp noise
             (effect_by microword.now place.now.decided) (list_of terms.old.ops words.old reads)
-            ≡ record { list = list_of terms.new.ops words.new reads; leaving = left_of leaving }) }
+            ≡ record { list = list_of terms.new.ops words.new reads; leaving = leaving_of leaving }) }
         ensures grew { OnOk result (Grew terms.old terms.new words.old words.new) }
     {
         let parts = &place.parts;

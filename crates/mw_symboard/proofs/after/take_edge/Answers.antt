@@ -12,7 +12,7 @@ use Rattle.mw_term.specs.WordList.{list_of, with_constant}
 use Rattle.mw_base.specs.Words.{num}
 use Rattle.mw_board.specs.Depth.{depth_of}
 use Rattle.mw_cycle.specs.BoardTerms.{Standing}
-use Rattle.mw_symboard.specs.Listed.{left_of, read_of, standing_of}
+use Rattle.mw_symboard.specs.Listed.{leaving_of, reading_of, standing_of}
 use Rattle.mw_symboard.proofs.Listing.{edge_are, parts_are, standing_is, stands}
 use Rattle.mw_symboard.proofs.after.take_edge.Goals as goal
 
@@ -29,9 +29,9 @@ returns-clause-is c =
     let taken = c.in_ok-taken.taken in
     let e = c.in_ok-taken.ensures in
     let s = c.settle.ensures in
-    let t = c.edge_words.new.terms in
+    let t = c.edge_made.new.terms in
     let tnew = c.constant.new.terms in
-    let ws = c.edge_words.new.words in
+    let ws = c.edge_made.new.words in
     let last = c.in_ok-pc.ensures.grew ws in
     let count : c.from.result ≡ c.decided_next-next.result.pc = cc in
     record {
@@ -65,9 +65,9 @@ returns-clause-parts c =
     let e = c.in_ok-taken.ensures in
     let s = c.settle.ensures in
     let told = c.args.terms.now in
-    let t = c.edge_words.new.terms in
+    let t = c.edge_made.new.terms in
     let tnew = c.constant.new.terms in
-    let ws = c.edge_words.new.words in
+    let ws = c.edge_made.new.words in
     let last = c.in_ok-pc.ensures.grew ws in
     let all = grew_then told t tnew c.args.words.now ws ws e.grew last in
     let before = parts_stay b told tnew old.parts all.1.extends all.1.keeps c.requires.parts in
@@ -94,8 +94,8 @@ returns-clause-parts c =
 
 pub returns-clause-grew : goal.returns-clause-grew
 returns-clause-grew c =
-    let ws = c.edge_words.new.words in
-    grew_then c.args.terms.now c.edge_words.new.terms c.constant.new.terms c.args.words.now ws ws c.in_ok-taken.ensures.grew
+    let ws = c.edge_made.new.words in
+    grew_then c.args.terms.now c.edge_made.new.terms c.constant.new.terms c.args.words.now ws ws c.in_ok-taken.ensures.grew
     (c.in_ok-pc.ensures.grew ws)
 
 pub returns-clause-listed : goal.returns-clause-listed
@@ -104,12 +104,12 @@ returns-clause-listed c = λ reads writes events.
     let m = c.args.microword.now in
     let old = c.args.place.now in
     let new = c.settle.new.place in
-    let reading = read_of c.args.reading.now in
+    let reading = reading_of c.args.reading.now in
     let taken = c.in_ok-taken.taken in
     let effect = effect_by m old.decided in
     let s = c.settle.ensures in
     let pc = c.in_ok-pc.pc in
-    let l1 = list_of c.edge_words.new.terms.ops c.edge_words.new.words reads in
+    let l1 = list_of c.edge_made.new.terms.ops c.edge_made.new.words reads in
     let made : Made = record {
       list = l1;
       register = taken.register;
@@ -122,11 +122,11 @@ returns-clause-listed c = λ reads writes events.
     count ∙ c.decided_next-next.ensures.pc ∙ ap (λ x. (x + num m.ci) % 2 ^ 12) (sym s.at) in
     let parts = parts_are new.parts (parts_after board m old.parts old.sp made reading.y pc c.args.leaving.r effect.stack) s.regs s.q
     s.mar s.ir s.flips s.pc s.r (s.stack ∙ ap (λ o. with_pushed old.parts.stack o old.parts.pc) c.moved-moved.ensures.pushed) in
-    edge_are board m (standing_of old writes events) reading (left_of c.args.leaving) effect new.at
-    (list_of c.args.terms.now.ops c.args.words.now reads) (list_of c.constant.new.terms.ops c.edge_words.new.words reads) made pc
+    edge_are board m (standing_of old writes events) reading (leaving_of c.args.leaving) effect new.at
+    (list_of c.args.terms.now.ops c.args.words.now reads) (list_of c.constant.new.terms.ops c.edge_made.new.words reads) made pc
     (c.in_ok-taken.ensures.listed reads)
-    (c.in_ok-pc.ensures.listed c.edge_words.new.words reads ∙ ap (λ n. with_constant n 12 l1) counted)
-    ∙ ap (λ (x : Standing). stands (list_of c.constant.new.terms.ops c.edge_words.new.words reads) x)
+    (c.in_ok-pc.ensures.listed c.edge_made.new.words reads ∙ ap (λ n. with_constant n 12 l1) counted)
+    ∙ ap (λ (x : Standing). stands (list_of c.constant.new.terms.ops c.edge_made.new.words reads) x)
     (standing_is m old new reading writes events new.at (sp_after effect.stack (depth_of board) old.sp)
     (parts_after board m old.parts old.sp made reading.y pc c.args.leaving.r effect.stack) refl
     (s.sp ∙ c.moved-moved.ensures.sp) parts))

@@ -14,7 +14,7 @@ use Rattle.mw_cycle.specs.ReadingWords.{zero_words}
 use Rattle.mw_term.specs.WordList.{Ended, with_word}
 use Rattle.mw_symmem.specs.Listed.{list_in}
 use Rattle.mw_symboard.specs.Along.{StopsAt, left_behind_reading, standing_in}
-use Rattle.mw_symboard.specs.Listed.{read_of}
+use Rattle.mw_symboard.specs.Listed.{reading_of}
 use Rattle.mw_symboard.specs.Seen.{microword_of}
 use Rattle.mw_symboard.proofs.Going.{asked_one, not_leaving, stops_before, with_bit, zero_goes, zero_stops}
 use Rattle.mw_symboard.proofs.board.SymBoard.ask_counter.Goals as goal
@@ -87,8 +87,8 @@ returns-clause-listed c = λ kind term is.
     c.ask.ensures.turn is
     (stops_before board store writes o c.ask.new.self r l0 l1 CounterZero zero_is (Some CounterZero) c.ask.ensures.new
     c.requires.begun.1 leaving
-    (zero_stops (decides_pass m) o.place.decided board m o.place s (read_of r) l0 refl c.requires.counted refl c.requires.known
+    (zero_stops (decides_pass m) o.place.decided board m o.place s (reading_of r) l0 refl c.requires.counted refl c.requires.known
     ∙ ap (stopped s) (sym made))
-    (λ bit bits. (zero_goes (decides_pass m) o.place.decided board m o.place s (read_of r) l0 CounterZero bit bits refl
+    (λ bit bits. (zero_goes (decides_pass m) o.place.decided board m o.place s (reading_of r) l0 CounterZero bit bits refl
     c.requires.counted refl c.requires.known
-    ∙ ap (λ (x : Ended). left_behind_reading board m (with_bit o.place CounterZero bit) s (read_of r) bits x.list) (sym made)))))
+    ∙ ap (λ (x : Ended). left_behind_reading board m (with_bit o.place CounterZero bit) s (reading_of r) bits x.list) (sym made)))))

@@ -11,7 +11,7 @@ use Rattle.mw_term.specs.declared.op.Op.TheVariants.{Part}
 use Rattle.mw_term.specs.WordList.{Ended, with_word}
 use Rattle.mw_symmem.specs.Listed.{list_in}
 use Rattle.mw_symboard.specs.Along.{StopsAt, address_bits_of, left_of_address, standing_in}
-use Rattle.mw_symboard.specs.Listed.{read_of}
+use Rattle.mw_symboard.specs.Listed.{reading_of}
 use Rattle.mw_symboard.proofs.Going.{address_goes, address_stops, asked_one, stops_behind, with_bit}
 use Rattle.mw_symboard.proofs.board.SymBoard.ask_next.Goals as goal
 
@@ -83,6 +83,6 @@ returns-clause-listed c = λ kind term is.
     c.ask.ensures.turn is
     (stops_behind board store writes o c.ask.new.self r leaving l0 l1 (Next place) c.in_ok-bit.bit (Some (Next place))
     c.ask.ensures.new c.requires.begun.1 c.requires.leaving.1
-    (address_stops board m o.place s (read_of r) leaving l0 place number ∙ ap (stopped s) (sym made))
-    (λ bit bits. (address_goes board m o.place s (read_of r) leaving l0 place (Next place) bit bits number left.1
-    ∙ ap (λ (x : Ended). left_of_address board m (with_bit o.place (Next place) bit) s (read_of r) leaving bits x.list) (sym made)))))
+    (address_stops board m o.place s (reading_of r) leaving l0 place number ∙ ap (stopped s) (sym made))
+    (λ bit bits. (address_goes board m o.place s (reading_of r) leaving l0 place (Next place) bit bits number left.1
+    ∙ ap (λ (x : Ended). left_of_address board m (with_bit o.place (Next place) bit) s (reading_of r) leaving bits x.list) (sym made)))))

@@ -9,7 +9,7 @@ use Rattle.mw_cycle.specs.Decided.{decides_counter}
 use Rattle.mw_term.specs.WordList.{ended}
 use Rattle.mw_symmem.specs.Listed.{list_in}
 use Rattle.mw_symboard.specs.Along.{StopsAt, standing_in}
-use Rattle.mw_symboard.specs.Listed.{read_of}
+use Rattle.mw_symboard.specs.Listed.{reading_of}
 use Rattle.mw_symboard.specs.Seen.{microword_of}
 use Rattle.mw_symboard.proofs.board.SymBoard.ask_pass.Goals as goal
 
@@ -49,6 +49,6 @@ returns-clause-listed c = λ kind term is.
     c.ask.ensures.turn is
     (stops_before board store writes o c.ask.new.self r l l Pass c.condition-condition.result (Some Pass) c.ask.ensures.new
     c.requires.begun.1 leaving
-    (pass_stops (decides_counter m) board m o.place s (read_of r) l refl c.requires.tested none
+    (pass_stops (decides_counter m) board m o.place s (reading_of r) l refl c.requires.tested none
     ∙ ap (λ t. stopped s (ended t l)) (sym (c.condition-condition.ensures r c.requires.begun.1)))
-    (λ bit bits. pass_goes (decides_counter m) board m o.place s (read_of r) l Pass bit bits refl c.requires.tested none)))
+    (λ bit bits. pass_goes (decides_counter m) board m o.place s (reading_of r) l Pass bit bits refl c.requires.tested none)))

@@ -3,7 +3,7 @@ use Rattle.std.specs.Prelude.{Option, Some}
 use Rattle.mw_symmem.specs.Listed.{list_in}
 use Rattle.mw_symboard.specs.Along.{left_by, standing_in, words_left}
 use Rattle.mw_symboard.specs.declared.reading.Reading.{Reading}
-use Rattle.mw_symboard.specs.Listed.{read_of}
+use Rattle.mw_symboard.specs.Listed.{reading_of}
 use Rattle.mw_symboard.specs.Turns.{HasRead, Symbolic}
 use Rattle.mw_symboard.proofs.Going.{begins, none_is, not_begun}
 use Rattle.mw_symboard.proofs.board.SymBoard.begin.Goals as goal
@@ -25,6 +25,6 @@ returns-clause-listed c = λ bits.
     none c.requires.symbolic.reading in
     let reads = rw (c.place.ensures, c.microword-microword.ensures.exact) at (c.in_ok-reading.ensures.listed o.events) in
     ap (λ x. left_by board store o.place s x o.leaving bits l0) none
-    ∙ begins board store o.place writes o.events (read_of r) l0 l1 has.0 reads bits
+    ∙ begins board store o.place writes o.events (reading_of r) l0 l1 has.0 reads bits
     ∙ sym (ap (λ x. left_by board store o.place s (Some r) x bits l1) leaving)
     ∙ sym (ap (λ (x : Symbolic). words_left board store x writes bits l1) c.set_reading.ensures))

@@ -10,7 +10,7 @@ use Rattle.mw_symboard.specs.Turns.{AreNoLater, Symbolic, cycle_left}
 use Rattle.mw_symboard.proofs.Growing.{wide_later}
 use Rattle.mw_symboard.proofs.Staying.{events_stay, inputs_stay, none_stay, workspace_grown}
 use Rattle.mw_symboard.proofs.Turning.{read_known}
-use Rattle.mw_symboard.proofs.Finishing.{at_the_end, ended_done, ended_symbolic, shown_keeps, taken_few, written_board, written_machine, written_workspace}
+use Rattle.mw_symboard.proofs.Finishing.{at_the_end, ended_done, ended_symbolic, shown_keeps, taken_few, written_board, written_machine, written_workspace, written_reads}
 use Rattle.mw_cycle.specs.BoardTerms.{Standing}
 use Rattle.mw_cycle.specs.CycleWords.{done}
 use Rattle.mw_cycle.specs.EdgeWords.{edge_words, with_write_if}
@@ -18,8 +18,8 @@ use Rattle.mw_term.specs.WordList.{list_of}
 use Rattle.mw_symmem.specs.Listed.{list_in}
 use Rattle.mw_symboard.specs.Along.{left_by, standing_in}
 use Rattle.mw_symboard.specs.Cycle.{bits_before, effect_by, number_in}
-use Rattle.mw_symboard.specs.Listed.{left_of, read_of, standing_after, standing_of}
-use Rattle.mw_symboard.proofs.Going.{address_ends, left_cycle, reads_after, shown_is, with_shown, writes_after}
+use Rattle.mw_symboard.specs.Listed.{leaving_of, reading_of, standing_after, standing_of}
+use Rattle.mw_symboard.proofs.Going.{address_ends, left_cycle, shown_is, with_shown, writes_after}
 use Rattle.mw_symboard.proofs.Listing.{stands}
 use Rattle.mw_symboard.proofs.board.SymBoard.finish.Goals as goal
 
@@ -162,26 +162,26 @@ returns-clause-listed c =
     let edge = rw exact at c.in_ok-edge.ensures.is in
     let at : e.place.at ≡ number_in o.place.decided (bits_before m) 12 =
     edge.at ∙ ap (λ (p : Place). number_in p.decided (bits_before m) 12) place in
-    let words = subst (λ (p : Place). edge_words board m (standing_of p writes o.events) (read_of r) (left_of l)
+    let words = subst (λ (p : Place). edge_words board m (standing_of p writes o.events) (reading_of r) (leaving_of l)
     (effect_by m p.decided) e.place.at l0
-    ≡ stands (list_of tnew.ops wnew memory.reads) (standing_after m p e.place (read_of r) writes o.events)) place
+    ≡ stands (list_of tnew.ops wnew memory.reads) (standing_after m p e.place (reading_of r) writes o.events)) place
     (rw exact at (c.in_ok-edge.ensures.listed memory.reads writes o.events)) in
     let wrote : mnew.board ≡ with_write_if m.memory_write o.place.parts.mar r.y writes =
     rw (c.in_ok-write_memory.ensures, exact, c.mar-mar.ensures, left, c.edge.ensures.y)
     (writes_after m.memory_write memory o.place.parts.mar r.y) in
     let read : mnew.reads ≡ memory.reads =
-    rw c.in_ok-write_memory.ensures (reads_after c.microword-microword.result.memory_write memory c.mar-mar.result c.edge.new.reading.y) in
+    rw c.in_ok-write_memory.ensures (written_reads c.microword-microword.result.memory_write memory c.mar-mar.result c.edge.new.reading.y) in
     let ended : c.leave_cycle.new.self ≡ cycle_left (with_shown m.d.from m.out c.edge.new.reading.source c.edge.new.reading.y e) =
     c.leave_cycle.ensures ∙ ap cycle_left (rw exact at c.in_ok-show.ensures.shown
     ∙ shown_is m.d.from m.out c.edge.new.reading.source c.edge.new.reading.y e) in
     record {
       here = λ bits.
           (ap₂ (λ x y. left_by board store o.place s x y bits l0) c.take_reading-reading.ensures.taken is_left
-          ∙ address_ends board m o.place s (read_of r) l l0
-          (stands (list_of tnew.ops wnew memory.reads) (standing_after m o.place e.place (read_of r) writes o.events)) e.place.at
+          ∙ address_ends board m o.place s (reading_of r) l l0
+          (stands (list_of tnew.ops wnew memory.reads) (standing_after m o.place e.place (reading_of r) writes o.events)) e.place.at
           c.requires.all at words bits
           ∙ ap (λ (x : Standing). done bits (stands (list_of tnew.ops wnew memory.reads) x))
-          (left_cycle m c.edge.new.reading.source c.edge.new.reading.y o e (read_of r) writes mnew.board cycle taken events
+          (left_cycle m c.edge.new.reading.source c.edge.new.reading.y o e (reading_of r) writes mnew.board cycle taken events
           c.edge.ensures.source c.edge.ensures.y wrote ∙ sym (ap (λ (x : Symbolic). standing_in x mnew.board) ended))
           ∙ ap (λ (hs : List Held). done bits (stands (list_of tnew.ops wnew hs) (standing_in c.leave_cycle.new.self mnew.board)))
           (sym read));

@@ -4,7 +4,7 @@ use Rattle.std.proofs.Common.{ap, ap₂, sym, ◌∙◌, arith}
 use Rattle.std.specs.Prelude.{Some}
 use Rattle.mw_symmem.specs.Listed.{list_in}
 use Rattle.mw_symboard.specs.Along.{left_by, standing_in, words_left}
-use Rattle.mw_symboard.specs.Listed.{read_of}
+use Rattle.mw_symboard.specs.Listed.{reading_of}
 use Rattle.mw_symboard.specs.Seen.{microword_of}
 use Rattle.mw_symboard.specs.Turns.{Symbolic}
 use Rattle.mw_symboard.proofs.Going.{few_decided, none_is, prepares}
@@ -39,6 +39,6 @@ returns-clause-listed c = λ bits.
     c.requires.symbolic.leaving in
     let leaves = rw (c.place.ensures, noise, c.microword-microword.ensures.exact) at (c.in_ok-leaving.ensures.listed c.args.memory.now.reads) in
     ap₂ (λ x y. left_by board store o.place s x y bits l0) c.requires.begun.1 none
-    ∙ prepares board m o.place s (read_of r) leaving l0 l1 (omega (arith, few, c.requires.known)) leaves bits
+    ∙ prepares board m o.place s (reading_of r) leaving l0 l1 (omega (arith, few, c.requires.known)) leaves bits
     ∙ sym (ap (λ x. left_by board store o.place s x (Some leaving) bits l1) c.requires.begun.1)
     ∙ sym (ap (λ (x : Symbolic). words_left board store x writes bits l1) c.set_leaving.ensures))

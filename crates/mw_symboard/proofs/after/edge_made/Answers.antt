@@ -6,7 +6,7 @@ use Rattle.mw_cycle.specs.BoardTerms.{Parts}
 use Rattle.mw_symboard.specs.Seen.{Place}
 use Rattle.mw_symboard.proofs.Growing.{grew_then, wide_later}
 use Rattle.mw_symboard.proofs.Standing.{all_loaded_stay, written_b_stays, written_q_stays}
-use Rattle.mw_symboard.proofs.after.edge_words.Goals as goal
+use Rattle.mw_symboard.proofs.after.edge_made.Goals as goal
 
 pub mar-requires-clause-old : goal.mar-requires-clause-old
 mar-requires-clause-old c =
