@@ -1,0 +1,4 @@
+pub mod Boundaries
+pub mod Runs
+pub mod Splits
+pub mod Turned

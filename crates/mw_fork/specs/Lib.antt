@@ -1,0 +1,4 @@
+pub mod Boundaries
+pub mod Paths
+pub mod Runs
+pub mod Ways
