@@ -1,0 +1,5 @@
+pub mod Boundaries
+pub mod Runs
+pub mod Splits
+pub mod Steps
+pub mod Turned

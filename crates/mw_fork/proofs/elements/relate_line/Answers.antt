@@ -1,0 +1,18 @@
+use Rattle.mw_rel.specs.Seen.{line_of}
+use Rattle.mw_rel.specs.Views.{job_of}
+use Rattle.mw_fork.proofs.Boundaries.{own_later, ready, wide_set}
+use Rattle.mw_fork.proofs.elements.relate_line.Goals as goal
+
+pub expr_term-requires : goal.expr_term-requires
+expr_term-requires c =
+    ready (job_of c.args.job.now) _ _ _ _ (line_of c.args.line.now) c.shape-shape.ensures.valid c.requires.own
+    c.requires.line_of c.requires.few
+
+pub returns-clause-own : goal.returns-clause-own
+returns-clause-own c =
+    own_later (job_of c.args.job.now) _ _ _ _ _ _ _ _ _ _ c.requires.own c.in_ok-term.ensures.made c.requires.few
+
+pub returns-clause-wide : goal.returns-clause-wide
+returns-clause-wide c =
+    wide_set (job_of c.args.job.now) _ _ _ _ _ _ _ _ _ (line_of c.args.line.now) _ c.shape-shape.ensures.valid
+    c.requires.own c.requires.line_of c.in_ok-term.ensures.made c.requires.wide

@@ -1,0 +1,18 @@
+use Rattle.std.proofs.Common.{◌≡◌, ap, arith, subst, sym, ◌∙◌, slice_index}
+use Rattle.mw_term.specs.Rows.{bit}
+use Rattle.mw_dd.specs.Nodes.{function_of}
+use Rattle.mw_blast.specs.Bits.{StandsFor}
+use Rattle.mw_fork.proofs.paths.Paths.split.Goals as goal
+
+pub returns-in-Some-clause-split : goal.returns-in-Some-clause-split
+returns-in-Some-clause-split c =
+    let b = bit c.args.terms.now c.args.term 0 in
+    let are = c.in_ok-bits.ensures.bits in
+    let first = are.each 0 (omega (arith, are.count, c.requires.wide.width_is)) in
+    let at : c.only-bit.result ≡ slice_index c.in_ok-bits.bits.items 0 =
+    c.only-bit.ensures ∙ ap (λ xs. slice_index xs 0) c.deref.ensures.value in
+    let path = c.args.self.now.path in
+    let keeps = c.bits.ensures.keeps in
+    let old : StandsFor c.bits.new.dds path (function_of c.args.self.now.dds path) =
+    record { there = keeps.there path c.requires.paths.there; exact = keeps.same path c.requires.paths.there } in
+    c.in-Some.ensures (function_of c.args.self.now.dds path) b old (subst (λ x. StandsFor c.bits.new.dds x b) (sym at) first)

@@ -1,0 +1,46 @@
+use Rattle.std.proofs.Common.{◌≡◌, ◌<◌, ◌≤◌, ◌^◌, ap, arith, drop, length, length-take-le, subst, sym, take, ◌∙◌}
+use Rattle.mw_board.specs.Depth.{depth_of}
+use Rattle.mw_board.specs.Elements.{element_count}
+use Rattle.mw_symboard.specs.Parts as board
+use Rattle.mw_rel.specs.Relation.{Boundary}
+use Rattle.mw_rel.specs.Views.{job_of}
+use Rattle.mw_rel.proofs.Elements.{widths_count}
+use Rattle.mw_fork.proofs.Runs.{address_at, board_elements, pointer_at, start_inputs, start_no_later, under_first}
+use Rattle.mw_fork.proofs.run.Run.new.Goals as goal
+
+pub new-requires : goal.new-requires
+new-requires c =
+    let job = job_of c.args.job.now in
+    let are = c.in_ok-start.ensures in
+    let k = element_count job.board in
+    record {
+      elements = ap length (c.board_terms.ensures ∙ ap (take k) c.deref.ensures.value)
+          ∙ length-take-le k c.in_ok-start.start.terms.items
+          (omega (arith, are.wide.count, widths_count job c.shape-shape.ensures.valid));
+    }
+
+pub returns-clause-under : goal.returns-clause-under
+returns-clause-under c =
+    let job = job_of c.args.job.now in
+    let valid = c.shape-shape.ensures.valid in
+    let are = c.in_ok-start.ensures in
+    let start = c.in_ok-start.start in
+    let t = start.space.terms in
+    let words = start.space.words in
+    let k = element_count job.board in
+    let here = c.boundary-at.ensures in
+    let address = subst (λ (b : Boundary). b.address < 2 ^ 12) (sym here) (address_at job c.args.boundary valid c.requires.boundary) in
+    let pointer = subst (λ (b : Boundary). b.sp ≤ depth_of job.board) (sym here)
+    (pointer_at job c.args.boundary valid c.requires.boundary) in
+    let same : c.board_terms.result.now ≡ take k start.terms.items =
+    c.board_terms.ensures ∙ ap (take k) c.deref.ensures.value in
+    let elements = subst (λ xs. board.AreElements job.board t xs) (sym same)
+    (board_elements job t start.terms.items valid are.wide) in
+    let e = c.in_ok-board.ensures in
+    let symbolic = e.symbolic job.store t words start.space.memory address pointer elements
+    (start_inputs job.board t words are.kinds) (start_no_later words are.kinds) in
+    under_first job t words start.space.memory _ start.terms.items _ valid are symbolic e.cycle e.taken e.decided
+    (c.in_ok-registers.ensures.items ∙ c.register_terms.ensures ∙ ap (drop k) c.deref-2.ensures.value)
+
+pub returns-clause-paths : goal.returns-clause-paths
+returns-clause-paths c = c.in_ok-paths.ensures.paths c.in_ok-start.start.space.terms

@@ -1,0 +1,25 @@
+use Rattle.std.proofs.Common.{[], ◌∷◌, ap, length-append, length, ◌∙◌}
+use Rattle.mw_cycle.specs.Decided.{decided}
+use Rattle.mw_symboard.specs.Turns.{Symbolic}
+use Rattle.mw_rel.specs.Views.{job_of}
+use Rattle.mw_fork.proofs.Runs.{decided_under}
+use Rattle.mw_fork.proofs.run.Run.settle.Goals as goal
+
+pub returns-clause-under : goal.returns-clause-under
+returns-clause-under c =
+    let job = job_of c.args._job.now in
+    let asks = c.requires.asks in
+    let given = c.decide-2.ensures.new c.args.kind asks.asked in
+    let symbolic = c.decide-2.ensures.symbolic job.board job.store _ _ _ c.args.kind c.args.term asks c.requires.under.symbolic in
+    decided_under job _ _ _ _ _ _ c.args.kind _ c.args.term given c.requires.under asks symbolic
+
+pub returns-clause-idle : goal.returns-clause-idle
+returns-clause-idle c =
+    let given = c.decide-2.ensures.new c.args.kind c.requires.asks.asked in
+    record { idle = ap (λ (o : Symbolic). o.asked) given; cycles = ap (λ (o : Symbolic). o.place.cycle) given }
+
+pub returns-clause-decided : goal.returns-clause-decided
+returns-clause-decided c =
+    let given = c.decide-2.ensures.new c.args.kind c.requires.asks.asked in
+    ap (λ (o : Symbolic). length o.place.decided) given
+    ∙ length-append c.args.self.now.board.place.decided (decided c.args.kind c.in_ok-value.value ∷ [])

@@ -1,0 +1,14 @@
+use Rattle.mw_rel.specs.Views.{job_of}
+use Rattle.mw_fork.proofs.Runs.{turned}
+use Rattle.mw_fork.proofs.run.Run.turn.Goals as goal
+
+pub returns-clause-turned : goal.returns-clause-turned
+returns-clause-turned c =
+    let e = c.in_ok-turn.ensures in
+    turned (job_of c.args.job.now) _ _ _ _ _ _ _ _ _ _ c.requires.under e.goes e.turn e.symbolic e.reads e.all
+
+pub returns-clause-paths : goal.returns-clause-paths
+returns-clause-paths c = record {
+  there = c.requires.paths.there;
+  of = c.stays_with_terms.ensures _ _ _ _ c.in_ok-turn.ensures.goes.later.extends c.requires.paths.of;
+}

@@ -1,0 +1,17 @@
+use Rattle.std.proofs.Common.{subst, sym}
+use Rattle.mw_symmach.specs.Turns.{Waits}
+use Rattle.mw_rel.specs.Views.{job_of}
+use Rattle.mw_fork.proofs.Steps.{underway_behind, waits_behind}
+use Rattle.mw_fork.proofs.step.begin.Goals as goal
+
+pub returns-clause-under : goal.returns-clause-under
+returns-clause-under c =
+    let job = job_of c.args.job.now in
+    let run = c.args.run.now in
+    let valid = c.shape-shape.ensures.valid in
+    let waits = waits_behind job _ _ _ _ _ _ valid c.requires.under c.count.ensures.own c.request-request.ensures in
+    let e = c.in_ok-step.ensures in
+    underway_behind job _ _ _ _ _ _ valid c.requires.under c.requires.few e.reads
+    (e.stepping run.space.terms run.space.words run.space.memory
+    (subst (λ registers. Waits job.machine run.space.terms run.space.words run.space.memory registers c.request-request.result)
+    (sym c.deref.ensures.value) waits))

@@ -1,0 +1,24 @@
+use Rattle.std.proofs.Common.{◌≡◌, ◌-◌, ◌≤◌}
+use Rattle.std.specs.Prelude.{false}
+use Rattle.mw_macro.specs.Described.{description_of}
+use Rattle.mw_macro.specs.declared.counts.Counted.TheVariants.{Statements}
+use Rattle.mw_macro.specs.Counts.{total}
+use Rattle.mw_symmach.specs.Turns.{is_asked}
+use Rattle.mw_symmach.specs.Walks.{underway_of}
+use Rattle.mw_fork.specs.Paths.{ArePaths}
+use Rattle.mw_fork.specs.Steps.{HasCome, IsUnderway}
+use Rattle.mw_fork.proofs.step.finish.Given as goal
+
+abbrev pub invariant-loop-turn : goal.invariant-loop-turn
+invariant-loop-turn l = record {
+  under : IsUnderway (description_of l.job.machine) l.space.terms l.space.words l.space.memory l.step;
+  idle : is_asked l.step.pending ≡ false;
+  met : l.fn.way.met ≤ l.way.met;
+  come : HasCome (description_of l.job.machine)
+      (underway_of (description_of l.job.machine) l.fn.space.terms l.fn.space.words l.fn.space.memory l.fn.step)
+      (l.way.met - l.fn.way.met) l.space.terms l.space.words l.space.memory l.step;
+  paths : ArePaths l.space.terms l.paths.dds l.paths.blast l.paths.path;
+}
+
+abbrev pub decreases-loop-turn : goal.decreases-loop-turn
+decreases-loop-turn l = total Statements (description_of l.job.machine).acts - (l.way.met - l.fn.way.met)

@@ -1,0 +1,42 @@
+-- The terms of all elements at a boundary, and what they are terms of.
+use Rattle.std.specs.Prelude.{◌≡◌, ℕ, ◌<◌, ◌≤◌, List, length, slice_index}
+use Rattle.mw_term.specs.declared.kinds.WordKind.{WordKind}
+use Rattle.mw_term.specs.declared.kinds.WordKind.TheVariants.{Base, Element}
+use Rattle.mw_term.specs.declared.word.Word.{Word}
+use Rattle.mw_term.specs.Table.{Table}
+use Rattle.mw_symmem.specs.Memory.{Memory, IsOfWidth}
+use Rattle.mw_symmem.specs.Workspace.{HaveKinds, IsWorkspace}
+use Rattle.mw_rel.specs.Job.{Job}
+
+-- a table with the board's map, the words of its terms, and a memory with the job's widths over them
+pub record IsSpace (job : Job) (t : Table) (words : List Word) (m : Memory) : Type 0 where
+  pub map : t.map ≡ job.board.map_entries
+  pub address : m.address ≡ job.board.address
+  pub word : m.word ≡ job.board.width
+  pub workspace : IsWorkspace t words m
+
+-- the variable of an element with a lower number
+abbrev pub IsElementBelow : (number : ℕ) → WordKind → Type 0
+IsElementBelow number kind = (n : ℕ) × (n < number) × (kind ≡ Element n)
+
+-- the variables that there are before the first cycle: those of free elements, and of what right sides read of the memory
+abbrev pub IsStartKind : WordKind → Type 0
+IsStartKind (Element n) = Unit {0}
+IsStartKind (Base n) = Unit {0}
+IsStartKind other = ⊥
+
+-- the first terms of a list, so many, have these widths
+abbrev pub AreWideSoFar : Table → (widths : List ℕ) → (count : ℕ) → (terms : List ℕ) → Type 0
+AreWideSoFar t widths count terms = (i : ℕ) → i < count → IsOfWidth t (slice_index widths i) (slice_index terms i)
+
+-- a term for each of some widths, with that width
+pub record AreWide (t : Table) (widths terms : List ℕ) : Type 0 where
+  pub count : length terms ≡ length widths
+  pub each : AreWideSoFar t widths (length widths) terms
+
+-- a term of its width for each element of a job, over what is there before the first cycle
+pub record AreElements (job : Job) (t : Table) (words : List Word) (m : Memory) (terms : List ℕ) : Type 0 where
+  pub space : IsSpace job t words m
+  pub wide : AreWide t job.relation.shape.widths terms
+  pub kinds : HaveKinds IsStartKind words
+  pub few : length m.reads ≤ 64

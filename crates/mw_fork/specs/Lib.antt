@@ -1,0 +1,5 @@
+pub mod Boundaries
+pub mod Paths
+pub mod Runs
+pub mod Steps
+pub mod Ways

@@ -1,0 +1,244 @@
+// The terms of all elements at a boundary.
+ghost use Rattle.std.specs.Prelude.{◌≡◌, ◌+◌, ◌<◌, ◌≤◌, ◌^◌, ℕ, [], All, IfOk, OnOk, drop, length, slice_index, slice_set};
+ghost use Rattle.mw_expr.specs.Tree.{view};
+ghost use Rattle.mw_macro.specs.Counts.{reads};
+ghost use Rattle.mw_term.specs.Table.{IsTable, IsWidth};
+ghost use Rattle.mw_symmem.specs.Memory.{IsOfWidth};
+ghost use Rattle.mw_symmem.specs.Words.{AreOf};
+ghost use Rattle.mw_symmem.specs.Workspace.{HaveKinds, IsLater};
+ghost use Rattle.mw_symmach.specs.Expressions.{IsReady, Runs};
+ghost use Rattle.mw_rel.specs.Free.{numbered};
+ghost use Rattle.mw_rel.specs.Lines.{reads_of};
+ghost use Rattle.mw_rel.specs.Rules.{IsLineOf};
+ghost use Rattle.mw_rel.specs.Seen.{line_of, lines_of};
+ghost use Rattle.mw_rel.specs.Views.{job_of};
+ghost use Rattle.mw_fork.specs.Boundaries.{AreElements, AreWide, AreWideSoFar, IsElementBelow, IsSpace, IsStartKind};
+
+use mw_base::NoMemory;
+use mw_rel::{Job, Line, free};
+use mw_symmach::expr_term;
+use mw_symmem::{Side, SymMemory, Words, are_of_at_first, is_memory_at_first};
+use mw_term::{Op, Term, Terms, WordKind};
+use std::alloc::Global;
+
+/// What a run works on.
+#[derive(Drop)]
+pub(crate) struct Space {
+    /// The table of terms.
+    pub terms: Terms,
+    /// The words of the case.
+    pub words: Words,
+    /// The memory of both sides.
+    pub memory: SymMemory,
+}
+
+impl Space {
+    /// No term and no word, and a memory that wasn't read.
+    fn new(alloc: Global, job: &Job) -> Result<Space, NoMemory>
+        ensures space { IfOk result (λ s. IsSpace (job_of job.now) s.terms s.words s.memory) }
+        ensures words { IfOk result (λ s. s.words ≡ []) }
+        ensures reads { IfOk result (λ s. s.memory.reads ≡ []) }
+    {
+        are_of_at_first();
+        is_memory_at_first();
+        let parts = job.board.parts();
+        Ok(Space {
+            terms: Terms::new(alloc, parts.map_entries.as_slice())?,
+            words: Words::new(alloc),
+            memory: SymMemory::new(alloc, parts.address, parts.width),
+        })
+    }
+}
+
+/// The variable of the free element of this number, which is the next one.
+fn variable(alloc: Global, number: u32, width: u8, space: &mut Space) -> Result<Term, NoMemory>
+    requires width { IsWidth width }
+    requires of { AreOf space.old.terms space.old.words }
+    requires below { HaveKinds (IsElementBelow number) space.old.words }
+    ensures wide { IfOk result (IsOfWidth space.new.terms width) }
+    ensures later { OnOk result (IsLater space.old.terms space.new.terms) }
+    ensures of { OnOk result (AreOf space.new.terms space.new.words) }
+    ensures below { OnOk result (HaveKinds (IsElementBelow (number + 1)) space.new.words) }
+    ensures memory { space.new.memory ≡ space.old.memory }
+{
+    let term = space
+        .words
+        .fresh(alloc, &mut space.terms, WordKind::Element(number), width)?;
+    Ok(term)
+}
+
+/// A constant of the value 0, which is no word.
+fn zero(alloc: Global, _number: u32, width: u8, space: &mut Space) -> Result<Term, NoMemory>
+    requires width { IsWidth width }
+    requires of { AreOf space.old.terms space.old.words }
+    requires below { HaveKinds (IsElementBelow _number) space.old.words }
+    ensures wide { IfOk result (IsOfWidth space.new.terms width) }
+    ensures later { OnOk result (IsLater space.old.terms space.new.terms) }
+    ensures of { OnOk result (AreOf space.new.terms space.new.words) }
+    ensures below { OnOk result (HaveKinds (IsElementBelow (_number + 1)) space.new.words) }
+    ensures memory { space.new.memory ≡ space.old.memory }
+{
+    let term = space.terms.build(alloc, Op::Con(0, width))?;
+    Ok(term)
+}
+
+/// The term of an element of its own: a variable where it is free. Else it is 0, which no right side reads.
+fn own_term(
+    alloc: Global,
+    is_free: bool,
+    number: u32,
+    width: u8,
+    space: &mut Space,
+) -> Result<Term, NoMemory>
+    requires width { IsWidth width }
+    requires of { AreOf space.old.terms space.old.words }
+    requires below { HaveKinds (IsElementBelow number) space.old.words }
+    ensures wide { IfOk result (IsOfWidth space.new.terms width) }
+    ensures later { OnOk result (IsLater space.old.terms space.new.terms) }
+    ensures of { OnOk result (AreOf space.new.terms space.new.words) }
+    ensures below { OnOk result (HaveKinds (IsElementBelow (number + 1)) space.new.words) }
+    ensures memory { space.new.memory ≡ space.old.memory }
+{
+    if is_free {
+        return variable(alloc, number, width, space);
+    }
+    zero(alloc, number, width, space)
+}
+
+/// How many bits an element has, by its number.
+fn width_of(job: &Job, number: usize) -> u8
+    requires { number < length (job_of job.now).relation.shape.widths }
+    ensures exact { result ≡ slice_index (job_of job.now).relation.shape.widths number }
+    ensures range { IsWidth result }
+{
+    let shape = job.shape();
+    shape.widths.as_slice()[number]
+}
+
+/// One more of the elements' own terms, of the element of this number.
+fn push_own(
+    alloc: Global,
+    job: &Job,
+    boundary: usize,
+    number: usize,
+    space: &mut Space,
+    own: &mut Vec<Term>,
+) -> Result<(), NoMemory>
+    requires boundary { boundary < length (job_of job.now).relation.boundaries }
+    requires there { number < length (job_of job.now).relation.shape.widths }
+    requires few { number < 170 }
+    requires count { length own.old.items ≡ number }
+    requires so_far { AreWideSoFar space.old.terms (job_of job.now).relation.shape.widths number own.old.items }
+    requires of { AreOf space.old.terms space.old.words }
+    requires below { HaveKinds (IsElementBelow number) space.old.words }
+    ensures count { OnOk result (length own.new.items ≡ number + 1) }
+    ensures so_far { OnOk result (AreWideSoFar space.new.terms (job_of job.now).relation.shape.widths (number + 1) own.new.items) }
+    ensures later { OnOk result (IsLater space.old.terms space.new.terms) }
+    ensures of { OnOk result (AreOf space.new.terms space.new.words) }
+    ensures below { OnOk result (HaveKinds (IsElementBelow (number + 1)) space.new.words) }
+    ensures memory { space.new.memory ≡ space.old.memory }
+{
+    let width = width_of(job, number);
+    let number = number as u32;
+    let term = own_term(alloc, free(job, boundary, number), number, width, space)?;
+    own.push(term)?;
+    Ok(())
+}
+
+/// The terms of the elements of their own, by their numbers.
+fn own_terms(
+    alloc: Global,
+    job: &Job,
+    boundary: usize,
+    space: &mut Space,
+) -> Result<Vec<Term>, NoMemory>
+    requires boundary { boundary < length (job_of job.now).relation.boundaries }
+    requires space { IsSpace (job_of job.now) space.old.terms space.old.words space.old.memory }
+    requires words { space.old.words ≡ [] }
+    requires reads { space.old.memory.reads ≡ [] }
+    ensures elements { IfOk result (λ own. AreElements (job_of job.now) space.new.terms space.new.words space.new.memory own.items) }
+    ensures reads { OnOk result (space.new.memory.reads ≡ []) }
+{
+    let mut own = Vec::new(alloc);
+    for number in 0..job.element_count() {
+        push_own(alloc, job, boundary, number, space, &mut own)?;
+    }
+    Ok(own)
+}
+
+/// The term of the right side of a line, over the elements' own terms, takes the place of the left side.
+fn relate_line(
+    alloc: Global,
+    job: &Job,
+    line: &Line,
+    own: &[Term],
+    space: &mut Space,
+    terms: &mut Vec<Term>,
+) -> Result<(), NoMemory>
+    requires line_of { IsLineOf (job_of job.now).relation.shape (line_of line.now) }
+    requires few { length space.old.memory.reads + reads (line_of line.now).right ≤ 64 }
+    requires own { AreElements (job_of job.now) space.old.terms space.old.words space.old.memory own.now }
+    requires wide { AreWide space.old.terms (job_of job.now).relation.shape.widths terms.old.items }
+    ensures more { OnOk result (length space.new.memory.reads ≡ length space.old.memory.reads + reads (line_of line.now).right) }
+    ensures own { OnOk result (AreElements (job_of job.now) space.new.terms space.new.words space.new.memory own.now) }
+    ensures wide { OnOk result (AreWide space.new.terms (job_of job.now).relation.shape.widths terms.new.items) }
+{
+    let _shape = job.shape();
+    let term = expr_term(
+        alloc,
+        &line.right,
+        own,
+        Side::Machine,
+        &mut space.terms,
+        &mut space.words,
+        &mut space.memory,
+    )?;
+    terms[line.left as usize] = term;
+    Ok(())
+}
+
+/// Gives each left side the term of its right side, line after line.
+fn relate(
+    alloc: Global,
+    job: &Job,
+    lines: &[Line],
+    own: &[Term],
+    space: &mut Space,
+    terms: &mut Vec<Term>,
+) -> Result<(), NoMemory>
+    requires lines_of { All (IsLineOf (job_of job.now).relation.shape) (lines_of lines.now) }
+    requires few { length space.old.memory.reads + reads_of (lines_of lines.now) ≤ 64 }
+    requires own { AreElements (job_of job.now) space.old.terms space.old.words space.old.memory own.now }
+    requires wide { AreWide space.old.terms (job_of job.now).relation.shape.widths terms.old.items }
+    ensures own { OnOk result (AreElements (job_of job.now) space.new.terms space.new.words space.new.memory own.now) }
+    ensures wide { OnOk result (AreWide space.new.terms (job_of job.now).relation.shape.widths terms.new.items) }
+{
+    for line in lines {
+        relate_line(alloc, job, line, own, space, terms)?;
+    }
+    Ok(())
+}
+
+/// The elements of both sides at a boundary, as terms, and what these are terms of.
+#[derive(Drop)]
+pub(crate) struct Elements {
+    /// What a run from there works on.
+    pub space: Space,
+    /// The term of each element, by its number.
+    pub terms: Vec<Term>,
+}
+
+/// The elements at the boundary of this number: first a variable for each that is free, by their numbers, and then the
+/// terms of the right sides, in the order of the lines.
+pub(crate) fn elements_at(alloc: Global, job: &Job, boundary: usize) -> Result<Elements, NoMemory>
+    requires boundary { boundary < length (job_of job.now).relation.boundaries }
+    ensures { IfOk result (λ e. AreElements (job_of job.now) e.space.terms e.space.words e.space.memory e.terms.items) }
+{
+    let mut space = Space::new(alloc, job)?;
+    let own = own_terms(alloc, job, boundary, &mut space)?;
+    let mut terms = Vec::from_slice(alloc, &own)?;
+    let _shape = job.shape();
+    let lines = job.boundary(boundary).lines.as_slice();
+    relate(alloc, job, lines, &own, &mut space, &mut terms)?;
+    Ok(Elements { space, terms })
+}

@@ -1,0 +1,121 @@
+// Which starts take a path, as a Boolean function.
+ghost use Rattle.std.specs.Prelude.{◌≡◌, ◌↔◌, ◌<◌, ℕ, false, None, IfOk, IfErr, IfSome, OnOk, cond, length, slice_index};
+ghost use Rattle.mw_term.specs.Cofactors.{Agree};
+ghost use Rattle.mw_term.specs.Functions.{Function, always, never};
+ghost use Rattle.mw_term.specs.Rows.{bit};
+ghost use Rattle.mw_term.specs.Table.{Table};
+ghost use Rattle.mw_symmem.specs.Memory.{IsOfWidth};
+ghost use Rattle.mw_dd.specs.Nodes.{IsDd, function_of};
+ghost use Rattle.mw_dd.specs.Diagrams.{Keeps};
+ghost use Rattle.mw_blast.specs.Bits.{StandsFor};
+ghost use Rattle.mw_blast.specs.Splits.{IsSplit, IsSplitCause};
+ghost use Rattle.mw_fork.specs.Paths.{ArePaths, AreTwo};
+
+use crate::way::Feasible;
+use mw_base::NoMemory;
+use mw_blast::{Blast, BlastFault, Split};
+use mw_dd::{Dd, Diagrams};
+use mw_term::{Term, Terms, terminal_cases_have_none};
+use std::alloc::Global;
+
+/// The function of the starts that take the path so far, and the functions of bits.
+#[derive(Drop)]
+pub(crate) struct Paths {
+    dds: Diagrams,
+    blast: Blast,
+    path: Dd,
+}
+
+/// The one bit of a term of one bit.
+fn only(bits: &[Dd]) -> Dd
+    requires { 0 < length bits.now }
+    ensures { result ≡ slice_index bits.now 0 }
+{
+    bits[0]
+}
+
+impl Paths {
+    /// The path on which no bit is decided: each start takes it.
+    pub(crate) fn new(alloc: Global) -> Result<Paths, NoMemory>
+        ensures paths { IfOk result (λ p. (t : Table) → ArePaths t p.dds p.blast p.path) }
+        ensures always { IfOk result (λ p. Agree (function_of p.dds p.path) always) }
+    {
+        let dds = Diagrams::new(alloc)?;
+        let path = dds.constant(true);
+        Ok(Paths {
+            dds,
+            blast: Blast::new(alloc),
+            path,
+        })
+    }
+
+    /// The path in two by a bit that is constant, where it is.
+    fn fixed(&self, bit: Dd, _nodes: u32) -> Option<Split>
+        requires path { IsDd self.now.dds self.now.path }
+        requires bit { IsDd self.now.dds bit }
+        ensures { (p b : Function) → StandsFor self.now.dds self.now.path p → StandsFor self.now.dds bit b
+            → IfSome result (IsSplit self.now.dds p b _nodes) }
+    {
+        terminal_cases_have_none();
+        let never = self.dds.constant(false);
+        if bit == never {
+            return Some(Split {
+                zero: self.path,
+                one: never,
+            });
+        }
+        if bit == self.dds.constant(true) {
+            return Some(Split {
+                zero: never,
+                one: self.path,
+            });
+        }
+        None
+    }
+
+    /// The path in two: where a term of one bit is 0, and where it is 1. A constant bit is no operation.
+    pub(crate) fn split(
+        &mut self,
+        alloc: Global,
+        terms: &Terms,
+        term: Term,
+        nodes: u32,
+    ) -> Result<Split, BlastFault>
+        requires wide { IsOfWidth terms.now 1 term }
+        requires paths { ArePaths terms.now self.old.dds self.old.blast self.old.path }
+        ensures split { IfOk result (IsSplit self.new.dds (function_of self.old.dds self.old.path) (bit terms.now term 0) nodes) }
+        ensures over { IfErr result (IsSplitCause terms.now (function_of self.old.dds self.old.path) term nodes) }
+        ensures path { self.new.path ≡ self.old.path }
+        ensures paths { ArePaths terms.now self.new.dds self.new.blast self.new.path }
+        ensures keeps { Keeps self.old.dds self.new.dds }
+    {
+        let bits = self.blast.bits(alloc, terms, &mut self.dds, term, nodes)?;
+        let bit = only(&bits);
+        if let Some(split) = self.fixed(bit, nodes) {
+            return Ok(split);
+        }
+        self.blast
+            .decide(alloc, terms, &mut self.dds, self.path, term, nodes)
+    }
+
+    /// Which values are feasible of the bit that splits the path.
+    pub(crate) fn feasible(&self, split: &Split) -> Feasible
+        requires { AreTwo self.now.dds split.now }
+        ensures zero { (result.zero ≡ false) ↔ Agree (function_of self.now.dds split.now.zero) never }
+        ensures one { (result.one ≡ false) ↔ Agree (function_of self.now.dds split.now.one) never }
+    {
+        Feasible {
+            zero: !self.dds.is_false(split.zero),
+            one: !self.dds.is_false(split.one),
+        }
+    }
+
+    /// Goes on where the bit that split the path has this value.
+    pub(crate) fn go(&mut self, split: &Split, value: bool)
+        ensures dds { self.new.dds ≡ self.old.dds }
+        ensures blast { self.new.blast ≡ self.old.blast }
+        ensures path { self.new.path ≡ cond value split.now.one split.now.zero }
+    {
+        self.path = if value { split.one } else { split.zero };
+    }
+}
