@@ -6,6 +6,7 @@ mod elements;
 mod paths;
 mod prefix;
 mod run;
+mod segment;
 mod step;
 mod stop;
 mod way;

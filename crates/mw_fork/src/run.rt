@@ -200,4 +200,11 @@ impl Run {
             self.settle(alloc, job, kind, term, way, nodes)?;
         }
     }
+
+    /// The control address.
+    pub(crate) fn at(&self) -> u16
+        ensures { result ≡ self.now.board.place.at }
+    {
+        self.board.at()
+    }
 }
