@@ -9,3 +9,4 @@ pub mod Cofactors
 pub mod Memos
 pub mod Public
 pub mod Walks
+pub mod Somewhere

@@ -25,7 +25,7 @@ module _ (nodes : List Node) (r : IsReduced nodes) where
   SameFunction x y = Agree (function_of nodes x) (function_of nodes y)
 
   -- a branch's value is the node's where all variables up to its own are fixed
-  high_is : (k : ℕ) (n : Node) (given : Given) → slice_get nodes k ≡ Some n
+  pub high_is : (k : ℕ) (n : Node) (given : Given) → slice_get nodes k ≡ Some n
       → value_at (with_fixed (after n.variable) (only n.variable true) given) nodes (k + 2) ≡ value_at given nodes n.high
   high_is k n given at =
       let i = r.inner k n at in
@@ -33,7 +33,7 @@ module _ (nodes : List Node) (r : IsReduced nodes) where
       value-high _ nodes k n at i.low i.high (fixed_only n.variable true given)
       ∙ same_fixed nodes r (after n.variable) (only n.variable true) given n.high (omega (arith, i.high, within)) i.high_later
 
-  low_is : (k : ℕ) (n : Node) (given : Given) → slice_get nodes k ≡ Some n
+  pub low_is : (k : ℕ) (n : Node) (given : Given) → slice_get nodes k ≡ Some n
       → value_at (with_fixed (after n.variable) (only n.variable false) given) nodes (k + 2) ≡ value_at given nodes n.low
   low_is k n given at =
       let i = r.inner k n at in
@@ -81,7 +81,7 @@ module _ (nodes : List Node) (r : IsReduced nodes) where
       ∙ high_is j m given of) in
       r.once k j m (at ∙ ap Some (same_node n m e low high)) of
 
-  nowhere : Given
+  pub nowhere : Given
   nowhere = λ word. 0
 
   one_at : (bound x y : ℕ) → OneBelow bound → x < suc bound → y < suc bound → IsDd nodes x → IsDd nodes y

@@ -1,5 +1,5 @@
 // Diagrams: a table of nodes, of which each stands for a function.
-ghost use Rattle.std.specs.Prelude.{◌≡◌, ◌<◌, ◌↔◌, ℕ, [], Option, Some, None, IfOk, IfSome, OnOk, IsTrue, IsErrOf};
+ghost use Rattle.std.specs.Prelude.{◌≡◌, ◌<◌, ◌↔◌, ℕ, [], Option, Some, None, true, false, IfOk, IfSome, OnOk, IsTrue, IsErrOf};
 ghost use Rattle.std.specs.FinMap as map;
 ghost use Rattle.mw_term.specs.Assigned.{Given};
 ghost use Rattle.mw_term.specs.Cofactors.{value_of, Agree, HasAtMostCofactors, HasMoreCofactors};
@@ -121,6 +121,7 @@ impl Diagrams {
     pub fn is_false(&self, f: Dd) -> bool
         requires { IsDd self.now f }
         ensures exact { IsTrue result ↔ Agree (function_of self.now f) never }
+        ensures somewhere { result ≡ false → (given : Given) × (function_of self.now f given ≡ true) }
         ensures canonical { IsCanonical self.now }
     {
         // A use for the proof: the nodes are reduced, so that no other node is false.
