@@ -10,3 +10,4 @@ pub mod Meaning
 pub mod Reached
 pub mod Reading
 pub mod Stays
+pub mod There

@@ -20,7 +20,7 @@ by_same m n x y is = elim (eqb_tells m n) [
   | inr h ↦ absurd (h.1 is)
 ]
 
-by_other : (m n x y : ℕ) → m ≢ n → (if m == n then x else y) ≡ y
+pub by_other : (m n x y : ℕ) → m ≢ n → (if m == n then x else y) ≡ y
 by_other m n x y other = elim (eqb_tells m n) [
   | inl h ↦ absurd (other h.1)
   | inr h ↦ ap (λ (b : Bool). if b then x else y) h.0

@@ -157,7 +157,7 @@ pub record AddsRead (old new : List Word) (m : Memory) : Type 0 where
   pub rest : List ℕ
   pub words : new ≡ (old ++ map plain same) ++ variable base (Base (length m.reads)) ∷ map plain rest
 
--- ---- every image is reached
+-- ---- every image is reached, and there is one
 
 -- a number of a list is that of a base read's variable
 pub record IsBaseNumber (words : List Word) (n : ℕ) : Type 0 where
@@ -175,6 +175,12 @@ ImagesAreReached =
     → IsImage m image
     → (other : Given) × FitImage t other m.reads image
     × ((n : ℕ) → ¬ IsBaseNumber words n → other n ≡ given n)
+
+-- For every assignment there is an image that the base reads fit.
+abbrev pub ImagesAreThere : Type 0
+ImagesAreThere =
+    (t : Table) (words : List Word) (m : Memory) (given : Given) → IsTable t → IsMemory t words m
+    → (image : List ℕ) × IsImage m image × FitImage t given m.reads image
 
 -- ---- what is kept stays
 

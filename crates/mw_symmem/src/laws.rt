@@ -1,5 +1,5 @@
 // Laws of symbolic memory.
-ghost use Rattle.mw_symmem.specs.Memory.{ImagesAreReached, IsMemoryAtFirst, StaysWithWords, StaysWithWrites};
+ghost use Rattle.mw_symmem.specs.Memory.{ImagesAreReached, ImagesAreThere, IsMemoryAtFirst, StaysWithWords, StaysWithWrites};
 ghost use Rattle.mw_symmem.specs.Words.{AreOfAtFirst};
 ghost use Rattle.mw_symmem.specs.Workspace.{ImagesFitBefore, ReadsStay};
 
@@ -12,6 +12,11 @@ pub fn are_of_at_first()
 /// that image, and which differs from the first in the variables of base reads alone.
 pub fn images_are_reached()
     ensures { ImagesAreReached }
+{}
+
+/// The law of the image there: for every assignment there is an image that the base reads fit.
+pub fn images_are_there()
+    ensures { ImagesAreThere }
 {}
 
 /// The law of new memories: one that wasn't read or written is a memory over each table and each list without

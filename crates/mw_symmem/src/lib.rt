@@ -12,8 +12,8 @@ mod turn;
 mod words;
 
 pub use laws::{
-    are_of_at_first, images_are_reached, images_fit_before, is_memory_at_first, reads_stay,
-    stays_with_words, stays_with_writes,
+    are_of_at_first, images_are_reached, images_are_there, images_fit_before, is_memory_at_first,
+    reads_stay, stays_with_words, stays_with_writes,
 };
 pub use memory::SymMemory;
 pub use mw_term::SymEvent;
