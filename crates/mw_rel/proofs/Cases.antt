@@ -1,5 +1,5 @@
 -- The cases of two starts at one boundary are one, or part at a bit.
-use Rattle.std.proofs.Common.{◌≡◌, ◌⊎◌, inl, inr, ℕ, zero, suc, ◌<◌, ◌≤◌, List, [], ◌∷◌, ◌++◌, Bool, true, false, Option, Some, None, option_map, refl, sym, ap, ap₂, ◌∙◌, subst, arith}
+use Rattle.std.proofs.Common.{◌≡◌, ◌⊎◌, inl, inr, ℕ, zero, suc, ◌+◌, ◌<◌, ◌≤◌, List, [], ◌∷◌, ◌++◌, Bool, true, false, Option, Some, None, option_map, refl, sym, ap, ap₂, ◌∙◌, subst, arith}
 use Rattle.std.specs.Prelude.{if◌then◌else◌, slice_index_or}
 use Rattle.std.specs.Option.{is_none, unwrap_or}
 use Rattle.std.proofs.lemmas.Bool.{cases_lt}
@@ -7,12 +7,13 @@ use Rattle.std.proofs.lemmas.List.{append_assoc, append-nil}
 use Rattle.std.proofs.lemmas.Option.{get_or_from_slice_get, slice_get_within}
 use Rattle.mw_cycle.specs.declared.decided.Decided.{Decided}
 use Rattle.mw_cycle.specs.Boundary.{is_named, first_boundary, first_segment, IsNextBoundary}
+use Rattle.mw_cycle.specs.Decided as runs
 use Rattle.mw_cycle.specs.Environment.{given_at}
 use Rattle.mw_cycle.specs.Run.{run_of, longer_run}
 use Rattle.mw_cycle.specs.State.{Fits}
 use Rattle.mw_cycle.proofs.Times.{next_boundary}
 use Rattle.mw_rel.specs.Case.{bits_of_cycle, bits_of_cycles, end_of, cycles_of, is_late, bits_of_step, case_of, IsStartAt, IsCase}
-use Rattle.mw_rel.specs.CaseLaws.{AreTogether, KindsAreFixed, NoCaseGoesOn, OneCaseIsFirst, CasesHaveOneEnd, SegmentsHaveCycles, StartsGoTogether}
+use Rattle.mw_rel.specs.CaseLaws.{AreTogether, KindsAreFixed, NoCaseGoesOn, OneCaseIsFirst, CasesHaveOneEnd, SegmentsHaveCycles, StartsGoTogether, HasNoBoundaryYet, SegmentsEnd, CasesBeginWithCycles}
 use Rattle.mw_rel.specs.Certified.{board_run, at_cycle}
 use Rattle.mw_rel.specs.Free.{no_boundary, numbered}
 use Rattle.mw_rel.specs.Job.{Job, IsJob}
@@ -114,7 +115,6 @@ record Went (job : Job) (a b : Start) (limit : ℕ) : Type 0 where
 
 bits_meet : (job : Job) (a b : Start) (n : ℕ) → AreTogether job a b n
     → Meet (bits_of_cycle job a n) (bits_of_cycle job b n)
-unfolding bits_of_cycle
 bits_meet job a b n here =
     cycles_meet job.board job.store (board_run job a n).state (board_run job b n).state
     (given_at a.env (board_run job a n).clock) (given_at b.env (board_run job b n).clock) here.at
@@ -126,7 +126,7 @@ board_fits job start n is begins =
 
 next_together : (job : Job) (a b : Start) (n : ℕ) → IsJob job → IsStart job a → IsStart job b → AreTogether job a b n
     → bits_of_cycle job a n ≡ bits_of_cycle job b n → AreTogether job a b (suc n)
-unfolding bits_of_cycle run_of longer_run
+unfolding run_of longer_run
 next_together job a b n is one two here same =
     let next = cycles_together job.board job.store (board_run job a n).state (board_run job b n).state
     (given_at a.env (board_run job a n).clock) (given_at b.env (board_run job b n).clock) is.board here.at here.sp
@@ -167,6 +167,7 @@ went job number a b (suc limit) is one two =
 
 bits_same : (job : Job) (a b : Start) (m n : ℕ) → Agree job a b m → n ≤ m
     → bits_of_cycles job a n ≡ bits_of_cycles job b n
+unfolding runs.bits_of_cycles
 bits_same job a b m zero agree within = refl
 bits_same job a b m (suc n) agree within =
     ap₂ (λ front back. front ++ back) (bits_same job a b m n agree (omega (arith, within)))
@@ -175,6 +176,7 @@ bits_same job a b m (suc n) agree within =
 -- those of fewer cycles stand first
 front_of : (job : Job) (start : Start) (n m : ℕ) → n ≤ m
     → (rest : List Decided) × (bits_of_cycles job start m ≡ bits_of_cycles job start n ++ rest)
+unfolding runs.bits_of_cycles
 front_of job start zero zero within = ([], refl)
 front_of job start (suc n) zero within = absurd (omega (arith, within))
 front_of job start n (suc m) within = elim (cases_lt n (suc m)) [
@@ -265,6 +267,7 @@ turned job a b m agree = record {
 parted_after : (job : Job) (a b : Start) (m : ℕ) → Agree job a b m
     → ArePart (bits_of_cycle job a m) (bits_of_cycle job b m)
     → ArePart (bits_of_cycles job a (suc m)) (bits_of_cycles job b (suc m))
+unfolding runs.bits_of_cycles
 parted_after job a b m agree part =
     subst (λ front. ArePart (bits_of_cycles job a m ++ bits_of_cycle job a m) (front ++ bits_of_cycle job b m))
     (bits_same job a b m m agree (omega arith))
@@ -415,3 +418,71 @@ unfolding first_segment
 segments_have_cycles job number start is one =
     let by = cycles_by job start (end_of job start) refl (bound_some job number start is one) in
     record { segment = by.0; some = by.1; within = cycles_within job start; late = by.2 }
+
+-- ---- where a segment ends
+
+-- where no boundary has come so far, and the limit isn't reached, the segment goes on
+longer_by : (addresses : List ℕ) (at : ℕ → ℕ) (limit n : ℕ) (found : Option ℕ)
+    → first_boundary addresses at limit ≡ found
+    → ((k : ℕ) → 0 < k → k ≤ n → is_named addresses (at k) ≡ false) → n < limit → n < unwrap_or found limit
+longer_by addresses at limit n None is none below = below
+longer_by addresses at limit n (Some d) is none below = elim (cases_lt n d) [
+  | inl longer ↦ longer
+  | inr ended ↦
+      (let next = next_boundary addresses at limit d is in
+      let named = next.0.named in
+      let unnamed = none d next.0.later ended in
+      absurd cc)
+]
+
+-- where none has come up to the limit, none is found
+late_by : (addresses : List ℕ) (at : ℕ → ℕ) (limit : ℕ) (found : Option ℕ)
+    → first_boundary addresses at limit ≡ found
+    → ((k : ℕ) → 0 < k → k ≤ limit → is_named addresses (at k) ≡ false) → found ≡ None
+late_by addresses at limit None is none = refl
+late_by addresses at limit (Some d) is none =
+    let next = next_boundary addresses at limit d is in
+    let named = next.0.named in
+    let unnamed = none d next.0.later next.1 in
+    absurd cc
+
+ends_next : (job : Job) (start : Start) (n : ℕ) → HasNoBoundaryYet job start n → n < start.boundary.bound
+    → is_named (addresses_of job) (at_cycle job start (n + 1)) ≡ true → end_of job start ≡ Some (n + 1)
+ends_next job start n none below named =
+    let next : IsNextBoundary (addresses_of job) (at_cycle job start) 0 (n + 1) = record {
+      later = omega arith;
+      named = named;
+      least = λ e after before. none e after (omega (arith, before));
+    } in
+    found_within (addresses_of job) (at_cycle job start) start.boundary.bound (n + 1) next (omega (arith, below))
+
+ends_late : (job : Job) (start : Start) (n : ℕ) → HasNoBoundaryYet job start n → n ≡ start.boundary.bound
+    → end_of job start ≡ None
+ends_late job start n none all = late_by (addresses_of job) (at_cycle job start) start.boundary.bound (end_of job start)
+    refl (λ k some within. none k some (omega (arith, all, within)))
+
+pub segments_end : SegmentsEnd
+segments_end job start n none = (
+  λ below. longer_by (addresses_of job) (at_cycle job start) start.boundary.bound n (end_of job start) refl none below,
+  λ below named.
+      let end = ends_next job start n none below named in
+      (ap (λ (e : Option ℕ). unwrap_or e start.boundary.bound) end, ap (λ (e : Option ℕ). is_none e) end),
+  λ all.
+      let end = ends_late job start n none all in
+      (ap (λ (e : Option ℕ). unwrap_or e start.boundary.bound) end ∙ sym all, ap (λ (e : Option ℕ). is_none e) end),
+)
+
+-- ---- how a case begins
+
+-- the case, where the segment is late or not
+case_where : (job : Job) (start : Start) (late : Bool) → is_late job start ≡ late
+    → case_of job start ≡ bits_of_cycles job start (cycles_of job start) ++ tail_by job start late
+case_where job start late is = case_is job start
+    ∙ ap (λ (l : Bool). bits_of_cycles job start (cycles_of job start) ++ tail_by job start l) is
+
+pub cases_begin_with_cycles : CasesBeginWithCycles
+cases_begin_with_cycles job start = (
+  λ n within. case_front job start n within,
+  λ late. case_where job start true late ∙ append-nil (bits_of_cycles job start (cycles_of job start)),
+  λ kept. case_where job start false kept,
+)

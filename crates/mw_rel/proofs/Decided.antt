@@ -1,6 +1,6 @@
 -- Free values and the memory decide a pair in relation.
-use Rattle.std.proofs.Common.{◌≡◌, ℕ, ◌<◌, ◌+◌, length, ◌-◌, List, [], ◌∷◌, Bool, true, false, not, ◌||◌, ◌==◌, refl, sym, ap, ap₂, ◌∙◌, subst}
-use Rattle.std.specs.Prelude.{All, if◌then◌else◌, slice_index, unwrap_or}
+use Rattle.std.proofs.Common.{◌≡◌, ℕ, zero, suc, ◌<◌, ◌+◌, length, ◌-◌, List, [], ◌∷◌, Bool, true, false, not, ◌||◌, ◌==◌, refl, sym, ap, ap₂, ◌∙◌, subst}
+use Rattle.std.specs.Prelude.{All, if◌then◌else◌, Some, slice_get, slice_index, unwrap_or}
 use Rattle.std.specs.List.{list_all, list_any}
 use Rattle.std.proofs.lemmas.Bool.{and_parts, eqb-true, eq-eqb}
 use Rattle.std.proofs.lemmas.List.Elements.{All-head, All-tail}
@@ -12,7 +12,7 @@ use Rattle.mw_expr.specs.Tree.{Tree, element, constant, complement, pair, choice
 use Rattle.mw_expr.specs.Values.{pair_value, bits, value, joined}
 use Rattle.mw_expr.specs.Widths.{total_width}
 use Rattle.mw_macro.specs.DescribedStep.{kept}
-use Rattle.mw_rel.specs.Free.{numbered, AreFreelyAlike, PairsAreOne}
+use Rattle.mw_rel.specs.Free.{numbered, AreFreelyAlike, PairsAreOne, RightsReadFreeElements}
 use Rattle.mw_rel.specs.InRelation.{Pair, InRelation, Holds, pair_of, values_of, right_value}
 use Rattle.mw_rel.specs.Job.{Job, IsJob}
 use Rattle.mw_rel.specs.Lines.{Line, stands_in, stands_in_one}
@@ -96,6 +96,22 @@ same_right job boundary p q line alike free =
     same_value job.relation.shape xs ys p.machine.memory line.right
     (λ e stands. alike.values e (ap not (no_left boundary.lines line e free stands)))
     ∙ ap (λ image. value job.relation.shape ys image line.right) alike.memory
+
+-- a test that all lines pass
+line_passes : (test : Line → Bool) (lines : List Line) (i : ℕ) (line : Line) → list_all test lines ≡ true
+    → slice_get lines i ≡ Some line → test line ≡ true
+line_passes test [] i line all at = cc
+line_passes test (x ∷ rest) zero line all at =
+    let same : x ≡ line = cc in
+    ap test (sym same) ∙ (and_parts _ _ all).0
+line_passes test (x ∷ rest) (suc i) line all at = line_passes test rest i line (and_parts _ _ all).1 at
+
+pub rights_read_free_elements : RightsReadFreeElements
+rights_read_free_elements job number line one two image is below i at same =
+    let lines = (numbered job number).lines in
+    let free = line_passes (reads_no_left lines) lines i line (solved_at job number is below).free at in
+    same_value job.relation.shape one two image line.right
+    (λ e stands. same e (ap not (no_left lines line e free stands)))
 
 -- ---- each element
 

@@ -1,5 +1,5 @@
 -- The case of a start: what its first segment and its described step decide, bit by bit; and the cases of a boundary.
-use Rattle.std.specs.Prelude.{◌≡◌, ℕ, zero, suc, List, [], ◌∷◌, ◌++◌, map, Bool, true, false, if◌then◌else◌, Option, Some, slice_get, slice_index_or}
+use Rattle.std.specs.Prelude.{◌≡◌, ℕ, List, [], ◌∷◌, ◌++◌, map, Bool, true, false, if◌then◌else◌, Option, Some, slice_get, slice_index_or}
 use Rattle.std.specs.Option.{is_none, unwrap_or}
 use Rattle.mw_term.specs.declared.kinds.DecidedKind.{DecidedKind}
 use Rattle.mw_term.specs.declared.kinds.DecidedKind.TheVariants.{Branch}
@@ -15,13 +15,12 @@ use Rattle.mw_rel.specs.Start.{Start, IsStart, addresses_of}
 -- ---- one start
 
 -- the decided bits of cycle n of its run
-unfoldable pub bits_of_cycle : Job → Start → (n : ℕ) → List Decided
+abbrev pub bits_of_cycle : Job → Start → (n : ℕ) → List Decided
 bits_of_cycle job start n = runs.bits_of_cycle job.board job.store start.env start.pair.board n
 
 -- those of its first n cycles, in their order
 abbrev pub bits_of_cycles : Job → Start → (n : ℕ) → List Decided
-bits_of_cycles job start zero = []
-bits_of_cycles job start (suc n) = bits_of_cycles job start n ++ bits_of_cycle job start n
+bits_of_cycles job start n = runs.bits_of_cycles job.board job.store start.env start.pair.board n
 
 -- the cycle at which its first segment ends; nothing where the segment is late
 abbrev pub end_of : Job → Start → Option ℕ

@@ -1,11 +1,12 @@
 -- Laws of the cases of a boundary.
-use Rattle.std.specs.Prelude.{◌≡◌, ◌≢◌, ◌⊎◌, ℕ, ◌<◌, ◌≤◌, List, [], ◌∷◌, ◌++◌, true, if◌then◌else◌, Some, None}
+use Rattle.std.specs.Prelude.{◌≡◌, ◌≢◌, ◌⊎◌, ℕ, ◌+◌, ◌<◌, ◌≤◌, List, [], ◌∷◌, ◌++◌, true, false, if◌then◌else◌, Some, None}
 use Rattle.mw_cycle.specs.declared.decided.Decided.{Decided}
-use Rattle.mw_rel.specs.Case.{bits_of_cycles, cycles_of, is_late, case_of, IsStartAt, IsCase, IsFeasiblePrefix, IsBefore, IsProperPrefix}
-use Rattle.mw_rel.specs.Certified.{board_run}
+use Rattle.mw_cycle.specs.Boundary.{is_named}
+use Rattle.mw_rel.specs.Case.{bits_of_cycles, cycles_of, is_late, bits_of_step, case_of, IsStartAt, IsCase, IsFeasiblePrefix, IsBefore, IsProperPrefix}
+use Rattle.mw_rel.specs.Certified.{board_run, at_cycle}
 use Rattle.mw_rel.specs.Differs.{segment_of}
 use Rattle.mw_rel.specs.Job.{Job, IsJob}
-use Rattle.mw_rel.specs.Start.{Start}
+use Rattle.mw_rel.specs.Start.{Start, addresses_of}
 
 -- after n cycles two starts are at one control address, with one stack pointer
 pub record AreTogether (job : Job) (a b : Start) (n : ℕ) : Type 0 where
@@ -60,3 +61,28 @@ SegmentsHaveCycles = (job : Job) (number : ℕ) (start : Start) → IsJob job �
 abbrev pub BeforeIsAnOrder : Type 0
 BeforeIsAnOrder = (first second third : List Decided) → IsBefore first second
     → (¬ IsBefore second first) × (IsBefore second third → IsBefore first third)
+
+-- none of the control addresses of a start after 1 to n cycles is a boundary's
+abbrev pub HasNoBoundaryYet : Job → Start → (n : ℕ) → Type 0
+HasNoBoundaryYet job start n =
+    (k : ℕ) → 0 < k → k ≤ n → is_named (addresses_of job) (at_cycle job start k) ≡ false
+
+-- Where no boundary has come after n cycles, and these are fewer than the bound, the segment has one more at least;
+-- where the board is at a boundary after that one, the segment has just these n + 1, and isn't late. Where they are the
+-- bound's number, the segment has them and is late.
+abbrev pub SegmentsEnd : Type 0
+SegmentsEnd = (job : Job) (start : Start) (n : ℕ) → HasNoBoundaryYet job start n
+    → (n < start.boundary.bound → n < cycles_of job start)
+    × (n < start.boundary.bound → is_named (addresses_of job) (at_cycle job start (n + 1)) ≡ true
+    → (cycles_of job start ≡ n + 1) × (is_late job start ≡ false))
+    × (n ≡ start.boundary.bound → (cycles_of job start ≡ n) × (is_late job start ≡ true))
+
+-- The decided bits of the first cycles of a segment are the first of the start's case. Those of all its cycles are the
+-- whole case where it is late; where it isn't, those of the step come behind them.
+abbrev pub CasesBeginWithCycles : Type 0
+CasesBeginWithCycles = (job : Job) (start : Start)
+    → ((n : ℕ) → n ≤ cycles_of job start
+    → (rest : List Decided) × (case_of job start ≡ bits_of_cycles job start n ++ rest))
+    × (is_late job start ≡ true → case_of job start ≡ bits_of_cycles job start (cycles_of job start))
+    × (is_late job start ≡ false
+    → case_of job start ≡ bits_of_cycles job start (cycles_of job start) ++ bits_of_step job start)

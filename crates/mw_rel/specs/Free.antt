@@ -1,8 +1,10 @@
 -- The boundaries of a job by number, and the elements that are free at one.
-use Rattle.std.specs.Prelude.{◌≡◌, ℕ, ◌<◌, [], length, Bool, true, not, ◌==◌, slice_index, slice_index_or}
+use Rattle.std.specs.Prelude.{◌≡◌, ℕ, ◌<◌, List, [], length, Bool, true, not, ◌==◌, Some, slice_get, slice_index, slice_index_or}
 use Rattle.std.specs.List.{list_any}
+use Rattle.mw_expr.specs.Values.{value}
 use Rattle.mw_rel.specs.InRelation.{Pair, InRelation, values_of}
 use Rattle.mw_rel.specs.Job.{Job, IsJob}
+use Rattle.mw_rel.specs.Lines.{Line}
 use Rattle.mw_rel.specs.Relation.{Boundary}
 
 -- no boundary
@@ -28,3 +30,12 @@ abbrev pub PairsAreOne : Type 0
 PairsAreOne = (job : Job) (n : ℕ) (p q : Pair) → IsJob job → n < length job.relation.boundaries
     → InRelation job (numbered job n) p → InRelation job (numbered job n) q → AreFreelyAlike job (numbered job n) p q
     → p ≡ q
+
+-- The right side of a line has one value over two lists of values that agree on the elements that are free at its
+-- boundary.
+abbrev pub RightsReadFreeElements : Type 0
+RightsReadFreeElements = (job : Job) (number : ℕ) (line : Line) (one two memory : List ℕ) → IsJob job
+    → number < length job.relation.boundaries
+    → (i : ℕ) → slice_get (numbered job number).lines i ≡ Some line
+    → ((e : ℕ) → is_free (numbered job number) e ≡ true → slice_index one e ≡ slice_index two e)
+    → value job.relation.shape one memory line.right ≡ value job.relation.shape two memory line.right

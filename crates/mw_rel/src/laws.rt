@@ -1,9 +1,9 @@
 // Laws of starts, of what is certified, and of words.
 ghost use Rattle.mw_rel.specs.Begin.{EachChoiceGivesAPair};
-ghost use Rattle.mw_rel.specs.CaseLaws.{BeforeIsAnOrder, CasesHaveOneEnd, KindsAreFixed};
-ghost use Rattle.mw_rel.specs.CaseLaws.{NoCaseGoesOn, OneCaseIsFirst, SegmentsHaveCycles, StartsGoTogether};
+ghost use Rattle.mw_rel.specs.CaseLaws.{BeforeIsAnOrder, CasesBeginWithCycles, CasesHaveOneEnd, KindsAreFixed};
+ghost use Rattle.mw_rel.specs.CaseLaws.{NoCaseGoesOn, OneCaseIsFirst, SegmentsEnd, SegmentsHaveCycles, StartsGoTogether};
 ghost use Rattle.mw_rel.specs.ComparisonWords.{ComparisonsAreNumbered};
-ghost use Rattle.mw_rel.specs.Free.{PairsAreOne};
+ghost use Rattle.mw_rel.specs.Free.{PairsAreOne, RightsReadFreeElements};
 ghost use Rattle.mw_rel.specs.Rules.{AcceptedAreSolved};
 ghost use Rattle.mw_rel.specs.Shown.{DifferencesAreFirst};
 ghost use Rattle.mw_rel.specs.StartWords.{StartsAreNumbered};
@@ -20,6 +20,12 @@ pub fn accepted_are_solved()
 /// memory are one.
 pub fn pairs_are_one()
     ensures { PairsAreOne }
+{}
+
+/// The law of right sides: a line's right side has one value over two lists of values that agree on the elements that are
+/// free at its boundary.
+pub fn rights_read_free_elements()
+    ensures { RightsReadFreeElements }
 {}
 
 /// The law of choices: each choice of values for the free elements of a boundary, and of a memory, gives a pair in
@@ -71,6 +77,19 @@ pub fn kinds_are_fixed()
 /// are one at least and at most the bound's number, which they are where it is late.
 pub fn segments_have_cycles()
     ensures { SegmentsHaveCycles }
+{}
+
+/// The law of the segment's end: where no boundary has come after some cycles, fewer than the bound, the segment has one
+/// more at least; it has just that one more, and isn't late, where the board is at a boundary then. Where the cycles are as
+/// many as the bound says, the segment has these and is late.
+pub fn segments_end()
+    ensures { SegmentsEnd }
+{}
+
+/// The law of the case's beginning: the decided bits of the first cycles of a segment are the first of the start's case.
+/// Those of all its cycles are the whole case where it is late; where it isn't, those of the step come behind them.
+pub fn cases_begin_with_cycles()
+    ensures { CasesBeginWithCycles }
 {}
 
 /// The law of prefixes: no case of a boundary is a proper prefix of another.
