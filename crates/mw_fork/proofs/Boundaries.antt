@@ -21,7 +21,7 @@ use Rattle.mw_term.specs.Table.{IsWidth, Table, term_width}
 use Rattle.mw_term.specs.WordList.{term_of, variable}
 use Rattle.mw_symmem.specs.Memory.{Memory, IsOfWidth}
 use Rattle.mw_symmem.specs.Words.{AreOf, IsVariable}
-use Rattle.mw_symmem.specs.Workspace.{HaveKinds, IsLater}
+use Rattle.mw_symmem.specs.Workspace.{HaveKinds, IsLater, IsWorkspace, ReadsMore}
 use Rattle.mw_symmem.proofs.Later.{width_later}
 use Rattle.mw_symmem.proofs.Lists.{absent, among, kind_of, pushed}
 use Rattle.mw_symmem.proofs.Stays.{stays_with_words}
@@ -33,7 +33,7 @@ use Rattle.mw_expr.specs.declared.shape.Shape.{Shape}
 use Rattle.mw_rel.specs.Job.{Job, IsJob, shape_of}
 use Rattle.mw_rel.specs.Lines.{Line}
 use Rattle.mw_rel.specs.Rules.{IsLineOf}
-use Rattle.mw_rel.proofs.Elements.{board_width, register_width, widths_count}
+use Rattle.mw_rel.proofs.Elements.{board_width, register_width, set_length, widths_count}
 use Rattle.mw_rel.proofs.Standing.{board_address}
 use Rattle.mw_fork.specs.Boundaries.{AreElements, AreWide, AreWideSoFar, IsElementBelow, IsSpace, IsStartKind}
 
@@ -103,6 +103,17 @@ wide_at job n is below = elim (cases_lt n (element_count job.board)) [
       (subst IsWidth (sym (register_width job is k inside)) wide)
 ]
 
+-- ---- a space that went on
+
+pub space_later : (job : Job) (told tnew : Table) (wold wnew : List Word) (mold mnew : Memory) → IsLater told tnew
+    → ReadsMore mold mnew → IsWorkspace tnew wnew mnew → IsSpace job told wold mold → IsSpace job tnew wnew mnew
+space_later job told tnew wold wnew mold mnew later reads workspace space = record {
+  map = later.extends.map ∙ space.map;
+  address = reads.address ∙ space.address;
+  word = reads.word ∙ space.word;
+  workspace = workspace;
+}
+
 -- ---- before the first right side
 
 pub elements_first : (job : Job) (told tnew : Table) (words : List Word) (m : Memory) (own : List ℕ) (n : ℕ)
@@ -142,7 +153,7 @@ unfolding shape_of
 machine_word job is = ap (λ (s : Shape). s.word) is.matched.parts.shape
 
 -- terms of the elements' widths are like those of a step
-stands : (job : Job) (t : Table) (words : List Word) (m : Memory) (own : List ℕ) → IsJob job → AreElements job t words m own
+pub stands : (job : Job) (t : Table) (words : List Word) (m : Memory) (own : List ℕ) → IsJob job → AreElements job t words m own
     → Stands job.relation.shape t words m (parts_of own [] 0)
 stands job t words m own is are = record {
   workspace = are.space.workspace;
@@ -188,12 +199,7 @@ pub own_later : (job : Job) (told tnew : Table) (wold wnew : List Word) (mold mn
 own_later job told tnew wold wnew mold mnew own side tree term are made few =
     let goes = made.runs.goes in
     record {
-      space = record {
-        map = goes.later.extends.map ∙ are.space.map;
-        address = goes.reads.address ∙ are.space.address;
-        word = goes.reads.word ∙ are.space.word;
-        workspace = goes.workspace;
-      };
+      space = space_later job told tnew wold wnew mold mnew goes.later goes.reads goes.workspace are.space;
       wide = record {
         count = are.wide.count;
         each = λ i inside. width_later told tnew _ _ goes.later (are.wide.each i inside);
@@ -201,11 +207,6 @@ own_later job told tnew wold wnew mold mnew own side tree term are made few =
       kinds = subst (λ ws. HaveKinds IsStartKind ws) (sym goes.words) (made_kinds wold goes.more are.kinds goes.kinds);
       few = omega (arith, made.runs.more, few);
     }
-
-set_size : (xs : List ℕ) (n x : ℕ) → length (slice_set xs n x) ≡ length xs
-set_size [] n x = refl
-set_size (y ∷ rest) zero x = refl
-set_size (y ∷ rest) (suc n) x = ap suc (set_size rest n x)
 
 set_each : (P : ℕ → ℕ → Type 0) (xs : List ℕ) (n x i : ℕ) → i < length xs → P n x
     → ((j : ℕ) → j < length xs → P j (slice_index xs j)) → P i (slice_index (slice_set xs n x) i)
@@ -228,7 +229,7 @@ wide_set job told tnew wold wnew mold mnew own terms side line term is are line_
     let has = subst (λ shape. width shape line.right ≡ Some (term_width tnew term)) same made.means.width in
     let bits : term_width tnew term ≡ slice_index s.widths line.left = same_Some _ _ (sym has ∙ asked) in
     record {
-      count = set_size terms line.left term ∙ wide.count;
+      count = set_length terms line.left term ∙ wide.count;
       each = λ i inside.
           set_each (λ j z. IsOfWidth tnew (slice_index s.widths j) z) terms line.left term i
           (omega (arith, inside, wide.count)) (record { there = made.means.there; width_is = bits })

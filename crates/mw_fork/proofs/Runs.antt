@@ -1,63 +1,47 @@
 -- A run from a boundary, on terms.
-use Rattle.std.proofs.Common.{◌≡◌, inl, inr, ℕ, zero, suc, ◌+◌, ◌<◌, ◌≤◌, ◌^◌, List, [], ◌∷◌, ◌++◌, drop, take, length, length-drop, slice_index, ap, sym, subst, ◌∙◌, arith, refl}
-use Rattle.std.specs.Prelude.{Bool, true, false, Option, Some, None, if◌then◌else◌}
+use Rattle.std.proofs.Common.{◌≡◌, inl, inr, ℕ, ◌+◌, ◌<◌, ◌≤◌, ◌^◌, List, [], drop, take, length, length-drop, slice_index, ap, sym, subst, ◌∙◌, arith, refl}
+use Rattle.std.specs.Prelude.{Bool, Option, Some, None}
 use Rattle.std.proofs.lemmas.Bool.{cases_lt}
-use Rattle.mw_base.specs.Words.{num}
-use Rattle.mw_cycle.specs.declared.microword.Microword.{Microword}
-use Rattle.mw_cycle.specs.Decided.{decides_counter, decides_pass}
+use Rattle.std.proofs.lemmas.List.{get_or-take}
 use Rattle.mw_term.specs.declared.kinds.DecidedKind.{DecidedKind}
 use Rattle.mw_term.specs.declared.kinds.WordKind.{WordKind}
 use Rattle.mw_term.specs.declared.kinds.WordKind.TheVariants.{Input, Line, Noise}
 use Rattle.mw_term.specs.declared.word.Word.{Word}
 use Rattle.mw_term.specs.Table.{Table}
-use Rattle.mw_term.specs.WordList.{is_of, term_of}
+use Rattle.mw_term.specs.WordList.{term_of}
 use Rattle.mw_symmem.specs.declared.turn.Turn.{Turn}
 use Rattle.mw_symmem.specs.declared.turn.Turn.TheVariants.{Ask, Finished}
-use Rattle.mw_symmem.specs.Memory.{Memory}
-use Rattle.mw_symmem.specs.Workspace.{GoesOn}
+use Rattle.mw_symmem.specs.Memory.{Memory, IsOfWidth}
+use Rattle.mw_symmem.specs.Workspace.{GoesOn, HaveKinds}
 use Rattle.mw_symmem.proofs.Later.{width_later}
 use Rattle.mw_symboard.specs.declared.reading.Reading.{Reading}
 use Rattle.mw_symboard.specs.Cycle.{bits_before}
-use Rattle.mw_symboard.specs.Kinds.{IsCycleKind}
+use Rattle.mw_symboard.specs.Kinds.{AreInputs, IsCycleKind}
 use Rattle.mw_symboard.specs.Seen.{Place, microword_of}
-use Rattle.mw_symboard.specs.Turns.{Asks, HasRead, IsSymbolic, IsTurn, Symbolic, decided_so, reads_by, reads_to_come}
+use Rattle.mw_symboard.specs.Turns.{AreNoLater, Asks, HasRead, IsSymbolic, IsTurn, Symbolic, decided_so, reads_by, reads_to_come}
 use Rattle.mw_board.specs.declared.parts.BoardParts.{BoardParts}
 use Rattle.mw_board.specs.Depth.{depth_of}
 use Rattle.mw_board.specs.Elements.{element_count}
-use Rattle.mw_symmem.specs.Workspace.{HaveKinds}
-use Rattle.mw_symmem.specs.Memory.{IsOfWidth}
 use Rattle.mw_symmem.proofs.Lists.{absent}
-use Rattle.mw_symboard.specs.Kinds.{AreInputs}
 use Rattle.mw_symboard.specs.Parts as board
-use Rattle.mw_symboard.specs.Turns.{AreNoLater}
+use Rattle.mw_symboard.proofs.Standing.{found_stays}
 use Rattle.mw_rel.specs.Free.{no_boundary, numbered}
 use Rattle.mw_rel.specs.Job.{Job, IsJob}
 use Rattle.mw_rel.proofs.Elements.{register_width, widths_count}
 use Rattle.mw_rel.proofs.Standing.{dropped_at}
-use Rattle.mw_fork.specs.Boundaries.{AreElements, AreWide, AreWideSoFar, IsSpace, IsStartKind}
-use Rattle.mw_fork.proofs.Boundaries.{board_wide}
+use Rattle.mw_fork.specs.Boundaries.{AreElements, AreWide, AreWideSoFar, IsStartKind}
+use Rattle.mw_fork.proofs.Boundaries.{board_wide, space_later}
 use Rattle.mw_fork.specs.Runs.{HasLine, IsTurned, IsUnder}
 
 -- ---- the line of the first cycle
 
-if_behind : (b : Bool) (a x : ℕ) (r s : Option ℕ) → (r ≡ Some x → s ≡ Some x) → (if b then Some a else r) ≡ Some x
-    → (if b then Some a else s) ≡ Some x
-if_behind true a x r s later is = is
-if_behind false a x r s later is = later is
-
-term_behind : (words more : List Word) (kind : WordKind) (x : ℕ) → term_of words kind ≡ Some x
-    → term_of (words ++ more) kind ≡ Some x
-term_behind [] more kind x is = absurd cc
-term_behind (w ∷ rest) more kind x is =
-    if_behind (is_of w.kind kind) w.term x (term_of rest kind) (term_of (rest ++ more) kind) (term_behind rest more kind x) is
-
 -- it stays
-pub line_later : (K : WordKind → Type 0) (told tnew : Table) (wold wnew : List Word) (mold mnew : Memory)
+line_later : (K : WordKind → Type 0) (told tnew : Table) (wold wnew : List Word) (mold mnew : Memory)
     → GoesOn K told tnew wold wnew mold mnew → HasLine told wold → HasLine tnew wnew
 line_later K told tnew wold wnew mold mnew goes line = record {
   line = line.line;
   is = subst (λ ws. term_of ws (Line 0) ≡ Some line.line) (sym goes.words)
-      (term_behind wold goes.more (Line 0) line.line line.is);
+      (found_stays wold goes.more (Line 0) line.line line.is);
   wide = width_later told tnew 1 line.line goes.later line.wide;
 }
 
@@ -77,7 +61,7 @@ line_read job t words m o reading begun symbolic before = elim (cases_lt 0 o.pla
       }
 ]
 
-pub line_asked : (job : Job) (t : Table) (words : List Word) (m : Memory) (o : Symbolic) (registers : List ℕ)
+line_asked : (job : Job) (t : Table) (words : List Word) (m : Memory) (o : Symbolic) (registers : List ℕ)
     (kind : DecidedKind) (term : ℕ) → IsUnder job t words m o registers → Asks job.board job.store t words m o kind term
     → HasLine t words
 line_asked job t words m o registers kind term under asks =
@@ -88,15 +72,6 @@ line_asked job t words m o registers kind term under asks =
 few_by : (o : Option Reading) → reads_by o ≤ 1
 few_by None = omega arith
 few_by (Some reading) = omega arith
-
-space_later : (K : WordKind → Type 0) (job : Job) (told tnew : Table) (wold wnew : List Word) (mold mnew : Memory)
-    → GoesOn K told tnew wold wnew mold mnew → IsSpace job told wold mold → IsSpace job tnew wnew mnew
-space_later K job told tnew wold wnew mold mnew goes space = record {
-  map = goes.later.extends.map ∙ space.map;
-  address = goes.reads.address ∙ space.address;
-  word = goes.reads.word ∙ space.word;
-  workspace = goes.workspace;
-}
 
 -- a turn
 pub turned : (job : Job) (told tnew : Table) (wold wnew : List Word) (mold mnew : Memory) (old new : Symbolic)
@@ -114,7 +89,7 @@ turned job told tnew wold wnew mold mnew old new registers (Ask kind term) under
     let before : 0 < new.place.cycle → HasLine tnew wnew = λ some.
     line_later K told tnew wold wnew mold mnew goes (under.line (omega (arith, some, cycle))) in (
       record {
-        space = space_later K job told tnew wold wnew mold mnew goes under.space;
+        space = space_later job told tnew wold wnew mold mnew goes.later goes.reads goes.workspace under.space;
         symbolic = symbolic;
         taken = omega (arith, cycle, taken, under.taken);
         reads = omega (arith, none, reads, under.reads, cycle);
@@ -130,7 +105,7 @@ turned job told tnew wold wnew mold mnew old new registers Finished under goes i
     let few : reads_to_come new ≤ 1 = few_by new.reading in
     let enough = all refl in (
       record {
-        space = space_later K job told tnew wold wnew mold mnew goes under.space;
+        space = space_later job told tnew wold wnew mold mnew goes.later goes.reads goes.workspace under.space;
         symbolic = symbolic;
         taken = omega (arith, is.2, is.3, under.taken);
         reads = omega (arith, few, reads, under.reads, is.2);
@@ -140,16 +115,6 @@ turned job told tnew wold wnew mold mnew old new registers Finished under goes i
       },
       record { idle = is.0; cycles = is.2 },
     )
-
-at_most : (a b : Bool) → num a + num b ≤ 2
-at_most true true = omega arith
-at_most true false = omega arith
-at_most false true = omega arith
-at_most false false = omega arith
-
--- at most two bits stand before those of the next address
-pub few_before : (m : Microword) → bits_before m ≤ 2
-few_before m = at_most (decides_pass m) (decides_counter m)
 
 -- with a bit that was given
 pub decided_under : (job : Job) (t : Table) (words : List Word) (m : Memory) (old new : Symbolic) (registers : List ℕ)
@@ -172,20 +137,16 @@ decided_under job t words m old new registers kind value term is under asks symb
 
 -- ---- before the first cycle
 
-taken_at : (k : ℕ) (xs : List ℕ) (n : ℕ) → n < k → slice_index (take k xs) n ≡ slice_index xs n
-taken_at zero xs n below = absurd (omega arith)
-taken_at (suc k) [] n below = refl
-taken_at (suc k) (x ∷ rest) zero below = refl
-taken_at (suc k) (x ∷ rest) (suc n) below = taken_at k rest n (omega (arith, below))
-
 pub board_elements : (job : Job) (t : Table) (terms : List ℕ) → IsJob job → AreWide t job.relation.shape.widths terms
     → board.AreElements job.board t (take (element_count job.board) terms)
 board_elements job t terms is wide n below =
     let each = wide.each n (omega (arith, widths_count job is, below)) in
+    let same : slice_index (take (element_count job.board) terms) n ≡ slice_index terms n =
+    get_or-take (element_count job.board) terms n 0 below in
     subst (λ w. IsOfWidth t w (slice_index (take (element_count job.board) terms) n)) (board_wide job n is below)
-    (rw (taken_at (element_count job.board) terms n below) each)
+    (rw same each)
 
-pub registers_wide : (job : Job) (t : Table) (terms : List ℕ) → IsJob job → AreWide t job.relation.shape.widths terms
+registers_wide : (job : Job) (t : Table) (terms : List ℕ) → IsJob job → AreWide t job.relation.shape.widths terms
     → AreWideSoFar t job.machine.shape.widths job.machine.registers (drop (element_count job.board) terms)
 registers_wide job t terms is wide i below =
     let k = element_count job.board in

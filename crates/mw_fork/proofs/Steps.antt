@@ -28,7 +28,7 @@ use Rattle.mw_symmach.specs.Walks.{Walks, asked_by, chosen, underway_in, underwa
 use Rattle.mw_symmach.proofs.Acting.{found}
 use Rattle.mw_rel.specs.Job.{Job, IsJob}
 use Rattle.mw_fork.specs.Runs.{IsUnder}
-use Rattle.mw_fork.specs.Steps.{HasCome, HasEnded, HasStopped, IsTurned, IsUnderway, said_from}
+use Rattle.mw_fork.specs.Steps.{HasCome, HasEnded, HasStopped, IsStepTurned, IsUnderway, said_from}
 
 -- ---- how many bits there are
 
@@ -151,7 +151,7 @@ begun d t words m o left = record {
 -- what a turn along so many bits says
 said : (d : Description) (from : Underway) (n : ℕ) (bits : List Bool) (t : Table) (words : List Word) (m : Memory)
     (o : Stepping) (turn : Turn) → length bits ≡ n → TurnsAlong (said_from d from) d bits t words m o turn
-    → IsSaid d t words m o turn → IsTurned d from n t words m o turn
+    → IsSaid d t words m o turn → IsStepTurned d from n t words m o turn
 said d from n bits t words m o (Ask kind term) size along says =
     (says, record { bits = bits; count_is = size; asks = along })
 said d from n bits t words m o Finished size along says = record { bits = bits; count_is = size; done = along }
@@ -162,7 +162,7 @@ pub turned : (d : Description) (from : Underway) (n : ℕ) (told tnew : Table) (
     → IsTurn d told tnew wnew mold mnew old new turn
     → Walks d.shape (underway_of d told wold mold old) (underway_in tnew wnew mnew new.parts) (left_in d old) (left_in d new)
     (asked_by turn) → (turn ≡ Finished → left_in d new ≡ nothing) → new.request ≡ None
-    → IsTurned d from n tnew wnew mnew new turn
+    → IsStepTurned d from n tnew wnew mnew new turn
 turned d from n told tnew wold wnew mold mnew old new turn law come is walks done begun =
     said d from n come.bits tnew wnew mnew new turn come.count_is
     (law (said_from d from) d come.bits told tnew wold wnew mold mnew old new turn come.along walks done begun) is.says
@@ -199,14 +199,14 @@ goes_on d from n t words m old new term value law at is left = record {
 
 -- a turn that asks for a bit
 pub asked : (d : Description) (from : Underway) (n : ℕ) (t : Table) (words : List Word) (m : Memory) (o : Stepping)
-    (turn : Turn) (kind : DecidedKind) (term : ℕ) → turn ≡ Ask kind term → IsTurned d from n t words m o turn
+    (turn : Turn) (kind : DecidedKind) (term : ℕ) → turn ≡ Ask kind term → IsStepTurned d from n t words m o turn
     → Asks d t words m o kind term × HasStopped d from n t words m o term
-asked d from n t words m o turn kind term is turned = subst (IsTurned d from n t words m o) is turned
+asked d from n t words m o turn kind term is turned = subst (IsStepTurned d from n t words m o) is turned
 
 -- a turn that is the last
 pub ended : (d : Description) (from : Underway) (n : ℕ) (t : Table) (words : List Word) (m : Memory) (o : Stepping)
-    (turn : Turn) → turn ≡ Finished → IsTurned d from n t words m o turn → HasEnded d from n t words m o
-ended d from n t words m o turn is turned = subst (IsTurned d from n t words m o) is turned
+    (turn : Turn) → turn ≡ Finished → IsStepTurned d from n t words m o turn → HasEnded d from n t words m o
+ended d from n t words m o turn is turned = subst (IsStepTurned d from n t words m o) is turned
 
 -- one bit more, counted from any number
 pub come_more : (d : Description) (from : Underway) (before now later : ℕ) (t : Table) (words : List Word) (m : Memory)

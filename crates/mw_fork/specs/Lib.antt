@@ -1,6 +1,13 @@
 pub mod Boundaries
+pub mod CasePaths
+pub mod Forks
+pub mod KeptBits
+pub mod OnWay
+pub mod OwnTerms
 pub mod Paths
 pub mod Runs
 pub mod Segments
+pub mod Starts
 pub mod Steps
 pub mod Ways
+pub mod Within

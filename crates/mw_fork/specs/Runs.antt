@@ -18,8 +18,8 @@ pub record HasLine (t : Table) (words : List Word) : Type 0 where
   pub is : term_of words (Line 0) ≡ Some line
   pub wide : IsOfWidth t 1 line
 
--- A board of a job within a cycle, with what it works on and the terms of the machine's registers. There are 64 base reads at most
--- before the first cycle, and one in each.
+-- A board of a job within a cycle, with what it works on and the terms of the machine's registers. There are 64 base
+-- reads at most before the first cycle, and one in each.
 pub record IsUnder (job : Job) (t : Table) (words : List Word) (m : Memory) (o : Symbolic) (registers : List ℕ) : Type 0 where
   pub space : IsSpace job t words m
   pub symbolic : IsSymbolic job.board job.store t words m o

@@ -43,6 +43,6 @@ pub record HasEnded (d : Description) (from : Underway) (count : ℕ) (t : Table
   pub done : IsDoneAlong (said_from d from) bits t words m o
 
 -- what holds after a turn, which began along so many bits
-abbrev pub IsTurned : Description → (from : Underway) → (count : ℕ) → Table → List Word → Memory → Stepping → Turn → Type 0
-IsTurned d from count t words m o (Ask kind term) = Asks d t words m o kind term × HasStopped d from count t words m o term
-IsTurned d from count t words m o Finished = HasEnded d from count t words m o
+abbrev pub IsStepTurned : Description → (from : Underway) → (count : ℕ) → Table → List Word → Memory → Stepping → Turn → Type 0
+IsStepTurned d from count t words m o (Ask kind term) = Asks d t words m o kind term × HasStopped d from count t words m o term
+IsStepTurned d from count t words m o Finished = HasEnded d from count t words m o

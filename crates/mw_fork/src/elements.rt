@@ -1,18 +1,19 @@
 // The terms of all elements at a boundary.
-ghost use Rattle.std.specs.Prelude.{◌≡◌, ◌+◌, ◌<◌, ◌≤◌, ◌^◌, ℕ, [], All, IfOk, OnOk, drop, length, slice_index, slice_set};
-ghost use Rattle.mw_expr.specs.Tree.{view};
+ghost use Rattle.std.specs.Prelude.{◌≡◌, ◌+◌, ◌<◌, ◌≤◌, [], All, IfOk, OnOk, length, slice_index};
 ghost use Rattle.mw_macro.specs.Counts.{reads};
-ghost use Rattle.mw_term.specs.Table.{IsTable, IsWidth};
+ghost use Rattle.mw_term.specs.Table.{IsWidth};
 ghost use Rattle.mw_symmem.specs.Memory.{IsOfWidth};
 ghost use Rattle.mw_symmem.specs.Words.{AreOf};
 ghost use Rattle.mw_symmem.specs.Workspace.{HaveKinds, IsLater};
-ghost use Rattle.mw_symmach.specs.Expressions.{IsReady, Runs};
 ghost use Rattle.mw_rel.specs.Free.{numbered};
 ghost use Rattle.mw_rel.specs.Lines.{reads_of};
 ghost use Rattle.mw_rel.specs.Rules.{IsLineOf};
 ghost use Rattle.mw_rel.specs.Seen.{line_of, lines_of};
 ghost use Rattle.mw_rel.specs.Views.{job_of};
-ghost use Rattle.mw_fork.specs.Boundaries.{AreElements, AreWide, AreWideSoFar, IsElementBelow, IsSpace, IsStartKind};
+ghost use Rattle.mw_fork.specs.Boundaries.{AreElements, AreWide, AreWideSoFar, IsElementBelow, IsSpace};
+ghost use Rattle.mw_fork.specs.OnWay.{ground_in};
+ghost use Rattle.mw_fork.specs.OwnTerms.{AreOwn, AreRelated, IsOwn, IsRelated};
+ghost use Rattle.mw_fork.specs.Starts.{IsGround};
 
 use mw_base::NoMemory;
 use mw_rel::{Job, Line, free};
@@ -38,7 +39,9 @@ impl Space {
         ensures space { IfOk result (λ s. IsSpace (job_of job.now) s.terms s.words s.memory) }
         ensures words { IfOk result (λ s. s.words ≡ []) }
         ensures reads { IfOk result (λ s. s.memory.reads ≡ []) }
+        ensures unwritten { IfOk result (λ s. (s.memory.board ≡ []) × (s.memory.machine ≡ [])) }
     {
+        // Laws for the proof: no words are those of a table without terms, and a new memory is one over them.
         are_of_at_first();
         is_memory_at_first();
         let parts = job.board.parts();
@@ -48,38 +51,6 @@ impl Space {
             memory: SymMemory::new(alloc, parts.address, parts.width),
         })
     }
-}
-
-/// The variable of the free element of this number, which is the next one.
-fn variable(alloc: Global, number: u32, width: u8, space: &mut Space) -> Result<Term, NoMemory>
-    requires width { IsWidth width }
-    requires of { AreOf space.old.terms space.old.words }
-    requires below { HaveKinds (IsElementBelow number) space.old.words }
-    ensures wide { IfOk result (IsOfWidth space.new.terms width) }
-    ensures later { OnOk result (IsLater space.old.terms space.new.terms) }
-    ensures of { OnOk result (AreOf space.new.terms space.new.words) }
-    ensures below { OnOk result (HaveKinds (IsElementBelow (number + 1)) space.new.words) }
-    ensures memory { space.new.memory ≡ space.old.memory }
-{
-    let term = space
-        .words
-        .fresh(alloc, &mut space.terms, WordKind::Element(number), width)?;
-    Ok(term)
-}
-
-/// A constant of the value 0, which is no word.
-fn zero(alloc: Global, _number: u32, width: u8, space: &mut Space) -> Result<Term, NoMemory>
-    requires width { IsWidth width }
-    requires of { AreOf space.old.terms space.old.words }
-    requires below { HaveKinds (IsElementBelow _number) space.old.words }
-    ensures wide { IfOk result (IsOfWidth space.new.terms width) }
-    ensures later { OnOk result (IsLater space.old.terms space.new.terms) }
-    ensures of { OnOk result (AreOf space.new.terms space.new.words) }
-    ensures below { OnOk result (HaveKinds (IsElementBelow (_number + 1)) space.new.words) }
-    ensures memory { space.new.memory ≡ space.old.memory }
-{
-    let term = space.terms.build(alloc, Op::Con(0, width))?;
-    Ok(term)
 }
 
 /// The term of an element of its own: a variable where it is free. Else it is 0, which no right side reads.
@@ -97,12 +68,17 @@ fn own_term(
     ensures later { OnOk result (IsLater space.old.terms space.new.terms) }
     ensures of { OnOk result (AreOf space.new.terms space.new.words) }
     ensures below { OnOk result (HaveKinds (IsElementBelow (number + 1)) space.new.words) }
+    ensures own { IfOk result (IsOwn is_free number space.old.words space.new.words) }
     ensures memory { space.new.memory ≡ space.old.memory }
 {
     if is_free {
-        return variable(alloc, number, width, space);
+        let variable = space
+            .words
+            .fresh(alloc, &mut space.terms, WordKind::Element(number), width)?;
+        return Ok(variable);
     }
-    zero(alloc, number, width, space)
+    let zero = space.terms.build(alloc, Op::Con(0, width))?;
+    Ok(zero)
 }
 
 /// How many bits an element has, by its number.
@@ -129,13 +105,16 @@ fn push_own(
     requires few { number < 170 }
     requires count { length own.old.items ≡ number }
     requires so_far { AreWideSoFar space.old.terms (job_of job.now).relation.shape.widths number own.old.items }
+    requires own { AreOwn (numbered (job_of job.now) boundary) number space.old.words own.old.items }
     requires of { AreOf space.old.terms space.old.words }
     requires below { HaveKinds (IsElementBelow number) space.old.words }
     ensures count { OnOk result (length own.new.items ≡ number + 1) }
-    ensures so_far { OnOk result (AreWideSoFar space.new.terms (job_of job.now).relation.shape.widths (number + 1) own.new.items) }
+    ensures so_far { OnOk result (AreWideSoFar space.new.terms (job_of job.now).relation.shape.widths (number + 1)
+        own.new.items) }
     ensures later { OnOk result (IsLater space.old.terms space.new.terms) }
     ensures of { OnOk result (AreOf space.new.terms space.new.words) }
     ensures below { OnOk result (HaveKinds (IsElementBelow (number + 1)) space.new.words) }
+    ensures own { OnOk result (AreOwn (numbered (job_of job.now) boundary) (number + 1) space.new.words own.new.items) }
     ensures memory { space.new.memory ≡ space.old.memory }
 {
     let width = width_of(job, number);
@@ -156,8 +135,12 @@ fn own_terms(
     requires space { IsSpace (job_of job.now) space.old.terms space.old.words space.old.memory }
     requires words { space.old.words ≡ [] }
     requires reads { space.old.memory.reads ≡ [] }
-    ensures elements { IfOk result (λ own. AreElements (job_of job.now) space.new.terms space.new.words space.new.memory own.items) }
+    ensures elements { IfOk result (λ own. AreElements (job_of job.now)
+        space.new.terms space.new.words space.new.memory own.items) }
+    ensures own { IfOk result (λ own. AreOwn (numbered (job_of job.now) boundary)
+        (length (job_of job.now).relation.shape.widths) space.new.words own.items) }
     ensures reads { OnOk result (space.new.memory.reads ≡ []) }
+    ensures memory { OnOk result (space.new.memory ≡ space.old.memory) }
 {
     let mut own = Vec::new(alloc);
     for number in 0..job.element_count() {
@@ -179,10 +162,14 @@ fn relate_line(
     requires few { length space.old.memory.reads + reads (line_of line.now).right ≤ 64 }
     requires own { AreElements (job_of job.now) space.old.terms space.old.words space.old.memory own.now }
     requires wide { AreWide space.old.terms (job_of job.now).relation.shape.widths terms.old.items }
-    ensures more { OnOk result (length space.new.memory.reads ≡ length space.old.memory.reads + reads (line_of line.now).right) }
+    ensures more { OnOk result (length space.new.memory.reads
+        ≡ length space.old.memory.reads + reads (line_of line.now).right) }
     ensures own { OnOk result (AreElements (job_of job.now) space.new.terms space.new.words space.new.memory own.now) }
     ensures wide { OnOk result (AreWide space.new.terms (job_of job.now).relation.shape.widths terms.new.items) }
+    ensures related { OnOk result (IsRelated (line_of line.now) space.old.terms space.new.terms space.old.words space.new.words
+        space.old.memory space.new.memory own.now terms.old.items terms.new.items) }
 {
+    // A call for the proof: what holds of every job.
     let _shape = job.shape();
     let term = expr_term(
         alloc,
@@ -208,10 +195,14 @@ fn relate(
 ) -> Result<(), NoMemory>
     requires lines_of { All (IsLineOf (job_of job.now).relation.shape) (lines_of lines.now) }
     requires few { length space.old.memory.reads + reads_of (lines_of lines.now) ≤ 64 }
+    requires at_first { terms.old.items ≡ own.now }
     requires own { AreElements (job_of job.now) space.old.terms space.old.words space.old.memory own.now }
     requires wide { AreWide space.old.terms (job_of job.now).relation.shape.widths terms.old.items }
     ensures own { OnOk result (AreElements (job_of job.now) space.new.terms space.new.words space.new.memory own.now) }
     ensures wide { OnOk result (AreWide space.new.terms (job_of job.now).relation.shape.widths terms.new.items) }
+    ensures related { OnOk result (AreRelated (lines_of lines.now) (length lines.now)
+        space.old.terms space.new.terms space.old.words space.new.words space.old.memory space.new.memory
+        own.now terms.new.items) }
 {
     for line in lines {
         relate_line(alloc, job, line, own, space, terms)?;
@@ -232,13 +223,19 @@ pub(crate) struct Elements {
 /// terms of the right sides, in the order of the lines.
 pub(crate) fn elements_at(alloc: Global, job: &Job, boundary: usize) -> Result<Elements, NoMemory>
     requires boundary { boundary < length (job_of job.now).relation.boundaries }
-    ensures { IfOk result (λ e. AreElements (job_of job.now) e.space.terms e.space.words e.space.memory e.terms.items) }
+    ensures elements { IfOk result (λ e. AreElements (job_of job.now)
+        e.space.terms e.space.words e.space.memory e.terms.items) }
+    ensures stands { IfOk result (λ e. IsGround (job_of job.now) boundary (ground_in e.space e.terms.items)) }
+    ensures unwritten { IfOk result (λ e. (e.space.memory.board ≡ []) × (e.space.memory.machine ≡ [])) }
 {
     let mut space = Space::new(alloc, job)?;
     let own = own_terms(alloc, job, boundary, &mut space)?;
     let mut terms = Vec::from_slice(alloc, &own)?;
+    // A call for the proof: what holds of every job.
     let _shape = job.shape();
     let lines = job.boundary(boundary).lines.as_slice();
     relate(alloc, job, lines, &own, &mut space, &mut terms)?;
+    // A call for the proof: no two variables have one kind.
+    let _ = space.words.count();
     Ok(Elements { space, terms })
 }

@@ -1,8 +1,12 @@
-//! What the feasible cases of a boundary are told by, in runs from its starts on terms: what a run begins with, how its
-//! cycles go and how their bits are decided, and which decided bits are kept from case to case.
+//! The feasible cases of a boundary, exactly, each once and in order. Each is found by a run from all starts of the boundary
+//! at once, on terms, in which every bit that is decided splits the path in two.
 #![tactic(auto)]
 
+mod budget;
+mod decide;
 mod elements;
+mod fault;
+mod fork;
 mod paths;
 mod prefix;
 mod run;
@@ -11,4 +15,7 @@ mod step;
 mod stop;
 mod way;
 
+pub use budget::Budget;
+pub use fault::{ForkFault, Over};
+pub use fork::{Case, Fork};
 pub use prefix::Prefix;

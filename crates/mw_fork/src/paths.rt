@@ -1,5 +1,6 @@
 // Which starts take a path, as a Boolean function.
-ghost use Rattle.std.specs.Prelude.{◌≡◌, ◌↔◌, ◌<◌, ℕ, false, None, IfOk, IfErr, IfSome, OnOk, cond, length, slice_index};
+ghost use Rattle.std.specs.Prelude.{◌≡◌, ◌↔◌, ◌<◌, ℕ, true, false, None, IfOk, IfErr, IfSome, cond, length, slice_index};
+ghost use Rattle.mw_term.specs.Assigned.{Given};
 ghost use Rattle.mw_term.specs.Cofactors.{Agree};
 ghost use Rattle.mw_term.specs.Functions.{Function, always, never};
 ghost use Rattle.mw_term.specs.Rows.{bit};
@@ -50,12 +51,13 @@ impl Paths {
     }
 
     /// The path in two by a bit that is constant, where it is.
-    fn fixed(&self, bit: Dd, _nodes: u32) -> Option<Split>
+    fn fixed(&self, bit: Dd) -> Option<Split>
         requires path { IsDd self.now.dds self.now.path }
         requires bit { IsDd self.now.dds bit }
-        ensures { (p b : Function) → StandsFor self.now.dds self.now.path p → StandsFor self.now.dds bit b
-            → IfSome result (IsSplit self.now.dds p b _nodes) }
+        ensures { (p b : Function) (nodes : ℕ) → StandsFor self.now.dds self.now.path p → StandsFor self.now.dds bit b
+            → IfSome result (IsSplit self.now.dds p b nodes) }
     {
+        // A law for the proof: an operation with a constant bit has no joint cofactor.
         terminal_cases_have_none();
         let never = self.dds.constant(false);
         if bit == never {
@@ -91,7 +93,7 @@ impl Paths {
     {
         let bits = self.blast.bits(alloc, terms, &mut self.dds, term, nodes)?;
         let bit = only(&bits);
-        if let Some(split) = self.fixed(bit, nodes) {
+        if let Some(split) = self.fixed(bit) {
             return Ok(split);
         }
         self.blast
@@ -103,6 +105,8 @@ impl Paths {
         requires { AreTwo self.now.dds split.now }
         ensures zero { (result.zero ≡ false) ↔ Agree (function_of self.now.dds split.now.zero) never }
         ensures one { (result.one ≡ false) ↔ Agree (function_of self.now.dds split.now.one) never }
+        ensures zero_somewhere { result.zero ≡ true → (given : Given) × (function_of self.now.dds split.now.zero given ≡ true) }
+        ensures one_somewhere { result.one ≡ true → (given : Given) × (function_of self.now.dds split.now.one given ≡ true) }
     {
         Feasible {
             zero: !self.dds.is_false(split.zero),

@@ -1,11 +1,14 @@
 // The segment of a case.
-ghost use Rattle.std.specs.Prelude.{◌≡◌, ◌<◌, ◌≤◌, None, IfOk, IfSome, OnOk, map};
+ghost use Rattle.std.specs.Prelude.{◌≡◌, ◌<◌, ◌≤◌, ℕ, List, None, IfOk, IfSome, OnOk, map};
+ghost use Rattle.std.specs.Option.{is_none, unwrap_or};
 ghost use Rattle.mw_cycle.specs.Boundary.{is_named};
 ghost use Rattle.mw_rel.specs.Seen.{boundaries_of};
 ghost use Rattle.mw_rel.specs.Start.{addresses_of};
 ghost use Rattle.mw_rel.specs.Views.{job_of};
-ghost use Rattle.mw_fork.specs.Paths.{ArePaths};
-ghost use Rattle.mw_fork.specs.Runs.{IsIdle, IsUnder};
+ghost use Rattle.mw_rel.specs.Free.{numbered};
+ghost use Rattle.mw_fork.specs.declared.way.Kept.{Kept};
+ghost use Rattle.mw_fork.specs.OnWay.{HasMetSegment, HavePaths, IsOnRun, IsRunOf, MadeWithin};
+ghost use Rattle.mw_fork.specs.Runs.{IsIdle};
 ghost use Rattle.mw_fork.specs.Segments.{HasReached, IsLate};
 
 use crate::run::Run;
@@ -44,14 +47,18 @@ pub(crate) fn segment(
 ) -> Result<Option<u32>, Stop>
     requires some { 1 ≤ bound }
     requires most { bound ≤ 500 }
-    requires under { IsUnder (job_of job.now) run.old.space.terms run.old.space.words run.old.space.memory run.old.board run.old.registers.items }
+    requires under { IsRunOf (job_of job.now) run.old }
     requires idle { IsIdle run.old.board 0 }
-    requires paths { ArePaths run.old.space.terms run.old.paths.dds run.old.paths.blast run.old.paths.path }
-    ensures under { OnOk result (IsUnder (job_of job.now) run.new.space.terms run.new.space.words run.new.space.memory run.new.board
-        run.new.registers.items) }
-    ensures paths { OnOk result (ArePaths run.new.space.terms run.new.paths.dds run.new.paths.blast run.new.paths.path) }
+    requires paths { HavePaths run.old.space run.old.paths }
+    ensures under { OnOk result (IsRunOf (job_of job.now) run.new) }
+    ensures paths { OnOk result (HavePaths run.new.space run.new.paths) }
     ensures reached { IfOk result (λ o. IfSome o (HasReached (job_of job.now) bound run.new.board)) }
     ensures late { IfOk result (λ o. o ≡ None → IsLate (job_of job.now) bound run.new.board) }
+    ensures goes { IfOk result (λ o. (number : ℕ) (elements : List ℕ) (from : List Kept)
+        → IsOnRun (job_of job.now) number elements from way.old run.old 0
+        → bound ≡ (numbered (job_of job.now) number).bound
+        → HasMetSegment (job_of job.now) number elements from (unwrap_or o bound) (is_none o) way.new run.new) }
+    ensures nodes { OnOk result (MadeWithin (job_of job.now) nodes way.old way.new run.old bound) }
 {
     for number in 0..bound {
         run.cycle(alloc, job, way, nodes)?;

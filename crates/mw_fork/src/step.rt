@@ -1,20 +1,30 @@
 // The described step of a case, on terms.
-ghost use Rattle.std.specs.Prelude.{◌≡◌, ◌+◌, ◌-◌, ◌<◌, ◌≤◌, ℕ, IfOk, OnOk, true, false, length};
+ghost use Rattle.std.specs.Prelude.{◌≡◌, ◌+◌, ◌-◌, ◌<◌, ◌≤◌, ℕ, IfOk, List, OnOk, Some, false};
 ghost use Rattle.mw_macro.specs.Described.{description_of};
 ghost use Rattle.mw_macro.specs.declared.counts.Counted.TheVariants.{Statements};
 ghost use Rattle.mw_macro.specs.Counts.{total};
 ghost use Rattle.mw_macro.specs.StepWords.{Underway};
+ghost use Rattle.mw_term.specs.declared.kinds.WordKind.TheVariants.{Line};
+ghost use Rattle.mw_term.specs.WordList.{term_of};
+ghost use Rattle.mw_symmem.specs.declared.turn.Turn.TheVariants.{Ask};
 ghost use Rattle.mw_symmem.specs.Memory.{IsOfWidth};
 ghost use Rattle.mw_symmach.specs.Turns.{Asks, is_asked};
 ghost use Rattle.mw_symmach.specs.Walks.{underway_of};
 ghost use Rattle.mw_rel.specs.Views.{job_of};
-ghost use Rattle.mw_fork.specs.Paths.{ArePaths};
-ghost use Rattle.mw_fork.specs.Runs.{HasLine, IsUnder};
-ghost use Rattle.mw_fork.specs.Steps.{HasCome, HasEnded, HasStopped, IsTurned, IsUnderway};
+ghost use Rattle.mw_cycle.specs.declared.decided.Decided.{Decided};
+ghost use Rattle.mw_fork.specs.declared.paths.Paths as diagrams;
+ghost use Rattle.mw_fork.specs.declared.way.Kept.{Kept};
+ghost use Rattle.mw_fork.specs.CasePaths.{HasCase};
+ghost use Rattle.mw_fork.specs.OnWay.{HasMetCase, HasMetSegment, HavePaths, IsOnStep, IsRunOf, IsTurnedOnStep, ground_in, path_in};
+ghost use Rattle.mw_fork.specs.Runs.{HasLine};
+ghost use Rattle.mw_fork.specs.Steps.{HasCome, HasEnded, HasStopped, IsStepTurned, IsUnderway};
+ghost use Rattle.mw_fork.specs.Ways as ways;
+ghost use Rattle.mw_fork.specs.Within.{AreWithin};
 
+use crate::decide::decide;
 use crate::elements::Space;
 use crate::paths::Paths;
-use crate::run::{Run, decide};
+use crate::run::Run;
 use crate::stop::Stop;
 use crate::way::Way;
 use mw_base::NoMemory;
@@ -25,10 +35,11 @@ use mw_symmem::{Turn, Words};
 use mw_term::{DecidedKind, Term, Terms, WordKind};
 use std::alloc::Global;
 
-/// The line of the first cycle, which is the request of the step.
+/// The line of the first cycle, which is the request of the step. `_terms` is for the contract alone.
 fn request(_terms: &Terms, words: &Words) -> Term
     requires { HasLine _terms.now words.now }
-    ensures { IsOfWidth _terms.now 1 result }
+    ensures line { term_of words.now (Line 0) ≡ Some result }
+    ensures wide { IsOfWidth _terms.now 1 result }
 {
     match words.find(WordKind::Line(0)) {
         Some(line) => line,
@@ -38,15 +49,20 @@ fn request(_terms: &Terms, words: &Words) -> Term
 
 /// A step that is at its first statement, behind a segment of the board.
 fn begin(alloc: Global, job: &Job, run: &Run) -> Result<SymMach, NoMemory>
-    requires under { IsUnder (job_of job.now) run.now.space.terms run.now.space.words run.now.space.memory run.now.board run.now.registers.items }
+    requires under { IsRunOf (job_of job.now) run.now }
     requires some { 0 < run.now.board.place.cycle }
     requires few { run.now.board.place.cycle ≤ 500 }
-    ensures under { IfOk result (IsUnderway (description_of job.now.machine) run.now.space.terms run.now.space.words run.now.space.memory) }
+    ensures under { IfOk result (IsUnderway (description_of job.now.machine)
+        run.now.space.terms run.now.space.words run.now.space.memory) }
     ensures idle { IfOk result (λ s. is_asked s.pending ≡ false) }
     ensures come { IfOk result (λ s. HasCome (description_of job.now.machine)
         (underway_of (description_of job.now.machine) run.now.space.terms run.now.space.words run.now.space.memory s) 0
         run.now.space.terms run.now.space.words run.now.space.memory s) }
+    ensures goes { IfOk result (λ s. (number cycles : ℕ) (elements : List ℕ) (from : List Kept) (way : ways.Way)
+        → HasMetSegment (job_of job.now) number elements from cycles false way run.now
+        → IsOnStep (job_of job.now) number elements from cycles (ways.met_of way) way run.now.space run.now.paths s) }
 {
+    // A call for the proof: what holds of every job.
     let _shape = job.shape();
     // A call for the proof: no two variables have one kind.
     let _ = run.space.words.count();
@@ -56,23 +72,26 @@ fn begin(alloc: Global, job: &Job, run: &Run) -> Result<SymMach, NoMemory>
 }
 
 /// Goes on to the next bit of the step, or to its end.
-fn turn(
-    alloc: Global,
-    job: &Job,
-    space: &mut Space,
-    _paths: &Paths,
-    step: &mut SymMach,
-) -> Result<Turn, NoMemory>
+fn turn(alloc: Global, job: &Job, space: &mut Space, step: &mut SymMach) -> Result<Turn, NoMemory>
     requires under { IsUnderway (description_of job.now.machine) space.old.terms space.old.words space.old.memory step.old }
     requires idle { is_asked step.old.pending ≡ false }
-    requires paths { ArePaths space.old.terms _paths.now.dds _paths.now.blast _paths.now.path }
-    ensures under { OnOk result (IsUnderway (description_of job.now.machine) space.new.terms space.new.words space.new.memory step.new) }
+    ensures under { OnOk result (IsUnderway (description_of job.now.machine)
+        space.new.terms space.new.words space.new.memory step.new) }
     ensures turned { IfOk result (λ turn. (from : Underway) (count : ℕ)
         → HasCome (description_of job.now.machine) from count space.old.terms space.old.words space.old.memory step.old
-        → IsTurned (description_of job.now.machine) from count space.new.terms space.new.words space.new.memory step.new turn) }
-    ensures paths { OnOk result (ArePaths space.new.terms _paths.now.dds _paths.now.blast _paths.now.path) }
+        → IsStepTurned (description_of job.now.machine) from count
+        space.new.terms space.new.words space.new.memory step.new turn) }
+    ensures goes { IfOk result (λ turn. (number cycles : ℕ) (elements : List ℕ) (from : List Kept) (segment : List Decided)
+        (way : ways.Way) (paths : diagrams.Paths)
+        → IsOnStep (job_of job.now) number elements from cycles segment way space.old paths step.old
+        → IsTurnedOnStep (job_of job.now) number elements from cycles segment way space.new paths step.new turn) }
+    ensures paths { OnOk result ((paths : diagrams.Paths) → HavePaths space.old paths → HavePaths space.new paths) }
 {
+    // A call for the proof: what holds of every job.
+    let _shape = job.shape();
+    // A law for the proof: the bits that were made are right for a table with more terms.
     stays_with_terms();
+    // A law for the proof: a step goes along the bits that are given to it.
     steps_go_along();
     let turn = step.sym_step(
         alloc,
@@ -81,13 +100,15 @@ fn turn(
         &mut space.words,
         &mut space.memory,
     )?;
+    // A call for the proof: no two variables have one kind.
+    let _ = space.words.count();
     Ok(turn)
 }
 
 /// Decides the branch bit that the step asks for.
 fn settle(
     alloc: Global,
-    _job: &Job,
+    job: &Job,
     space: &Space,
     paths: &mut Paths,
     step: &mut SymMach,
@@ -96,18 +117,29 @@ fn settle(
     way: &mut Way,
     nodes: u32,
 ) -> Result<(), Stop>
-    requires under { IsUnderway (description_of _job.now.machine) space.now.terms space.now.words space.now.memory step.old }
-    requires asks { Asks (description_of _job.now.machine) space.now.terms space.now.words space.now.memory step.old kind term }
-    requires paths { ArePaths space.now.terms paths.old.dds paths.old.blast paths.old.path }
-    ensures under { OnOk result (IsUnderway (description_of _job.now.machine) space.now.terms space.now.words space.now.memory step.new) }
+    requires under { IsUnderway (description_of job.now.machine) space.now.terms space.now.words space.now.memory step.old }
+    requires asks { Asks (description_of job.now.machine) space.now.terms space.now.words space.now.memory step.old kind term }
+    requires paths { HavePaths space.now paths.old }
+    ensures under { OnOk result (IsUnderway (description_of job.now.machine)
+        space.now.terms space.now.words space.now.memory step.new) }
     ensures idle { OnOk result (is_asked step.new.pending ≡ false) }
     ensures come { OnOk result ((from : Underway) (count : ℕ)
-        → HasStopped (description_of _job.now.machine) from count space.now.terms space.now.words space.now.memory step.old term
-        → (count < total Statements (description_of _job.now.machine).acts)
-        × HasCome (description_of _job.now.machine) from (count + 1) space.now.terms space.now.words space.now.memory step.new) }
+        → HasStopped (description_of job.now.machine) from count space.now.terms space.now.words space.now.memory step.old term
+        → (count < total Statements (description_of job.now.machine).acts)
+        × HasCome (description_of job.now.machine) from (count + 1) space.now.terms space.now.words space.now.memory step.new) }
     ensures met { OnOk result (way.new.met ≡ way.old.met + 1) }
-    ensures paths { OnOk result (ArePaths space.now.terms paths.new.dds paths.new.blast paths.new.path) }
+    ensures goes { OnOk result ((number cycles : ℕ) (elements : List ℕ) (from : List Kept) (segment : List Decided)
+        → IsTurnedOnStep (job_of job.now) number elements from cycles segment way.old space.now paths.old step.old (Ask kind term)
+        → IsOnStep (job_of job.now) number elements from cycles segment way.new space.now paths.new step.new) }
+    ensures nodes { OnOk result ((number cycles : ℕ) (elements : List ℕ) (from : List Kept) (segment : List Decided)
+        → IsTurnedOnStep (job_of job.now) number elements from cycles segment way.old space.now paths.old step.old (Ask kind term)
+        → AreWithin (job_of job.now) number nodes (ways.met_of way.old)
+        → AreWithin (job_of job.now) number nodes (ways.met_of way.new)) }
+    ensures paths { OnOk result (HavePaths space.now paths.new) }
 {
+    // A call for the proof: what holds of every job.
+    let _shape = job.shape();
+    // A law for the proof: a step goes along the bits that are given to it.
     steps_go_along();
     let value = decide(alloc, space, paths, kind, term, way, nodes)?;
     step.decide(value);
@@ -129,16 +161,25 @@ fn finish(
     requires come { HasCome (description_of job.now.machine)
         (underway_of (description_of job.now.machine) space.old.terms space.old.words space.old.memory step.old) 0
         space.old.terms space.old.words space.old.memory step.old }
-    requires paths { ArePaths space.old.terms paths.old.dds paths.old.blast paths.old.path }
-    ensures under { OnOk result (IsUnderway (description_of job.now.machine) space.new.terms space.new.words space.new.memory step.new) }
+    requires paths { HavePaths space.old paths.old }
+    ensures under { OnOk result (IsUnderway (description_of job.now.machine)
+        space.new.terms space.new.words space.new.memory step.new) }
     ensures met { OnOk result (way.old.met ≤ way.new.met) }
     ensures ended { OnOk result (HasEnded (description_of job.now.machine)
         (underway_of (description_of job.now.machine) space.old.terms space.old.words space.old.memory step.old)
         (way.new.met - way.old.met) space.new.terms space.new.words space.new.memory step.new) }
-    ensures paths { OnOk result (ArePaths space.new.terms paths.new.dds paths.new.blast paths.new.path) }
+    ensures goes { OnOk result ((number cycles : ℕ) (elements : List ℕ) (from : List Kept) (segment : List Decided)
+        → IsOnStep (job_of job.now) number elements from cycles segment way.old space.old paths.old step.old
+        → IsOnStep (job_of job.now) number elements from cycles segment way.new space.new paths.new step.new
+        × HasCase (job_of job.now) number (ground_in space.new elements) (path_in paths.new) (ways.met_of way.new)) }
+    ensures nodes { OnOk result ((number cycles : ℕ) (elements : List ℕ) (from : List Kept) (segment : List Decided)
+        → IsOnStep (job_of job.now) number elements from cycles segment way.old space.old paths.old step.old
+        → AreWithin (job_of job.now) number nodes (ways.met_of way.old)
+        → AreWithin (job_of job.now) number nodes (ways.met_of way.new)) }
+    ensures paths { OnOk result (HavePaths space.new paths.new) }
 {
     loop {
-        let turn = turn(alloc, job, space, paths, step)?;
+        let turn = turn(alloc, job, space, step)?;
         let Turn::Ask { kind, term } = turn else {
             return Ok(());
         };
@@ -154,12 +195,20 @@ pub(crate) fn step(
     way: &mut Way,
     nodes: u32,
 ) -> Result<SymMach, Stop>
-    requires under { IsUnder (job_of job.now) run.old.space.terms run.old.space.words run.old.space.memory run.old.board run.old.registers.items }
+    requires under { IsRunOf (job_of job.now) run.old }
     requires some { 0 < run.old.board.place.cycle }
     requires few { run.old.board.place.cycle ≤ 500 }
-    requires paths { ArePaths run.old.space.terms run.old.paths.dds run.old.paths.blast run.old.paths.path }
-    ensures under { IfOk result (IsUnderway (description_of job.now.machine) run.new.space.terms run.new.space.words run.new.space.memory) }
-    ensures paths { OnOk result (ArePaths run.new.space.terms run.new.paths.dds run.new.paths.blast run.new.paths.path) }
+    requires paths { HavePaths run.old.space run.old.paths }
+    ensures under { IfOk result (IsUnderway (description_of job.now.machine)
+        run.new.space.terms run.new.space.words run.new.space.memory) }
+    ensures goes { OnOk result ((number cycles : ℕ) (elements : List ℕ) (from : List Kept)
+        → HasMetSegment (job_of job.now) number elements from cycles false way.old run.old
+        → HasMetCase (job_of job.now) number elements from cycles false way.new run.new) }
+    ensures nodes { OnOk result ((number cycles : ℕ) (elements : List ℕ) (from : List Kept)
+        → HasMetSegment (job_of job.now) number elements from cycles false way.old run.old
+        → AreWithin (job_of job.now) number nodes (ways.met_of way.old)
+        → AreWithin (job_of job.now) number nodes (ways.met_of way.new)) }
+    ensures paths { OnOk result (HavePaths run.new.space run.new.paths) }
 {
     let mut step = begin(alloc, job, run)?;
     finish(

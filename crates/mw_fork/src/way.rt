@@ -1,5 +1,5 @@
 // The decided bits of a case, which are kept for the next one.
-ghost use Rattle.std.specs.Prelude.{◌≡◌, ◌+◌, ◌-◌, ◌<◌, [], true, false, length, take, slice_get, slice_set, Some, None, IfOk, OnOk, OnErr, IfSome};
+ghost use Rattle.std.specs.Prelude.{◌≡◌, ◌+◌, ◌-◌, ◌<◌, ◌≤◌, [], true, false, length, take, slice_get, slice_set, Some, None, IfOk, OnOk, OnErr, IfSome};
 ghost use Rattle.mw_fork.specs.declared.way.Kept as keeps;
 ghost use Rattle.mw_fork.specs.Ways.{bits_of, first_of, kept_with, met_of, turned, turned_last, way_of};
 
@@ -120,6 +120,7 @@ impl Way {
         ensures new { OnOk result (self.new ≡ way_of (kept_with self.old kind feasible) (self.old.met + 1)) }
         ensures value { IfOk result (λ value. (kept : keeps.Kept)
             × (slice_get (kept_with self.old kind feasible) self.old.met ≡ Some kept) × (value ≡ kept.bit.value)) }
+        ensures within { OnOk result (self.old.met ≤ length self.old.kept) }
         ensures err { OnErr result (self.new ≡ self.old) }
     {
         self.extend(kind, feasible)?;
@@ -155,8 +156,8 @@ impl Way {
         self.kept[place] = turned(last);
     }
 
-    /// Turns the last bit of which another value is feasible, and drops those behind it, where there is one. The next run
-    /// meets the bits anew.
+    /// Turns the last bit of which another value is feasible, and drops those behind it, where there is one, and says
+    /// whether there is one. The next run meets the bits anew.
     pub(crate) fn turn(&mut self) -> bool
         ensures yes { result ≡ true → (turned_last self.old.kept ≡ Some self.new.kept) }
         ensures no { result ≡ false → (turned_last self.old.kept ≡ None) × (self.new.kept ≡ []) }

@@ -1,14 +1,17 @@
 use Rattle.std.proofs.Common.{◌≡◌, length}
 use Rattle.mw_symmem.specs.Words.{AreOf}
 use Rattle.mw_symmem.specs.Workspace.{HaveKinds, IsLater}
+use Rattle.mw_rel.specs.Free.{numbered}
 use Rattle.mw_rel.specs.Views.{job_of}
 use Rattle.mw_fork.specs.Boundaries.{AreWideSoFar, IsElementBelow}
+use Rattle.mw_fork.specs.OwnTerms.{AreOwn}
 use Rattle.mw_fork.proofs.elements.own_terms.Given as goal
 
 abbrev pub invariant-loop-number : goal.invariant-loop-number
 invariant-loop-number l = record {
   count : length l.own.items ≡ l.number;
   so_far : AreWideSoFar l.space.terms (job_of l.job).relation.shape.widths l.number l.own.items;
+  own : AreOwn (numbered (job_of l.job) l.boundary) l.number l.space.words l.own.items;
   later : IsLater l.fn.space.terms l.space.terms;
   of : AreOf l.space.terms l.space.words;
   below : HaveKinds (IsElementBelow l.number) l.space.words;

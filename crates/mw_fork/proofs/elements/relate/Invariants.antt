@@ -3,6 +3,7 @@ use Rattle.mw_rel.specs.Lines.{reads_of}
 use Rattle.mw_rel.specs.Seen.{lines_of}
 use Rattle.mw_rel.specs.Views.{job_of}
 use Rattle.mw_fork.specs.Boundaries.{AreElements, AreWide}
+use Rattle.mw_fork.specs.OwnTerms.{AreRelated}
 use Rattle.mw_fork.proofs.elements.relate.Given as goal
 
 abbrev pub invariant-loop-line : goal.invariant-loop-line
@@ -10,4 +11,6 @@ invariant-loop-line l = record {
   few : length l.space.memory.reads + reads_of (lines_of (drop l.line-index l.lines)) ≤ 64;
   own : AreElements (job_of l.job) l.space.terms l.space.words l.space.memory l.own;
   wide : AreWide l.space.terms (job_of l.job).relation.shape.widths l.terms.items;
+  related : AreRelated (lines_of l.lines) l.line-index l.fn.space.terms l.space.terms l.fn.space.words l.space.words
+      l.fn.space.memory l.space.memory l.own l.terms.items;
 }

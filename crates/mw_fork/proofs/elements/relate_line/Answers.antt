@@ -1,3 +1,4 @@
+use Rattle.std.proofs.Common.{refl}
 use Rattle.mw_rel.specs.Seen.{line_of}
 use Rattle.mw_rel.specs.Views.{job_of}
 use Rattle.mw_fork.proofs.Boundaries.{own_later, ready, wide_set}
@@ -16,3 +17,6 @@ pub returns-clause-wide : goal.returns-clause-wide
 returns-clause-wide c =
     wide_set (job_of c.args.job.now) _ _ _ _ _ _ _ _ _ (line_of c.args.line.now) _ c.shape-shape.ensures.valid
     c.requires.own c.requires.line_of c.in_ok-term.ensures.made c.requires.wide
+
+pub returns-clause-related : goal.returns-clause-related
+returns-clause-related c = record { term = c.in_ok-term.term; made = c.in_ok-term.ensures.made; terms = refl }

@@ -1,6 +1,7 @@
 use Rattle.std.proofs.Common.{subst, sym}
 use Rattle.mw_symmach.specs.Turns.{Waits}
 use Rattle.mw_rel.specs.Views.{job_of}
+use Rattle.mw_fork.proofs.OnStep.{Begins, begun_behind}
 use Rattle.mw_fork.proofs.Steps.{underway_behind, waits_behind}
 use Rattle.mw_fork.proofs.step.begin.Goals as goal
 
@@ -9,9 +10,19 @@ returns-clause-under c =
     let job = job_of c.args.job.now in
     let run = c.args.run.now in
     let valid = c.shape-shape.ensures.valid in
-    let waits = waits_behind job _ _ _ _ _ _ valid c.requires.under c.count.ensures.own c.request-request.ensures in
+    let waits = waits_behind job _ _ _ _ _ _ valid c.requires.under c.count.ensures.own c.request-request.ensures.wide in
     let e = c.in_ok-step.ensures in
     underway_behind job _ _ _ _ _ _ valid c.requires.under c.requires.few e.reads
     (e.stepping run.space.terms run.space.words run.space.memory
     (subst (λ registers. Waits job.machine run.space.terms run.space.words run.space.memory registers c.request-request.result)
     (sym c.deref.ensures.value) waits))
+
+pub returns-clause-goes : goal.returns-clause-goes
+returns-clause-goes c = λ number cycles elements from way met.
+    let job = job_of c.args.job.now in
+    let run = c.args.run.now in
+    let request = c.request-request.result in
+    begun_behind job number cycles elements from way run request c.in_ok-step.step
+    (subst (λ registers. Begins job run.space.terms run.space.memory registers request c.in_ok-step.step)
+    c.deref.ensures.value (c.in_ok-step.ensures.step run.space.terms run.space.memory))
+    c.request-request.ensures.line met

@@ -1,8 +1,16 @@
-use Rattle.std.proofs.Common.{◌-◌, arith}
+use Rattle.std.proofs.Common.{◌+◌, ◌-◌, ◌<◌, arith}
 use Rattle.mw_macro.specs.Described.{description_of}
+use Rattle.mw_macro.specs.declared.counts.Counted.TheVariants.{Statements}
+use Rattle.mw_macro.specs.Counts.{total}
 use Rattle.mw_symmach.specs.Walks.{underway_of}
+use Rattle.mw_rel.specs.Views.{job_of}
+use Rattle.mw_fork.specs.Steps.{HasCome}
+use Rattle.mw_fork.proofs.OnStep.{asks_next, whole}
 use Rattle.mw_fork.proofs.Steps.{asked, come_more, ended}
 use Rattle.mw_fork.proofs.step.finish.Goals as goal
+
+pub settle-requires-clause-paths : goal.settle-requires-clause-paths
+settle-requires-clause-paths c = c.in_ok-turn.ensures.paths _ c.loop-turn.invariant.paths
 
 pub settle-requires-clause-asks : goal.settle-requires-clause-asks
 settle-requires-clause-asks c =
@@ -21,30 +29,57 @@ returns-in_default-clause-ended c =
     ended d from count _ _ _ _ c.in_ok-turn.turn c.in_default.is
     (c.in_ok-turn.ensures.turned from count c.loop-turn.invariant.come)
 
-pub loop-turn-smaller : goal.loop-turn-smaller
-loop-turn-smaller c =
+-- after the bit that the step asked for
+come_on : (c : goal.In_ok-settle)
+    → (c.loop-turn.way.met - c.args.way.now.met < total Statements (description_of c.args.job.now.machine).acts)
+    × HasCome (description_of c.args.job.now.machine)
+    (underway_of (description_of c.args.job.now.machine) c.args.space.now.terms c.args.space.now.words
+    c.args.space.now.memory c.args.step.now) (c.loop-turn.way.met - c.args.way.now.met + 1) c.turn.new.space.terms
+    c.turn.new.space.words c.turn.new.space.memory c.settle.new.step
+come_on c =
     let d = description_of c.args.job.now.machine in
     let old = c.args.space.now in
     let from = underway_of d old.terms old.words old.memory c.args.step.now in
     let count = c.loop-turn.way.met - c.args.way.now.met in
-    let at = (asked d from count _ _ _ _ c.in_ok-turn.turn c.in-Ask.kind c.in-Ask.term c.in-Ask.is
-    (c.in_ok-turn.ensures.turned from count c.loop-turn.invariant.come)).1 in
-    omega (arith, (c.in_ok-settle.ensures.come from count at).0, c.in_ok-settle.ensures.met, c.loop-turn.invariant.met)
+    c.in_ok-settle.ensures.come from count
+    (asked d from count _ _ _ _ c.in_ok-turn.turn c.in-Ask.kind c.in-Ask.term c.in-Ask.is
+    (c.in_ok-turn.ensures.turned from count c.loop-turn.invariant.come)).1
+
+pub loop-turn-smaller : goal.loop-turn-smaller
+loop-turn-smaller c = omega (arith, (come_on c).0, c.in_ok-settle.ensures.met, c.loop-turn.invariant.met)
 
 pub loop-turn-preserved : goal.loop-turn-preserved
 loop-turn-preserved c =
     let d = description_of c.args.job.now.machine in
     let old = c.args.space.now in
-    let from = underway_of d old.terms old.words old.memory c.args.step.now in
-    let count = c.loop-turn.way.met - c.args.way.now.met in
-    let at = (asked d from count _ _ _ _ c.in_ok-turn.turn c.in-Ask.kind c.in-Ask.term c.in-Ask.is
-    (c.in_ok-turn.ensures.turned from count c.loop-turn.invariant.come)).1 in
     let e = c.in_ok-settle.ensures in
     record {
       under = e.under;
       idle = e.idle;
       met = omega (arith, e.met, c.loop-turn.invariant.met);
-      come = come_more d from c.args.way.now.met c.loop-turn.way.met c.settle.new.way.met _ _ _ _ c.loop-turn.invariant.met e.met
-          (e.come from count at).1;
+      come = come_more d (underway_of d old.terms old.words old.memory c.args.step.now) c.args.way.now.met
+          c.loop-turn.way.met c.settle.new.way.met _ _ _ _ c.loop-turn.invariant.met e.met (come_on c).1;
+      goes = λ number cycles elements from segment on.
+          e.goes number cycles elements from segment
+          (asks_next (job_of c.args.job.now) number cycles elements from segment _ _ _ _ c.in_ok-turn.turn c.in-Ask.kind
+          c.in-Ask.term c.in-Ask.is
+          (c.in_ok-turn.ensures.goes number cycles elements from segment _ _
+          (c.loop-turn.invariant.goes number cycles elements from segment on)));
+      nodes = λ number cycles elements from segment on are.
+          e.nodes number cycles elements from segment
+          (asks_next (job_of c.args.job.now) number cycles elements from segment _ _ _ _ c.in_ok-turn.turn c.in-Ask.kind
+          c.in-Ask.term c.in-Ask.is
+          (c.in_ok-turn.ensures.goes number cycles elements from segment _ _
+          (c.loop-turn.invariant.goes number cycles elements from segment on)))
+          (c.loop-turn.invariant.nodes number cycles elements from segment on are);
       paths = e.paths;
     }
+
+pub returns-in_default-clause-goes : goal.returns-in_default-clause-goes
+returns-in_default-clause-goes c = λ number cycles elements from segment on.
+    whole (job_of c.args.job.now) number cycles elements from segment _ _ _ _ c.in_ok-turn.turn c.in_default.is
+    (c.in_ok-turn.ensures.goes number cycles elements from segment _ _
+    (c.loop-turn.invariant.goes number cycles elements from segment on))
+
+pub returns-in_default-clause-paths : goal.returns-in_default-clause-paths
+returns-in_default-clause-paths c = c.in_ok-turn.ensures.paths _ c.loop-turn.invariant.paths

@@ -1,16 +1,31 @@
 use Rattle.mw_macro.specs.Described.{description_of}
+use Rattle.mw_rel.specs.Views.{job_of}
+use Rattle.mw_fork.proofs.OnStep.{takes}
 use Rattle.mw_fork.proofs.Steps.{decided_underway, goes_on, stops_early}
 use Rattle.mw_fork.proofs.step.settle.Goals as goal
 
 pub returns-clause-under : goal.returns-clause-under
 returns-clause-under c =
-    let d = description_of c.args._job.now.machine in
+    let d = description_of c.args.job.now.machine in
     decided_underway d _ _ _ _ _ _ c.requires.under (c.decide-2.ensures.decided d _ _ _ c.requires.under.stepping)
 
 pub returns-clause-come : goal.returns-clause-come
 returns-clause-come c = λ from count stopped.
-    let d = description_of c.args._job.now.machine in
+    let d = description_of c.args.job.now.machine in
     let e = c.decide-2.ensures in (
       stops_early d from count _ _ _ _ _ stopped,
       goes_on d from count _ _ _ _ _ _ _ c.steps_go_along.ensures.bits stopped e.new (e.left d _ _ _ c.requires.under.stepping),
     )
+
+pub returns-clause-goes : goal.returns-clause-goes
+returns-clause-goes c = λ number cycles elements from segment turned.
+    let job = job_of c.args.job.now in
+    let under = c.requires.under in
+    takes job number cycles elements from segment _ _ c.args.space.now _ _ _ _ c.args.kind c.args.term _ c.requires.asks
+    (c.decide-2.ensures.decided job.machine _ _ _ under.stepping)
+    (c.in_ok-value.ensures.goes job number elements from c.shape-shape.ensures.valid turned.0.on turned.1) turned.0
+
+pub returns-clause-nodes : goal.returns-clause-nodes
+returns-clause-nodes c = λ number cycles elements from segment turned are.
+    c.in_ok-value.ensures.nodes (job_of c.args.job.now) number elements from c.shape-shape.ensures.valid turned.0.on turned.1
+    are

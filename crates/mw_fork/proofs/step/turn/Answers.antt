@@ -1,4 +1,6 @@
 use Rattle.mw_macro.specs.Described.{description_of}
+use Rattle.mw_rel.specs.Views.{job_of}
+use Rattle.mw_fork.proofs.OnStep.{turns}
 use Rattle.mw_fork.proofs.Steps.{turned, underway_later}
 use Rattle.mw_fork.proofs.step.turn.Goals as goal
 
@@ -14,7 +16,13 @@ returns-clause-turned c = λ from count come.
     e.listed e.done e.begun
 
 pub returns-clause-paths : goal.returns-clause-paths
-returns-clause-paths c = record {
-  there = c.requires.paths.there;
-  of = c.stays_with_terms.ensures _ _ _ _ c.in_ok-turn.ensures.goes.later.extends c.requires.paths.of;
+returns-clause-paths c = λ paths are. record {
+  there = are.there;
+  of = c.stays_with_terms.ensures _ _ _ _ c.in_ok-turn.ensures.goes.later.extends are.of;
 }
+
+pub returns-clause-goes : goal.returns-clause-goes
+returns-clause-goes c = λ number cycles elements from segment way paths on.
+    let e = c.in_ok-turn.ensures in
+    turns (job_of c.args.job.now) number cycles elements from segment way _ _ paths _ _ _ c.shape-shape.ensures.valid
+    e.turn e.goes e.stepping c.count.ensures.own on

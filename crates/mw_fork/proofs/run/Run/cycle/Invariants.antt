@@ -1,14 +1,17 @@
 use Rattle.std.proofs.Common.{◌-◌, length}
 use Rattle.mw_rel.specs.Views.{job_of}
-use Rattle.mw_fork.specs.Paths.{ArePaths}
-use Rattle.mw_fork.specs.Runs.{IsIdle, IsUnder}
+use Rattle.mw_fork.specs.OnWay.{HavePaths, IsRunOf, StaysWithin}
+use Rattle.mw_fork.specs.Runs.{IsIdle}
+use Rattle.mw_fork.proofs.OnRun.{StaysOnRun}
 use Rattle.mw_fork.proofs.run.Run.cycle.Given as goal
 
 abbrev pub invariant-loop-turn : goal.invariant-loop-turn
 invariant-loop-turn l = record {
-  under : IsUnder (job_of l.job) l.self.space.terms l.self.space.words l.self.space.memory l.self.board l.self.registers.items;
+  under : IsRunOf (job_of l.job) l.self;
   idle : IsIdle l.self.board l.fn.self.board.place.cycle;
-  paths : ArePaths l.self.space.terms l.self.paths.dds l.self.paths.blast l.self.paths.path;
+  goes : StaysOnRun (job_of l.job) l.fn.way l.way l.fn.self l.self l.fn.self.board.place.cycle;
+  nodes : StaysWithin (job_of l.job) l.nodes l.fn.way l.way l.fn.self l.fn.self.board.place.cycle;
+  paths : HavePaths l.self.space l.self.paths;
 }
 
 abbrev pub decreases-loop-turn : goal.decreases-loop-turn

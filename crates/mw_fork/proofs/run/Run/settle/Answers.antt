@@ -2,12 +2,13 @@ use Rattle.std.proofs.Common.{[], ◌∷◌, ap, length-append, length, ◌∙�
 use Rattle.mw_cycle.specs.Decided.{decided}
 use Rattle.mw_symboard.specs.Turns.{Symbolic}
 use Rattle.mw_rel.specs.Views.{job_of}
+use Rattle.mw_fork.proofs.OnRun.{next_of_case, on_decided}
 use Rattle.mw_fork.proofs.Runs.{decided_under}
 use Rattle.mw_fork.proofs.run.Run.settle.Goals as goal
 
 pub returns-clause-under : goal.returns-clause-under
 returns-clause-under c =
-    let job = job_of c.args._job.now in
+    let job = job_of c.args.job.now in
     let asks = c.requires.asks in
     let given = c.decide-2.ensures.new c.args.kind asks.asked in
     let symbolic = c.decide-2.ensures.symbolic job.board job.store _ _ _ c.args.kind c.args.term asks c.requires.under.symbolic in
@@ -23,3 +24,19 @@ returns-clause-decided c =
     let given = c.decide-2.ensures.new c.args.kind c.requires.asks.asked in
     ap (λ (o : Symbolic). length o.place.decided) given
     ∙ length-append c.args.self.now.board.place.decided (decided c.args.kind c.in_ok-value.value ∷ [])
+
+pub returns-clause-goes : goal.returns-clause-goes
+returns-clause-goes c = λ number elements from turned below.
+    let job = job_of c.args.job.now in
+    let run = c.args.self.now in
+    let next = next_of_case job number elements from c.args.way.now run c.args.kind c.args.term below turned in
+    let has = c.in_ok-value.ensures.goes job number elements from c.shape-shape.ensures.valid turned.0.on next in
+    on_decided job number elements from c.args.way.now c.decide.new.way run c.decide.new.paths c.decide-2.new.self
+    c.args.kind c.args.term c.in_ok-value.value
+    (c.decide-2.ensures.new c.args.kind c.requires.asks.asked) turned has
+
+pub returns-clause-nodes : goal.returns-clause-nodes
+returns-clause-nodes c = λ number elements from turned below are.
+    let job = job_of c.args.job.now in
+    let next = next_of_case job number elements from c.args.way.now c.args.self.now c.args.kind c.args.term below turned in
+    c.in_ok-value.ensures.nodes job number elements from c.shape-shape.ensures.valid turned.0.on next are

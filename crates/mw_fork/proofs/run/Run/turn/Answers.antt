@@ -1,4 +1,5 @@
 use Rattle.mw_rel.specs.Views.{job_of}
+use Rattle.mw_fork.proofs.OnRun.{on_turn}
 use Rattle.mw_fork.proofs.Runs.{turned}
 use Rattle.mw_fork.proofs.run.Run.turn.Goals as goal
 
@@ -6,6 +7,12 @@ pub returns-clause-turned : goal.returns-clause-turned
 returns-clause-turned c =
     let e = c.in_ok-turn.ensures in
     turned (job_of c.args.job.now) _ _ _ _ _ _ _ _ _ _ c.requires.under e.goes e.turn e.symbolic e.reads e.all
+
+pub returns-clause-goes : goal.returns-clause-goes
+returns-clause-goes c = λ number count elements from way on.
+    let e = c.in_ok-turn.ensures in
+    on_turn (job_of c.args.job.now) number count elements from way c.args.self.now _ _ _ c.shape-shape.ensures.valid
+    c.requires.under.space.workspace c.requires.under.symbolic e.goes e.turn e.symbolic e.all e.machine c.count.ensures.own on
 
 pub returns-clause-paths : goal.returns-clause-paths
 returns-clause-paths c = record {

@@ -1,0 +1,79 @@
+-- Decided bits that are within a budget of nodes.
+use Rattle.std.proofs.Common.{◌≡◌, ◌⊎◌, inl, inr, ℕ, ◌<◌, List, [], ◌∷◌, ◌++◌, ap, ap₂, sym, subst, refl, arith}
+use Rattle.mw_cycle.specs.declared.decided.Decided.{Decided}
+use Rattle.mw_term.specs.declared.kinds.DecidedKind.{DecidedKind}
+use Rattle.mw_symmem.specs.declared.turn.Turn.{Turn}
+use Rattle.mw_symmem.specs.declared.turn.Turn.TheVariants.{Ask}
+use Rattle.mw_rel.specs.Free.{numbered}
+use Rattle.mw_rel.specs.Job.{Job}
+use Rattle.mw_fork.specs.declared.run.Run.{Run}
+use Rattle.mw_fork.specs.OnWay.{IsOnRun, IsTurnedOnRun, MadeWithin, SettlesWithin, StaysWithin, Turns}
+use Rattle.mw_fork.specs.Ways.{Way}
+use Rattle.mw_fork.specs.Within.{AreWithin, IsWithin}
+use Rattle.mw_fork.proofs.MetSegment.{HasMade}
+use Rattle.mw_fork.proofs.OnRun.{StaysOnRun}
+use Rattle.mw_fork.proofs.Ordering.{no_item}
+
+head_of : {A : Type 0} (x y : A) (xs ys : List A) → x ∷ xs ≡ y ∷ ys → x ≡ y
+head_of x y xs ys same = cc
+
+tail_of : {A : Type 0} (x y : A) (xs ys : List A) → x ∷ xs ≡ y ∷ ys → xs ≡ ys
+tail_of x y xs ys same = cc
+
+-- an item of a list with one more behind it is that one, or one of the list
+last_or_before : {A : Type 0} (items before rest : List A) (last x : A) → items ++ last ∷ [] ≡ before ++ x ∷ rest
+    → ((items ≡ before) × (last ≡ x)) ⊎ ((others : List A) × (items ≡ before ++ x ∷ others))
+last_or_before [] [] rest last x same = inl (refl, head_of last x [] rest same)
+last_or_before [] (b ∷ before) rest last x same =
+    absurd (no_item before x rest (tail_of last b [] (before ++ x ∷ rest) same))
+last_or_before (i ∷ items) [] rest last x same =
+    inr (items, ap (λ first. first ∷ items) (head_of i x (items ++ last ∷ []) rest same))
+last_or_before (i ∷ items) (b ∷ before) rest last x same =
+    let heads = head_of i b (items ++ last ∷ []) (before ++ x ∷ rest) same in
+    elim (last_or_before items before rest last x (tail_of i b (items ++ last ∷ []) (before ++ x ∷ rest) same)) [
+      | inl h ↦ inl (ap₂ (λ first others. first ∷ others) heads h.0, h.1)
+      | inr h ↦ inr (h.0, ap₂ (λ first others. first ∷ others) heads h.1)
+    ]
+
+-- no bits are within each budget
+pub within_none : (job : Job) (number nodes : ℕ) → AreWithin job number nodes []
+within_none job number nodes before k rest same = absurd (no_item before k rest same)
+
+-- one more is
+pub within_more : (job : Job) (number nodes : ℕ) (bits : List Decided) (k : Decided) → AreWithin job number nodes bits
+    → IsWithin job number nodes bits k → AreWithin job number nodes (bits ++ k ∷ [])
+within_more job number nodes bits k are is before other rest same =
+    elim (last_or_before bits before rest k other same) [
+      | inl h ↦ subst (IsWithin job number nodes before) h.1
+          (subst (λ front. IsWithin job number nodes front k) h.0 is)
+      | inr h ↦ are before other h.0 h.1
+    ]
+
+-- ---- through the cycles of a board
+
+-- a bit more
+pub within_with : (job : Job) (nodes : ℕ) (old way next : Way) (before run asked : Run) (count : ℕ) (turn : Turn)
+    (kind : DecidedKind) (term : ℕ) → turn ≡ Ask kind term → asked.board.place.cycle ≡ count
+    → StaysOnRun job old way before run count → Turns job run asked turn
+    → SettlesWithin job nodes way next asked kind term → StaysWithin job nodes old way before count
+    → StaysWithin job nodes old next before count
+within_with job nodes old way next before run asked count turn kind term asks cycle stays turns settles within =
+    λ number elements from on below are.
+    let at = subst (λ (t : Turn). IsTurnedOnRun job number elements from way asked count t) asks
+    (turns number count elements from way (stays number elements from on below)) in
+    settles number elements from
+    (subst (λ (n : ℕ). IsTurnedOnRun job number elements from way asked n (Ask kind term)) (sym cycle) at)
+    (subst (λ (n : ℕ). n < (numbered job number).bound) (sym cycle) below)
+    (within number elements from on below are)
+
+-- ---- through a segment
+
+-- a cycle more
+pub within_made : (job : Job) (nodes : ℕ) (old way next : Way) (before run : Run) (bound n : ℕ)
+    → HasMade job old way before run bound n → run.board.place.cycle ≡ n → n < bound
+    → StaysWithin job nodes way next run run.board.place.cycle → MadeWithin job nodes old way before bound
+    → MadeWithin job nodes old next before bound
+within_made job nodes old way next before run bound n has made below cycles within = λ number elements from on same are.
+    let so_far = (has number elements from on same).0 in
+    cycles number elements from (subst (λ (m : ℕ). IsOnRun job number elements from way run m) (sym made) so_far)
+    (omega (arith, below, made, same)) (within number elements from on same are)

@@ -1,0 +1,216 @@
+-- A run through the cycles of a board.
+use Rattle.std.proofs.Common.{◌≡◌, inl, inr, ℕ, ◌+◌, ◌<◌, List, [], length, take, ap, sym, subst, ◌∙◌, arith, refl}
+use Rattle.std.specs.Prelude.{Bool, ◌==◌, Some, slice_get}
+use Rattle.std.proofs.lemmas.Bool.{cases_lt}
+use Rattle.mw_board.specs.Elements.{element_count}
+use Rattle.mw_cycle.specs.declared.decided.Decided.{Decided}
+use Rattle.mw_cycle.specs.Decided.{decided}
+use Rattle.mw_term.specs.declared.kinds.DecidedKind.{DecidedKind}
+use Rattle.mw_term.specs.declared.word.Word.{Word}
+use Rattle.mw_term.specs.Table.{Table}
+use Rattle.mw_term.specs.Cofactors.{Agree}
+use Rattle.mw_term.specs.Functions.{Function, always}
+use Rattle.mw_term.specs.Values.{term_value}
+use Rattle.mw_symmem.specs.declared.turn.Turn.{Turn}
+use Rattle.mw_symmem.specs.declared.turn.Turn.TheVariants.{Ask, Finished}
+use Rattle.mw_symmem.specs.Memory.{Memory}
+use Rattle.mw_symmem.specs.Words.{HaveOwnKinds}
+use Rattle.mw_symmem.specs.Workspace.{GoesOn, IsWorkspace}
+use Rattle.mw_symmem.proofs.Lists.{behind}
+use Rattle.mw_symboard.specs.Cycle.{bits_before}
+use Rattle.mw_symboard.specs.Kinds.{IsCycleKind}
+use Rattle.mw_symboard.specs.Laws.{IsNew, bits_in}
+use Rattle.mw_symboard.specs.Paths.{IsNextBit, IsPath}
+use Rattle.mw_symboard.specs.Seen.{Place, microword_of}
+use Rattle.mw_symboard.specs.Turns.{IsSymbolic, IsTurn, Symbolic, decided_so}
+use Rattle.mw_symboard.specs.Variables.{HasVariables}
+use Rattle.mw_symboard.proofs.Environments.{begun_has_variables, cycles_are_there, variables_stay}
+use Rattle.mw_symboard.proofs.OnPaths.{paths_begin, paths_go_on, paths_take_bits}
+use Rattle.mw_rel.specs.Case.{cycles_of}
+use Rattle.mw_rel.specs.CaseLaws.{HasNoBoundaryYet}
+use Rattle.mw_rel.specs.Free.{numbered}
+use Rattle.mw_rel.specs.Job.{Job, IsJob}
+use Rattle.mw_rel.specs.Relation.{Boundary}
+use Rattle.mw_fork.specs.Boundaries.{AreElements}
+use Rattle.mw_fork.specs.CasePaths.{IsNextOfCase}
+use Rattle.mw_fork.specs.declared.elements.Space.{Space}
+use Rattle.mw_fork.specs.declared.paths.Paths.{Paths}
+use Rattle.mw_fork.specs.declared.run.Run.{Run}
+use Rattle.mw_fork.specs.declared.way.Kept.{Kept}
+use Rattle.mw_fork.specs.OnWay.{HasDecided, HasMetAll, IsOnRun, IsTurnedOnRun, Settles, Turns, ground_in, path_in}
+use Rattle.mw_fork.specs.Runs.{IsTurned}
+use Rattle.mw_fork.specs.Starts.{course_of, origin_of}
+use Rattle.mw_fork.specs.Ways.{Way, met_of}
+use Rattle.mw_fork.proofs.Grounds.{boundary_is}
+use Rattle.mw_fork.proofs.Runs.{board_elements}
+use Rattle.mw_rel.proofs.Cases.{cases_begin_with_cycles, segments_end}
+use Rattle.mw_fork.proofs.Growing.{goes_to, on_path_later, on_path_narrower, way_later}
+
+-- ---- the start
+
+-- a board that stands at a boundary is on the path that is true always
+pub path_begins : (job : Job) (number : ℕ) (space : Space) (elements : List ℕ) (board : Symbolic) (path : Function)
+    → IsJob job → AreElements job space.terms space.words space.memory elements
+    → IsNew job.board (take (element_count job.board) elements) board
+    → board.place.at ≡ (numbered job number).address → board.place.sp ≡ (numbered job number).sp
+    → space.memory.board ≡ [] → Agree path always
+    → IsPath job.board job.store space.terms space.words space.memory (origin_of job number elements) board [] path
+path_begins job number space elements board path valid are new at sp none agree =
+    paths_begin job.board job.store space.terms space.words space.memory (origin_of job number elements) board path
+    (board_elements job space.terms elements valid are.wide) new at sp none agree
+
+-- ---- turns
+
+-- the variables of all finished cycles are there after a turn
+variables_after : (job : Job) (old new : Space) (before after : Symbolic) (turn : Turn)
+    → IsSymbolic job.board job.store old.terms old.words old.memory before
+    → GoesOn (IsCycleKind before.place.cycle before.place.taken) old.terms new.terms old.words new.words old.memory new.memory
+    → IsTurn job.board job.store new.terms new.words old.memory new.memory before after turn
+    → (turn ≡ Finished → length before.place.decided ≡ bits_before (microword_of job.board job.store before.place) + 12)
+    → ((n : ℕ) → n < before.place.cycle → HasVariables old.terms old.words n)
+    → (n : ℕ) → n < after.place.cycle → HasVariables new.terms new.words n
+variables_after job old new before after (Ask kind term) symbolic goes is all there n below =
+    let cycle : after.place.cycle ≡ before.place.cycle = ap (λ (p : Place). p.cycle) is.0 in
+    variables_stay old.terms new.terms old.words new.words goes.more n goes.later goes.words
+    (there n (omega (arith, cycle, below)))
+variables_after job old new before after Finished symbolic goes is all there n below =
+    variables_stay old.terms new.terms old.words new.words goes.more n goes.later goes.words
+    (elim (cases_lt n before.place.cycle) [
+      | inl h ↦ there n h
+      | inr h ↦
+          let enough = all refl in
+          let same : before.place.cycle ≡ n = omega (arith, is.2, below, h) in
+          subst (λ (k : ℕ). HasVariables old.terms old.words k) same
+          ((begun_has_variables job.board job.store old.terms old.words old.memory before symbolic).1
+          (omega (arith, enough)))
+    ])
+
+-- where a run is on its way, and what the turn says is so
+turned_on : (job : Job) (number count : ℕ) (elements : List ℕ) (from : List Kept) (way : Way) (run : Run) (turn : Turn)
+    → IsOnRun job number elements from way run count
+    → ((kind : DecidedKind) (term : ℕ) → turn ≡ Ask kind term
+    → IsNextBit job.board job.store run.space.terms run.space.words run.space.memory (origin_of job number elements) run.board
+    (met_of way) (path_in run.paths) kind term)
+    → (turn ≡ Finished → HasMetAll job number elements way run)
+    → IsTurnedOnRun job number elements from way run count turn
+turned_on job number count elements from way run (Ask kind term) on asks all = (on, asks kind term refl)
+turned_on job number count elements from way run Finished on asks all = (on, all refl)
+
+-- a turn
+pub on_turn : (job : Job) (number count : ℕ) (elements : List ℕ) (from : List Kept) (way : Way) (old : Run) (space : Space)
+    (board : Symbolic) (turn : Turn) → IsJob job → IsWorkspace old.space.terms old.space.words old.space.memory
+    → IsSymbolic job.board job.store old.space.terms old.space.words old.space.memory old.board
+    → GoesOn (IsCycleKind old.board.place.cycle old.board.place.taken) old.space.terms space.terms old.space.words space.words
+    old.space.memory space.memory
+    → IsTurn job.board job.store space.terms space.words old.space.memory space.memory old.board board turn
+    → IsSymbolic job.board job.store space.terms space.words space.memory board
+    → (turn ≡ Finished
+    → length old.board.place.decided ≡ bits_before (microword_of job.board job.store old.board.place) + 12)
+    → space.memory.machine ≡ old.space.memory.machine → HaveOwnKinds space.words
+    → IsOnRun job number elements from way old count
+    → IsTurnedOnRun job number elements from way (record old { space = space; board = board }) count turn
+on_turn job number count elements from way old space board turn valid workspace symbolic goes is after all machine own on =
+    let before = ground_in old.space elements in
+    let now = ground_in space elements in
+    let to = goes_to (IsCycleKind old.board.place.cycle old.board.place.taken) old.space space elements goes own in
+    let variables = variables_after job old.space space old.board board turn symbolic goes is all on.variables in
+    let there = cycles_are_there job.board job.store space.terms space.words space.memory board after variables in
+    let law = paths_go_on job.board job.store old.space.terms space.terms old.space.words space.words old.space.memory
+    space.memory old.board board turn (origin_of job number elements) (met_of way) (path_in old.paths) workspace symbolic
+    goes is on.in_run in
+    turned_on job number count elements from way (record old { space = space; board = board }) turn (record {
+      on = way_later job number before now from way (path_in old.paths) there.0 valid to there.1 on.on;
+      in_run = law.0;
+      passed = on_path_later job number before now (path_in old.paths) (λ start. HasNoBoundaryYet job start count) valid
+          on.on.stands to on.passed;
+      variables = variables;
+      unwritten = machine ∙ on.unwritten;
+      registers = on.registers;
+    }) law.1 law.2
+
+-- ---- decided bits
+
+-- the next bit of the board is the next one of the case, where the cycle is one of the segment
+pub next_of_case : (job : Job) (number : ℕ) (elements : List ℕ) (from : List Kept) (way : Way) (run : Run)
+    (kind : DecidedKind) (term : ℕ)
+    → run.board.place.cycle < (numbered job number).bound
+    → IsTurnedOnRun job number elements from way run run.board.place.cycle (Ask kind term)
+    → IsNextOfCase job number (ground_in run.space elements) (met_of way) (path_in run.paths) kind term
+next_of_case job number elements from way run kind term below turned given start is holds =
+    let n = run.board.place.cycle in
+    let bits = bits_in job.board job.store (course_of start) (n + 1) in
+    let next = decided kind (term_value run.space.terms given term == 1) in
+    let inside = subst (λ (b : Boundary). n < b.bound) (boundary_is job number start is.starts) below in
+    let cycle : n < cycles_of job start = (segments_end job start n (turned.0.passed given start is holds)).0 inside in
+    let front = (cases_begin_with_cycles job start).0 (n + 1) (omega (arith, cycle)) in
+    let own : slice_get bits (length (met_of way)) ≡ Some next =
+    turned.1 given (course_of start) is.board holds (n + 1) (omega arith) in
+    subst (λ (all : List Decided). slice_get all (length (met_of way)) ≡ Some next) (sym front.1)
+    (behind bits front.0 (length (met_of way)) next own)
+
+-- the board with the bit that was decided
+pub on_decided : (job : Job) (number : ℕ) (elements : List ℕ) (from : List Kept) (old new : Way) (run : Run)
+    (paths : Paths) (board : Symbolic) (kind : DecidedKind) (term : ℕ) (value : Bool)
+    → board ≡ decided_so run.board kind value
+    → IsTurnedOnRun job number elements from old run run.board.place.cycle (Ask kind term)
+    → HasDecided job number (ground_in run.space elements) from old new (path_in run.paths) (path_in paths) kind term value
+    → IsOnRun job number elements from new (record run { paths = paths; board = board }) run.board.place.cycle
+on_decided job number elements from old new run paths board kind term value same turned has =
+    let s = run.space in
+    let b = origin_of job number elements in
+    let next = path_in paths in
+    let given_bit = decided_so run.board kind value in
+    let along = paths_take_bits job.board job.store s.terms s.words s.memory b run.board (met_of old) kind term value
+    (path_in run.paths) next turned.0.in_run turned.1 has.by in
+    let cycle : board.place.cycle ≡ run.board.place.cycle = ap (λ (o : Symbolic). o.place.cycle) same in
+    record {
+      on = has.on;
+      in_run = subst (λ (o : Symbolic). IsPath job.board job.store s.terms s.words s.memory b o (met_of new) next) (sym same)
+          (subst (λ (bits : List Decided). IsPath job.board job.store s.terms s.words s.memory b given_bit bits next)
+          (sym has.met) along);
+      passed = on_path_narrower job number (ground_in s elements) (path_in run.paths) next
+          (λ start. HasNoBoundaryYet job start run.board.place.cycle) (λ given holds. (has.by.so given holds).0)
+          turned.0.passed;
+      variables = λ n below. turned.0.variables n (omega (arith, cycle, below));
+      unwritten = turned.0.unwritten;
+      registers = turned.0.registers;
+    }
+
+-- ---- a cycle
+
+-- a run that was within a cycle of the segment is so still
+abbrev pub StaysOnRun : Job → (old new : Way) → (before after : Run) → (count : ℕ) → Type 0
+StaysOnRun job old new before after count =
+    (number : ℕ) (elements : List ℕ) (from : List Kept) → IsOnRun job number elements from old before count
+    → count < (numbered job number).bound → IsOnRun job number elements from new after count
+
+-- it asks where it was
+pub asked_at : (job : Job) (at : Place) (t : Table) (words : List Word) (m : Memory) (o : Symbolic) (registers : List ℕ)
+    (turn : Turn) (kind : DecidedKind) (term : ℕ) → turn ≡ Ask kind term → IsTurned job at t words m o registers turn
+    → o.place ≡ at
+asked_at job at t words m o registers turn kind term asks turned =
+    (subst (λ (next : Turn). IsTurned job at t words m o registers next) asks turned).1
+
+-- a bit more
+pub stays_with : (job : Job) (old way next : Way) (before run asked after : Run) (count : ℕ) (turn : Turn)
+    (kind : DecidedKind) (term : ℕ) → turn ≡ Ask kind term → asked.board.place.cycle ≡ count
+    → StaysOnRun job old way before run count → Turns job run asked turn → Settles job way next asked after kind term
+    → StaysOnRun job old next before after count
+stays_with job old way next before run asked after count turn kind term asks cycle stays turns settles =
+    λ number elements from on below.
+    let at = subst (λ (t : Turn). IsTurnedOnRun job number elements from way asked count t) asks
+    (turns number count elements from way (stays number elements from on below)) in
+    subst (λ (n : ℕ). IsOnRun job number elements from next after n) cycle
+    (settles number elements from
+    (subst (λ (n : ℕ). IsTurnedOnRun job number elements from way asked n (Ask kind term)) (sym cycle) at)
+    (subst (λ (n : ℕ). n < (numbered job number).bound) (sym cycle) below))
+
+-- the end of the cycle
+pub stays_finished : (job : Job) (old way : Way) (before run after : Run) (count : ℕ) (turn : Turn) → turn ≡ Finished
+    → StaysOnRun job old way before run count → Turns job run after turn
+    → (number : ℕ) (elements : List ℕ) (from : List Kept) → IsOnRun job number elements from old before count
+    → count < (numbered job number).bound
+    → IsOnRun job number elements from way after count × HasMetAll job number elements way after
+stays_finished job old way before run after count turn done stays turns number elements from on below =
+    subst (λ (t : Turn). IsTurnedOnRun job number elements from way after count t) done
+    (turns number count elements from way (stays number elements from on below))

@@ -1,0 +1,418 @@
+-- The order of cases, and which of them kept bits lead to.
+use Rattle.std.proofs.Common.{◌≡◌, ◌≢◌, ◌⊎◌, inl, inr, ℕ, zero, suc, ◌<◌, List, [], ◌∷◌, ◌++◌, length, take, Bool, true, false, refl, sym, ap, ap₂, ◌∙◌, subst, arith, append_assoc, append-nil}
+use Rattle.std.specs.Prelude.{Option, Some, None, if◌then◌else◌}
+use Rattle.std.proofs.lemmas.Bool.{cases_lt}
+use Rattle.std.proofs.lemmas.List.{map-append, take_all}
+use Rattle.mw_term.specs.declared.kinds.DecidedKind.{DecidedKind}
+use Rattle.mw_cycle.specs.declared.decided.Decided.{Decided}
+use Rattle.mw_cycle.specs.Decided.{decided}
+use Rattle.mw_rel.specs.Case.{IsBefore, IsCase, IsFeasiblePrefix, case_of}
+use Rattle.mw_rel.specs.Job.{Job, IsJob}
+use Rattle.mw_rel.proofs.Cases.{no_case_goes_on, one_case_is_first}
+use Rattle.mw_fork.specs.declared.way.Kept.{Kept}
+use Rattle.mw_fork.specs.Forks.{At, Before, KeepsFor, LeadsToNext, NoneIsToCome, OneIsToCome}
+use Rattle.mw_fork.specs.KeptBits.{AreKept, AreLeast, IsKept, IsWayFrom}
+use Rattle.mw_fork.specs.Ways.{Way, bits_of, met_of, turned, turned_from, turned_last}
+
+-- ---- lists of which one comes before the other
+
+-- their first bits are one, and the rests are so; or the first bit is 0 in the one, and 1 in the other
+abbrev Heads : (x y : Decided) → (xs ys : List Decided) → Type 0
+Heads x y xs ys = ((x ≡ y) × IsBefore xs ys) ⊎ ((x.value ≡ false) × (y ≡ decided x.kind true))
+
+heads_by : (shared : List Decided) (kind : DecidedKind) (first_rest second_rest : List Decided) (x y : Decided)
+    (xs ys : List Decided) → x ∷ xs ≡ shared ++ decided kind false ∷ first_rest
+    → y ∷ ys ≡ shared ++ decided kind true ∷ second_rest → Heads x y xs ys
+heads_by [] kind first_rest second_rest x y xs ys one two =
+    let lower : x ≡ decided kind false = cc in
+    let higher : y ≡ decided kind true = cc in
+    inr (
+      ap (λ (d : Decided). d.value) lower,
+      higher ∙ ap (λ (k : DecidedKind). decided k true) (sym (ap (λ (d : Decided). d.kind) lower)),
+    )
+heads_by (s ∷ shared) kind first_rest second_rest x y xs ys one two =
+    let first : x ≡ s = cc in
+    let second : y ≡ s = cc in
+    inl (
+      first ∙ sym second,
+      record {
+        shared = shared;
+        kind = kind;
+        first_rest = first_rest;
+        second_rest = second_rest;
+        first_is = cc;
+        second_is = cc;
+      },
+    )
+
+heads : (x y : Decided) (xs ys : List Decided) → IsBefore (x ∷ xs) (y ∷ ys) → Heads x y xs ys
+heads x y xs ys b = heads_by b.shared b.kind b.first_rest b.second_rest x y xs ys b.first_is b.second_is
+
+-- the list of nothing has no item
+pub no_item : {A : Type 0} (before : List A) (x : A) (rest : List A) → [] ≡ before ++ x ∷ rest → ⊥
+no_item [] x rest is = absurd cc
+no_item (y ∷ before) x rest is = absurd cc
+
+-- no list comes before or behind the one of no bit
+none_before : (xs : List Decided) → IsBefore xs [] → ⊥
+none_before xs b = no_item b.shared (decided b.kind true) b.second_rest b.second_is
+
+none_after : (xs : List Decided) → IsBefore [] xs → ⊥
+none_after xs b = no_item b.shared (decided b.kind false) b.first_rest b.first_is
+
+-- ---- feasible prefixes
+
+feasible_front : (job : Job) (number : ℕ) (front back : List Decided) → IsFeasiblePrefix job number (front ++ back)
+    → IsFeasiblePrefix job number front
+feasible_front job number front back f = record {
+  start = f.start;
+  starts = f.starts;
+  rest = back ++ f.rest;
+  bits_are = f.bits_are ∙ append_assoc front back f.rest;
+}
+
+feasible_moved : (job : Job) (number : ℕ) (before : List Decided) (d : Decided) (rest : List Decided)
+    → IsFeasiblePrefix job number (before ++ d ∷ rest) → IsFeasiblePrefix job number ((before ++ d ∷ []) ++ rest)
+feasible_moved job number before d rest f =
+    subst (IsFeasiblePrefix job number) (sym (append_assoc before (d ∷ []) rest)) f
+
+feasible_next : (job : Job) (number : ℕ) (before : List Decided) (d : Decided) (rest : List Decided)
+    → IsFeasiblePrefix job number (before ++ d ∷ rest) → IsFeasiblePrefix job number (before ++ d ∷ [])
+feasible_next job number before d rest f =
+    feasible_front job number (before ++ d ∷ []) rest (feasible_moved job number before d rest f)
+
+-- so is a case, and each front of one
+feasible_case : (job : Job) (number : ℕ) (bits : List Decided) → IsCase job number bits → IsFeasiblePrefix job number bits
+feasible_case job number bits is =
+    record { start = is.start; starts = is.starts; rest = []; bits_are = is.bits_are ∙ sym (append-nil bits) }
+
+-- kept bits are feasible behind feasible ones
+pub kept_feasible : (job : Job) (number : ℕ) (kept : List Kept) (before : List Decided)
+    → IsFeasiblePrefix job number before → AreKept job number before kept
+    → IsFeasiblePrefix job number (before ++ bits_of kept)
+kept_feasible job number [] before f are = subst (IsFeasiblePrefix job number) (sym (append-nil before)) f
+kept_feasible job number (k ∷ kept) before f are =
+    subst (IsFeasiblePrefix job number) (append_assoc before (k.bit ∷ []) (bits_of kept))
+    (kept_feasible job number kept (before ++ k.bit ∷ []) are.0.feasible are.1)
+
+-- so are the first ones of them
+kept_front : (job : Job) (number n : ℕ) (kept : List Kept) (before : List Decided) → AreKept job number before kept
+    → AreKept job number before (take n kept)
+kept_front job number zero kept before are = tt
+kept_front job number (suc n) [] before are = tt
+kept_front job number (suc n) (k ∷ kept) before are =
+    (are.0, kept_front job number n kept (before ++ k.bit ∷ []) are.1)
+
+pub front_feasible : (job : Job) (number n : ℕ) (kept : List Kept) → IsFeasiblePrefix job number []
+    → AreKept job number [] kept → IsFeasiblePrefix job number (bits_of (take n kept))
+front_feasible job number n kept none are =
+    kept_feasible job number (take n kept) [] none (kept_front job number n kept [] are)
+
+-- ---- the least bits
+
+-- what is feasible behind some bits doesn't come before the least bits there
+least_first : (job : Job) (number : ℕ) (more : List Kept) (before rest : List Decided)
+    → AreLeast job number before more → IsBefore rest (bits_of more) → IsFeasiblePrefix job number (before ++ rest) → ⊥
+least_first job number [] before rest least b f = none_before rest b
+least_first job number (k ∷ more) before [] least b f = none_after (bits_of (k ∷ more)) b
+least_first job number (k ∷ more) before (r ∷ rest) least b f = elim (heads r k.bit rest (bits_of more) b) [
+  | inl same ↦ least_first job number more (before ++ k.bit ∷ []) rest least.1 same.1
+      (subst (λ (d : Decided). IsFeasiblePrefix job number ((before ++ d ∷ []) ++ rest)) same.0
+      (feasible_moved job number before r rest f))
+  | inr lower ↦
+      let is : r ≡ decided k.bit.kind false = ap₂ decided (sym (ap (λ (d : Decided). d.kind) lower.1)) lower.0 in
+      least.0 (ap (λ (d : Decided). d.value) lower.1)
+      (subst (λ (d : Decided). IsFeasiblePrefix job number (before ++ d ∷ [])) is
+      (feasible_next job number before r rest f))
+]
+
+-- ---- where no bit can be turned
+
+not_turned : (b : Bool) (xs : List Kept) → (if b then Some xs else None) ≡ None → b ≡ false
+not_turned true xs is = absurd cc
+not_turned false xs is = refl
+
+none_turned : (k : Kept) (o : Option (List Kept)) → turned_from k o ≡ None → (o ≡ None) × (k.other ≡ false)
+none_turned k (Some rest) is = absurd cc
+none_turned k None is = (refl, not_turned k.other (turned k ∷ []) is)
+
+-- nothing that is feasible comes behind bits of which none can be turned
+none_behind : (job : Job) (number : ℕ) (kept : List Kept) (before rest : List Decided) → AreKept job number before kept
+    → turned_last kept ≡ None → IsBefore (bits_of kept) rest → IsFeasiblePrefix job number (before ++ rest) → ⊥
+none_behind job number [] before rest are none b f = none_after rest b
+none_behind job number (k ∷ kept) before [] are none b f = none_before (bits_of (k ∷ kept)) b
+none_behind job number (k ∷ kept) before (r ∷ rest) are none b f =
+    let no = none_turned k (turned_last kept) none in
+    elim (heads k.bit r (bits_of kept) rest b) [
+      | inl same ↦ none_behind job number kept (before ++ k.bit ∷ []) rest are.1 no.0 same.1
+          (subst (λ (d : Decided). IsFeasiblePrefix job number ((before ++ d ∷ []) ++ rest)) (sym same.0)
+          (feasible_moved job number before r rest f))
+      | inr lower ↦ are.0.only no.1 lower.0
+          (subst (λ (d : Decided). IsFeasiblePrefix job number (before ++ d ∷ [])) lower.1
+          (feasible_next job number before r rest f))
+    ]
+
+-- ---- the bit that is turned
+
+-- the last bit that can be turned was, and those behind it are dropped
+record IsTurnedAt (kept now : List Kept) : Type 0 where
+  pub front : List Kept
+  pub bit : Kept
+  pub behind : List Kept
+  pub kept_is : kept ≡ front ++ bit ∷ behind
+  pub now_is : now ≡ front ++ turned bit ∷ []
+  pub can : bit.other ≡ true
+  pub none : turned_last behind ≡ None
+
+is_turned : (b : Bool) (xs now : List Kept) → (if b then Some xs else None) ≡ Some now → (b ≡ true) × (now ≡ xs)
+is_turned true xs now is = (refl, cc)
+is_turned false xs now is = absurd cc
+
+turned_here : (k : Kept) (rest now : List Kept) (o : Option (List Kept)) → turned_last rest ≡ o
+    → turned_from k o ≡ Some now → ((later : List Kept) → turned_last rest ≡ Some later → IsTurnedAt rest later)
+    → IsTurnedAt (k ∷ rest) now
+turned_here k rest now (Some later) was is there =
+    let t = there later was in
+    let so : now ≡ k ∷ later = cc in
+    record {
+      front = k ∷ t.front;
+      bit = t.bit;
+      behind = t.behind;
+      kept_is = ap (λ (xs : List Kept). k ∷ xs) t.kept_is;
+      now_is = so ∙ ap (λ (xs : List Kept). k ∷ xs) t.now_is;
+      can = t.can;
+      none = t.none;
+    }
+turned_here k rest now None was is there =
+    let so = is_turned k.other (turned k ∷ []) now is in
+    record { front = []; bit = k; behind = rest; kept_is = refl; now_is = so.1; can = so.0; none = was }
+
+turned_at : (kept now : List Kept) → turned_last kept ≡ Some now → IsTurnedAt kept now
+turned_at [] now is = absurd cc
+turned_at (k ∷ rest) now is = turned_here k rest now (turned_last rest) refl is (turned_at rest)
+
+-- the bits are kept bits again
+turned_kept : (job : Job) (number : ℕ) (front : List Kept) (k : Kept) (behind : List Kept) (before : List Decided)
+    → AreKept job number before (front ++ k ∷ behind) → k.other ≡ true
+    → AreKept job number before (front ++ turned k ∷ [])
+turned_kept job number [] k behind before are can = (
+  record {
+    feasible = are.0.turns can;
+    zero = λ other. absurd cc;
+    turns = λ other. absurd cc;
+    only = λ other one. absurd cc;
+  },
+  tt,
+)
+turned_kept job number (f ∷ front) k behind before are can =
+    (are.0, turned_kept job number front k behind (before ++ f.bit ∷ []) are.1 can)
+
+kept_there : (job : Job) (number : ℕ) (front : List Kept) (k : Kept) (behind : List Kept) (before : List Decided)
+    → AreKept job number before (front ++ k ∷ behind) → IsKept job number (before ++ bits_of front) k
+kept_there job number [] k behind before are =
+    subst (λ (xs : List Decided). IsKept job number xs k) (sym (append-nil before)) are.0
+kept_there job number (f ∷ front) k behind before are =
+    subst (λ (xs : List Decided). IsKept job number xs k) (append_assoc before (f.bit ∷ []) (bits_of front))
+    (kept_there job number front k behind (before ++ f.bit ∷ []) are.1)
+
+-- turned bits come behind the others
+turned_before : (front : List Kept) (k : Kept) (behind more : List Kept) → k.bit.value ≡ false
+    → IsBefore (bits_of (front ++ k ∷ behind)) (bits_of (front ++ turned k ∷ more))
+turned_before front k behind more low =
+    let is : k.bit ≡ decided k.bit.kind false = ap (decided k.bit.kind) low in
+    record {
+      shared = bits_of front;
+      kind = k.bit.kind;
+      first_rest = bits_of behind;
+      second_rest = bits_of more;
+      first_is = map-append (λ (x : Kept). x.bit) front (k ∷ behind)
+          ∙ ap (λ (d : Decided). bits_of front ++ d ∷ bits_of behind) is;
+      second_is = map-append (λ (x : Kept). x.bit) front (turned k ∷ more);
+    }
+
+-- a case comes behind the bits: one that has the turned bit
+turned_comes : (job : Job) (number : ℕ) (front : List Kept) (k : Kept) (behind : List Kept)
+    → AreKept job number [] (front ++ k ∷ behind) → k.other ≡ true
+    → OneIsToCome job number (At (bits_of (front ++ k ∷ behind)))
+turned_comes job number front k behind are can =
+    let is = kept_there job number front k behind [] are in
+    let f = is.turns can in
+    let low : k.bit ≡ decided k.bit.kind false = ap (decided k.bit.kind) (is.zero can) in
+    record {
+      other = case_of job f.start;
+      feasible = record { start = f.start; starts = f.starts; bits_are = refl };
+      to_come = record {
+        shared = bits_of front;
+        kind = k.bit.kind;
+        first_rest = bits_of behind;
+        second_rest = f.rest;
+        first_is = map-append (λ (x : Kept). x.bit) front (k ∷ behind)
+            ∙ ap (λ (d : Decided). bits_of front ++ d ∷ bits_of behind) low;
+        second_is = f.bits_are ∙ append_assoc (bits_of front) (decided k.bit.kind true ∷ []) f.rest;
+      };
+    }
+
+-- a bit isn't 0 and 1
+not_both : (d : Decided) (kind : DecidedKind) → d ≡ decided kind true → d.value ≡ false → ⊥
+not_both d kind one low = let both : true ≡ false = sym (ap (λ (x : Decided). x.value) one) ∙ low in absurd cc
+
+-- Nothing that is feasible comes between bits, of which one is turned and none behind it can be, and the turned bits with
+-- the least ones behind them.
+none_between : (job : Job) (number : ℕ) (front : List Kept) (k : Kept) (behind more : List Kept)
+    (before rest : List Decided) → AreKept job number before (front ++ k ∷ behind)
+    → turned_last behind ≡ None → AreLeast job number (before ++ bits_of (front ++ turned k ∷ [])) more
+    → IsFeasiblePrefix job number (before ++ rest) → IsBefore (bits_of (front ++ k ∷ behind)) rest
+    → IsBefore rest (bits_of (front ++ turned k ∷ more)) → ⊥
+none_between job number [] k behind more before [] are none least f last new =
+    none_before (bits_of (k ∷ behind)) last
+none_between job number (g ∷ front) k behind more before [] are none least f last new =
+    none_before (bits_of (g ∷ front ++ k ∷ behind)) last
+none_between job number [] k behind more before (r ∷ rest) are none least f last new =
+    let moved = feasible_moved job number before r rest f in
+    elim (heads k.bit r (bits_of behind) rest last) [
+      | inl same ↦ none_behind job number behind (before ++ k.bit ∷ []) rest are.1 none same.1
+          (subst (λ (d : Decided). IsFeasiblePrefix job number ((before ++ d ∷ []) ++ rest)) (sym same.0) moved)
+      | inr later ↦ elim (heads r (decided k.bit.kind true) rest (bits_of more) new) [
+        | inl same ↦ least_first job number more (before ++ decided k.bit.kind true ∷ []) rest least same.1
+            (subst (λ (d : Decided). IsFeasiblePrefix job number ((before ++ d ∷ []) ++ rest)) same.0 moved)
+        | inr lower ↦ not_both r k.bit.kind later.1 lower.0
+      ]
+    ]
+none_between job number (g ∷ front) k behind more before (r ∷ rest) are none least f last new =
+    let moved = feasible_moved job number before r rest f in
+    elim (heads g.bit r (bits_of (front ++ k ∷ behind)) rest last) [
+      | inl same ↦ elim (heads r g.bit rest (bits_of (front ++ turned k ∷ more)) new) [
+        | inl also ↦ none_between job number front k behind more (before ++ g.bit ∷ []) rest are.1 none
+            (subst (λ (xs : List Decided). AreLeast job number xs more)
+            (sym (append_assoc before (g.bit ∷ []) (bits_of (front ++ turned k ∷ [])))) least)
+            (subst (λ (d : Decided). IsFeasiblePrefix job number ((before ++ d ∷ []) ++ rest)) (sym same.0) moved)
+            same.1 also.1
+        | inr lower ↦ not_both g.bit r.kind lower.1 (ap (λ (d : Decided). d.value) same.0 ∙ lower.0)
+      ]
+      | inr later ↦ elim (heads r g.bit rest (bits_of (front ++ turned k ∷ more)) new) [
+        | inl also ↦ not_both r g.bit.kind later.1 (ap (λ (d : Decided). d.value) also.0 ∙ later.0)
+        | inr lower ↦ not_both r g.bit.kind later.1 lower.0
+      ]
+    ]
+
+-- ---- a run that has met a case
+
+split_at : (xs : List Kept) (n : ℕ) → n < length xs → (k : Kept) × (rest : List Kept) × (xs ≡ take n xs ++ k ∷ rest)
+split_at [] n inside = absurd (omega arith)
+split_at (x ∷ xs) zero inside = (x, xs, refl)
+split_at (x ∷ xs) (suc n) inside =
+    let t = split_at xs n (omega arith) in (t.0, t.1, ap (λ (ys : List Kept). x ∷ ys) t.2)
+
+-- the bits that it has met are all that are kept
+pub all_met : (job : Job) (number : ℕ) (way : Way) → IsJob job → AreKept job number [] way.kept
+    → IsCase job number (met_of way) → bits_of way.kept ≡ met_of way
+all_met job number way is are whole = elim (cases_lt way.met (length way.kept)) [
+  | inr over ↦ ap (λ (xs : List Kept). bits_of xs) (sym (take_all way.met way.kept over))
+  | inl fewer ↦
+      let more = split_at way.kept way.met fewer in
+      let f = kept_feasible job number way.kept []
+      (feasible_front job number [] (met_of way) (feasible_case job number (met_of way) whole)) are in
+      let bits : bits_of way.kept ≡ met_of way ++ more.0.bit ∷ bits_of more.1 =
+      ap (λ (xs : List Kept). bits_of xs) more.2
+      ∙ map-append (λ (x : Kept). x.bit) (take way.met way.kept) (more.0 ∷ more.1) in
+      absurd (no_case_goes_on job number (met_of way) (case_of job f.start) is whole
+      (record { start = f.start; starts = f.starts; bits_are = refl })
+      (record {
+        next = more.0.bit;
+        rest = bits_of more.1 ++ f.rest;
+        second_is = f.bits_are ∙ ap (λ (xs : List Decided). xs ++ f.rest) bits
+            ∙ append_assoc (met_of way) (more.0.bit ∷ bits_of more.1) f.rest;
+      }))
+]
+
+-- a fork keeps them
+pub keeps_met : (job : Job) (number : ℕ) (from : List Kept) (way : Way) → IsJob job → IsWayFrom job number from way
+    → IsCase job number (met_of way) → KeepsFor job number (At (bits_of way.kept)) way.kept
+keeps_met job number from way is bits whole =
+    let same = all_met job number way is bits.kept whole in
+    (refl, subst (IsCase job number) (sym same) whole, bits.kept)
+
+-- ---- the next case
+
+-- a run begins with the bits that are kept
+pub way_begins : (job : Job) (number : ℕ) (way : Way) → AreKept job number [] way.kept
+    → IsWayFrom job number way.kept way
+way_begins job number way are = record {
+  kept = are;
+  more = [];
+  kept_is = sym (append-nil way.kept);
+  least = tt;
+  met = inl refl;
+}
+
+-- of two different cases the first comes before the other, where that doesn't come before it
+comes_first : (job : Job) (number : ℕ) (bits other : List Decided) → IsJob job → IsCase job number bits
+    → IsCase job number other → other ≢ bits → (IsBefore other bits → ⊥) → IsBefore bits other
+comes_first job number bits other is one two differ never =
+    elim (one_case_is_first job number bits other is one two (λ same. differ (sym same))) [
+      | inl first ↦ first
+      | inr second ↦ absurd (never second)
+    ]
+
+-- nothing kept leads to the first of all
+pub leads_to_first : (job : Job) (number : ℕ) → IsJob job → OneIsToCome job number Before
+    → LeadsToNext job number Before []
+leads_to_first job number is some = record {
+  are_kept = tt;
+  some = some;
+  next = λ way bits whole.
+      let same = all_met job number way is bits.kept whole in
+      let more : way.kept ≡ bits.more = bits.kept_is in
+      record {
+        feasible = whole;
+        to_come = tt;
+        first = λ other case come differ. comes_first job number (met_of way) other is whole case differ (λ before.
+            least_first job number bits.more [] other bits.least
+            (subst (IsBefore other) (sym same ∙ ap (λ (xs : List Kept). bits_of xs) more) before)
+            (feasible_case job number other case));
+      };
+}
+
+-- turned bits lead to the next one behind the last
+pub leads_behind : (job : Job) (number : ℕ) (kept now : List Kept) → IsJob job
+    → KeepsFor job number (At (bits_of kept)) kept → turned_last kept ≡ Some now
+    → LeadsToNext job number (At (bits_of kept)) now
+leads_behind job number kept now is keeps turns =
+    let t = turned_at kept now turns in
+    let are : AreKept job number [] (t.front ++ t.bit ∷ t.behind) =
+    subst (AreKept job number []) t.kept_is keeps.2 in
+    let last : bits_of kept ≡ bits_of (t.front ++ t.bit ∷ t.behind) = ap (λ (xs : List Kept). bits_of xs) t.kept_is in
+    let now_are : AreKept job number [] now = subst (AreKept job number []) (sym t.now_is)
+    (turned_kept job number t.front t.bit t.behind [] are t.can) in
+    record {
+      are_kept = now_are;
+      some = subst (λ (xs : List Decided). OneIsToCome job number (At xs)) (sym last)
+          (turned_comes job number t.front t.bit t.behind are t.can);
+      next = λ way bits whole.
+          let same = all_met job number way is bits.kept whole in
+          let all : way.kept ≡ t.front ++ turned t.bit ∷ bits.more =
+          bits.kept_is ∙ ap (λ (xs : List Kept). xs ++ bits.more) t.now_is
+          ∙ append_assoc t.front (turned t.bit ∷ []) bits.more in
+          let met : met_of way ≡ bits_of (t.front ++ turned t.bit ∷ bits.more) =
+          sym same ∙ ap (λ (xs : List Kept). bits_of xs) all in
+          let least : AreLeast job number (bits_of (t.front ++ turned t.bit ∷ [])) bits.more =
+          subst (λ (xs : List Kept). AreLeast job number (bits_of xs) bits.more) t.now_is bits.least in
+          record {
+            feasible = whole;
+            to_come = subst (λ (xs : List Decided). IsBefore xs (met_of way)) (sym last)
+                (subst (IsBefore (bits_of (t.front ++ t.bit ∷ t.behind))) (sym met)
+                (turned_before t.front t.bit t.behind bits.more
+                ((kept_there job number t.front t.bit t.behind [] are).zero t.can)));
+            first = λ other case come differ. comes_first job number (met_of way) other is whole case differ (λ before.
+                none_between job number t.front t.bit t.behind bits.more [] other are t.none least
+                (feasible_case job number other case)
+                (subst (λ (xs : List Decided). IsBefore xs other) last come)
+                (subst (IsBefore other) met before));
+          };
+    }
+
+-- none is to come where none can be turned
+pub none_left : (job : Job) (number : ℕ) (kept : List Kept) → KeepsFor job number (At (bits_of kept)) kept
+    → turned_last kept ≡ None → NoneIsToCome job number (At (bits_of kept))
+none_left job number kept keeps none = λ other case come.
+    none_behind job number kept [] other keeps.2 none come (feasible_case job number other case)

@@ -1,0 +1,61 @@
+-- The elements' own terms at a boundary.
+use Rattle.std.proofs.Common.{◌≡◌, inl, inr, ℕ, ◌+◌, List, [], ◌∷◌, ◌++◌, length, slice_index, append-nil, ap, sym, subst, ◌∙◌, arith}
+use Rattle.std.specs.Prelude.{Bool, false}
+use Rattle.std.proofs.lemmas.Bool.{cases_lt}
+use Rattle.mw_term.specs.declared.kinds.WordKind.TheVariants.{Element}
+use Rattle.mw_term.specs.declared.word.Word.{Word}
+use Rattle.mw_term.specs.WordList.{variable}
+use Rattle.mw_symmem.specs.Words.{IsVariable}
+use Rattle.mw_symmem.proofs.Lists.{behind, pushed_there}
+use Rattle.mw_rel.specs.Free.{is_free}
+use Rattle.mw_rel.specs.Relation.{Boundary}
+use Rattle.mw_rel.proofs.Elements.{back_at, front_at}
+use Rattle.mw_fork.specs.OwnTerms.{AreOwn, IsOwn}
+
+-- a variable
+pub own_variable : (free : Bool) (number : ℕ) (old new : List Word) (term : ℕ)
+    → new ≡ old ++ variable term (Element number) ∷ [] → IsOwn free number old new term
+own_variable free number old new term words = record {
+  more = variable term (Element number) ∷ [];
+  words = words;
+  is = λ passes. (
+    length old,
+    subst (λ ws. IsVariable ws (length old) term (Element number)) (sym words)
+        (pushed_there old (variable term (Element number))),
+  );
+}
+
+-- an element that isn't free has no variable, and no word was made
+pub own_zero : (number : ℕ) (words : List Word) (term : ℕ) → IsOwn false number words words term
+own_zero number words term = record { more = []; words = sym (append-nil words); is = λ passes. absurd cc }
+
+-- variables stay with words behind them
+pub own_behind : (boundary : Boundary) (count : ℕ) (old new more : List Word) (own : List ℕ) → new ≡ old ++ more
+    → AreOwn boundary count old own → AreOwn boundary count new own
+own_behind boundary count old new more own words are n below free =
+    let before = are n below free in (
+      before.0,
+      subst (λ ws. IsVariable ws before.0 (slice_index own n) (Element n)) (sym words)
+          (behind old more before.0 (variable (slice_index own n) (Element n)) before.1),
+    )
+
+last_of : (own : List ℕ) (term n : ℕ) → n ≡ length own → slice_index (own ++ term ∷ []) n ≡ term
+last_of own term n is =
+    let place : n ≡ length own + 0 = omega (arith, is) in
+    ap (slice_index (own ++ term ∷ [])) place ∙ back_at own (term ∷ []) 0
+
+-- one more
+pub own_more : (boundary : Boundary) (number : ℕ) (free : Bool) (old new : List Word) (own : List ℕ) (term : ℕ)
+    → free ≡ is_free boundary number → length own ≡ number → AreOwn boundary number old own
+    → IsOwn free number old new term → AreOwn boundary (number + 1) new (own ++ term ∷ [])
+own_more boundary number free old new own term tested count are is n below passes = elim (cases_lt n number) [
+  | inl before ↦
+      subst (λ x. (place : ℕ) × IsVariable new place x (Element n))
+      (sym (front_at own (term ∷ []) n (omega (arith, before, count))))
+      (own_behind boundary number old new is.more own is.words are n before passes)
+  | inr past ↦
+      let same : n ≡ number = omega (arith, past, below) in
+      subst (λ x. (place : ℕ) × IsVariable new place x (Element n)) (sym (last_of own term n (same ∙ sym count)))
+      (subst (λ k. (place : ℕ) × IsVariable new place term (Element k)) (sym same)
+      (is.is (tested ∙ ap (is_free boundary) (sym same) ∙ passes)))
+]

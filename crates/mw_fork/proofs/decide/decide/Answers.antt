@@ -1,0 +1,58 @@
+use Rattle.std.proofs.Common.{◌≡◌, List, ap, sym, subst, ◌∙◌}
+use Rattle.std.specs.Prelude.{Bool, cond}
+use Rattle.mw_dd.specs.declared.nodes.Node.{Node}
+use Rattle.mw_dd.specs.Nodes.{function_of}
+use Rattle.mw_term.specs.Functions.{Function}
+use Rattle.mw_cycle.specs.Decided.{decided}
+use Rattle.mw_fork.specs.OnWay.{HasDecided, ground_in, path_in}
+use Rattle.mw_fork.specs.Ways.{met_of}
+use Rattle.mw_fork.specs.Within.{AreWithin}
+use Rattle.mw_fork.proofs.Budgets.{within_more}
+use Rattle.mw_fork.proofs.Choosing.{AreTold, has_decided}
+use Rattle.mw_fork.proofs.Grounds.{have_starts}
+use Rattle.mw_fork.proofs.decide.decide.Goals as goal
+
+pub returns-clause-goes : goal.returns-clause-goes
+returns-clause-goes c = λ job number elements from valid on asked.
+    let g = ground_in c.args.space.now elements in
+    let old = c.args.way.now in
+    let new = c.take.new.self in
+    let path = path_in c.args.paths.now in
+    let split = c.in-Ok.split in
+    let nodes = c.split.new.self.dds in
+    let taken = c.in_ok-value.ensures in
+    let k = taken.value.0 in
+    let value = c.in_ok-value.value in
+    let same : value ≡ k.bit.value = taken.value.2 in
+    let e = c.feasible-feasible.ensures in
+    let told : AreTold c.feasible-feasible.result (function_of nodes split.zero) (function_of nodes split.one) = record {
+      zero_somewhere = e.zero_somewhere;
+      one_somewhere = e.one_somewhere;
+      zero_nowhere = e.zero.0;
+      one_nowhere = e.one.0;
+    } in
+    let next : function_of nodes (cond k.bit.value split.one split.zero) ≡ path_in c.go.new.self =
+    ap (λ (v : Bool). function_of nodes (cond v split.one split.zero)) (sym same)
+    ∙ ap (function_of nodes) (sym c.go.ensures.path)
+    ∙ ap (λ (ns : List Node). function_of ns c.go.new.self.path) (sym c.go.ensures.dds) in
+    subst (λ (v : Bool). HasDecided job number g from old new path (path_in c.go.new.self) c.args.kind c.args.term v) (sym same)
+    (subst (λ (f : Function). HasDecided job number g from old new path f c.args.kind c.args.term k.bit.value) next
+    (has_decided job number g from old new nodes path _ split c.args.kind c.args.term _ k
+    (have_starts job number g valid on.stands) on.stands.space.workspace.table c.requires.wide on asked c.in-Ok.ensures.split
+    told taken.within taken.value.1 taken.new))
+
+pub returns-clause-nodes : goal.returns-clause-nodes
+returns-clause-nodes c = λ job number elements from valid on asked are.
+    let has = returns-clause-goes c job number elements from valid on asked in
+    let k = decided c.args.kind c.in_ok-value.value in
+    subst (AreWithin job number c.args.nodes) (sym has.met)
+    (within_more job number c.args.nodes (met_of c.args.way.now) k are (record {
+      basis = ground_in c.args.space.now elements;
+      stands = on.stands;
+      path = path_in c.args.paths.now;
+      cases = on.cases;
+      term = c.args.term;
+      next = asked;
+      zero = c.in-Ok.ensures.split.zero_within;
+      one = c.in-Ok.ensures.split.one_within;
+    }))

@@ -1,0 +1,103 @@
+-- What a fork gives: the feasible cases of a boundary, one after another.
+use Rattle.std.specs.Prelude.{◌≡◌, ◌≢◌, ℕ, ◌<◌, ◌≤◌, List, [], length, Bool}
+use Rattle.mw_cycle.specs.declared.decided.Decided.{Decided}
+use Rattle.mw_rel.specs.Case.{IsBefore, IsCase, IsStartAt, case_of, cycles_of, is_late}
+use Rattle.mw_rel.specs.Job.{IsJob, Job}
+use Rattle.mw_rel.specs.Start.{Start}
+use Rattle.mw_fork.specs.declared.budget.Budget.{Budget}
+use Rattle.mw_fork.specs.declared.fork.Stage.{Stage}
+use Rattle.mw_fork.specs.declared.fork.Stage.TheVariants as stages
+use Rattle.mw_fork.specs.declared.way.Kept.{Kept}
+use Rattle.mw_fork.specs.KeptBits.{AreKept, IsWayFrom}
+use Rattle.mw_fork.specs.Ways.{Way, bits_of, met_of}
+
+-- where a fork stands among the cases of its boundary: before all, at the one given last, or behind all
+pub data Standing : Type 0 where
+  Before : Standing
+  At : List Decided → Standing
+  Behind : Standing
+
+-- a case is still to come
+abbrev pub IsToCome : Standing → List Decided → Type 0
+IsToCome Before bits = Unit {0}
+IsToCome (At last) bits = IsBefore last bits
+IsToCome Behind bits = ⊥
+
+-- it is the next one: a case of the boundary that is to come, and comes before each other one that is
+pub record IsNextCase (job : Job) (number : ℕ) (at : Standing) (bits : List Decided) : Type 0 where
+  pub feasible : IsCase job number bits
+  pub to_come : IsToCome at bits
+  pub first : (other : List Decided) → IsCase job number other → IsToCome at other → other ≢ bits → IsBefore bits other
+
+-- no case is to come
+abbrev pub NoneIsToCome : Job → (number : ℕ) → Standing → Type 0
+NoneIsToCome job number at = (other : List Decided) → IsCase job number other → ¬ IsToCome at other
+
+-- a case is to come
+pub record OneIsToCome (job : Job) (number : ℕ) (at : Standing) : Type 0 where
+  pub other : List Decided
+  pub feasible : IsCase job number other
+  pub to_come : IsToCome at other
+
+-- each start with this case has a segment of so many cycles, which is late or isn't
+abbrev pub EndsEach : Job → (number : ℕ) → (bits : List Decided) → (cycles : ℕ) → (late : Bool) → Type 0
+EndsEach job number bits cycles late = (start : Start) → IsStartAt job number start → case_of job start ≡ bits
+    → (cycles_of job start ≡ cycles) × (is_late job start ≡ late)
+
+-- Kept bits lead to the next case: there is one, and it is that of each run that began with them and has met all bits of a
+-- case.
+pub record LeadsToNext (job : Job) (number : ℕ) (at : Standing) (kept : List Kept) : Type 0 where
+  pub are_kept : AreKept job number [] kept
+  pub some : OneIsToCome job number at
+  pub next : (way : Way) → IsWayFrom job number kept way → IsCase job number (met_of way)
+      → IsNextCase job number at (met_of way)
+
+-- ---- what a fork keeps
+
+-- The number of its boundary, its budget, how many cases were given, where it stands among them, and the decided bits
+-- that it keeps.
+pub record Fork : Type 0 where
+  pub boundary : ℕ
+  pub budget : Budget
+  pub given : ℕ
+  pub at : Standing
+  pub kept : List Kept
+
+-- where it stands, by the bits that it keeps
+abbrev pub standing_of : Stage → List Kept → Standing
+standing_of stages.Before kept = Before
+standing_of stages.At kept = At (bits_of kept)
+standing_of stages.Behind kept = Behind
+
+-- a fork with these
+abbrev pub fork_of : (boundary : ℕ) → Budget → (given : ℕ) → Stage → List Kept → Fork
+fork_of boundary budget given stage kept = record {
+  boundary = boundary;
+  budget = budget;
+  given = given;
+  at = standing_of stage kept;
+  kept = kept;
+}
+
+-- what it keeps where it stands: nothing before all cases, and the bits of the one given last
+abbrev pub KeepsFor : Job → (number : ℕ) → Standing → List Kept → Type 0
+KeepsFor job number Before kept = kept ≡ []
+KeepsFor job number (At last) kept = (bits_of kept ≡ last) × IsCase job number last × AreKept job number [] kept
+KeepsFor job number Behind kept = Unit {0}
+
+-- Bits that were turned lead to the next case, from where the bits before stood.
+abbrev pub LeadOn : Stage → (old new : List Kept) → Type 0
+LeadOn stage old new = (job : Job) (number : ℕ) → IsJob job → number < length job.relation.boundaries
+    → KeepsFor job number (standing_of stage old) old → LeadsToNext job number (standing_of stage old) new
+
+-- Where these bits stand, no case is to come.
+abbrev pub LeadNowhere : Stage → List Kept → Type 0
+LeadNowhere stage old = (job : Job) (number : ℕ) → KeepsFor job number (standing_of stage old) old
+    → NoneIsToCome job number (standing_of stage old)
+
+-- A fork of a job: its boundary is one of the job, it has given no more cases than its budget has paths, and it keeps
+-- what it has to.
+pub record IsForkOf (job : Job) (f : Fork) : Type 0 where
+  pub there : f.boundary < length job.relation.boundaries
+  pub few : f.given ≤ f.budget.paths
+  pub keeps : KeepsFor job f.boundary f.at f.kept

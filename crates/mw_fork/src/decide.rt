@@ -1,0 +1,71 @@
+// How the bits of a case are decided.
+ghost use Rattle.std.specs.Prelude.{◌≡◌, ◌+◌, ℕ, List, IfOk, OnOk};
+ghost use Rattle.mw_symmem.specs.Memory.{IsOfWidth};
+ghost use Rattle.mw_rel.specs.Job.{IsJob, Job};
+ghost use Rattle.mw_fork.specs.declared.way.Kept.{Kept};
+ghost use Rattle.mw_fork.specs.CasePaths.{IsNextOfCase};
+ghost use Rattle.mw_fork.specs.OnWay.{HasDecided, HavePaths, IsOnWay, ground_in, path_in};
+ghost use Rattle.mw_fork.specs.Ways.{met_of};
+ghost use Rattle.mw_fork.specs.Within.{AreWithin};
+
+use crate::elements::Space;
+use crate::paths::Paths;
+use crate::stop::Stop;
+use crate::way::Way;
+use mw_blast::BlastFault;
+use mw_symmem::Words;
+use mw_term::{DecidedKind, Term};
+use std::alloc::Global;
+
+/// The number of an operation's word. That of a constant, which is no word, is the last one before it.
+fn number_of(words: &Words, term: Term) -> u64 {
+    match words.word_of(term) {
+        Some(number) => number,
+        None => words.count(),
+    }
+}
+
+/// Why a run stops, by the fault of a term.
+fn stop_of(words: &Words, fault: BlastFault) -> Stop {
+    match fault {
+        BlastFault::Over(term, bit) => Stop::Over {
+            word: number_of(words, term),
+            bit,
+        },
+        BlastFault::NoMemory => Stop::NoMemory,
+    }
+}
+
+/// Decides a bit: its value is that of the way.
+pub(crate) fn decide(
+    alloc: Global,
+    space: &Space,
+    paths: &mut Paths,
+    kind: DecidedKind,
+    term: Term,
+    way: &mut Way,
+    nodes: u32,
+) -> Result<bool, Stop>
+    requires wide { IsOfWidth space.now.terms 1 term }
+    requires paths { HavePaths space.now paths.old }
+    ensures paths { OnOk result (HavePaths space.now paths.new) }
+    ensures met { OnOk result (way.new.met ≡ way.old.met + 1) }
+    ensures goes { IfOk result (λ value. (job : Job) (number : ℕ) (elements : List ℕ) (from : List Kept) → IsJob job
+        → IsOnWay job number (ground_in space.now elements) from way.old (path_in paths.old)
+        → IsNextOfCase job number (ground_in space.now elements) (met_of way.old) (path_in paths.old) kind term
+        → HasDecided job number (ground_in space.now elements) from way.old way.new (path_in paths.old) (path_in paths.new)
+        kind term value) }
+    ensures nodes { IfOk result (λ value. (job : Job) (number : ℕ) (elements : List ℕ) (from : List Kept) → IsJob job
+        → IsOnWay job number (ground_in space.now elements) from way.old (path_in paths.old)
+        → IsNextOfCase job number (ground_in space.now elements) (met_of way.old) (path_in paths.old) kind term
+        → AreWithin job number nodes (met_of way.old) → AreWithin job number nodes (met_of way.new)) }
+{
+    let split = match paths.split(alloc, &space.terms, term, nodes) {
+        Ok(split) => split,
+        Err(fault) => return Err(stop_of(&space.words, fault)),
+    };
+    let feasible = paths.feasible(&split);
+    let value = way.take(kind, feasible)?;
+    paths.go(&split, value);
+    Ok(value)
+}
