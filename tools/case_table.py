@@ -20,6 +20,9 @@ from rows import file_lines, row_lines
 
 # A boundary with more cases than these has their number in its row.
 MOST_CASES = 64
+# The budgets of rows that aren't about them, and of how many jobs the least budgets are tried.
+MOST_NODES = MOST_PATHS = 0x10000
+LIMITED_JOBS = 12
 LISTS = "inputs", "line", "noise"
 SAMPLES = 400
 RANDOM_JOBS = 24
@@ -66,7 +69,7 @@ class Case:
         """A cycle as a report prints it: pass, counter zero and the next address."""
         known = dict(bits)
         address = sum(known[place] << place for place in range(12))
-        return f"{known.get('pass', '-')}{known.get('zero', '-')}{address:03X}"
+        return f"{known.get('pass', '-')}{known.get('zero', '-')}{address:03x}"
 
     def text(self):
         pieces = " ".join(map(self.piece, self.cycles))
@@ -149,31 +152,56 @@ def listed(texts, reads):
     return {at: cases(job, at, reads.get(at, reads)) for at in job.blocks}
 
 
-def report(boundaries):
+def report(boundaries, paths=MOST_PATHS):
+    """The cases of each boundary, within a budget of paths."""
     lines = []
     for at, found in boundaries.items():
-        lines += [f"boundary 0x{at:X}"] + [case.line() for case in found.values()]
+        lines += [f"boundary 0x{at:x}"] + [case.line() for case in found.values()][:paths]
+        if len(found) > paths:
+            lines.append(f"over paths {paths}")
     return "".join(f"{line}\n" for line in lines)
 
 
 def counts(boundaries):
     """As the report of a yes counts: the number of cases, and the cycles of the longest."""
-    return "".join(f"boundary 0x{at:X} cases {len(found)} cycles {max(len(case.cycles) for case in found.values())}\n"
+    return "".join(f"boundary 0x{at:x} cases {len(found)} cycles {max(len(case.cycles) for case in found.values())}\n"
                    for at, found in boundaries.items())
+
+
+def given_lines(texts):
+    lines = [f"with {texts[0]}"]
+    for file, text in zip(("m", "k", "text"), texts[1:]):
+        lines += file_lines(file, text.encode())
+    return lines
+
+
+def print_row(name, texts, call, end, paths=MOST_PATHS):
+    words = f"call {call} nodes={MOST_NODES:x} paths={paths:x}"
+    print("\n".join([""] + row_lines(name, given_lines(texts) + [words], "gives", end.encode())))
+
+
+def print_limits(name, texts, found):
+    """The rows of a job with no path, with one too few for its largest boundary, and with as many as that has."""
+    most = max(map(len, found.values()))
+    for paths in sorted({0, most - 1, most}):
+        print_row(f"{name}, {paths} paths", texts, "cases", report(found, paths), paths)
 
 
 def print_rows():
     print(HEAD)
     for name, text in BOARDS.items():
         print("\n".join(["", f"set {name}"] + file_lines("b", text.encode())))
+    limited = 0
     for name, texts, reads in JOBS + random_jobs():
         found = listed(texts, reads)
-        given = [f"with {texts[0]}"]
-        for file, text in zip("mkr", texts[1:]):
-            given += file_lines(file, text.encode())
-        many = max(map(len, found.values())) > MOST_CASES
-        call, end = ("count-cases", counts) if many else ("cases", report)
-        print("\n".join([""] + row_lines(name, given + [f"call {call} b m k r"], "gives", end(found).encode())))
+        most = max(map(len, found.values()))
+        if most > MOST_CASES:
+            print_row(name, texts, "count-cases", counts(found))
+            continue
+        print_row(name, texts, "cases", report(found))
+        if most > 2 and limited < LIMITED_JOBS:
+            limited += 1
+            print_limits(name, texts, found)
 
 
 def check():

@@ -1,4 +1,5 @@
 // Calls that no command shows yet.
+mod cases;
 mod cycles;
 mod diagrams;
 mod expressions;
@@ -37,6 +38,8 @@ pub fn made(alloc: Global, words: &[String], files: &[File]) -> Result<Vec<u8>, 
         "step-words" => steps::words(alloc, given, files),
         "joint" => steps::beside(alloc, given, files),
         "step" => parts::stepped(alloc, given),
+        "cases" => cases::list(alloc, given, files),
+        "count-cases" => cases::count(alloc, given, files),
         "cycle" => cycles::run(alloc, given, files),
         "symbolic" => symbolic::run(alloc, given, files),
         "cycle-words" => symbolic::words(alloc, given, files),

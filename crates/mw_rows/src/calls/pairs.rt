@@ -73,7 +73,7 @@ fn job_with(
 }
 
 /// The job of the files `b`, `m` and `k`, and of the relation of another one.
-fn read_job(alloc: Global, files: &[File], name: &str) -> Result<Job, Fault> {
+pub(super) fn read_job(alloc: Global, files: &[File], name: &str) -> Result<Job, Fault> {
     let micro = machine_of(alloc, files)?;
     match machine_in(alloc, files, "k") {
         Ok(machine) => job_with(alloc, micro, machine, files, name),
