@@ -52,6 +52,7 @@ returns-clause-nodes c = λ job number elements from valid on asked are.
       path = path_in c.args.paths.now;
       cases = on.cases;
       term = c.args.term;
+      wide = c.requires.wide;
       next = asked;
       zero = c.in-Ok.ensures.split.zero_within;
       one = c.in-Ok.ensures.split.one_within;
