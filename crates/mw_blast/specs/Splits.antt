@@ -1,7 +1,8 @@
 -- A path of a run, and the two that it is split into by a bit.
 use Rattle.std.specs.Prelude.{◌≡◌, ◌⊎◌, ℕ, List, [], ◌∷◌}
 use Rattle.mw_term.specs.Cofactors.{HasAtMostCofactors}
-use Rattle.mw_term.specs.Functions.{Function, never, Triple, ite, made}
+use Rattle.mw_term.specs.Functions.{Function, made}
+use Rattle.mw_term.specs.PathWords.{path_zero, path_one}
 use Rattle.mw_term.specs.Rows.{bit}
 use Rattle.mw_term.specs.Table.{Table}
 use Rattle.mw_dd.specs.declared.nodes.Node.{Node}
@@ -10,14 +11,6 @@ use Rattle.mw_blast.specs.declared.fault.BlastFault.{BlastFault}
 use Rattle.mw_blast.specs.declared.fault.BlastFault.TheVariants.{Over, NoMemory}
 use Rattle.mw_blast.specs.Bits.{StandsFor}
 use Rattle.mw_blast.specs.Causes.{IsOneOver, IsCause}
-
--- the path operation of a bit that is 0: the path where it is
-abbrev pub path_zero : (path b : Function) → Triple
-path_zero path b = ite b never path
-
--- the path operation of a bit that is 1
-abbrev pub path_one : (path b : Function) → Triple
-path_one path b = ite b path never
 
 -- a path split by a bit: both operations are made, and neither is over the budget
 pub record IsSplit (nodes : List Node) (path b : Function) (budget : ℕ) (split : Split) : Type 0 where

@@ -2,11 +2,12 @@
 ghost use Rattle.std.specs.Prelude.{[], ◌∷◌, MatchResult, OnOk};
 ghost use Rattle.mw_term.specs.Cofactors.{HasAtMostCofactors};
 ghost use Rattle.mw_term.specs.Functions.{Function, made};
+ghost use Rattle.mw_term.specs.PathWords.{path_zero, path_one};
 ghost use Rattle.mw_dd.specs.Nodes.{IsDd};
 ghost use Rattle.mw_dd.specs.Diagrams.{Keeps};
 ghost use Rattle.mw_blast.specs.Bits.{StandsFor};
 ghost use Rattle.mw_blast.specs.Rows.{IsRefused};
-ghost use Rattle.mw_blast.specs.Splits.{path_zero, path_one, IsSplit};
+ghost use Rattle.mw_blast.specs.Splits.{IsSplit};
 
 use crate::rows::operate;
 use mw_dd::{Dd, DdFault, Diagrams};

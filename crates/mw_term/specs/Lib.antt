@@ -5,6 +5,7 @@ pub mod Functions
 pub mod Laws
 pub mod MemoryRead
 pub mod Numbered
+pub mod PathWords
 pub mod Rows
 pub mod Table
 pub mod Values

@@ -1,6 +1,6 @@
 use Rattle.std.proofs.Common.{[], ◌∷◌}
 use Rattle.mw_term.specs.Functions.{made}
-use Rattle.mw_blast.specs.Splits.{path_zero, path_one}
+use Rattle.mw_term.specs.PathWords.{path_zero, path_one}
 use Rattle.mw_blast.proofs.Bits.{stays}
 use Rattle.mw_blast.proofs.Operations.{refused_first}
 use Rattle.mw_blast.proofs.split.divide.Goals as goal
