@@ -123,6 +123,14 @@ impl Words {
         self.words.len() as u64
     }
 
+    /// The words, in the order of their numbers.
+    pub fn as_slice(&self) -> &[Word]
+        ensures exact { result.now ≡ self.now }
+        ensures own { HaveOwnKinds self.now }
+    {
+        &self.words
+    }
+
     /// The number of the next word.
     fn next_number(&self) -> u64
         ensures { result ≡ length self.now + 1 }
