@@ -31,10 +31,11 @@ pub data Subject : Type 0 where
   line : (element : ℕ) → Subject
   memory : (address : ℕ) → Subject
 
--- a comparison: of what, and the term of one bit that says whether both sides are equal there
+-- a comparison: of what, the term of one bit that says whether both sides are equal there, and the list up to it
 pub record Comparison : Type 0 where
   pub subject : Subject
   pub term : ℕ
+  pub list : WordList
 
 -- a list, and the comparisons so far
 pub record Compared : Type 0 where
@@ -49,7 +50,8 @@ compared_in list comparisons = record { list = list; comparisons = comparisons }
 abbrev pub with_comparison : Subject → (a b : ℕ) → Compared → Compared
 with_comparison subject a b so_far =
     let same = with_word (Eq a b) so_far.list in
-    compared_in same.list (so_far.comparisons ++ record { subject = subject; term = same.term } ∷ [])
+    compared_in same.list
+    (so_far.comparisons ++ record { subject = subject; term = same.term; list = same.list } ∷ [])
 
 -- ---- events
 

@@ -1,7 +1,9 @@
 pub mod Begin
+pub mod BitOperations
 pub mod Case
 pub mod CaseExamples
 pub mod CaseLaws
+pub mod CaseWords
 pub mod Certified
 pub mod ComparisonWords
 pub mod Completed
@@ -13,10 +15,13 @@ pub mod InRelation
 pub mod Job
 pub mod Laws
 pub mod Lines
+pub mod OverBudget
+pub mod PathWords
 pub mod Relation
 pub mod Rules
 pub mod Seen
 pub mod Shown
+pub mod Sought
 pub mod Start
 pub mod StartWords
 pub mod Views

@@ -1,5 +1,5 @@
 -- Worked lists of words: of two starts, and of comparisons.
-use Rattle.std.specs.Prelude.{ℕ, List, [], ◌∷◌, ◌++◌, codes, map, Option}
+use Rattle.std.specs.Prelude.{ℕ, ◌-◌, List, [], ◌∷◌, ◌++◌, codes, map, take, Option}
 use Rattle.mw_cycle.specs.Boundary.{numbers}
 use Rattle.mw_expr.specs.declared.expr.Pair2.TheVariants.{Sub}
 use Rattle.mw_expr.specs.declared.shape.Shape.{Shape}
@@ -104,10 +104,6 @@ compared board machine sp =
 abbrev pub all_alike : Option Compared
 all_alike = compared (Taken 0 ∷ Out 0 ∷ []) (Taken 0 ∷ Out 1 ∷ []) 0
 
--- a comparison of this subject, which ends at this term
-abbrev pub compared_at : Subject → (term : ℕ) → Comparison
-compared_at subject term = record { subject = subject; term = term }
-
 -- the ops of that comparison: of the events, of the line, and of the memory
 abbrev pub all_alike_ops : List Op
 all_alike_ops =
@@ -130,8 +126,19 @@ all_alike_words =
     ∷ plain 20
     ∷ []
 
+-- a comparison of this subject in that list, which ends at the word of this number, with these base reads so far
+abbrev pub compared_at : Subject → (number : ℕ) → (reads : List Held) → Comparison
+compared_at subject number reads = record {
+  subject = subject;
+  term = number - 1;
+  list = list_of (take number all_alike_ops) (take number all_alike_words) reads;
+}
+
 -- the comparisons: of the second events, of the line, of the memory
 abbrev pub all_alike_listed : Compared
 all_alike_listed =
     compared_in (list_of all_alike_ops all_alike_words (held 1 3 ∷ held 7 9 ∷ held 7 15 ∷ []))
-    (compared_at (compares.event 1) 2 ∷ compared_at (compares.line 0) 6 ∷ compared_at (compares.memory 7) 20 ∷ [])
+    (compared_at (compares.event 1) 3 []
+    ∷ compared_at (compares.line 0) 7 (held 1 3 ∷ [])
+    ∷ compared_at (compares.memory 7) 21 (held 1 3 ∷ held 7 9 ∷ held 7 15 ∷ [])
+    ∷ [])
