@@ -148,7 +148,7 @@ no_input words kinds k place term is = kinds place term (Input k) is
 no_event : (t : Table) (width : ℕ) (i : ℕ) (e : SymEvent) → slice_get [] i ≡ Some e → ⊥
 no_event t width i e is = cc
 
-machine_word : (job : Job) → IsJob job → job.relation.shape.word ≡ job.machine.shape.word
+pub machine_word : (job : Job) → IsJob job → job.relation.shape.word ≡ job.machine.shape.word
 unfolding shape_of
 machine_word job is = ap (λ (s : Shape). s.word) is.matched.parts.shape
 

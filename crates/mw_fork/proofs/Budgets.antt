@@ -1,17 +1,18 @@
 -- Decided bits that are within a budget of nodes.
-use Rattle.std.proofs.Common.{◌≡◌, ◌⊎◌, inl, inr, ℕ, ◌<◌, List, [], ◌∷◌, ◌++◌, ap, ap₂, sym, subst, refl, arith}
+use Rattle.std.proofs.Common.{◌≡◌, ◌⊎◌, inl, inr, ℕ, ◌<◌, List, [], ◌∷◌, ◌++◌, ap, ap₂, false, subst, refl}
 use Rattle.mw_cycle.specs.declared.decided.Decided.{Decided}
+use Rattle.mw_cycle.specs.Boundary.{is_named}
 use Rattle.mw_term.specs.declared.kinds.DecidedKind.{DecidedKind}
 use Rattle.mw_symmem.specs.declared.turn.Turn.{Turn}
 use Rattle.mw_symmem.specs.declared.turn.Turn.TheVariants.{Ask}
-use Rattle.mw_rel.specs.Free.{numbered}
 use Rattle.mw_rel.specs.Job.{Job}
+use Rattle.mw_rel.specs.Start.{addresses_of}
 use Rattle.mw_fork.specs.declared.run.Run.{Run}
-use Rattle.mw_fork.specs.OnWay.{IsOnRun, IsTurnedOnRun, MadeWithin, SettlesWithin, StaysWithin, Turns}
+use Rattle.mw_fork.specs.OnWay.{MadeWithin, SettlesWithin, StaysWithin, Turns}
 use Rattle.mw_fork.specs.Ways.{Way}
 use Rattle.mw_fork.specs.Within.{AreWithin, IsWithin}
-use Rattle.mw_fork.proofs.MetSegment.{HasMade}
-use Rattle.mw_fork.proofs.OnRun.{StaysOnRun}
+use Rattle.mw_fork.proofs.MetSegment.{HasMade, on_made}
+use Rattle.mw_fork.proofs.OnRun.{StaysOnRun, asks_then}
 use Rattle.mw_fork.proofs.Ordering.{no_item}
 
 head_of : {A : Type 0} (x y : A) (xs ys : List A) → x ∷ xs ≡ y ∷ ys → x ≡ y
@@ -53,27 +54,24 @@ within_more job number nodes bits k are is before other rest same =
 
 -- a bit more
 pub within_with : (job : Job) (nodes : ℕ) (old way next : Way) (before run asked : Run) (count : ℕ) (turn : Turn)
-    (kind : DecidedKind) (term : ℕ) → turn ≡ Ask kind term → asked.board.place.cycle ≡ count
-    → StaysOnRun job old way before run count → Turns job run asked turn
+    (kind : DecidedKind) (term : ℕ) → turn ≡ Ask kind term → run.board.place.cycle ≡ count
+    → asked.board.place.cycle ≡ count → StaysOnRun job old way before run count → Turns job run asked turn
     → SettlesWithin job nodes way next asked kind term → StaysWithin job nodes old way before count
     → StaysWithin job nodes old next before count
-within_with job nodes old way next before run asked count turn kind term asks cycle stays turns settles within =
+within_with job nodes old way next before run asked count turn kind term asks made cycle stays turns settles within =
     λ number elements from on below are.
-    let at = subst (λ (t : Turn). IsTurnedOnRun job number elements from way asked count t) asks
-    (turns number count elements from way (stays number elements from on below)) in
-    settles number elements from
-    (subst (λ (n : ℕ). IsTurnedOnRun job number elements from way asked n (Ask kind term)) (sym cycle) at)
-    (subst (λ (n : ℕ). n < (numbered job number).bound) (sym cycle) below)
-    (within number elements from on below are)
+    let at = asks_then job old way before run asked count turn kind term asks made cycle stays turns number elements from on
+    below in
+    settles number elements from at.0 at.1 (within number elements from on below are)
 
 -- ---- through a segment
 
 -- a cycle more
 pub within_made : (job : Job) (nodes : ℕ) (old way next : Way) (before run : Run) (bound n : ℕ)
     → HasMade job old way before run bound n → run.board.place.cycle ≡ n → n < bound
+    → (0 < n → is_named (addresses_of job) run.board.place.at ≡ false)
     → StaysWithin job nodes way next run run.board.place.cycle → MadeWithin job nodes old way before bound
     → MadeWithin job nodes old next before bound
-within_made job nodes old way next before run bound n has made below cycles within = λ number elements from on same are.
-    let so_far = (has number elements from on same).0 in
-    cycles number elements from (subst (λ (m : ℕ). IsOnRun job number elements from way run m) (sym made) so_far)
-    (omega (arith, below, made, same)) (within number elements from on same are)
+within_made job nodes old way next before run bound n has made below none cycles within = λ number elements from on same are.
+    let at = on_made job old way before run bound n has made below none number elements from on same in
+    cycles number elements from at.0 at.1 (within number elements from on same are)

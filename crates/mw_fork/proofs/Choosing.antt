@@ -10,7 +10,7 @@ use Rattle.mw_cycle.specs.Decided.{decided}
 use Rattle.mw_term.specs.Assigned.{Given}
 use Rattle.mw_term.specs.Cofactors.{Agree}
 use Rattle.mw_term.specs.declared.kinds.DecidedKind.{DecidedKind}
-use Rattle.mw_term.specs.Functions.{Function, never}
+use Rattle.mw_term.specs.Functions.{Function, made, never}
 use Rattle.mw_term.specs.Rows.{bit}
 use Rattle.mw_term.specs.Table.{Table, IsTable}
 use Rattle.mw_term.specs.Values.{term_value}
@@ -26,15 +26,18 @@ use Rattle.mw_symboard.proofs.OnPaths.{splits_are_by}
 use Rattle.mw_symboard.proofs.RunBits.{and_rest, first_before, first_next, first_of}
 use Rattle.mw_rel.specs.Case.{IsFeasiblePrefix, case_of}
 use Rattle.mw_rel.specs.Job.{Job}
+use Rattle.mw_rel.specs.PathWords.{path_of, path_word}
 use Rattle.mw_rel.specs.Start.{Start}
 use Rattle.mw_fork.specs.declared.way.Feasible.{Feasible}
 use Rattle.mw_fork.specs.declared.way.Kept.{Kept}
 use Rattle.mw_fork.specs.CasePaths.{IsCasePath, IsNextOfCase}
 use Rattle.mw_fork.specs.KeptBits.{AreKept, AreLeast, IsKept, IsWayFrom}
+use Rattle.mw_fork.specs.Listed.{AsksFor}
 use Rattle.mw_fork.specs.OnWay.{HasDecided, IsOnWay}
 use Rattle.mw_fork.specs.Starts.{Ground, HaveStarts, IsStartOf}
 use Rattle.mw_fork.specs.Ways.{Way, bits_of, first_of as first_bit, kept_with, met_of, way_of}
 use Rattle.mw_fork.proofs.Ordering.{kept_feasible}
+use Rattle.mw_fork.proofs.WordPaths.{written_next}
 
 -- ---- paths and prefixes
 
@@ -340,19 +343,27 @@ by_value : (t : Table) (nodes : List Node) (term : ℕ) (path : Function) (split
 by_value t nodes term path split true by_low by_high = by_high
 by_value t nodes term path split false by_low by_high = by_low
 
+-- it is what the path word for that value makes
+made_by_value : (nodes : List Node) (path b : Function) (budget : ℕ) (split : Split) (value : Bool)
+    → IsSplit nodes path b budget split
+    → Agree (function_of nodes (cond value split.one split.zero)) (made (path_word path b value))
+made_by_value nodes path b budget split true is = is.one.exact
+made_by_value nodes path b budget split false is = is.zero.exact
+
 -- a path is split, and the way chooses
 pub has_decided : (job : Job) (number : ℕ) (g : Ground) (from : List Kept) (old new : Way) (nodes : List Node)
     (path : Function) (budget : ℕ) (split : Split) (kind : DecidedKind) (term : ℕ) (feasible : Feasible) (k : Kept)
     → HaveStarts job number g → IsTable g.table → IsOfWidth g.table 1 term
     → IsOnWay job number g from old path → IsNextOfCase job number g (met_of old) path kind term
-    → IsSplit nodes path (bit g.table term 0) budget split
+    → AsksFor job number (met_of old) g term → IsSplit nodes path (bit g.table term 0) budget split
     → AreTold feasible (function_of nodes split.zero) (function_of nodes split.one)
     → old.met ≤ length old.kept → slice_get (kept_with old kind feasible) old.met ≡ Some k
     → new ≡ way_of (kept_with old kind feasible) (old.met + 1)
     → HasDecided job number g from old new path (function_of nodes (cond k.bit.value split.one split.zero)) kind term
     k.bit.value
-has_decided job number g from old new nodes path budget split kind term feasible k starts table wide on asked is told within
-    at same =
+has_decided job number g from old new nodes path budget split kind term feasible k starts table wide on asked asks is told
+    within at same =
+    let next = function_of nodes (cond k.bit.value split.one split.zero) in
     let low = function_of nodes split.zero in
     let high = function_of nodes split.one in
     let by_low = (splits_are_by g.table term path low table wide).1 is.zero.exact in
@@ -364,8 +375,10 @@ has_decided job number g from old new nodes path budget split kind term feasible
     record {
       on = record {
         stands = on.stands;
-        cases = subst (λ (bits : List Decided).
-            IsCasePath job number g bits (function_of nodes (cond k.bit.value split.one split.zero))) (sym met)
+        written = subst (λ (bits : List Decided). Agree next (path_of job number bits)) (sym met)
+            (written_next job number (met_of old) g path next kind term k.bit.value on.stands.space.map asks on.written
+            (made_by_value nodes path (bit g.table term 0) budget split k.bit.value is));
+        cases = subst (λ (bits : List Decided). IsCasePath job number g bits next) (sym met)
             (path_by job number g (met_of old) path _ kind term k.bit.value on.cases asked by);
         bits = subst (λ (way : Way). IsWayFrom job number from way) (sym same) more.bits;
       };

@@ -103,7 +103,8 @@ unfolding of_kind of_word with_values
 with_values_at words values place term n is =
     ap (with_values words values) (add-one place) ∙ ap (of_word values) is
 
-same_kind : (words : List Word) (i j a b : ℕ) (one two : WordKind) → i + 1 ≡ j + 1 → IsVariable words i a one
+-- the kind of a number's variable
+pub same_kind : (words : List Word) (i j a b : ℕ) (one two : WordKind) → i + 1 ≡ j + 1 → IsVariable words i a one
     → IsVariable words j b two → one ≡ two
 same_kind words i j a b one two same first second =
     let place : i ≡ j = omega (arith, same) in

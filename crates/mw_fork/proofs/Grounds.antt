@@ -6,14 +6,18 @@ use Rattle.std.proofs.lemmas.List.{get_or-map, get_or-take, length-map}
 use Rattle.std.proofs.lemmas.Option.{get_or_from_slice_get, slice_get-get_or}
 use Rattle.mw_board.specs.Elements.{element_count}
 use Rattle.mw_cycle.specs.Elements.{element}
+use Rattle.mw_cycle.specs.Environment.{Environment}
 use Rattle.mw_expr.specs.declared.shape.Shape.{Shape}
 use Rattle.mw_expr.specs.Values as expr
 use Rattle.mw_term.specs.Assigned.{Given}
+use Rattle.mw_term.specs.declared.kinds.WordKind.TheVariants.{Element}
 use Rattle.mw_term.specs.Values.{term_value}
-use Rattle.mw_symmem.specs.Memory.{FitImage, IsImage}
+use Rattle.mw_symmem.specs.Memory.{FitImage, IsBaseNumber, IsImage}
+use Rattle.mw_symmem.specs.Words.{IsVariable}
 use Rattle.mw_symmem.proofs.Reached.{images_are_reached}
 use Rattle.mw_symmem.proofs.There.{images_are_there}
 use Rattle.mw_symboard.specs.Laws.{IsEnvironmentOf}
+use Rattle.mw_symboard.specs.Variables.{IsOutsideNumber}
 use Rattle.mw_symboard.proofs.Environments.{environments_are_reached, environments_are_there, environments_stay}
 use Rattle.mw_symmach.specs.Expressions.{values_at}
 use Rattle.mw_rel.specs.Begin.{Begin}
@@ -26,6 +30,7 @@ use Rattle.mw_rel.specs.Start.{Start}
 use Rattle.mw_rel.proofs.Choices.{each_choice_gives_a_pair}
 use Rattle.mw_rel.proofs.Elements.{board_value, pair_words, register_value, widths_count}
 use Rattle.mw_rel.proofs.Standing.{board_address, dropped_at}
+use Rattle.mw_fork.specs.Begins.{IsChosen}
 use Rattle.mw_fork.specs.Starts.{Ground, HaveAll, HaveFree, HaveStarts, IsGround, IsStartOf, registers_of}
 use Rattle.mw_fork.proofs.FreeValues.{begin_of, completed_free, element_inside, element_no_base, element_value, outside_no_base, terms_begin, with_values}
 use Rattle.mw_fork.proofs.Runs.{registers_count}
@@ -124,41 +129,62 @@ start_of job number g given start is ground starts free fit outside =
 
 -- ---- each assignment is that of a start
 
-start_there : (job : Job) (number : ℕ) (g : Ground) → IsJob job → IsGround job number g
-    → (given : Given) → (start : Start) × IsStartOf job number g given start
-start_there job number g is ground given =
+-- A start with an image that the base reads fit, and with an environment that has the values of the variables: what the
+-- values of the free elements' terms, the image and the environment choose.
+pub start_with : (job : Job) (number : ℕ) (g : Ground) → IsJob job → IsGround job number g → (given : Given)
+    (image : List ℕ) (env : Environment) → IsImage g.memory image → FitImage g.table given g.memory.reads image
+    → IsEnvironmentOf job.board g.table g.words given env
+    → (start : Start)
+    × IsChosen job number (begin_of job (numbered job number) g.table given g.elements image env) start
+    × IsStartOf job number g given start
+start_with job number g is ground given image env fits fit outside =
     let boundary = numbered job number in
-    let work = ground.space.workspace in
-    let image = images_are_there g.table g.words g.memory given work.table work.memory in
-    let env = environments_are_there job.board g.table g.words ground.cycles given work.table ground.own ground.variables in
-    let begin : Begin = begin_of job boundary g.table given g.elements image.0 env.0 in
-    let choice = terms_begin job boundary g.table given g.elements image.0 env.0 work.table ground.wide
-    (image_of_job job number g image.0 is ground image.1) in
+    let begin : Begin = begin_of job boundary g.table given g.elements image env in
+    let choice = terms_begin job boundary g.table given g.elements image env ground.space.workspace.table ground.wide
+    (image_of_job job number g image is ground fits) in
     let pair = each_choice_gives_a_pair job number begin is ground.there choice in
-    let memory : pair.0.board.memory ≡ image.0 = pair.1.related.memory ∙ pair.1.memory in
+    let memory : pair.0.board.memory ≡ image = pair.1.related.memory ∙ pair.1.memory in
     let there = numbered_is job number ground.there in
-    let start : Start = record { boundary = boundary; pair = pair.0; env = env.0 } in
+    let start : Start = record { boundary = boundary; pair = pair.0; env = env } in
     let starts : IsStartAt job number start = record {
-      begins = record { boundary = (number, there); related = pair.1.related; env = env.1.within };
+      begins = record { boundary = (number, there); related = pair.1.related; env = outside.within };
       there = there;
     } in (
       start,
+      record { starts = starts; pair = pair.1; env = refl },
       start_of job number g given start is ground starts
-          (λ n below free. completed_free job boundary g.table given g.elements image.0 env.0 pair.0 n pair.1 below free)
-          (subst (λ xs. FitImage g.table given g.memory.reads xs) (sym memory) image.2) env.1,
+          (λ n below free. completed_free job boundary g.table given g.elements image env pair.0 n pair.1 below free)
+          (subst (λ xs. FitImage g.table given g.memory.reads xs) (sym memory) fit) outside,
     )
+
+start_there : (job : Job) (number : ℕ) (g : Ground) → IsJob job → IsGround job number g
+    → (given : Given) → (start : Start) × IsStartOf job number g given start
+start_there job number g is ground given =
+    let work = ground.space.workspace in
+    let image = images_are_there g.table g.words g.memory given work.table work.memory in
+    let env = environments_are_there job.board g.table g.words ground.cycles given work.table ground.own ground.variables in
+    let one = start_with job number g is ground given image.0 env.0 image.1 image.2 env.1 in
+    (one.0, one.2)
 
 -- ---- each start has an assignment
 
-start_reached : (job : Job) (number : ℕ) (g : Ground) → IsJob job → IsGround job number g
-    → (start : Start) → IsStartAt job number start → (given : Given) × IsStartOf job number g given start
-start_reached job number g is ground start starts =
+-- an assignment gives the variable of each element its value at a start
+abbrev pub HasElements : Job → Ground → Given → Start → Type 0
+HasElements job g given start = (place term n : ℕ) → IsVariable g.words place term (Element n)
+    → given (place + 1) ≡ with_values g.words (values_of job.board start.pair) (place + 1)
+
+-- From such an assignment comes one of the start, which differs from it in the variables of base reads, lines, noise and
+-- inputs alone.
+pub reached_from : (job : Job) (number : ℕ) (g : Ground) → IsJob job → IsGround job number g → (start : Start)
+    → IsStartAt job number start → (first : Given) → HasElements job g first start
+    → (given : Given) × IsStartOf job number g given start
+    × ((n : ℕ) → ¬ IsOutsideNumber g.words n → ¬ IsBaseNumber g.words n → given n ≡ first n)
+reached_from job number g is ground start starts first has =
     let work = ground.space.workspace in
     let related = related_at job number start starts in
     let image = image_of_pair job number g (numbered job number) start.pair ground related in
     let values = values_of job.board start.pair in
     let words = pair_words job start.pair is (record { board = related.board_fits; machine = related.machine_fits }) in
-    let first : Given = with_values g.words values in
     let second = environments_are_reached job.board g.table g.words ground.cycles first start.env work.table work.of ground.own
     ground.variables starts.begins.env in
     let third = images_are_reached g.table g.words g.memory start.pair.board.memory second.0 work.table work.memory image in
@@ -166,11 +192,22 @@ start_reached job number g is ground start starts =
     (λ n at. third.2 n (outside_no_base g.words n at)) second.1 in
     let free : HaveFree job number g third.0 start.pair = λ n below at.
     (let v = ground.free n below at in
-    element_value g.table g.words v.0 (slice_index g.elements n) n (slice_index job.relation.shape.widths n) values third.0
+    let term = slice_index g.elements n in
+    element_value g.table g.words v.0 term n (slice_index job.relation.shape.widths n) values third.0
     work.table work.of v.1 (ground.wide.each n below) (words.each n below)
-    (third.2 (v.0 + 1) (element_no_base g.words v.0 (slice_index g.elements n) n v.1)
-    ∙ second.2 (v.0 + 1) (element_inside g.words v.0 (slice_index g.elements n) n v.1))) in
-    (third.0, start_of job number g third.0 start is ground starts free third.1 outside)
+    (third.2 (v.0 + 1) (element_no_base g.words v.0 term n v.1)
+    ∙ second.2 (v.0 + 1) (element_inside g.words v.0 term n v.1) ∙ has v.0 term n v.1)) in (
+      third.0,
+      start_of job number g third.0 start is ground starts free third.1 outside,
+      λ n inside read. third.2 n read ∙ second.2 n inside,
+    )
+
+start_reached : (job : Job) (number : ℕ) (g : Ground) → IsJob job → IsGround job number g
+    → (start : Start) → IsStartAt job number start → (given : Given) × IsStartOf job number g given start
+start_reached job number g is ground start starts =
+    let reached = reached_from job number g is ground start starts (with_values g.words (values_of job.board start.pair))
+    (λ place term n at. refl) in
+    (reached.0, reached.1)
 
 pub have_starts : (job : Job) (number : ℕ) (g : Ground) → IsJob job → IsGround job number g → HaveStarts job number g
 have_starts job number g is ground = record {

@@ -108,7 +108,7 @@ values_later job number old new ground goes given pair related image fits free n
     (λ k inside is. free k inside is ∙ value_before job number old new given k ground goes inside) n below
     ∙ sym (value_before job number old new given n ground goes below)
 
-ground_later : (job : Job) (number : ℕ) (old new : Ground) (cycles : ℕ) → IsJob job → IsGround job number old
+pub ground_later : (job : Job) (number : ℕ) (old new : Ground) (cycles : ℕ) → IsJob job → IsGround job number old
     → GoesTo old new → HaveVariables job.board new.table new.words cycles → IsGround job number new
 ground_later job number old new cycles is ground goes have = record {
   there = ground.there;
@@ -157,6 +157,7 @@ pub way_later : (job : Job) (number : ℕ) (old new : Ground) (from : List Kept)
     → IsOnWay job number old from way path → IsOnWay job number new from way path
 way_later job number old new from way path cycles is goes have on = record {
   stands = ground_later job number old new cycles is on.stands goes have;
+  written = on.written;
   cases = cases_later job number old new (met_of way) path is on.stands goes on.cases;
   bits = on.bits;
 }

@@ -1,6 +1,6 @@
 -- A run through the cycles of a board.
-use Rattle.std.proofs.Common.{◌≡◌, inl, inr, ℕ, ◌+◌, ◌<◌, List, [], length, take, ap, sym, subst, ◌∙◌, arith, refl}
-use Rattle.std.specs.Prelude.{Bool, ◌==◌, Some, slice_get}
+use Rattle.std.proofs.Common.{◌≡◌, ◌≢◌, inl, inr, ℕ, ◌+◌, ◌<◌, List, [], length, take, ap, sym, subst, ◌∙◌, arith, refl}
+use Rattle.std.specs.Prelude.{Bool, ◌==◌, Some, None, slice_get}
 use Rattle.std.proofs.lemmas.Bool.{cases_lt}
 use Rattle.mw_board.specs.Elements.{element_count}
 use Rattle.mw_cycle.specs.declared.decided.Decided.{Decided}
@@ -17,6 +17,7 @@ use Rattle.mw_symmem.specs.Memory.{Memory}
 use Rattle.mw_symmem.specs.Words.{HaveOwnKinds}
 use Rattle.mw_symmem.specs.Workspace.{GoesOn, IsWorkspace}
 use Rattle.mw_symmem.proofs.Lists.{behind}
+use Rattle.mw_symboard.specs.Along.{ListsTurn}
 use Rattle.mw_symboard.specs.Cycle.{bits_before}
 use Rattle.mw_symboard.specs.Kinds.{IsCycleKind}
 use Rattle.mw_symboard.specs.Laws.{IsNew, bits_in}
@@ -37,10 +38,13 @@ use Rattle.mw_fork.specs.declared.elements.Space.{Space}
 use Rattle.mw_fork.specs.declared.paths.Paths.{Paths}
 use Rattle.mw_fork.specs.declared.run.Run.{Run}
 use Rattle.mw_fork.specs.declared.way.Kept.{Kept}
-use Rattle.mw_fork.specs.OnWay.{HasDecided, HasMetAll, IsOnRun, IsTurnedOnRun, Settles, Turns, ground_in, path_in}
+use Rattle.mw_fork.specs.declared.stop.Stop.{Stop}
+use Rattle.mw_fork.specs.Listed.{ComesTo, left_in_cycle, list_of_space}
+use Rattle.mw_fork.specs.OnWay.{CyclesStop, HasDecided, HasFinished, HasMetAll, IsOnRun, IsTurnedOnRun, Settles, SettlesNot, Turns, ground_in, path_in}
 use Rattle.mw_fork.specs.Runs.{IsTurned}
 use Rattle.mw_fork.specs.Starts.{course_of, origin_of}
 use Rattle.mw_fork.specs.Ways.{Way, met_of}
+use Rattle.mw_fork.proofs.Along.{asks_in_cycle, left_finished}
 use Rattle.mw_fork.proofs.Grounds.{boundary_is}
 use Rattle.mw_fork.proofs.Runs.{board_elements}
 use Rattle.mw_rel.proofs.Cases.{cases_begin_with_cycles, segments_end}
@@ -85,40 +89,65 @@ variables_after job old new before after Finished symbolic goes is all there n b
           (omega (arith, enough)))
     ])
 
+-- after a turn that asks, it waits; and after one that finishes the cycle, one more is finished
+goes_no_further : (job : Job) (t : Table) (words : List Word) (mold mnew : Memory) (old new : Symbolic) (turn : Turn)
+    → IsTurn job.board job.store t words mold mnew old new turn → new.asked ≡ None → new.place.cycle ≢ old.place.cycle
+goes_no_further job t words mold mnew old new (Ask kind term) is idle same =
+    let both : Some kind ≡ None = sym is.3.asked ∙ idle in absurd cc
+goes_no_further job t words mold mnew old new Finished is idle same = absurd (omega (arith, is.2, same))
+
 -- where a run is on its way, and what the turn says is so
-turned_on : (job : Job) (number count : ℕ) (elements : List ℕ) (from : List Kept) (way : Way) (run : Run) (turn : Turn)
-    → IsOnRun job number elements from way run count
+turned_on : (job : Job) (number : ℕ) (elements : List ℕ) (from : List Kept) (way : Way) (old : Run) (space : Space)
+    (board : Symbolic) (turn : Turn)
+    → IsTurn job.board job.store space.terms space.words old.space.memory space.memory old.board board turn
+    → ListsTurn job.board job.store old.space.memory space.memory old.board board (list_of_space old.space) (list_of_space space)
+    turn → ComesTo job number (met_of way) (left_in_cycle job number old.space old.registers.items old.board)
+    → IsOnRun job number elements from way (record old { space = space; board = board }) old.board.place.cycle
     → ((kind : DecidedKind) (term : ℕ) → turn ≡ Ask kind term
-    → IsNextBit job.board job.store run.space.terms run.space.words run.space.memory (origin_of job number elements) run.board
-    (met_of way) (path_in run.paths) kind term)
-    → (turn ≡ Finished → HasMetAll job number elements way run)
-    → IsTurnedOnRun job number elements from way run count turn
-turned_on job number count elements from way run (Ask kind term) on asks all = (on, asks kind term refl)
-turned_on job number count elements from way run Finished on asks all = (on, all refl)
+    → IsNextBit job.board job.store space.terms space.words space.memory (origin_of job number elements) board (met_of way)
+    (path_in old.paths) kind term)
+    → (turn ≡ Finished → HasMetAll job number elements way (record old { space = space; board = board }))
+    → IsTurnedOnRun job number elements from way (record old { space = space; board = board }) old.board.place.cycle turn
+turned_on job number elements from way old space board (Ask kind term) is lists comes on asks all = (
+  on,
+  asks kind term refl,
+  asks_in_cycle job number way old space board kind term (ap (λ (p : Place). p.cycle) is.0)
+      (ap (λ (m : Memory). m.board) is.2) lists comes,
+)
+turned_on job number elements from way old space board Finished is lists comes on asks all = (
+  on,
+  record {
+    all = all refl;
+    before = lists.before;
+    left = left_finished job number (met_of way) old.registers.items old.space space old.board board is.2 lists comes;
+  },
+)
 
 -- a turn
-pub on_turn : (job : Job) (number count : ℕ) (elements : List ℕ) (from : List Kept) (way : Way) (old : Run) (space : Space)
+pub on_turn : (job : Job) (number : ℕ) (elements : List ℕ) (from : List Kept) (way : Way) (old : Run) (space : Space)
     (board : Symbolic) (turn : Turn) → IsJob job → IsWorkspace old.space.terms old.space.words old.space.memory
-    → IsSymbolic job.board job.store old.space.terms old.space.words old.space.memory old.board
+    → IsSymbolic job.board job.store old.space.terms old.space.words old.space.memory old.board → old.board.asked ≡ None
     → GoesOn (IsCycleKind old.board.place.cycle old.board.place.taken) old.space.terms space.terms old.space.words space.words
     old.space.memory space.memory
     → IsTurn job.board job.store space.terms space.words old.space.memory space.memory old.board board turn
-    → IsSymbolic job.board job.store space.terms space.words space.memory board
+    → ListsTurn job.board job.store old.space.memory space.memory old.board board (list_of_space old.space) (list_of_space space)
+    turn → IsSymbolic job.board job.store space.terms space.words space.memory board
     → (turn ≡ Finished
     → length old.board.place.decided ≡ bits_before (microword_of job.board job.store old.board.place) + 12)
     → space.memory.machine ≡ old.space.memory.machine → HaveOwnKinds space.words
-    → IsOnRun job number elements from way old count
-    → IsTurnedOnRun job number elements from way (record old { space = space; board = board }) count turn
-on_turn job number count elements from way old space board turn valid workspace symbolic goes is after all machine own on =
+    → IsOnRun job number elements from way old old.board.place.cycle
+    → IsTurnedOnRun job number elements from way (record old { space = space; board = board }) old.board.place.cycle turn
+on_turn job number elements from way old space board turn valid workspace symbolic idle goes is lists after all machine own on =
     let before = ground_in old.space elements in
     let now = ground_in space elements in
-    let to = goes_to (IsCycleKind old.board.place.cycle old.board.place.taken) old.space space elements goes own in
+    let count = old.board.place.cycle in
+    let to = goes_to (IsCycleKind count old.board.place.taken) old.space space elements goes own in
     let variables = variables_after job old.space space old.board board turn symbolic goes is all on.variables in
     let there = cycles_are_there job.board job.store space.terms space.words space.memory board after variables in
     let law = paths_go_on job.board job.store old.space.terms space.terms old.space.words space.words old.space.memory
     space.memory old.board board turn (origin_of job number elements) (met_of way) (path_in old.paths) workspace symbolic
     goes is on.in_run in
-    turned_on job number count elements from way (record old { space = space; board = board }) turn (record {
+    turned_on job number elements from way old space board turn is lists (on.listed idle refl) (record {
       on = way_later job number before now from way (path_in old.paths) there.0 valid to there.1 on.on;
       in_run = law.0;
       passed = on_path_later job number before now (path_in old.paths) (λ start. HasNoBoundaryYet job start count) valid
@@ -126,6 +155,8 @@ on_turn job number count elements from way old space board turn valid workspace 
       variables = variables;
       unwritten = machine ∙ on.unwritten;
       registers = on.registers;
+      listed = λ waits same.
+          absurd (goes_no_further job space.terms space.words old.space.memory space.memory old.board board turn is waits same);
     }) law.1 law.2
 
 -- ---- decided bits
@@ -174,6 +205,10 @@ on_decided job number elements from old new run paths board kind term value same
       variables = λ n below. turned.0.variables n (omega (arith, cycle, below));
       unwritten = turned.0.unwritten;
       registers = turned.0.registers;
+      listed = λ waits count.
+          subst (λ (o : Symbolic). ComesTo job number (met_of new) (left_in_cycle job number s run.registers.items o)) (sym same)
+          (subst (λ (bits : List Decided). ComesTo job number bits (left_in_cycle job number s run.registers.items given_bit))
+          (sym has.met) (turned.2.on value));
     }
 
 -- ---- a cycle
@@ -191,26 +226,53 @@ pub asked_at : (job : Job) (at : Place) (t : Table) (words : List Word) (m : Mem
 asked_at job at t words m o registers turn kind term asks turned =
     (subst (λ (next : Turn). IsTurned job at t words m o registers next) asks turned).1
 
+-- what it asks for then
+pub asks_then : (job : Job) (old way : Way) (before run asked : Run) (count : ℕ) (turn : Turn) (kind : DecidedKind) (term : ℕ)
+    → turn ≡ Ask kind term → run.board.place.cycle ≡ count → asked.board.place.cycle ≡ count
+    → StaysOnRun job old way before run count → Turns job run asked turn
+    → (number : ℕ) (elements : List ℕ) (from : List Kept) → IsOnRun job number elements from old before count
+    → count < (numbered job number).bound
+    → IsTurnedOnRun job number elements from way asked asked.board.place.cycle (Ask kind term)
+    × (asked.board.place.cycle < (numbered job number).bound)
+asks_then job old way before run asked count turn kind term asks made cycle stays turns number elements from on below =
+    let so_far = subst (λ (n : ℕ). IsOnRun job number elements from way run n) (sym made) (stays number elements from on below) in
+    let at = subst (λ (t : Turn). IsTurnedOnRun job number elements from way asked run.board.place.cycle t) asks
+    (turns number elements from way so_far) in (
+      subst (λ (n : ℕ). IsTurnedOnRun job number elements from way asked n (Ask kind term)) (made ∙ sym cycle) at,
+      subst (λ (n : ℕ). n < (numbered job number).bound) (sym cycle) below,
+    )
+
 -- a bit more
 pub stays_with : (job : Job) (old way next : Way) (before run asked after : Run) (count : ℕ) (turn : Turn)
-    (kind : DecidedKind) (term : ℕ) → turn ≡ Ask kind term → asked.board.place.cycle ≡ count
-    → StaysOnRun job old way before run count → Turns job run asked turn → Settles job way next asked after kind term
-    → StaysOnRun job old next before after count
-stays_with job old way next before run asked after count turn kind term asks cycle stays turns settles =
+    (kind : DecidedKind) (term : ℕ) → turn ≡ Ask kind term → run.board.place.cycle ≡ count
+    → asked.board.place.cycle ≡ count → StaysOnRun job old way before run count → Turns job run asked turn
+    → Settles job way next asked after kind term → StaysOnRun job old next before after count
+stays_with job old way next before run asked after count turn kind term asks made cycle stays turns settles =
     λ number elements from on below.
-    let at = subst (λ (t : Turn). IsTurnedOnRun job number elements from way asked count t) asks
-    (turns number count elements from way (stays number elements from on below)) in
-    subst (λ (n : ℕ). IsOnRun job number elements from next after n) cycle
-    (settles number elements from
-    (subst (λ (n : ℕ). IsTurnedOnRun job number elements from way asked n (Ask kind term)) (sym cycle) at)
-    (subst (λ (n : ℕ). n < (numbered job number).bound) (sym cycle) below))
+    let at = asks_then job old way before run asked count turn kind term asks made cycle stays turns number elements from on
+    below in
+    subst (λ (n : ℕ). IsOnRun job number elements from next after n) cycle (settles number elements from at.0 at.1)
+
+-- no bit more
+pub stops_with : (job : Job) (nodes : ℕ) (old way next : Way) (before run asked : Run) (turn : Turn) (kind : DecidedKind)
+    (term : ℕ) (stop : Stop) → turn ≡ Ask kind term → run.board.place.cycle ≡ before.board.place.cycle
+    → asked.board.place.cycle ≡ before.board.place.cycle → StaysOnRun job old way before run before.board.place.cycle
+    → Turns job run asked turn → SettlesNot job nodes way next asked kind term stop
+    → CyclesStop job nodes old next before stop
+stops_with job nodes old way next before run asked turn kind term stop asks made cycle stays turns settles =
+    λ number elements from on below.
+    let at = asks_then job old way before run asked before.board.place.cycle turn kind term asks made cycle stays turns number
+    elements from on below in
+    settles number elements from at.0 at.1
 
 -- the end of the cycle
 pub stays_finished : (job : Job) (old way : Way) (before run after : Run) (count : ℕ) (turn : Turn) → turn ≡ Finished
-    → StaysOnRun job old way before run count → Turns job run after turn
+    → run.board.place.cycle ≡ count → StaysOnRun job old way before run count → Turns job run after turn
     → (number : ℕ) (elements : List ℕ) (from : List Kept) → IsOnRun job number elements from old before count
     → count < (numbered job number).bound
-    → IsOnRun job number elements from way after count × HasMetAll job number elements way after
-stays_finished job old way before run after count turn done stays turns number elements from on below =
-    subst (λ (t : Turn). IsTurnedOnRun job number elements from way after count t) done
-    (turns number count elements from way (stays number elements from on below))
+    → IsOnRun job number elements from way after count × HasFinished job number elements way after
+stays_finished job old way before run after count turn done made stays turns number elements from on below =
+    let so_far = subst (λ (n : ℕ). IsOnRun job number elements from way run n) (sym made) (stays number elements from on below) in
+    subst (λ (n : ℕ). IsOnRun job number elements from way after n × HasFinished job number elements way after) made
+    (subst (λ (t : Turn). IsTurnedOnRun job number elements from way after run.board.place.cycle t) done
+    (turns number elements from way so_far))

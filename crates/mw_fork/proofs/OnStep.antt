@@ -4,8 +4,10 @@ use Rattle.std.specs.Prelude.{Bool, true, false, Option, Some, None, map, option
 use Rattle.std.proofs.lemmas.List.{length-map, map-append}
 use Rattle.std.proofs.lemmas.Option.{slice_get-map}
 use Rattle.mw_macro.specs.Branches.{branches_of}
-use Rattle.mw_macro.specs.DescribedStep.{step_of}
+use Rattle.mw_macro.specs.DescribedStep.{ended, step_of}
 use Rattle.mw_macro.specs.State.{MachineState}
+use Rattle.mw_macro.specs.Statements.{nothing}
+use Rattle.mw_macro.specs.StepWords.{begun_words}
 use Rattle.mw_cycle.specs.declared.decided.Decided.{Decided}
 use Rattle.mw_cycle.specs.Decided.{decided}
 use Rattle.mw_term.specs.Assigned.{Given}
@@ -13,6 +15,8 @@ use Rattle.mw_term.specs.declared.kinds.DecidedKind.{DecidedKind}
 use Rattle.mw_term.specs.declared.kinds.DecidedKind.TheVariants.{Branch}
 use Rattle.mw_term.specs.declared.kinds.WordKind.TheVariants.{Input, Line}
 use Rattle.mw_term.specs.declared.word.Word.{Word}
+use Rattle.mw_term.specs.Functions.{Function}
+use Rattle.mw_term.specs.MemoryRead.{Held}
 use Rattle.mw_term.specs.Table.{Table}
 use Rattle.mw_term.specs.Values.{term_value}
 use Rattle.mw_term.specs.WordList.{term_of}
@@ -21,12 +25,17 @@ use Rattle.mw_symmem.specs.declared.turn.Turn.TheVariants.{Ask, Finished}
 use Rattle.mw_symmem.specs.Memory.{Memory, IsOfWidth, after, valued}
 use Rattle.mw_symmem.specs.Words.{HaveOwnKinds}
 use Rattle.mw_symmem.specs.Workspace.{GoesOn}
+use Rattle.mw_symboard.specs.Along.{standing_in}
 use Rattle.mw_symboard.specs.Kinds.{AreInputs}
+use Rattle.mw_symboard.specs.Turns.{Symbolic}
 use Rattle.mw_symboard.proofs.Environments.{cycles_stay}
 use Rattle.mw_symboard.proofs.RunBits.{get_behind}
+use Rattle.mw_symboard.proofs.Runs.{runs_stay}
+use Rattle.mw_symmach.specs.Along.{BitsGoAlong, TurnsAlong, TurnsGoAlong}
 use Rattle.mw_symmach.specs.Expressions.{values_at}
-use Rattle.mw_symmach.specs.Steps.{IsOfStep, Parts}
-use Rattle.mw_symmach.specs.Turns.{Asks, HasTerms, IsDecided, IsSeen, IsStart, IsSaid, IsStepping, IsTurn, Scene, Stepping, bits_to_come, end_of}
+use Rattle.mw_symmach.specs.Steps.{IsOfStep, Parts, Stands, now_of}
+use Rattle.mw_symmach.specs.Turns.{Asks, HasTerms, IsDecided, IsSeen, IsStart, IsSaid, IsStepping, IsTurn, Scene, Stepping, bits_to_come, end_of, given_so, is_asked, left_in}
+use Rattle.mw_symmach.specs.Walks.{Walks, asked_by, chosen, underway_in, underway_of}
 use Rattle.mw_symmach.proofs.Acting.{found}
 use Rattle.mw_symmach.proofs.InStep.{bits_are_of_the_step, turns_are_of_the_step}
 use Rattle.mw_rel.specs.Case.{bits_of_cycles, bits_of_step, case_of}
@@ -37,10 +46,14 @@ use Rattle.mw_fork.specs.declared.elements.Space.{Space}
 use Rattle.mw_fork.specs.declared.paths.Paths.{Paths}
 use Rattle.mw_fork.specs.declared.run.Run.{Run}
 use Rattle.mw_fork.specs.declared.way.Kept.{Kept}
-use Rattle.mw_fork.specs.CasePaths.{EndsSo, HasCase}
-use Rattle.mw_fork.specs.OnWay.{HasDecided, HasMetSegment, IsOnStep, IsTurnedOnStep, ground_in, path_in, scene_of}
-use Rattle.mw_fork.specs.Starts.{Ground, IsStartOf, registers_of}
+use Rattle.mw_fork.specs.CasePaths.{EndsSo}
+use Rattle.mw_fork.specs.Ends.{IsBoardOf}
+use Rattle.mw_fork.specs.Listed.{AsksFor, ComesTo, left_behind_segment, list_of_space, standing_on}
+use Rattle.mw_fork.specs.OnWay.{HasDecided, HasMetCase, HasMetSegment, IsOnStep, IsTurnedOnStep, ground_in, path_in, scene_of}
+use Rattle.mw_fork.specs.Starts.{GoesTo, Ground, IsGround, IsStartOf, course_of, registers_of}
+use Rattle.mw_fork.specs.Steps.{said_from}
 use Rattle.mw_fork.specs.Ways.{Way, met_of}
+use Rattle.mw_fork.proofs.AlongStep.{along_none, along_turn, asks_for, ends_listed, left_at_start}
 use Rattle.mw_fork.proofs.Growing.{goes_to, on_path_later, on_path_narrower, start_before, way_later}
 
 -- ---- the bits of a case
@@ -109,9 +122,12 @@ Begins job t m registers request o =
 -- A step of which no bit was given is that of each start on the path, behind its segment.
 pub begun_behind : (job : Job) (number cycles : ℕ) (elements : List ℕ) (from : List Kept) (way : Way) (run : Run)
     (request : ℕ) (o : Stepping) → Begins job run.space.terms run.space.memory run.registers.items request o
+    → left_in job.machine o ≡ job.machine.acts
+    → underway_of job.machine run.space.terms run.space.words run.space.memory o
+    ≡ begun_words job.machine run.registers.items request run.space.memory.machine (list_of_space run.space)
     → term_of run.space.words (Line 0) ≡ Some request → HasMetSegment job number elements from cycles false way run
-    → IsOnStep job number elements from cycles (met_of way) way run.space run.paths o
-begun_behind job number cycles elements from way run request o step line met = record {
+    → IsOnStep job number elements from cycles (met_of way) run.board way run.space run.paths o
+begun_behind job number cycles elements from way run request o step left begun line met = record {
   on = met.on;
   ended = met.ended;
   so_far = [];
@@ -121,6 +137,11 @@ begun_behind job number cycles elements from way run request o step line met = r
       (starts_so job number (ground_in run.space elements) given start run.registers.items request one met.unwritten
       met.registers line) in
       record { bits = sym is.0; ends = sym is.1 };
+  of_board = met.of_board;
+  begun = underway_of job.machine run.space.terms run.space.words run.space.memory o;
+  listed = left_at_start job number (met_of way) run.space run.registers.items run.board request
+      (underway_of job.machine run.space.terms run.space.words run.space.memory o) (met.listed refl) met.unwritten line begun;
+  along = λ idle. along_none job.machine run.space.terms run.space.words run.space.memory o left;
 }
 
 -- ---- a turn
@@ -135,42 +156,93 @@ inputs_of job t words m p (Some request) is has k term at =
     let there = found words (Input k) term at in
     subst (λ w. IsOfWidth t w term) is.matched.word (has.0.input k there.0 term there.1)
 
--- where all bits so far are those of the step of each start on the path, and the turn says what it has to
-said_on : (job : Job) (number cycles : ℕ) (elements : List ℕ) (from : List Kept) (segment : List Decided) (way : Way)
-    (space : Space) (paths : Paths) (o : Stepping) (turn : Turn)
-    (on : IsOnStep job number elements from cycles segment way space paths o)
+-- what a turn says of the step of a start, of which these bits were given
+record Says (job : Job) (space : Space) (given : Given) (start : Start) (o : Stepping) (bits : List Bool) (turn : Turn)
+    : Type 0 where
+  asks : (kind : DecidedKind) (term : ℕ) → turn ≡ Ask kind term
+      → slice_get (branches_at job start) (length bits) ≡ Some (term_value space.terms given term == 1)
+  done : turn ≡ Finished → branches_at job start ≡ bits
+  ends : turn ≡ Finished
+      → step_of job.machine start.pair.machine (slice_index_or start.env.line 0 false) start.env.inputs 0
+      ≡ ended job.machine (now_of space.terms given space.memory start.pair.board.memory o.parts)
+
+-- where the turn says of the step of each start on the path what it has to
+said_on : (job : Job) (number cycles : ℕ) (elements : List ℕ) (from : List Kept) (segment : List Decided)
+    (board : Symbolic) (way : Way) (space : Space) (paths : Paths) (o : Stepping) (turn : Turn)
+    (on : IsOnStep job number elements from cycles segment board way space paths o)
     → IsSaid job.machine space.terms space.words space.memory o turn
+    → TurnsAlong (said_from job.machine on.begun) job.machine on.so_far space.terms space.words space.memory o turn
+    → Stands job.machine.shape space.terms space.words space.memory o.parts
     → ((given : Given) (start : Start) → IsStartOf job number (ground_in space elements) given start
-    → path_in paths given ≡ true
-    → ((kind : DecidedKind) (term : ℕ) → turn ≡ Ask kind term
-    → slice_get (branches_at job start) (length on.so_far) ≡ Some (term_value space.terms given term == 1))
-    × (turn ≡ Finished → branches_at job start ≡ on.so_far))
-    → IsTurnedOnStep job number elements from cycles segment way space paths o turn
-said_on job number cycles elements from segment way space paths o (Ask kind term) on asks says = (
+    → path_in paths given ≡ true → Says job space given start o on.so_far turn)
+    → IsTurnedOnStep job number elements from cycles segment board way space paths o turn
+said_on job number cycles elements from segment board way space paths o (Ask kind term) on asks along stands says = (
   on,
   λ given start one at.
       let value = term_value space.terms given term == 1 in
       ap (λ bits. slice_get (case_of job start) (length bits)) on.met
       ∙ next_of job cycles segment start on.so_far value (on.ended given start one at)
-      ((says given start one at).0 kind term refl)
+      ((says given start one at).asks kind term refl)
       ∙ ap (λ k. Some (decided k value)) (sym asks.branch),
+  along,
 )
-said_on job number cycles elements from segment way space paths o Finished on done says = (
+said_on job number cycles elements from segment board way space paths o Finished on done along stands says = (
   on,
   λ given start one at.
       case_behind job cycles segment start (on.ended given start one at)
-      ∙ ap (λ bits. segment ++ map (decided Branch) bits) ((says given start one at).1 refl) ∙ sym on.met,
+      ∙ ap (λ bits. segment ++ map (decided Branch) bits) ((says given start one at).done refl) ∙ sym on.met,
+  record {
+    of_step = record { ends = λ given start one at. (says given start one at).ends refl; stands = stands };
+    along = along;
+  },
 )
 
+-- the terms of a step that has begun stand
+stands_begun : (job : Job) (t : Table) (words : List Word) (m : Memory) (o : Stepping) → o.request ≡ None
+    → IsStepping job.machine t words m o → Stands job.machine.shape t words m o.parts
+stands_begun job t words m o begun stepping = subst (HasTerms job.machine t words m o.parts) begun stepping.terms
+
+-- a board that stays where it is while other calls go on
+board_later : (job : Job) (number : ℕ) (sold snew : Space) (elements : List ℕ) (path : Function) (board : Symbolic) → IsJob job
+    → IsGround job number (ground_in sold elements) → GoesTo (ground_in sold elements) (ground_in snew elements)
+    → snew.memory.board ≡ sold.memory.board → IsBoardOf job number (ground_in sold elements) sold path board
+    → IsBoardOf job number (ground_in snew elements) snew path board
+board_later job number sold snew elements path board is ground to writes of =
+    let stay = runs_stay job.board job.store sold.terms snew.terms sold.words sold.memory snew.memory board
+    ground.space.workspace to.later writes of.parts of.events in
+    record {
+      with_start = λ given start one at.
+          let before = start_before job number (ground_in sold elements) (ground_in snew elements) given start is ground to one in
+          let with = of.with_start given start before at in
+          record { so_far = with.so_far; in_run = stay.2 given (course_of start) with.so_far with.in_run };
+      parts = stay.0;
+      events = stay.1;
+    }
+
+-- so it does on a narrower path
+board_narrower : (job : Job) (number : ℕ) (g : Ground) (space : Space) (path next : Function) (board : Symbolic)
+    → ((given : Given) → next given ≡ true → path given ≡ true) → IsBoardOf job number g space path board
+    → IsBoardOf job number g space next board
+board_narrower job number g space path next board narrower of = record {
+  with_start = λ given start one at. of.with_start given start one (narrower given at);
+  parts = of.parts;
+  events = of.events;
+}
+
 -- A turn of the step.
-pub turns : (job : Job) (number cycles : ℕ) (elements : List ℕ) (from : List Kept) (segment : List Decided) (way : Way)
-    (sold snew : Space) (paths : Paths) (old new : Stepping) (turn : Turn) → IsJob job
+pub turns : (job : Job) (number cycles : ℕ) (elements : List ℕ) (from : List Kept) (segment : List Decided)
+    (board : Symbolic) (way : Way) (sold snew : Space) (paths : Paths) (old new : Stepping) (turn : Turn) → IsJob job
     → IsTurn job.machine sold.terms snew.terms snew.words sold.memory snew.memory old new turn
     → GoesOn IsOfStep sold.terms snew.terms sold.words snew.words sold.memory snew.memory
-    → IsStepping job.machine snew.terms snew.words snew.memory new → HaveOwnKinds snew.words
-    → IsOnStep job number elements from cycles segment way sold paths old
-    → IsTurnedOnStep job number elements from cycles segment way snew paths new turn
-turns job number cycles elements from segment way sold snew paths old new turn is turned goes stepping own on =
+    → snew.memory.board ≡ sold.memory.board → IsStepping job.machine snew.terms snew.words snew.memory new → HaveOwnKinds snew.words
+    → TurnsGoAlong
+    → Walks job.machine.shape (underway_of job.machine sold.terms sold.words sold.memory old)
+    (underway_in snew.terms snew.words snew.memory new.parts) (left_in job.machine old) (left_in job.machine new) (asked_by turn)
+    → (turn ≡ Finished → left_in job.machine new ≡ nothing) → new.request ≡ None → is_asked old.pending ≡ false
+    → IsOnStep job number elements from cycles segment board way sold paths old
+    → IsTurnedOnStep job number elements from cycles segment board way snew paths new turn
+turns job number cycles elements from segment board way sold snew paths old new turn is turned goes writes stepping own law walks
+    done begun idle on =
     let before = ground_in sold elements in
     let now = ground_in snew elements in
     let to = goes_to IsOfStep sold snew elements goes own in
@@ -184,31 +256,58 @@ turns job number cycles elements from segment way sold snew paths old new turn i
     (scene_of start) start.pair.machine (slice_index_or start.env.line 0 false) on.so_far turned
     (seen_in job number now given start one)
     (on.in_step given start (start_before job number before now given start is ground to one) at) in
-    said_on job number cycles elements from segment way snew paths new turn (record {
+    said_on job number cycles elements from segment board way snew paths new turn (record {
       on = way_later job number before now from way (path_in paths) ground.cycles is to variables on.on;
       ended = on_path_later job number before now (path_in paths) (EndsSo job cycles false segment) is ground to on.ended;
       so_far = on.so_far;
       met = on.met;
       in_step = λ given start one at. (says given start one at).0;
-    }) turned.says (λ given start one at.
-    let is_said = says given start one at in (is_said.1, λ finished. (is_said.2 finished).0))
+      of_board = board_later job number sold snew elements (path_in paths) board is ground to writes on.of_board;
+      begun = on.begun;
+      listed = subst (λ (held : List Held). ComesTo job number segment
+          (left_behind_segment job (standing_in board held) on.begun)) (sym writes) on.listed;
+      along = along_turn (said_from job.machine on.begun) job.machine on.so_far sold.terms snew.terms sold.words snew.words
+          sold.memory snew.memory old new turn turned.says (on.along idle) walks begun;
+    }) turned.says
+    (law (said_from job.machine on.begun) job.machine on.so_far sold.terms snew.terms sold.words snew.words sold.memory
+    snew.memory old new turn (on.along idle) walks done begun)
+    (stands_begun job snew.terms snew.words snew.memory new begun stepping) (λ given start one at.
+    let said = says given start one at in
+    record { asks = said.1; done = λ finished. (said.2 finished).0; ends = λ finished. (said.2 finished).1 })
 
 -- a turn that is the last
-pub whole : (job : Job) (number cycles : ℕ) (elements : List ℕ) (from : List Kept) (segment : List Decided) (way : Way)
-    (space : Space) (paths : Paths) (o : Stepping) (turn : Turn) → turn ≡ Finished
-    → IsTurnedOnStep job number elements from cycles segment way space paths o turn
-    → IsOnStep job number elements from cycles segment way space paths o
-    × HasCase job number (ground_in space elements) (path_in paths) (met_of way)
-whole job number cycles elements from segment way space paths o turn is turned =
-    subst (IsTurnedOnStep job number elements from cycles segment way space paths o) is turned
+pub whole : (job : Job) (number cycles : ℕ) (elements : List ℕ) (from : List Kept) (segment : List Decided)
+    (board : Symbolic) (way : Way) (space : Space) (paths : Paths) (o : Stepping) (turn : Turn) → turn ≡ Finished
+    → IsTurnedOnStep job number elements from cycles segment board way space paths o turn
+    → IsTurnedOnStep job number elements from cycles segment board way space paths o Finished
+whole job number cycles elements from segment board way space paths o turn is turned =
+    subst (IsTurnedOnStep job number elements from cycles segment board way space paths o) is turned
 
--- a turn that asks for a bit
-pub asks_next : (job : Job) (number cycles : ℕ) (elements : List ℕ) (from : List Kept) (segment : List Decided) (way : Way)
-    (space : Space) (paths : Paths) (o : Stepping) (turn : Turn) (kind : DecidedKind) (term : ℕ) → turn ≡ Ask kind term
-    → IsTurnedOnStep job number elements from cycles segment way space paths o turn
-    → IsTurnedOnStep job number elements from cycles segment way space paths o (Ask kind term)
-asks_next job number cycles elements from segment way space paths o turn kind term is turned =
-    subst (IsTurnedOnStep job number elements from cycles segment way space paths o) is turned
+-- a run that was on its way through a step is so still
+abbrev pub StaysOnStep : Job → (wold : Way) → (sold : Space) → (pold : Paths) → (old : Stepping) → (wnew : Way) → (snew : Space)
+    → (pnew : Paths) → (new : Stepping) → Type 0
+StaysOnStep job wold sold pold old wnew snew pnew new =
+    (number cycles : ℕ) (elements : List ℕ) (from : List Kept) (segment : List Decided) (board : Symbolic)
+    → IsOnStep job number elements from cycles segment board wold sold pold old
+    → IsOnStep job number elements from cycles segment board wnew snew pnew new
+
+-- a turn of each run that is on its way through a step
+abbrev pub TurnsOnStep : Job → (sold : Space) → (old : Stepping) → (snew : Space) → (new : Stepping) → Turn → Type 0
+TurnsOnStep job sold old snew new turn =
+    (number cycles : ℕ) (elements : List ℕ) (from : List Kept) (segment : List Decided) (board : Symbolic) (way : Way)
+    (paths : Paths) → IsOnStep job number elements from cycles segment board way sold paths old
+    → IsTurnedOnStep job number elements from cycles segment board way snew paths new turn
+
+-- a turn that asks for a bit, of a run that was on its way from the step's first statement
+pub asks_on : (job : Job) (number cycles : ℕ) (elements : List ℕ) (from : List Kept) (segment : List Decided)
+    (board : Symbolic) (wold way : Way) (sold before space : Space) (pold paths : Paths) (old o asked : Stepping) (turn : Turn) (kind : DecidedKind) (term : ℕ)
+    → turn ≡ Ask kind term → StaysOnStep job wold sold pold old way before paths o
+    → TurnsOnStep job before o space asked turn → IsOnStep job number elements from cycles segment board wold sold pold old
+    → IsTurnedOnStep job number elements from cycles segment board way space paths asked (Ask kind term)
+asks_on job number cycles elements from segment board wold way sold before space pold paths old o asked turn kind term is stays turns
+    on =
+    subst (IsTurnedOnStep job number elements from cycles segment board way space paths asked) is
+    (turns number cycles elements from segment board way paths (stays number cycles elements from segment board on))
 
 -- ---- a bit
 
@@ -226,29 +325,74 @@ bit_behind : (xs ys : List Bool) → slice_get (xs ++ ys) (length xs) ≡ slice_
 bit_behind [] ys = refl
 bit_behind (x ∷ xs) ys = bit_behind xs ys
 
+-- The word list asks for what a step asks for.
+pub asks_where : (job : Job) (number cycles : ℕ) (elements : List ℕ) (from : List Kept) (segment : List Decided)
+    (board : Symbolic) (way : Way) (space : Space) (paths : Paths) (o : Stepping) (kind : DecidedKind) (term : ℕ)
+    → IsTurnedOnStep job number elements from cycles segment board way space paths o (Ask kind term)
+    → AsksFor job number (met_of way) (ground_in space elements) term
+asks_where job number cycles elements from segment board way space paths o kind term turned =
+    let on = turned.0 in
+    asks_for job number (ground_in space elements) segment (met_of way) on.so_far (standing_on space board) on.begun o term on.met on.listed
+    turned.2
+
 -- A bit that the step asked for was decided, and given to it.
-pub takes : (job : Job) (number cycles : ℕ) (elements : List ℕ) (from : List Kept) (segment : List Decided) (wold wnew : Way)
-    (space : Space) (pold pnew : Paths) (old new : Stepping) (kind : DecidedKind) (term : ℕ) (value : Bool)
+pub takes : (job : Job) (number cycles : ℕ) (elements : List ℕ) (from : List Kept) (segment : List Decided)
+    (board : Symbolic) (wold wnew : Way) (space : Space) (pold pnew : Paths) (old new : Stepping) (kind : DecidedKind) (term : ℕ) (value : Bool)
     → Asks job.machine space.terms space.words space.memory old kind term
     → IsDecided job.machine space.terms space.words space.memory old new value
+    → BitsGoAlong → new ≡ given_so old value → left_in job.machine new ≡ chosen value (left_in job.machine old)
     → HasDecided job number (ground_in space elements) from wold wnew (path_in pold) (path_in pnew) kind term value
-    → IsOnStep job number elements from cycles segment wold space pold old
-    → IsOnStep job number elements from cycles segment wnew space pnew new
-takes job number cycles elements from segment wold wnew space pold pnew old new kind term value asks given_so chosen on =
+    → IsTurnedOnStep job number elements from cycles segment board wold space pold old (Ask kind term)
+    → IsOnStep job number elements from cycles segment board wnew space pnew new
+takes job number cycles elements from segment board wold wnew space pold pnew old new kind term value asks decided_so law new_is
+    left has turned =
+    let on = turned.0 in
     let g = ground_in space elements in
     record {
-      on = chosen.on;
+      on = has.on;
       ended = on_path_narrower job number g (path_in pold) (path_in pnew) (EndsSo job cycles false segment)
-          (λ given at. (chosen.by.so given at).0) on.ended;
+          (λ given at. (has.by.so given at).0) on.ended;
       so_far = on.so_far ++ value ∷ [];
-      met = branch_more segment on.so_far (met_of wold) (met_of wnew) kind value asks.branch on.met chosen.met;
+      met = branch_more segment on.so_far (met_of wold) (met_of wnew) kind value asks.branch on.met has.met;
       in_step = λ given start one at.
-          let by = chosen.by.so given at in
+          let by = has.by.so given at in
           let within = on.in_step given start one by.0 in
           let next = asks.next given (scene_of start) (seen_in job number g given start one) in
           bits_are_of_the_step job.machine space.terms space.words space.memory old new value given (scene_of start)
-          start.pair.machine (slice_index_or start.env.line 0 false) on.so_far given_so within
+          start.pair.machine (slice_index_or start.env.line 0 false) on.so_far decided_so within
           (ap (λ all. slice_get all (length on.so_far)) within.bits
           ∙ bit_behind on.so_far (bits_to_come job.machine space.terms given space.memory (scene_of start) old)
           ∙ next ∙ ap Some by.1);
+      of_board = board_narrower job number g space (path_in pold) (path_in pnew) board (λ given at. (has.by.so given at).0)
+          on.of_board;
+      begun = on.begun;
+      listed = on.listed;
+      along = λ idle. law (said_from job.machine on.begun) job.machine on.so_far space.terms space.words space.memory old new term
+          value turned.2 new_is left;
+    }
+
+-- ---- the end
+
+-- Behind a segment, a step that has met all bits of the case ends it.
+pub has_met_case : (job : Job) (number cycles : ℕ) (elements : List ℕ) (from : List Kept) (segment : List Decided)
+    (way : Way) (run : Run) (o : Stepping) → run.board.place.cycle ≡ cycles
+    → IsTurnedOnStep job number elements from cycles segment run.board way run.space run.paths o Finished
+    → HasMetCase job number elements from cycles false way run (Some o)
+has_met_case job number cycles elements from segment way run o made turned =
+    let on = turned.0 in
+    record {
+      on = on.on;
+      whole = turned.1;
+      segment = segment;
+      ended = on.ended;
+      ends = (
+        refl,
+        record {
+          of_board = on.of_board;
+          made = made;
+          of_step = turned.2.of_step;
+          listed = ends_listed job number segment (met_of way) on.so_far (standing_on run.space run.board) on.begun
+              run.space.terms run.space.words run.space.memory o on.met on.listed turned.2.along;
+        },
+      );
     }

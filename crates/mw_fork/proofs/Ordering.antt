@@ -1,8 +1,8 @@
 -- The order of cases, and which of them kept bits lead to.
-use Rattle.std.proofs.Common.{◌≡◌, ◌≢◌, ◌⊎◌, inl, inr, ℕ, zero, suc, ◌<◌, List, [], ◌∷◌, ◌++◌, length, take, Bool, true, false, refl, sym, ap, ap₂, ◌∙◌, subst, arith, append_assoc, append-nil}
+use Rattle.std.proofs.Common.{◌≡◌, ◌≢◌, ◌⊎◌, inl, inr, ℕ, zero, suc, ◌<◌, List, [], ◌∷◌, ◌++◌, drop, length, take, Bool, true, false, refl, sym, ap, ap₂, ◌∙◌, subst, arith, append_assoc, append-nil}
 use Rattle.std.specs.Prelude.{Option, Some, None, if◌then◌else◌}
 use Rattle.std.proofs.lemmas.Bool.{cases_lt}
-use Rattle.std.proofs.lemmas.List.{map-append, take_all}
+use Rattle.std.proofs.lemmas.List.{map-append, take-append-drop, take_all}
 use Rattle.mw_term.specs.declared.kinds.DecidedKind.{DecidedKind}
 use Rattle.mw_cycle.specs.declared.decided.Decided.{Decided}
 use Rattle.mw_cycle.specs.Decided.{decided}
@@ -354,24 +354,63 @@ comes_first job number bits other is one two differ never =
       | inr second ↦ absurd (never second)
     ]
 
+-- what comes before the bits that a run has met comes before all that it keeps
+before_kept : (way : Way) (other : List Decided) → IsBefore other (met_of way) → IsBefore other (bits_of way.kept)
+before_kept way other before = record {
+  shared = before.shared;
+  kind = before.kind;
+  first_rest = before.first_rest;
+  second_rest = before.second_rest ++ bits_of (drop way.met way.kept);
+  first_is = before.first_is;
+  second_is = ap (λ (xs : List Kept). bits_of xs) (sym (take-append-drop way.met way.kept))
+      ∙ map-append (λ (x : Kept). x.bit) (take way.met way.kept) (drop way.met way.kept)
+      ∙ ap (λ (xs : List Decided). xs ++ bits_of (drop way.met way.kept)) before.second_is
+      ∙ append_assoc before.shared (decided before.kind true ∷ before.second_rest) (bits_of (drop way.met way.kept));
+}
+
+-- no case comes before the bits of a run that began with none
+none_at_first : (job : Job) (number : ℕ) (way : Way) (other : List Decided) → IsWayFrom job number [] way
+    → IsCase job number other → ¬ IsBefore other (met_of way)
+none_at_first job number way other bits case before =
+    let more : way.kept ≡ bits.more = bits.kept_is in
+    least_first job number bits.more [] other bits.least
+    (subst (IsBefore other) (ap (λ (xs : List Kept). bits_of xs) more) (before_kept way other before))
+    (feasible_case job number other case)
+
 -- nothing kept leads to the first of all
 pub leads_to_first : (job : Job) (number : ℕ) → IsJob job → OneIsToCome job number Before
     → LeadsToNext job number Before []
 leads_to_first job number is some = record {
   are_kept = tt;
   some = some;
-  next = λ way bits whole.
-      let same = all_met job number way is bits.kept whole in
-      let more : way.kept ≡ bits.more = bits.kept_is in
-      record {
-        feasible = whole;
-        to_come = tt;
-        first = λ other case come differ. comes_first job number (met_of way) other is whole case differ (λ before.
-            least_first job number bits.more [] other bits.least
-            (subst (IsBefore other) (sym same ∙ ap (λ (xs : List Kept). bits_of xs) more) before)
-            (feasible_case job number other case));
-      };
+  next = λ way bits whole. record {
+    feasible = whole;
+    to_come = tt;
+    first = λ other case come differ. comes_first job number (met_of way) other is whole case differ
+        (none_at_first job number way other bits case);
+  };
+  none_before = λ way other bits case come. none_at_first job number way other bits case;
 }
+
+-- the bits of a run that began with those turned, from the first on
+run_on : (job : Job) (number : ℕ) (front now : List Kept) (bit : Kept) (way : Way) → now ≡ front ++ turned bit ∷ []
+    → (bits : IsWayFrom job number now way) → way.kept ≡ front ++ turned bit ∷ bits.more
+run_on job number front now bit way now_is bits =
+    bits.kept_is ∙ ap (λ (xs : List Kept). xs ++ bits.more) now_is ∙ append_assoc front (turned bit ∷ []) bits.more
+
+-- no case that is to come behind the last one comes before the bits of a run that began with those turned
+none_at_turned : (job : Job) (number : ℕ) (kept now : List Kept) (way : Way) (other : List Decided)
+    → AreKept job number [] kept → turned_last kept ≡ Some now → IsWayFrom job number now way → IsCase job number other
+    → IsBefore (bits_of kept) other → ¬ IsBefore other (met_of way)
+none_at_turned job number kept now way other are turns bits case come before =
+    let t = turned_at kept now turns in
+    none_between job number t.front t.bit t.behind bits.more [] other (subst (AreKept job number []) t.kept_is are) t.none
+    (subst (λ (xs : List Kept). AreLeast job number (bits_of xs) bits.more) t.now_is bits.least)
+    (feasible_case job number other case)
+    (subst (λ (xs : List Kept). IsBefore (bits_of xs) other) t.kept_is come)
+    (subst (IsBefore other)
+    (ap (λ (xs : List Kept). bits_of xs) (run_on job number t.front now t.bit way t.now_is bits))
+    (before_kept way other before))
 
 -- turned bits lead to the next one behind the last
 pub leads_behind : (job : Job) (number : ℕ) (kept now : List Kept) → IsJob job
@@ -382,33 +421,26 @@ leads_behind job number kept now is keeps turns =
     let are : AreKept job number [] (t.front ++ t.bit ∷ t.behind) =
     subst (AreKept job number []) t.kept_is keeps.2 in
     let last : bits_of kept ≡ bits_of (t.front ++ t.bit ∷ t.behind) = ap (λ (xs : List Kept). bits_of xs) t.kept_is in
-    let now_are : AreKept job number [] now = subst (AreKept job number []) (sym t.now_is)
-    (turned_kept job number t.front t.bit t.behind [] are t.can) in
     record {
-      are_kept = now_are;
+      are_kept = subst (AreKept job number []) (sym t.now_is)
+          (turned_kept job number t.front t.bit t.behind [] are t.can);
       some = subst (λ (xs : List Decided). OneIsToCome job number (At xs)) (sym last)
           (turned_comes job number t.front t.bit t.behind are t.can);
       next = λ way bits whole.
-          let same = all_met job number way is bits.kept whole in
-          let all : way.kept ≡ t.front ++ turned t.bit ∷ bits.more =
-          bits.kept_is ∙ ap (λ (xs : List Kept). xs ++ bits.more) t.now_is
-          ∙ append_assoc t.front (turned t.bit ∷ []) bits.more in
           let met : met_of way ≡ bits_of (t.front ++ turned t.bit ∷ bits.more) =
-          sym same ∙ ap (λ (xs : List Kept). bits_of xs) all in
-          let least : AreLeast job number (bits_of (t.front ++ turned t.bit ∷ [])) bits.more =
-          subst (λ (xs : List Kept). AreLeast job number (bits_of xs) bits.more) t.now_is bits.least in
+          sym (all_met job number way is bits.kept whole)
+          ∙ ap (λ (xs : List Kept). bits_of xs) (run_on job number t.front now t.bit way t.now_is bits) in
           record {
             feasible = whole;
             to_come = subst (λ (xs : List Decided). IsBefore xs (met_of way)) (sym last)
                 (subst (IsBefore (bits_of (t.front ++ t.bit ∷ t.behind))) (sym met)
                 (turned_before t.front t.bit t.behind bits.more
                 ((kept_there job number t.front t.bit t.behind [] are).zero t.can)));
-            first = λ other case come differ. comes_first job number (met_of way) other is whole case differ (λ before.
-                none_between job number t.front t.bit t.behind bits.more [] other are t.none least
-                (feasible_case job number other case)
-                (subst (λ (xs : List Decided). IsBefore xs other) last come)
-                (subst (IsBefore other) met before));
+            first = λ other case come differ. comes_first job number (met_of way) other is whole case differ
+                (none_at_turned job number kept now way other keeps.2 turns bits case come);
           };
+      none_before = λ way other bits case come.
+          none_at_turned job number kept now way other keeps.2 turns bits case come;
     }
 
 -- none is to come where none can be turned

@@ -1,16 +1,19 @@
 -- The elements' own terms at a boundary.
-use Rattle.std.proofs.Common.{◌≡◌, inl, inr, ℕ, ◌+◌, List, [], ◌∷◌, ◌++◌, length, slice_index, append-nil, ap, sym, subst, ◌∙◌, arith}
+use Rattle.std.proofs.Common.{◌≡◌, inl, inr, ℕ, ◌+◌, ◌<◌, ◌≤◌, List, [], ◌∷◌, ◌++◌, length, drop, drop-cons, slice_index, append-nil, append_assoc, add-one, ap, sym, subst, ◌∙◌, arith}
 use Rattle.std.specs.Prelude.{Bool, false}
 use Rattle.std.proofs.lemmas.Bool.{cases_lt}
+use Rattle.std.proofs.lemmas.List.{drop_all}
 use Rattle.mw_term.specs.declared.kinds.WordKind.TheVariants.{Element}
 use Rattle.mw_term.specs.declared.word.Word.{Word}
-use Rattle.mw_term.specs.WordList.{variable}
+use Rattle.mw_term.specs.WordList.{AllEnded, Ended, WordList, ended, variable}
 use Rattle.mw_symmem.specs.Words.{IsVariable}
 use Rattle.mw_symmem.proofs.Lists.{behind, pushed_there}
 use Rattle.mw_rel.specs.Free.{is_free}
 use Rattle.mw_rel.specs.Relation.{Boundary}
+use Rattle.mw_rel.specs.StartWords.{all_own_words, own_words}
 use Rattle.mw_rel.proofs.Elements.{back_at, front_at}
-use Rattle.mw_fork.specs.OwnTerms.{AreOwn, IsOwn}
+use Rattle.mw_fork.specs.Listed.{all_ended}
+use Rattle.mw_fork.specs.OwnTerms.{AreOwn, IsOwn, own_word, with_own}
 
 -- a variable
 pub own_variable : (free : Bool) (number : ℕ) (old new : List Word) (term : ℕ)
@@ -59,3 +62,41 @@ own_more boundary number free old new own term tested count are is n below passe
       (subst (λ k. (place : ℕ) × IsVariable new place term (Element k)) (sym same)
       (is.is (tested ∙ ap (is_free boundary) (sym same) ∙ passes)))
 ]
+
+-- ---- in the word list
+
+-- own terms so far, with the next one and those of some more widths behind it
+abbrev with_next : Boundary → (number : ℕ) → (rest : List ℕ) → (own : List ℕ) → Ended → AllEnded
+with_next boundary number rest own next =
+    let others = all_own_words boundary (number + 1) rest next.list in
+    record { list = others.list; terms = own ++ next.term ∷ others.terms }
+
+-- the next one is one of those so far
+next_is_own : (boundary : Boundary) (number term : ℕ) (rest own : List ℕ) (l : WordList)
+    → with_next boundary number rest own (ended term l)
+    ≡ with_own boundary (number + 1) rest (all_ended (own ++ term ∷ []) l)
+next_is_own boundary number term rest own l =
+    let others = all_own_words boundary (number + 1) rest l in
+    ap (λ ts. all_ended ts others.list) (sym (append_assoc own (term ∷ []) others.terms))
+
+-- what is left of the own terms is still so when one more of them was made
+pub with_own_step : (boundary : Boundary) (widths : List ℕ) (number : ℕ) (free : Bool) (width term : ℕ) (own : List ℕ)
+    (old new : WordList) → number < length widths → free ≡ is_free boundary number → width ≡ slice_index widths number
+    → ended term new ≡ own_word free number width old
+    → with_own boundary number (drop number widths) (all_ended own old)
+    ≡ with_own boundary (number + 1) (drop (number + 1) widths) (all_ended (own ++ term ∷ []) new)
+with_own_step boundary widths number free width term own old new inside tested wide made =
+    let rest = drop (number + 1) widths in
+    let left : drop number widths ≡ slice_index widths number ∷ rest = rw add-one (drop-cons widths number 0 inside) in
+    let own_is : own_words boundary number (slice_index widths number) old ≡ ended term new =
+    ap (λ w. own_words boundary number w old) (sym wide) ∙ ap (λ f. own_word f number width old) (sym tested) ∙ sym made in
+    ap (λ ws. with_own boundary number ws (all_ended own old)) left
+    ∙ ap (with_next boundary number rest own) own_is
+    ∙ next_is_own boundary number term rest own new
+
+-- behind the last width there is none
+pub with_own_last : (boundary : Boundary) (widths : List ℕ) (number : ℕ) (so_far : AllEnded) → length widths ≤ number
+    → with_own boundary number (drop number widths) so_far ≡ so_far
+with_own_last boundary widths number so_far all =
+    ap (λ ws. with_own boundary number ws so_far) (drop_all number widths all)
+    ∙ ap (λ ts. all_ended ts so_far.list) (append-nil so_far.terms)

@@ -167,10 +167,13 @@ pub seen_count : (lines : List KeptLine) → length lines ≡ length (lines_of l
 seen_count [] = refl
 seen_count (line ∷ rest) = ap suc (seen_count rest)
 
+-- from a line on, the rest is that line and those behind it
+pub lines_rest : (lines : List KeptLine) (k : ℕ) (line : KeptLine) → k < length lines → line ≡ get_or lines k line
+    → drop k lines ≡ line ∷ drop (k + 1) lines
+lines_rest lines k line inside is =
+    rw add-one (drop-cons lines k line inside ∙ ap (λ x. x ∷ drop (suc k) lines) (sym is))
+
 -- what a line and those behind it read
 pub reads_rest : (lines : List KeptLine) (k : ℕ) (line : KeptLine) → k < length lines → line ≡ get_or lines k line
     → reads_of (lines_of (drop k lines)) ≡ reads (line_of line).right + reads_of (lines_of (drop (k + 1) lines))
-reads_rest lines k line inside is =
-    let here : drop k lines ≡ line ∷ drop (k + 1) lines =
-    rw add-one (drop-cons lines k line inside ∙ ap (λ x. x ∷ drop (suc k) lines) (sym is)) in
-    ap (λ ls. reads_of (lines_of ls)) here
+reads_rest lines k line inside is = ap (λ ls. reads_of (lines_of ls)) (lines_rest lines k line inside is)

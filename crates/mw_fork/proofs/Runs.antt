@@ -1,14 +1,14 @@
 -- A run from a boundary, on terms.
-use Rattle.std.proofs.Common.{◌≡◌, inl, inr, ℕ, ◌+◌, ◌<◌, ◌≤◌, ◌^◌, List, [], drop, take, length, length-drop, slice_index, ap, sym, subst, ◌∙◌, arith, refl}
-use Rattle.std.specs.Prelude.{Bool, Option, Some, None}
+use Rattle.std.proofs.Common.{◌≡◌, inl, inr, ℕ, ◌+◌, ◌<◌, ◌≤◌, ◌^◌, List, [], ◌∷◌, ◌++◌, drop, take, length, length-drop, slice_index, ap, sym, subst, ◌∙◌, arith, refl}
+use Rattle.std.specs.Prelude.{Bool, if◌then◌else◌, Option, Some, None}
 use Rattle.std.proofs.lemmas.Bool.{cases_lt}
 use Rattle.std.proofs.lemmas.List.{get_or-take}
 use Rattle.mw_term.specs.declared.kinds.DecidedKind.{DecidedKind}
 use Rattle.mw_term.specs.declared.kinds.WordKind.{WordKind}
-use Rattle.mw_term.specs.declared.kinds.WordKind.TheVariants.{Input, Line, Noise}
+use Rattle.mw_term.specs.declared.kinds.WordKind.TheVariants.{Base, Input, Line, Noise, Probe}
 use Rattle.mw_term.specs.declared.word.Word.{Word}
 use Rattle.mw_term.specs.Table.{Table}
-use Rattle.mw_term.specs.WordList.{term_of}
+use Rattle.mw_term.specs.WordList.{is_of, term_of}
 use Rattle.mw_symmem.specs.declared.turn.Turn.{Turn}
 use Rattle.mw_symmem.specs.declared.turn.Turn.TheVariants.{Ask, Finished}
 use Rattle.mw_symmem.specs.Memory.{Memory, IsOfWidth}
@@ -67,6 +67,40 @@ line_asked : (job : Job) (t : Table) (words : List Word) (m : Memory) (o : Symbo
 line_asked job t words m o registers kind term under asks =
     line_read job t words m o asks.begun.0 asks.begun.1 under.symbolic (λ some. under.line (omega (arith, some)))
 
+-- ---- the probe
+
+-- a kind that no word behind a list has is found as before
+none_behind : (xs ys : List Word) (kind : WordKind) → term_of ys kind ≡ None
+    → term_of (xs ++ ys) kind ≡ term_of xs kind
+none_behind [] ys kind none = none
+none_behind (w ∷ xs) ys kind none =
+    ap (λ found. if is_of w.kind kind then Some w.term else found) (none_behind xs ys kind none)
+
+-- where a run makes none, it is found as before
+pub probe_kept : (K : WordKind → Type 0) (told tnew : Table) (wold wnew : List Word) (mold mnew : Memory)
+    → GoesOn K told tnew wold wnew mold mnew → (K Probe → ⊥) → term_of wnew Probe ≡ term_of wold Probe
+probe_kept K told tnew wold wnew mold mnew goes never =
+    ap (λ (ws : List Word). term_of ws Probe) goes.words
+    ∙ none_behind wold goes.more Probe (absent goes.more Probe (λ place term is. never (goes.kinds place term Probe is)))
+
+-- and there is none later, where there was none
+pub fresh_later : (K : WordKind → Type 0) (told tnew : Table) (wold wnew : List Word) (mold mnew : Memory)
+    → GoesOn K told tnew wold wnew mold mnew → (K Probe → ⊥) → term_of wold Probe ≡ None → term_of wnew Probe ≡ None
+fresh_later K told tnew wold wnew mold mnew goes never none = probe_kept K told tnew wold wnew mold mnew goes never ∙ none
+
+-- a cycle makes none
+no_probe_in : (cycle taken : ℕ) → IsCycleKind cycle taken Probe → ⊥
+no_probe_in cycle taken kind = elim kind [
+  | inl h ↦ elim h [
+    | inl k ↦ let is : Probe ≡ Base k.0 = k.1 in absurd cc
+    | inr is ↦ absurd cc
+  ]
+  | inr h ↦ elim h [
+    | inl is ↦ absurd cc
+    | inr is ↦ absurd cc
+  ]
+]
+
 -- ---- turns
 
 few_by : (o : Option Reading) → reads_by o ≤ 1
@@ -93,6 +127,7 @@ turned job told tnew wold wnew mold mnew old new registers (Ask kind term) under
         symbolic = symbolic;
         taken = omega (arith, cycle, taken, under.taken);
         reads = omega (arith, none, reads, under.reads, cycle);
+        fresh = fresh_later K told tnew wold wnew mold mnew goes (no_probe_in old.place.cycle old.place.taken) under.fresh;
         line = λ some. line_read job tnew wnew mnew new is.3.begun.0 is.3.begun.1 symbolic before;
         count = under.count;
         wide = λ i inside. width_later told tnew _ _ goes.later (under.wide i inside);
@@ -109,6 +144,7 @@ turned job told tnew wold wnew mold mnew old new registers Finished under goes i
         symbolic = symbolic;
         taken = omega (arith, is.2, is.3, under.taken);
         reads = omega (arith, few, reads, under.reads, is.2);
+        fresh = fresh_later K told tnew wold wnew mold mnew goes (no_probe_in old.place.cycle old.place.taken) under.fresh;
         line = λ some. line_later K told tnew wold wnew mold mnew goes (under.line (omega (arith, enough)));
         count = under.count;
         wide = λ i inside. width_later told tnew _ _ goes.later (under.wide i inside);
@@ -130,6 +166,7 @@ decided_under job t words m old new registers kind value term is under asks symb
       symbolic = symbolic;
       taken = omega (arith, cycle, taken, under.taken);
       reads = omega (arith, reads, under.reads, cycle);
+      fresh = under.fresh;
       line = λ some. line_asked job t words m old registers kind term under asks;
       count = under.count;
       wide = under.wide;
@@ -188,6 +225,7 @@ under_first job t words m o terms registers is are symbolic cycle taken decided 
       symbolic = symbolic;
       taken = omega (arith, cycle, taken);
       reads = omega (arith, few, are.few, cycle);
+      fresh = absent words Probe (λ place other at. are.kinds place other Probe at);
       line = λ some. absurd (omega (arith, some, cycle, ap length decided));
       count = ap length same ∙ registers_count job t terms is are.wide;
       wide = subst (λ rs. AreWideSoFar t job.machine.shape.widths job.machine.registers rs) (sym same)

@@ -7,7 +7,8 @@ use Rattle.mw_term.specs.Laws.{TerminalCasesHaveNone}
 use Rattle.mw_dd.specs.declared.nodes.Node.{Node}
 use Rattle.mw_dd.specs.Nodes.{function_of, IsDd}
 use Rattle.mw_blast.specs.Bits.{StandsFor}
-use Rattle.mw_blast.specs.Splits.{IsSplit, path_one, path_zero}
+use Rattle.mw_blast.specs.Splits.{IsSplit}
+use Rattle.mw_term.specs.PathWords.{path_zero, path_one}
 
 within : (t : Triple) (budget : ℕ) → HasAtMostCofactors t 0 → HasAtMostCofactors t budget
 within t budget none us are = let few : length us ≤ 0 = none us are in omega arith

@@ -1,5 +1,5 @@
 -- The described step of a run.
-use Rattle.std.proofs.Common.{◌≡◌, ℕ, ◌+◌, ◌-◌, ◌<◌, ◌≤◌, List, [], ◌∷◌, ◌++◌, length, ap, sym, subst, ◌∙◌, arith, refl, length-append}
+use Rattle.std.proofs.Common.{◌≡◌, inl, inr, ℕ, ◌+◌, ◌-◌, ◌<◌, ◌≤◌, List, [], ◌∷◌, ◌++◌, length, ap, sym, subst, ◌∙◌, arith, refl, length-append}
 use Rattle.std.proofs.lemmas.Option.{same_Some}
 use Rattle.std.specs.Prelude.{Bool, true, false, Option, Some, None, if◌then◌else◌, slice_get}
 use Rattle.mw_expr.specs.declared.shape.Shape.{Shape}
@@ -10,7 +10,7 @@ use Rattle.mw_macro.specs.Statements.{Act, assign, write, put, take_in, choose, 
 use Rattle.mw_macro.specs.StepWords.{Come, Underway, act_words, acts_words, condition_words, going, then_behind, then_by, with_list}
 use Rattle.mw_term.specs.declared.kinds.DecidedKind.{DecidedKind}
 use Rattle.mw_term.specs.declared.kinds.WordKind.{WordKind}
-use Rattle.mw_term.specs.declared.kinds.WordKind.TheVariants.{Input}
+use Rattle.mw_term.specs.declared.kinds.WordKind.TheVariants.{Base, Input, Probe}
 use Rattle.mw_term.specs.declared.word.Word.{Word}
 use Rattle.mw_term.specs.Table.{Table}
 use Rattle.mw_term.specs.WordList.{term_of, variable}
@@ -29,6 +29,8 @@ use Rattle.mw_symmach.proofs.Acting.{found}
 use Rattle.mw_rel.specs.Job.{Job, IsJob}
 use Rattle.mw_fork.specs.Runs.{IsUnder}
 use Rattle.mw_fork.specs.Steps.{HasCome, HasEnded, HasStopped, IsStepTurned, IsUnderway, said_from}
+use Rattle.mw_fork.proofs.AlongStep.{along_none}
+use Rattle.mw_fork.proofs.Runs.{fresh_later}
 
 -- ---- how many bits there are
 
@@ -135,6 +137,7 @@ underway_behind job t words m o registers step is under cycles reads stepping = 
   workspace = under.space.workspace;
   stepping = stepping;
   few = omega (arith, under.reads, cycles, reads, is.machine.right.reads);
+  fresh = under.fresh;
 }
 
 -- it has come along no bits to its first statement
@@ -143,7 +146,7 @@ pub begun : (d : Description) (t : Table) (words : List Word) (m : Memory) (o : 
 begun d t words m o left = record {
   bits = [];
   count_is = refl;
-  along = λ further. ap (λ (acts : Acts). acts_words d.shape acts further (underway_of d t words m o)) (sym left);
+  along = along_none d t words m o left;
 }
 
 -- ---- turns
@@ -167,6 +170,13 @@ turned d from n told tnew wold wnew mold mnew old new turn law come is walks don
     said d from n come.bits tnew wnew mnew new turn come.count_is
     (law (said_from d from) d come.bits told tnew wold wnew mold mnew old new turn come.along walks done begun) is.says
 
+-- a step makes no probe
+no_probe_in : IsOfStep Probe → ⊥
+no_probe_in kind = elim kind [
+  | inl k ↦ let is : Probe ≡ Base k.0 = k.1 in absurd cc
+  | inr k ↦ let is : Probe ≡ Input k.0 = k.1 in absurd cc
+]
+
 -- it is a step still
 pub underway_later : (d : Description) (told tnew : Table) (wold wnew : List Word) (mold mnew : Memory) (old new : Stepping)
     → IsUnderway d told wold mold old → GoesOn IsOfStep told tnew wold wnew mold mnew
@@ -176,6 +186,7 @@ underway_later d told tnew wold wnew mold mnew old new under goes few stepping =
   workspace = goes.workspace;
   stepping = stepping;
   few = omega (arith, few, under.few);
+  fresh = fresh_later IsOfStep told tnew wold wnew mold mnew goes no_probe_in under.fresh;
 }
 
 -- with a bit that was given
@@ -185,6 +196,7 @@ decided_underway d t words m old new value under decided = record {
   workspace = under.workspace;
   stepping = decided.stepping;
   few = omega (arith, decided.few, under.few);
+  fresh = under.fresh;
 }
 
 -- with a bit that was given it has come along one bit more

@@ -45,12 +45,14 @@ EndsEach job number bits cycles late = (start : Start) → IsStartAt job number 
     → (cycles_of job start ≡ cycles) × (is_late job start ≡ late)
 
 -- Kept bits lead to the next case: there is one, and it is that of each run that began with them and has met all bits of a
--- case.
+-- case. None that is to come stands before the bits of such a run.
 pub record LeadsToNext (job : Job) (number : ℕ) (at : Standing) (kept : List Kept) : Type 0 where
   pub are_kept : AreKept job number [] kept
   pub some : OneIsToCome job number at
   pub next : (way : Way) → IsWayFrom job number kept way → IsCase job number (met_of way)
       → IsNextCase job number at (met_of way)
+  pub none_before : (way : Way) (other : List Decided) → IsWayFrom job number kept way → IsCase job number other
+      → IsToCome at other → ¬ IsBefore other (met_of way)
 
 -- ---- what a fork keeps
 

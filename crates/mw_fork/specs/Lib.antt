@@ -1,7 +1,13 @@
+pub mod Begins
 pub mod Boundaries
 pub mod CasePaths
+pub mod Comparing
+pub mod Ends
+pub mod Entries
+pub mod Failing
 pub mod Forks
 pub mod KeptBits
+pub mod Listed
 pub mod OnWay
 pub mod OwnTerms
 pub mod Paths
@@ -9,5 +15,6 @@ pub mod Runs
 pub mod Segments
 pub mod Starts
 pub mod Steps
+pub mod Stops
 pub mod Ways
 pub mod Within

@@ -1,7 +1,8 @@
 -- A run on its way through a case.
-use Rattle.std.specs.Prelude.{◌≡◌, ℕ, ◌<◌, ◌++◌, ◌∷◌, List, [], map, Bool, true, false, slice_index_or}
+use Rattle.std.specs.Prelude.{◌≡◌, ℕ, ◌<◌, ◌++◌, ◌∷◌, List, [], map, Bool, true, false, Option, None, slice_index_or}
 use Rattle.mw_cycle.specs.declared.decided.Decided.{Decided}
 use Rattle.mw_cycle.specs.Decided.{decided}
+use Rattle.mw_macro.specs.StepWords.{Underway}
 use Rattle.mw_term.specs.Assigned.{Given}
 use Rattle.mw_term.specs.Cofactors.{Agree}
 use Rattle.mw_term.specs.declared.kinds.DecidedKind.{DecidedKind}
@@ -11,22 +12,33 @@ use Rattle.mw_dd.specs.Nodes.{function_of}
 use Rattle.mw_symmem.specs.declared.turn.Turn.{Turn}
 use Rattle.mw_symmem.specs.declared.turn.Turn.TheVariants.{Ask, Finished}
 use Rattle.mw_symboard.specs.Paths.{AreAll, IsBy, IsNextBit, IsPath}
+use Rattle.mw_symboard.specs.Turns.{Symbolic, decided_so}
 use Rattle.mw_symboard.specs.Variables.{HasVariables}
+use Rattle.mw_symmach.specs.Along.{AsksAlong, IsAlong, IsDoneAlong}
 use Rattle.mw_symmach.specs.Laws.{IsInStep}
 use Rattle.mw_symmach.specs.Turns as step
-use Rattle.mw_symmach.specs.Turns.{Stepping}
+use Rattle.mw_symmach.specs.Turns.{Stepping, is_asked}
+use Rattle.mw_rel.specs.CaseWords.{case_words, whole}
+use Rattle.mw_rel.specs.ComparisonWords.{compared_in}
 use Rattle.mw_rel.specs.Free.{numbered}
 use Rattle.mw_rel.specs.Job.{Job}
+use Rattle.mw_rel.specs.PathWords.{path_of}
 use Rattle.mw_rel.specs.Start.{Start}
 use Rattle.mw_fork.specs.declared.elements.Space.{Space}
 use Rattle.mw_fork.specs.declared.paths.Paths.{Paths}
 use Rattle.mw_fork.specs.declared.run.Run.{Run}
 use Rattle.mw_fork.specs.declared.way.Kept.{Kept}
 use Rattle.mw_fork.specs.CasePaths.{HasCase, HasNoBoundary, HasSegment, IsCasePath, IsNextOfCase}
+use Rattle.mw_fork.specs.Ends.{EndsBy, IsBoardOf, IsStepOf}
 use Rattle.mw_fork.specs.KeptBits.{IsWayFrom}
+use Rattle.mw_fork.specs.Listed.{AsksFor, ComesTo, left_behind_cycle, left_behind_segment, left_in_cycle, left_of_cycles, left_of_step}
+use Rattle.mw_fork.specs.Listed.{list_of_space, standing_on}
 use Rattle.mw_fork.specs.Paths.{ArePaths}
 use Rattle.mw_fork.specs.Runs.{IsUnder}
+use Rattle.mw_fork.specs.declared.stop.Stop.{Stop}
 use Rattle.mw_fork.specs.Starts.{Ground, IsGround, IsStartOf, ground_of, origin_of, registers_of}
+use Rattle.mw_fork.specs.Steps.{said_from}
+use Rattle.mw_fork.specs.Stops.{StopsBy}
 use Rattle.mw_fork.specs.Ways.{Way, met_of}
 use Rattle.mw_fork.specs.Within.{AreWithin}
 
@@ -47,9 +59,10 @@ abbrev pub HavePaths : Space → Paths → Type 0
 HavePaths space paths = ArePaths space.terms paths.dds paths.blast paths.path
 
 -- A run from a boundary that began with some bits kept is on its way through a case: its path is that of the bits that
--- it has met.
+-- it has met, and that of the word list.
 pub record IsOnWay (job : Job) (number : ℕ) (g : Ground) (from : List Kept) (way : Way) (path : Function) : Type 0 where
   pub stands : IsGround job number g
+  pub written : Agree path (path_of job number (met_of way))
   pub cases : IsCasePath job number g (met_of way) path
   pub bits : IsWayFrom job number from way
 
@@ -62,7 +75,8 @@ pub record HasDecided (job : Job) (number : ℕ) (g : Ground) (from : List Kept)
 
 -- ---- through the cycles of the board
 
--- The board is in the run of each start on the path, and no boundary has come after the first so many cycles.
+-- The board is in the run of each start on the path, and no boundary has come after the first so many cycles. Where it is
+-- in the next one, and waits for no bit, what is left of that and of those behind it is left of the word list.
 pub record IsOnRun (job : Job) (number : ℕ) (elements : List ℕ) (from : List Kept) (way : Way) (run : Run) (count : ℕ)
     : Type 0 where
   pub on : IsOnWay job number (ground_in run.space elements) from way (path_in run.paths)
@@ -72,12 +86,27 @@ pub record IsOnRun (job : Job) (number : ℕ) (elements : List ℕ) (from : List
   pub variables : (n : ℕ) → n < run.board.place.cycle → HasVariables run.space.terms run.space.words n
   pub unwritten : run.space.memory.machine ≡ []
   pub registers : run.registers.items ≡ registers_of job elements
+  pub listed : run.board.asked ≡ None → run.board.place.cycle ≡ count
+      → ComesTo job number (met_of way) (left_in_cycle job number run.space run.registers.items run.board)
+
+-- it asks for a bit where the word list asks for it, and with either value what is left of its cycle is left of the list
+pub record AsksInCycle (job : Job) (number : ℕ) (way : Way) (run : Run) (kind : DecidedKind) (term : ℕ) : Type 0 where
+  pub here : AsksFor job number (met_of way) (ground_in run.space []) term
+  pub on : (value : Bool) → ComesTo job number (met_of way ++ decided kind value ∷ [])
+      (left_in_cycle job number run.space run.registers.items (decided_so run.board kind value))
 
 -- the bits that it has met are all those of its finished cycles
 abbrev pub HasMetAll : Job → (number : ℕ) → (elements : List ℕ) → Way → Run → Type 0
 HasMetAll job number elements way run =
     AreAll job.board job.store run.space.terms run.space.words run.space.memory (origin_of job number elements) run.board
     (met_of way) (path_in run.paths)
+
+-- its cycle is finished: the bits that it has met are all, the next cycle hasn't begun, and what is behind it is left of the
+-- word list
+pub record HasFinished (job : Job) (number : ℕ) (elements : List ℕ) (way : Way) (run : Run) : Type 0 where
+  pub all : HasMetAll job number elements way run
+  pub before : run.board.reading ≡ None
+  pub left : ComesTo job number (met_of way) (left_behind_cycle job number run.space run.registers.items run.board)
 
 -- after a turn: it asks for the next bit of the cases on its path, where the cycle is one of their segments; or the cycle
 -- is finished
@@ -87,27 +116,36 @@ IsTurnedOnRun job number elements from way run count (Ask kind term) =
     IsOnRun job number elements from way run count
     × IsNextBit job.board job.store run.space.terms run.space.words run.space.memory (origin_of job number elements)
     run.board (met_of way) (path_in run.paths) kind term
+    × AsksInCycle job number way run kind term
 IsTurnedOnRun job number elements from way run count Finished =
-    IsOnRun job number elements from way run count × HasMetAll job number elements way run
+    IsOnRun job number elements from way run count × HasFinished job number elements way run
 
--- The segment of each start on its path has so many cycles, is late or isn't, and decides the bits that it has met.
+-- The segment of each start on its path has so many cycles, is late or isn't, and decides the bits that it has met. Where it
+-- isn't late, the described step is left of the word list.
 pub record HasMetSegment (job : Job) (number : ℕ) (elements : List ℕ) (from : List Kept) (cycles : ℕ) (late : Bool)
     (way : Way) (run : Run) : Type 0 where
   pub on : IsOnWay job number (ground_in run.space elements) from way (path_in run.paths)
   pub ended : HasSegment job number (ground_in run.space elements) (path_in run.paths) cycles late (met_of way)
   pub unwritten : run.space.memory.machine ≡ []
   pub registers : run.registers.items ≡ registers_of job elements
+  pub listed : late ≡ false
+      → ComesTo job number (met_of way) (left_of_step job run.space run.registers.items run.board)
+  pub late_listed : late ≡ true
+      → case_words job number (met_of way) ≡ whole (compared_in (list_of_space run.space) [])
+  pub of_board : IsBoardOf job number (ground_in run.space elements) run.space (path_in run.paths) run.board
+  pub made : run.board.place.cycle ≡ cycles
 
 -- The bits that it has met are all of the case of each start on its path, whose segment has so many cycles, and is late or
--- isn't.
+-- isn't; then its step is this.
 pub record HasMetCase (job : Job) (number : ℕ) (elements : List ℕ) (from : List Kept) (cycles : ℕ) (late : Bool)
-    (way : Way) (run : Run) : Type 0 where
+    (way : Way) (run : Run) (step : Option Stepping) : Type 0 where
   pub on : IsOnWay job number (ground_in run.space elements) from way (path_in run.paths)
   pub whole : HasCase job number (ground_in run.space elements) (path_in run.paths) (met_of way)
   pub segment : List Decided
   pub ended : HasSegment job number (ground_in run.space elements) (path_in run.paths) cycles late segment
+  pub ends : EndsBy job number (ground_in run.space elements) (met_of way) cycles late run (path_in run.paths) step
 
--- A run that has met no bit: every start is on its path.
+-- A run that has met no bit: every start is on its path, and no cycle has begun.
 pub record IsFirst (job : Job) (number : ℕ) (elements : List ℕ) (run : Run) : Type 0 where
   pub stands : IsGround job number (ground_in run.space elements)
   pub path : Agree (path_in run.paths) always
@@ -115,6 +153,9 @@ pub record IsFirst (job : Job) (number : ℕ) (elements : List ℕ) (run : Run) 
       (origin_of job number elements) run.board [] (path_in run.paths)
   pub unwritten : run.space.memory.machine ≡ []
   pub registers : run.registers.items ≡ registers_of job elements
+  pub before : run.board.reading ≡ None
+  pub listed : ComesTo job number []
+      (left_of_cycles job run.space run.registers.items run.board (numbered job number).bound)
 
 -- ---- through the described step
 
@@ -123,9 +164,10 @@ abbrev pub scene_of : Start → step.Scene
 scene_of start = record { image = start.pair.board.memory; inputs = start.env.inputs }
 
 -- The step is in that of each start on the path, of which these bits were given; they stand behind those of a segment
--- with so many cycles, which isn't late.
+-- with so many cycles, which isn't late, at the end of which the board is. What is left of the word list behind the segment is
+-- the step from where it began; and where it waits for no bit, it has come along the bits that were given.
 pub record IsOnStep (job : Job) (number : ℕ) (elements : List ℕ) (from : List Kept) (cycles : ℕ) (segment : List Decided)
-    (way : Way) (space : Space) (paths : Paths) (o : Stepping) : Type 0 where
+    (board : Symbolic) (way : Way) (space : Space) (paths : Paths) (o : Stepping) : Type 0 where
   pub on : IsOnWay job number (ground_in space elements) from way (path_in paths)
   pub ended : HasSegment job number (ground_in space elements) (path_in paths) cycles false segment
   pub so_far : List Bool
@@ -134,24 +176,38 @@ pub record IsOnStep (job : Job) (number : ℕ) (elements : List ℕ) (from : Lis
       → path_in paths given ≡ true
       → IsInStep job.machine space.terms space.memory given (scene_of start) o start.pair.machine
       (slice_index_or start.env.line 0 false) so_far
+  pub of_board : IsBoardOf job number (ground_in space elements) space (path_in paths) board
+  pub begun : Underway
+  pub listed : ComesTo job number segment (left_behind_segment job (standing_on space board) begun)
+  pub along : is_asked o.pending ≡ false
+      → IsAlong (said_from job.machine begun) job.machine so_far space.terms space.words space.memory o
+
+-- a step that has met all bits of the cases on its path has ended, along the bits that were given
+pub record HasEndedStep (job : Job) (number : ℕ) (elements : List ℕ) (begun : Underway) (so_far : List Bool) (space : Space)
+    (paths : Paths) (o : Stepping) : Type 0 where
+  pub of_step : IsStepOf job number (ground_in space elements) space (path_in paths) o
+  pub along : IsDoneAlong (said_from job.machine begun) so_far space.terms space.words space.memory o
 
 -- after a turn: it asks for the next bit of the cases on the path, or has met all their bits
 abbrev pub IsTurnedOnStep : Job → (number : ℕ) → (elements : List ℕ) → (from : List Kept) → (cycles : ℕ)
-    → (segment : List Decided) → Way → Space → Paths → Stepping → Turn → Type 0
-IsTurnedOnStep job number elements from cycles segment way space paths o (Ask kind term) =
-    IsOnStep job number elements from cycles segment way space paths o
+    → (segment : List Decided) → (board : Symbolic) → Way → Space → Paths → Stepping → Turn → Type 0
+IsTurnedOnStep job number elements from cycles segment board way space paths o (Ask kind term) =
+    (on : IsOnStep job number elements from cycles segment board way space paths o)
     × IsNextOfCase job number (ground_in space elements) (met_of way) (path_in paths) kind term
-IsTurnedOnStep job number elements from cycles segment way space paths o Finished =
-    IsOnStep job number elements from cycles segment way space paths o
+    × AsksAlong (said_from job.machine on.begun) job.machine on.so_far space.terms space.words space.memory o term
+IsTurnedOnStep job number elements from cycles segment board way space paths o Finished =
+    (on : IsOnStep job number elements from cycles segment board way space paths o)
     × HasCase job number (ground_in space elements) (path_in paths) (met_of way)
+    × HasEndedStep job number elements on.begun on.so_far space paths o
 
 -- ---- what a call keeps
 
 -- a turn: a run that is on its way is so still, and what it asks for, or that the cycle is finished, holds of its cases
 abbrev pub Turns : Job → (before after : Run) → Turn → Type 0
 Turns job before after turn =
-    (number count : ℕ) (elements : List ℕ) (from : List Kept) (way : Way)
-    → IsOnRun job number elements from way before count → IsTurnedOnRun job number elements from way after count turn
+    (number : ℕ) (elements : List ℕ) (from : List Kept) (way : Way)
+    → IsOnRun job number elements from way before before.board.place.cycle
+    → IsTurnedOnRun job number elements from way after before.board.place.cycle turn
 
 -- the bit that was asked for: a run in a cycle of the segment is on its way with it
 abbrev pub Settles : Job → (old new : Way) → (before after : Run) → DecidedKind → (term : ℕ) → Type 0
@@ -161,13 +217,13 @@ Settles job old new before after kind term =
     → before.board.place.cycle < (numbered job number).bound
     → IsOnRun job number elements from new after before.board.place.cycle
 
--- a cycle of the segment: the run is on its way, and has met all bits of its finished cycles
+-- a cycle of the segment: the run is on its way, and the cycle is finished
 abbrev pub Cycles : Job → (old new : Way) → (before after : Run) → Type 0
 Cycles job old new before after =
     (number : ℕ) (elements : List ℕ) (from : List Kept)
     → IsOnRun job number elements from old before before.board.place.cycle
     → before.board.place.cycle < (numbered job number).bound
-    → IsOnRun job number elements from new after before.board.place.cycle × HasMetAll job number elements new after
+    → IsOnRun job number elements from new after before.board.place.cycle × HasFinished job number elements new after
 
 -- the bits of a run in a cycle of the segment are within the budget still
 abbrev pub StaysWithin : Job → (nodes : ℕ) → (old new : Way) → (before : Run) → (count : ℕ) → Type 0
@@ -188,3 +244,25 @@ abbrev pub MadeWithin : Job → (nodes : ℕ) → (old new : Way) → (before : 
 MadeWithin job nodes old new before bound =
     (number : ℕ) (elements : List ℕ) (from : List Kept) → IsOnRun job number elements from old before 0
     → bound ≡ (numbered job number).bound → AreWithin job number nodes (met_of old) → AreWithin job number nodes (met_of new)
+
+-- ---- where a call stops
+
+-- a run stops in a cycle of the segment
+abbrev pub CyclesStop : Job → (nodes : ℕ) → (old new : Way) → (before : Run) → Stop → Type 0
+CyclesStop job nodes old new before stop =
+    (number : ℕ) (elements : List ℕ) (from : List Kept)
+    → IsOnRun job number elements from old before before.board.place.cycle
+    → before.board.place.cycle < (numbered job number).bound → StopsBy job number nodes from new stop
+
+-- it stops at the bit that was asked for
+abbrev pub SettlesNot : Job → (nodes : ℕ) → (old new : Way) → (before : Run) → DecidedKind → (term : ℕ) → Stop → Type 0
+SettlesNot job nodes old new before kind term stop =
+    (number : ℕ) (elements : List ℕ) (from : List Kept)
+    → IsTurnedOnRun job number elements from old before before.board.place.cycle (Ask kind term)
+    → before.board.place.cycle < (numbered job number).bound → StopsBy job number nodes from new stop
+
+-- it stops in a cycle from a boundary, up to its bound
+abbrev pub SegmentStops : Job → (nodes : ℕ) → (old new : Way) → (before : Run) → (bound : ℕ) → Stop → Type 0
+SegmentStops job nodes old new before bound stop =
+    (number : ℕ) (elements : List ℕ) (from : List Kept) → IsOnRun job number elements from old before 0
+    → bound ≡ (numbered job number).bound → StopsBy job number nodes from new stop

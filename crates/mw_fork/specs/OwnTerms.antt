@@ -1,9 +1,10 @@
 -- The elements' own terms at a boundary, and the terms that lines put in their place.
-use Rattle.std.specs.Prelude.{◌≡◌, ℕ, ◌<◌, ◌++◌, ◌==◌, List, Bool, true, false, Some, slice_get, slice_index, slice_set}
+use Rattle.std.specs.Prelude.{◌≡◌, ℕ, ◌<◌, ◌++◌, ◌==◌, List, Bool, true, false, if◌then◌else◌, Some, slice_get, slice_index, slice_set}
 use Rattle.std.specs.List.{list_any}
 use Rattle.mw_term.specs.declared.kinds.WordKind.TheVariants.{Element}
 use Rattle.mw_term.specs.declared.word.Word.{Word}
 use Rattle.mw_term.specs.Table.{Table}
+use Rattle.mw_term.specs.WordList.{AllEnded, Ended, WordList, with_constant, with_variable}
 use Rattle.mw_symmem.specs.declared.side.Side.TheVariants.{Machine}
 use Rattle.mw_symmem.specs.Memory.{Memory}
 use Rattle.mw_symmem.specs.Words.{IsVariable}
@@ -11,6 +12,7 @@ use Rattle.mw_symmach.specs.Expressions.{IsMade, Means, Runs}
 use Rattle.mw_rel.specs.Free.{is_free}
 use Rattle.mw_rel.specs.Lines.{Line}
 use Rattle.mw_rel.specs.Relation.{Boundary}
+use Rattle.mw_rel.specs.StartWords.{all_own_words}
 
 -- The own term of the element of this number was made: words were added behind those that there were, and a free element
 -- has its variable.
@@ -49,3 +51,15 @@ pub record AreRelated (lines : List Line) (count : ℕ) (told tnew : Table) (wol
   pub free : (e : ℕ) → list_any (λ line. line.left == e) lines ≡ false → slice_index terms e ≡ slice_index own e
   pub left : (j : ℕ) (line : Line) → j < count → slice_get lines j ≡ Some line
       → HasRight lines told tnew mold mnew own terms line.left
+
+-- ---- in the word list
+
+-- what an element has by itself: a variable, or else a constant 0
+abbrev pub own_word : (free : Bool) → (number width : ℕ) → WordList → Ended
+own_word free number width l = if free then with_variable (Element number) width l else with_constant 0 width l
+
+-- behind own terms so far, those of elements of some widths, whose numbers are those from one on
+abbrev pub with_own : Boundary → (number : ℕ) → (widths : List ℕ) → AllEnded → AllEnded
+with_own boundary number widths so_far =
+    let others = all_own_words boundary number widths so_far.list in
+    record { list = others.list; terms = so_far.terms ++ others.terms }

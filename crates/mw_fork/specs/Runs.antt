@@ -1,6 +1,6 @@
 -- A run from a boundary, on terms.
 use Rattle.std.specs.Prelude.{◌≡◌, ℕ, ◌+◌, ◌<◌, ◌≤◌, List, length, Some, None}
-use Rattle.mw_term.specs.declared.kinds.WordKind.TheVariants.{Line}
+use Rattle.mw_term.specs.declared.kinds.WordKind.TheVariants.{Line, Probe}
 use Rattle.mw_term.specs.declared.word.Word.{Word}
 use Rattle.mw_term.specs.Table.{Table}
 use Rattle.mw_term.specs.WordList.{term_of}
@@ -19,12 +19,13 @@ pub record HasLine (t : Table) (words : List Word) : Type 0 where
   pub wide : IsOfWidth t 1 line
 
 -- A board of a job within a cycle, with what it works on and the terms of the machine's registers. There are 64 base
--- reads at most before the first cycle, and one in each.
+-- reads at most before the first cycle, and one in each; and there is no probe.
 pub record IsUnder (job : Job) (t : Table) (words : List Word) (m : Memory) (o : Symbolic) (registers : List ℕ) : Type 0 where
   pub space : IsSpace job t words m
   pub symbolic : IsSymbolic job.board job.store t words m o
   pub taken : o.place.taken ≤ o.place.cycle
   pub reads : length m.reads + reads_to_come o ≤ 65 + o.place.cycle
+  pub fresh : term_of words Probe ≡ None
   pub line : 0 < o.place.cycle + length o.place.decided → HasLine t words
   pub count : length registers ≡ job.machine.registers
   pub wide : AreWideSoFar t job.machine.shape.widths job.machine.registers registers

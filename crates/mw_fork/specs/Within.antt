@@ -1,28 +1,35 @@
 -- Which decided bits are within a budget of nodes.
 use Rattle.std.specs.Prelude.{◌≡◌, ℕ, List, ◌∷◌, ◌++◌}
 use Rattle.mw_cycle.specs.declared.decided.Decided.{Decided}
-use Rattle.mw_term.specs.Cofactors.{HasAtMostCofactors}
+use Rattle.mw_term.specs.Cofactors.{Agree}
 use Rattle.mw_term.specs.Functions.{Function}
-use Rattle.mw_term.specs.Rows.{bit}
 use Rattle.mw_symmem.specs.Memory.{IsOfWidth}
-use Rattle.mw_blast.specs.Splits.{path_one, path_zero}
 use Rattle.mw_rel.specs.Job.{Job}
+use Rattle.mw_rel.specs.OverBudget as lists
+use Rattle.mw_rel.specs.PathWords.{path_of}
 use Rattle.mw_fork.specs.CasePaths.{IsCasePath, IsNextOfCase}
+use Rattle.mw_fork.specs.Listed.{AsksFor}
 use Rattle.mw_fork.specs.Starts.{Ground, IsGround}
 
--- A decided bit behind others is within a budget of nodes. There is a ground, with a path of those over it, which is true
--- exactly of the starts whose cases begin with them, and with a term of one bit that has there the value of the next bit.
--- Neither operation by which that bit splits the path has more joint cofactors than the budget.
-pub record IsWithin (job : Job) (number nodes : ℕ) (before : List Decided) (k : Decided) : Type 0 where
+-- What the word list says of a decided bit behind others. There is a ground that is the list's, with a path over it, which is
+-- the list's and true exactly of the starts whose cases begin with them; and the term of one bit for which the list asks has
+-- there the value of the next bit.
+pub record IsInList (job : Job) (number : ℕ) (before : List Decided) (k : Decided) : Type 0 where
   pub basis : Ground
   pub stands : IsGround job number basis
   pub path : Function
+  pub written : Agree path (path_of job number before)
   pub cases : IsCasePath job number basis before path
   pub term : ℕ
+  pub asks : AsksFor job number before basis term
   pub wide : IsOfWidth basis.table 1 term
   pub next : IsNextOfCase job number basis before path k.kind term
-  pub zero : HasAtMostCofactors (path_zero path (bit basis.table term 0)) nodes
-  pub one : HasAtMostCofactors (path_one path (bit basis.table term 0)) nodes
+
+-- A decided bit behind others is within a budget of nodes: the word list has it, and none of its path operations there has
+-- more joint cofactors.
+pub record IsWithin (job : Job) (number nodes : ℕ) (before : List Decided) (k : Decided) : Type 0 where
+  pub listed : IsInList job number before k
+  pub within : lists.IsWithin job number nodes before
 
 -- so is each of some decided bits
 abbrev pub AreWithin : Job → (number nodes : ℕ) → List Decided → Type 0

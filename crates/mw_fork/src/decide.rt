@@ -1,10 +1,16 @@
 // How the bits of a case are decided.
-ghost use Rattle.std.specs.Prelude.{◌≡◌, ◌+◌, ℕ, List, IfOk, OnOk};
+ghost use Rattle.std.specs.Prelude.{◌≡◌, ◌+◌, ℕ, List, IfErr, IfOk, OnOk, length};
+ghost use Rattle.std.specs.Option.{unwrap_or};
+ghost use Rattle.mw_blast.specs.declared.fault.BlastFault.TheVariants as faults;
+ghost use Rattle.mw_term.specs.WordList.{number_of};
 ghost use Rattle.mw_symmem.specs.Memory.{IsOfWidth};
 ghost use Rattle.mw_rel.specs.Job.{IsJob, Job};
+ghost use Rattle.mw_fork.specs.declared.stop.Stop.TheVariants as stops;
 ghost use Rattle.mw_fork.specs.declared.way.Kept.{Kept};
 ghost use Rattle.mw_fork.specs.CasePaths.{IsNextOfCase};
+ghost use Rattle.mw_fork.specs.Listed.{AsksFor};
 ghost use Rattle.mw_fork.specs.OnWay.{HasDecided, HavePaths, IsOnWay, ground_in, path_in};
+ghost use Rattle.mw_fork.specs.Stops.{StopsBy};
 ghost use Rattle.mw_fork.specs.Ways.{met_of};
 ghost use Rattle.mw_fork.specs.Within.{AreWithin};
 
@@ -12,13 +18,18 @@ use crate::elements::Space;
 use crate::paths::Paths;
 use crate::stop::Stop;
 use crate::way::Way;
-use mw_blast::BlastFault;
+use mw_blast::{BlastFault, over_have_numbers};
+use mw_macro::words_are_numbered;
+use mw_rel::words_of_cases_are_numbered;
+use mw_symboard::words_of_cycles_are_numbered;
 use mw_symmem::Words;
 use mw_term::{DecidedKind, Term};
 use std::alloc::Global;
 
 /// The number of an operation's word. That of a constant, which is no word, is the last one before it.
-fn number_of(words: &Words, term: Term) -> u64 {
+fn number_of(words: &Words, term: Term) -> u64
+    ensures { result ≡ unwrap_or (number_of words.now term) (length words.now) }
+{
     match words.word_of(term) {
         Some(number) => number,
         None => words.count(),
@@ -26,7 +37,11 @@ fn number_of(words: &Words, term: Term) -> u64 {
 }
 
 /// Why a run stops, by the fault of a term.
-fn stop_of(words: &Words, fault: BlastFault) -> Stop {
+pub(crate) fn stop_of(words: &Words, fault: BlastFault) -> Stop
+    ensures over { (term j : ℕ) → fault ≡ faults.Over term j
+        → result ≡ stops.Over (unwrap_or (number_of words.now term) (length words.now)) j }
+    ensures none { fault ≡ faults.NoMemory → result ≡ stops.NoMemory }
+{
     match fault {
         BlastFault::Over(term, bit) => Stop::Over {
             word: number_of(words, term),
@@ -53,13 +68,24 @@ pub(crate) fn decide(
     ensures goes { IfOk result (λ value. (job : Job) (number : ℕ) (elements : List ℕ) (from : List Kept) → IsJob job
         → IsOnWay job number (ground_in space.now elements) from way.old (path_in paths.old)
         → IsNextOfCase job number (ground_in space.now elements) (met_of way.old) (path_in paths.old) kind term
+        → AsksFor job number (met_of way.old) (ground_in space.now elements) term
         → HasDecided job number (ground_in space.now elements) from way.old way.new (path_in paths.old) (path_in paths.new)
         kind term value) }
     ensures nodes { IfOk result (λ value. (job : Job) (number : ℕ) (elements : List ℕ) (from : List Kept) → IsJob job
         → IsOnWay job number (ground_in space.now elements) from way.old (path_in paths.old)
         → IsNextOfCase job number (ground_in space.now elements) (met_of way.old) (path_in paths.old) kind term
+        → AsksFor job number (met_of way.old) (ground_in space.now elements) term
         → AreWithin job number nodes (met_of way.old) → AreWithin job number nodes (met_of way.new)) }
+    ensures over { IfErr result (λ stop. (job : Job) (number : ℕ) (elements : List ℕ) (from : List Kept) → IsJob job
+        → IsOnWay job number (ground_in space.now elements) from way.old (path_in paths.old)
+        → AsksFor job number (met_of way.old) (ground_in space.now elements) term
+        → StopsBy job number nodes from way.new stop) }
 {
+    // Laws for the proof: each term of the word list that is no constant has a word, and so has one that is over a budget.
+    words_of_cases_are_numbered();
+    words_of_cycles_are_numbered();
+    words_are_numbered();
+    over_have_numbers();
     let split = match paths.split(alloc, &space.terms, term, nodes) {
         Ok(split) => split,
         Err(fault) => return Err(stop_of(&space.words, fault)),

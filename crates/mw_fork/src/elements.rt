@@ -1,7 +1,8 @@
 // The terms of all elements at a boundary.
-ghost use Rattle.std.specs.Prelude.{◌≡◌, ◌+◌, ◌<◌, ◌≤◌, [], All, IfOk, OnOk, length, slice_index};
+ghost use Rattle.std.specs.Prelude.{◌≡◌, ◌+◌, ◌<◌, ◌≤◌, [], All, IfOk, OnOk, drop, length, slice_index};
 ghost use Rattle.mw_macro.specs.Counts.{reads};
 ghost use Rattle.mw_term.specs.Table.{IsWidth};
+ghost use Rattle.mw_term.specs.WordList.{ended, list_of};
 ghost use Rattle.mw_symmem.specs.Memory.{IsOfWidth};
 ghost use Rattle.mw_symmem.specs.Words.{AreOf};
 ghost use Rattle.mw_symmem.specs.Workspace.{HaveKinds, IsLater};
@@ -9,10 +10,12 @@ ghost use Rattle.mw_rel.specs.Free.{numbered};
 ghost use Rattle.mw_rel.specs.Lines.{reads_of};
 ghost use Rattle.mw_rel.specs.Rules.{IsLineOf};
 ghost use Rattle.mw_rel.specs.Seen.{line_of, lines_of};
+ghost use Rattle.mw_rel.specs.StartWords.{all_own_words, line_words, lines_words, start_words};
 ghost use Rattle.mw_rel.specs.Views.{job_of};
 ghost use Rattle.mw_fork.specs.Boundaries.{AreElements, AreWide, AreWideSoFar, IsElementBelow, IsSpace};
+ghost use Rattle.mw_fork.specs.Listed.{all_ended, list_of_space};
 ghost use Rattle.mw_fork.specs.OnWay.{ground_in};
-ghost use Rattle.mw_fork.specs.OwnTerms.{AreOwn, AreRelated, IsOwn, IsRelated};
+ghost use Rattle.mw_fork.specs.OwnTerms.{AreOwn, AreRelated, IsOwn, IsRelated, own_word, with_own};
 ghost use Rattle.mw_fork.specs.Starts.{IsGround};
 
 use mw_base::NoMemory;
@@ -40,6 +43,7 @@ impl Space {
         ensures words { IfOk result (λ s. s.words ≡ []) }
         ensures reads { IfOk result (λ s. s.memory.reads ≡ []) }
         ensures unwritten { IfOk result (λ s. (s.memory.board ≡ []) × (s.memory.machine ≡ [])) }
+        ensures listed { IfOk result (λ s. list_of_space s ≡ list_of [] [] []) }
     {
         // Laws for the proof: no words are those of a table without terms, and a new memory is one over them.
         are_of_at_first();
@@ -70,6 +74,8 @@ fn own_term(
     ensures below { OnOk result (HaveKinds (IsElementBelow (number + 1)) space.new.words) }
     ensures own { IfOk result (IsOwn is_free number space.old.words space.new.words) }
     ensures memory { space.new.memory ≡ space.old.memory }
+    ensures listed { IfOk result (λ term. ended term (list_of_space space.new)
+        ≡ own_word is_free number width (list_of_space space.old)) }
 {
     if is_free {
         let variable = space
@@ -116,6 +122,10 @@ fn push_own(
     ensures below { OnOk result (HaveKinds (IsElementBelow (number + 1)) space.new.words) }
     ensures own { OnOk result (AreOwn (numbered (job_of job.now) boundary) (number + 1) space.new.words own.new.items) }
     ensures memory { space.new.memory ≡ space.old.memory }
+    ensures listed { OnOk result (with_own (numbered (job_of job.now) boundary) number
+        (drop number (job_of job.now).relation.shape.widths) (all_ended own.old.items (list_of_space space.old))
+        ≡ with_own (numbered (job_of job.now) boundary) (number + 1)
+        (drop (number + 1) (job_of job.now).relation.shape.widths) (all_ended own.new.items (list_of_space space.new))) }
 {
     let width = width_of(job, number);
     let number = number as u32;
@@ -141,6 +151,9 @@ fn own_terms(
         (length (job_of job.now).relation.shape.widths) space.new.words own.items) }
     ensures reads { OnOk result (space.new.memory.reads ≡ []) }
     ensures memory { OnOk result (space.new.memory ≡ space.old.memory) }
+    ensures listed { IfOk result (λ own. all_own_words (numbered (job_of job.now) boundary) 0
+        (job_of job.now).relation.shape.widths (list_of_space space.old)
+        ≡ all_ended own.items (list_of_space space.new)) }
 {
     let mut own = Vec::new(alloc);
     for number in 0..job.element_count() {
@@ -162,12 +175,16 @@ fn relate_line(
     requires few { length space.old.memory.reads + reads (line_of line.now).right ≤ 64 }
     requires own { AreElements (job_of job.now) space.old.terms space.old.words space.old.memory own.now }
     requires wide { AreWide space.old.terms (job_of job.now).relation.shape.widths terms.old.items }
+    requires unwritten { space.old.memory.machine ≡ [] }
     ensures more { OnOk result (length space.new.memory.reads
         ≡ length space.old.memory.reads + reads (line_of line.now).right) }
     ensures own { OnOk result (AreElements (job_of job.now) space.new.terms space.new.words space.new.memory own.now) }
     ensures wide { OnOk result (AreWide space.new.terms (job_of job.now).relation.shape.widths terms.new.items) }
     ensures related { OnOk result (IsRelated (line_of line.now) space.old.terms space.new.terms space.old.words space.new.words
         space.old.memory space.new.memory own.now terms.old.items terms.new.items) }
+    ensures unwritten { OnOk result (space.new.memory.machine ≡ []) }
+    ensures listed { OnOk result (line_words (job_of job.now).relation.shape own.now (line_of line.now)
+        (all_ended terms.old.items (list_of_space space.old)) ≡ all_ended terms.new.items (list_of_space space.new)) }
 {
     // A call for the proof: what holds of every job.
     let _shape = job.shape();
@@ -198,11 +215,14 @@ fn relate(
     requires at_first { terms.old.items ≡ own.now }
     requires own { AreElements (job_of job.now) space.old.terms space.old.words space.old.memory own.now }
     requires wide { AreWide space.old.terms (job_of job.now).relation.shape.widths terms.old.items }
+    requires unwritten { space.old.memory.machine ≡ [] }
     ensures own { OnOk result (AreElements (job_of job.now) space.new.terms space.new.words space.new.memory own.now) }
     ensures wide { OnOk result (AreWide space.new.terms (job_of job.now).relation.shape.widths terms.new.items) }
     ensures related { OnOk result (AreRelated (lines_of lines.now) (length lines.now)
         space.old.terms space.new.terms space.old.words space.new.words space.old.memory space.new.memory
         own.now terms.new.items) }
+    ensures listed { OnOk result (lines_words (job_of job.now).relation.shape own.now (lines_of lines.now)
+        (all_ended own.now (list_of_space space.old)) ≡ all_ended terms.new.items (list_of_space space.new)) }
 {
     for line in lines {
         relate_line(alloc, job, line, own, space, terms)?;
@@ -227,6 +247,8 @@ pub(crate) fn elements_at(alloc: Global, job: &Job, boundary: usize) -> Result<E
         e.space.terms e.space.words e.space.memory e.terms.items) }
     ensures stands { IfOk result (λ e. IsGround (job_of job.now) boundary (ground_in e.space e.terms.items)) }
     ensures unwritten { IfOk result (λ e. (e.space.memory.board ≡ []) × (e.space.memory.machine ≡ [])) }
+    ensures listed { IfOk result (λ e. start_words (job_of job.now).relation.shape (numbered (job_of job.now) boundary)
+        ≡ all_ended e.terms.items (list_of_space e.space)) }
 {
     let mut space = Space::new(alloc, job)?;
     let own = own_terms(alloc, job, boundary, &mut space)?;

@@ -12,7 +12,7 @@ pub enum Over {
     Nodes {
         /// The number of the boundary, from 0.
         boundary: usize,
-        /// The decided bits before the operation.
+        /// The decided bits in whose word list the operation stands.
         prefix: Prefix,
         /// The number of the operation's word.
         word: u64,

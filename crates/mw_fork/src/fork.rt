@@ -1,19 +1,30 @@
 // The feasible cases of a boundary, one after another.
 ghost use Rattle.std.specs.Prelude.{◌≡◌, ◌≢◌, ◌+◌, ◌<◌, ◌≤◌, ℕ, List, [], length, IfOk, IfErr, IfSome, IsOk, OnOk, None, true, false};
 ghost use Rattle.mw_cycle.specs.declared.decided.Decided.{Decided};
+ghost use Rattle.mw_term.specs.declared.kinds.WordKind.TheVariants.{Probe};
+ghost use Rattle.mw_term.specs.WordList.{term_of};
+ghost use Rattle.mw_rel.specs.Case.{IsBefore, IsCase};
+ghost use Rattle.mw_fork.specs.Begins.{IsDiffering, IsLeast};
+ghost use Rattle.mw_fork.specs.Failing.{ComparisonsAreWithin, NoneDiffersOf};
+ghost use Rattle.mw_rel.specs.OverBudget.{AreNodesOver};
 ghost use Rattle.mw_rel.specs.Views.{job_of};
 ghost use Rattle.mw_fork.specs.declared.fault.ForkFault.TheVariants as faults;
 ghost use Rattle.mw_fork.specs.declared.fault.Over.TheVariants as overs;
 ghost use Rattle.mw_fork.specs.declared.fork.Stage.TheVariants as stages;
+ghost use Rattle.mw_fork.specs.declared.stop.Stop.TheVariants as stops;
 ghost use Rattle.mw_fork.specs.declared.way.Kept.{Kept};
 ghost use Rattle.mw_fork.specs.Forks as forks;
-ghost use Rattle.mw_fork.specs.Forks.{At, Behind, EndsEach, IsForkOf, IsNextCase, LeadNowhere, LeadOn, NoneIsToCome, OneIsToCome};
+ghost use Rattle.mw_fork.specs.Forks.{At, Behind, EndsEach, IsForkOf, IsNextCase, IsToCome, LeadNowhere, LeadOn};
+ghost use Rattle.mw_fork.specs.Forks.{NoneIsToCome, OneIsToCome};
 ghost use Rattle.mw_fork.specs.KeptBits.{AreKept};
 ghost use Rattle.mw_fork.specs.OnWay.{HasMetCase, HasMetSegment, HavePaths, IsRunOf};
+ghost use Rattle.mw_fork.specs.Stops.{StopsBy};
 ghost use Rattle.mw_fork.specs.Ways.{met_of};
 ghost use Rattle.mw_fork.specs.Within.{AreWithin};
 
+use crate::begin::begin_of;
 use crate::budget::Budget;
+use crate::comparing::first_failing;
 use crate::fault::{ForkFault, Over};
 use crate::prefix::Prefix;
 use crate::run::Run;
@@ -22,7 +33,8 @@ use crate::step::step;
 use crate::stop::Stop;
 use crate::way::Way;
 use mw_base::NoMemory;
-use mw_rel::Job;
+use mw_rel::{Begin, Job};
+use mw_symmach::SymMach;
 use std::alloc::Global;
 use std::marker::Model;
 
@@ -77,6 +89,8 @@ pub(crate) struct Traced {
     pub cycles: u32,
     /// Whether the segment is late.
     pub late: bool,
+    /// The described step behind it, where it isn't late.
+    pub step: Option<SymMach>,
 }
 
 /// Makes the described step of a run, where its segment isn't late.
@@ -87,24 +101,29 @@ fn with_step(
     late: bool,
     way: &mut Way,
     nodes: u32,
-) -> Result<(), Stop>
+) -> Result<Option<SymMach>, Stop>
     requires under { IsRunOf (job_of job.now) run.old }
     requires some { 0 < run.old.board.place.cycle }
     requires few { run.old.board.place.cycle ≤ 500 }
     requires paths { HavePaths run.old.space run.old.paths }
-    ensures goes { OnOk result ((number cycles : ℕ) (elements : List ℕ) (from : List Kept)
+    ensures goes { IfOk result (λ o. (number cycles : ℕ) (elements : List ℕ) (from : List Kept)
         → HasMetSegment (job_of job.now) number elements from cycles late way.old run.old
-        → HasMetCase (job_of job.now) number elements from cycles late way.new run.new) }
+        → HasMetCase (job_of job.now) number elements from cycles late way.new run.new o) }
     ensures nodes { OnOk result ((number cycles : ℕ) (elements : List ℕ) (from : List Kept)
         → HasMetSegment (job_of job.now) number elements from cycles late way.old run.old
         → AreWithin (job_of job.now) number nodes (met_of way.old)
         → AreWithin (job_of job.now) number nodes (met_of way.new)) }
+    ensures over { IfErr result (λ stop. (number cycles : ℕ) (elements : List ℕ) (from : List Kept)
+        → HasMetSegment (job_of job.now) number elements from cycles late way.old run.old
+        → StopsBy (job_of job.now) number nodes from way.new stop) }
+    ensures few { OnOk result (length run.new.space.memory.reads ≤ 1024) }
+    ensures fresh { OnOk result (term_of run.new.space.words Probe ≡ None) }
+    ensures paths { OnOk result (HavePaths run.new.space run.new.paths) }
 {
     if late {
-        return Ok(());
+        return Ok(None);
     }
-    step(alloc, job, run, way, nodes)?;
-    Ok(())
+    Ok(Some(step(alloc, job, run, way, nodes)?))
 }
 
 /// Runs a case of the boundary of this number along the bits that are kept, and then along the first that are feasible.
@@ -119,9 +138,15 @@ fn trace(
     requires anew { met_of way.old ≡ [] }
     ensures case { IfOk result (λ traced. AreKept (job_of job.now) boundary [] way.old.kept
         → (elements : List ℕ)
-        × HasMetCase (job_of job.now) boundary elements way.old.kept traced.cycles traced.late way.new traced.run) }
+        × HasMetCase (job_of job.now) boundary elements way.old.kept traced.cycles traced.late way.new traced.run
+        traced.step) }
     ensures nodes { OnOk result (AreKept (job_of job.now) boundary [] way.old.kept
         → AreWithin (job_of job.now) boundary nodes (met_of way.new)) }
+    ensures over { IfErr result (λ stop. AreKept (job_of job.now) boundary [] way.old.kept
+        → StopsBy (job_of job.now) boundary nodes way.old.kept way.new stop) }
+    ensures few { IfOk result (λ traced. length traced.run.space.memory.reads ≤ 1024) }
+    ensures fresh { IfOk result (λ traced. term_of traced.run.space.words Probe ≡ None) }
+    ensures paths { IfOk result (λ traced. HavePaths traced.run.space traced.run.paths) }
 {
     // A call for the proof: what holds of every job.
     let _shape = job.shape();
@@ -129,12 +154,41 @@ fn trace(
     let bound = job.boundary(boundary).bound;
     let reached = segment(alloc, job, bound, &mut run, way, nodes)?;
     let late = reached.is_none();
-    with_step(alloc, job, &mut run, late, way, nodes)?;
+    let step = with_step(alloc, job, &mut run, late, way, nodes)?;
     Ok(Traced {
         run,
         cycles: reached.unwrap_or(bound),
         late,
+        step,
     })
+}
+
+/// How many cycles the segment of a run has, and whether it is late; the run is dropped.
+fn ending(traced: Traced) -> (u32, bool)
+    ensures cycles { result.0 ≡ traced.cycles }
+    ensures late { result.1 ≡ traced.late }
+{
+    (traced.cycles, traced.late)
+}
+
+/// Why a case isn't given, by why its run stopped.
+fn fault_of(alloc: Global, boundary: usize, way: &Way, stop: Stop) -> ForkFault
+    ensures nodes { (number : ℕ) (prefix : List Decided) (word j : ℕ) → result ≡ faults.Over (overs.Nodes number prefix word j)
+        → (number ≡ boundary) × (prefix ≡ met_of way.now) × (stop ≡ stops.Over word j) }
+    ensures paths { (number limit : ℕ) → result ≢ faults.Over (overs.Paths number limit) }
+{
+    match stop {
+        Stop::Over { word, bit } => match way.prefix(alloc) {
+            Ok(prefix) => ForkFault::Over(Over::Nodes {
+                boundary,
+                prefix,
+                word,
+                bit,
+            }),
+            Err(_) => ForkFault::NoMemory,
+        },
+        Stop::NoMemory => ForkFault::NoMemory,
+    }
 }
 
 /// Turns the bits that are kept to the next case, where one is to come, and says whether there is one.
@@ -185,7 +239,8 @@ impl Fork {
     /// # Errors
     ///
     /// - `Over`, with `Paths`, exactly where as many cases were given as the budget has paths, and another is to come; with
-    ///   `Nodes`, where an operation of the next case has more joint cofactors than the budget has nodes.
+    ///   `Nodes`, only where an operation at that word and bit, in the word list of that prefix, has more joint cofactors than
+    ///   the budget has nodes. No case that is still to come stands before the prefix.
     /// - `NoMemory`: memory ran out.
     ///
     /// After an error it may only be dropped.
@@ -213,6 +268,12 @@ impl Fork {
             → e ≡ faults.Over (overs.Nodes boundary prefix word bit)
             → (boundary ≡ self.old.boundary) × (self.old.given < self.old.budget.paths)
             × OneIsToCome (job_of job.now) self.old.boundary self.old.at) }
+        ensures cause { IfErr result (λ e. (boundary : ℕ) (prefix : List Decided) (word bit : ℕ)
+            → e ≡ faults.Over (overs.Nodes boundary prefix word bit)
+            → AreNodesOver (job_of job.now) boundary self.old.budget.nodes prefix word bit) }
+        ensures before { IfErr result (λ e. (boundary : ℕ) (prefix : List Decided) (word bit : ℕ)
+            → e ≡ faults.Over (overs.Nodes boundary prefix word bit) → (other : List Decided)
+            → IsCase (job_of job.now) boundary other → IsBefore other prefix → ¬ IsToCome self.old.at other) }
     {
         // A call for the proof: what holds of every job.
         let _shape = job.shape();
@@ -228,35 +289,65 @@ impl Fork {
         }
         let traced = match trace(alloc, job, self.boundary, &mut self.way, self.budget.nodes) {
             Ok(traced) => traced,
-            Err(stop) => return Err(self.fault(alloc, stop)),
+            Err(stop) => return Err(fault_of(alloc, self.boundary, &self.way, stop)),
         };
+        let (cycles, late) = ending(traced);
         let prefix = self.way.prefix(alloc)?;
         self.given += 1;
         self.stage = Stage::At;
         Ok(Some(Case {
             prefix,
-            cycles: traced.cycles,
-            late: traced.late,
+            cycles,
+            late,
         }))
     }
 
-    /// Why a case isn't given, by why its run stopped.
-    fn fault(&self, alloc: Global, stop: Stop) -> ForkFault
-        ensures nodes { (boundary : ℕ) (prefix : List Decided) (word bit : ℕ)
-            → result ≡ faults.Over (overs.Nodes boundary prefix word bit) → boundary ≡ self.now.boundary }
-        ensures paths { (boundary limit : ℕ) → result ≢ faults.Over (overs.Paths boundary limit) }
+    /// A start of the case given last that differs: what the first assignment gives under which the first comparison fails
+    /// that can; of a late case, and where the events aren't alike or the stack pointer isn't the boundary's, the first
+    /// that takes its path. Where there is no error, nothing exactly where none of its starts differs. A case was given
+    /// last.
+    ///
+    /// # Errors
+    ///
+    /// - `Over`, with `Nodes`, only where an operation at that word and bit, in the word list of the case, which is the prefix,
+    ///   has more joint cofactors than the budget has nodes.
+    /// - `NoMemory`: memory ran out.
+    ///
+    /// After an error it may only be dropped.
+    pub fn differs(&mut self, alloc: Global, job: &Job) -> Result<Option<Begin>, ForkFault>
+        requires of { IsForkOf (job_of job.now) self.old }
+        requires given { (last : List Decided) × (self.old.at ≡ At last) }
+        ensures same { OnOk result (self.new ≡ self.old) }
+        ensures differs { IfOk result (λ o. IfSome o (λ begin. (last : List Decided) → self.old.at ≡ At last
+            → IsDiffering (job_of job.now) self.old.boundary last begin)) }
+        ensures least { IfOk result (λ o. IfSome o (λ begin. (last : List Decided) → self.old.at ≡ At last
+            → IsLeast (job_of job.now) self.old.boundary last begin)) }
+        ensures none { IfOk result (λ o. o ≡ None → (last : List Decided) → self.old.at ≡ At last
+            → NoneDiffersOf (job_of job.now) self.old.boundary last) }
+        ensures within { IfOk result (λ o. o ≡ None → (last : List Decided) → self.old.at ≡ At last
+            → ComparisonsAreWithin (job_of job.now) self.old.boundary self.old.budget.nodes last) }
+        ensures cause { IfErr result (λ e. (boundary : ℕ) (prefix : List Decided) (word bit : ℕ)
+            → e ≡ faults.Over (overs.Nodes boundary prefix word bit)
+            → (boundary ≡ self.old.boundary) × (self.old.at ≡ At prefix)
+            × AreNodesOver (job_of job.now) boundary self.old.budget.nodes prefix word bit) }
+        ensures paths { IfErr result (λ e. (boundary limit : ℕ) → e ≢ faults.Over (overs.Paths boundary limit)) }
     {
-        match stop {
-            Stop::Over { word, bit } => match self.way.prefix(alloc) {
-                Ok(prefix) => ForkFault::Over(Over::Nodes {
-                    boundary: self.boundary,
-                    prefix,
-                    word,
-                    bit,
-                }),
-                Err(_) => ForkFault::NoMemory,
-            },
-            Stop::NoMemory => ForkFault::NoMemory,
+        // A call for the proof: what holds of every job.
+        let _shape = job.shape();
+        self.way.begin_anew();
+        // The case was run before within its budget; this time no budget is asked that could be passed.
+        let Ok(mut traced) = trace(alloc, job, self.boundary, &mut self.way, u32::MAX) else {
+            return Err(ForkFault::NoMemory);
+        };
+        match first_failing(alloc, job, &mut traced, self.budget.nodes) {
+            Ok(None) => Ok(None),
+            Ok(Some(given)) => {
+                match begin_of(alloc, job, self.boundary, &traced.run.space, &given) {
+                    Ok(begin) => Ok(Some(begin)),
+                    Err(NoMemory) => Err(ForkFault::NoMemory),
+                }
+            }
+            Err(stop) => Err(fault_of(alloc, self.boundary, &self.way, stop)),
         }
     }
 }

@@ -1,22 +1,25 @@
 // Which starts take a path, as a Boolean function.
-ghost use Rattle.std.specs.Prelude.{◌≡◌, ◌↔◌, ◌<◌, ℕ, true, false, None, IfOk, IfErr, IfSome, cond, length, slice_index};
+ghost use Rattle.std.specs.Prelude.{◌≡◌, ◌↔◌, ◌⊎◌, ◌<◌, ℕ, true, false, None, IfOk, IfErr, IfSome, OnOk, cond, length, slice_index};
 ghost use Rattle.mw_term.specs.Assigned.{Given};
-ghost use Rattle.mw_term.specs.Cofactors.{Agree};
-ghost use Rattle.mw_term.specs.Functions.{Function, always, never};
+ghost use Rattle.mw_term.specs.Cofactors.{Agree, HasAtMostCofactors, HasMoreCofactors};
+ghost use Rattle.mw_term.specs.Functions.{Function, always, made, never};
+ghost use Rattle.mw_term.specs.PathWords.{path_zero};
 ghost use Rattle.mw_term.specs.Rows.{bit};
 ghost use Rattle.mw_term.specs.Table.{Table};
 ghost use Rattle.mw_symmem.specs.Memory.{IsOfWidth};
 ghost use Rattle.mw_dd.specs.Nodes.{IsDd, function_of};
-ghost use Rattle.mw_dd.specs.Diagrams.{Keeps};
+ghost use Rattle.mw_dd.specs.Diagrams.{IsFirst, Keeps};
 ghost use Rattle.mw_blast.specs.Bits.{StandsFor};
+ghost use Rattle.mw_blast.specs.Causes.{IsCause};
+ghost use Rattle.mw_blast.specs.declared.fault.BlastFault.TheVariants as faults;
 ghost use Rattle.mw_blast.specs.Splits.{IsSplit, IsSplitCause};
 ghost use Rattle.mw_fork.specs.Paths.{ArePaths, AreTwo};
 
 use crate::way::Feasible;
 use mw_base::NoMemory;
 use mw_blast::{Blast, BlastFault, Split};
-use mw_dd::{Dd, Diagrams};
-use mw_term::{Term, Terms, terminal_cases_have_none};
+use mw_dd::{Dd, DdFault, Diagrams};
+use mw_term::{Assignment, Term, Terms, terminal_cases_have_none};
 use std::alloc::Global;
 
 /// The function of the starts that take the path so far, and the functions of bits.
@@ -98,6 +101,47 @@ impl Paths {
         }
         self.blast
             .decide(alloc, terms, &mut self.dds, self.path, term, nodes)
+    }
+
+    /// The first assignment on the path under which a term of one bit is 0, if there is one.
+    pub(crate) fn failing(
+        &mut self,
+        alloc: Global,
+        terms: &Terms,
+        term: Term,
+        nodes: u32,
+    ) -> Result<Option<Assignment>, BlastFault>
+        requires wide { IsOfWidth terms.now 1 term }
+        requires paths { ArePaths terms.now self.old.dds self.old.blast self.old.path }
+        ensures first { IfOk result (λ o. IfSome o (λ numbers.
+            IsFirst (made (path_zero (function_of self.old.dds self.old.path) (bit terms.now term 0))) numbers)) }
+        ensures none { IfOk result (λ o. o ≡ None
+            → Agree (made (path_zero (function_of self.old.dds self.old.path) (bit terms.now term 0))) never) }
+        ensures within { OnOk result
+            (HasAtMostCofactors (path_zero (function_of self.old.dds self.old.path) (bit terms.now term 0)) nodes) }
+        ensures over { IfErr result (λ e. (named j : ℕ) → e ≡ faults.Over named j → IsCause terms.now term nodes e
+            ⊎ ((named ≡ term) × (j ≡ 0) × HasMoreCofactors
+            (path_zero (function_of self.old.dds self.old.path) (bit terms.now term 0)) nodes)) }
+        ensures path { self.new.path ≡ self.old.path }
+        ensures paths { ArePaths terms.now self.new.dds self.new.blast self.new.path }
+        ensures keeps { Keeps self.old.dds self.new.dds }
+    {
+        let bits = self.blast.bits(alloc, terms, &mut self.dds, term, nodes)?;
+        let never = self.dds.constant(false);
+        match self.dds.ite(alloc, only(&bits), never, self.path, nodes) {
+            Ok(fails) => Ok(self.dds.some_assignment(alloc, fails)?),
+            Err(DdFault::OverBudget) => Err(BlastFault::Over(term, 0)),
+            Err(DdFault::NoMemory) => Err(BlastFault::NoMemory),
+        }
+    }
+
+    /// The first assignment on the path, if there is one.
+    pub(crate) fn first(&self, alloc: Global) -> Result<Option<Assignment>, NoMemory>
+        requires { IsDd self.now.dds self.now.path }
+        ensures first { IfOk result (λ o. IfSome o (IsFirst (function_of self.now.dds self.now.path))) }
+        ensures none { IfOk result (λ o. o ≡ None → Agree (function_of self.now.dds self.now.path) never) }
+    {
+        self.dds.some_assignment(alloc, self.path)
     }
 
     /// Which values are feasible of the bit that splits the path.

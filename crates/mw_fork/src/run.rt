@@ -1,9 +1,10 @@
 // One case on terms: its board, cycle after cycle, and its described step.
-ghost use Rattle.std.specs.Prelude.{◌≡◌, ◌+◌, ◌<◌, ℕ, List, IfOk, OnOk, None, drop, length, take};
+ghost use Rattle.std.specs.Prelude.{◌≡◌, ◌+◌, ◌<◌, ℕ, List, IfErr, IfOk, OnOk, None, drop, length, take};
 ghost use Rattle.mw_board.specs.Elements.{element_count};
 ghost use Rattle.mw_symboard.specs.Turns.{Asks};
 ghost use Rattle.mw_rel.specs.Views.{job_of};
-ghost use Rattle.mw_fork.specs.OnWay.{Cycles, HavePaths, IsFirst, IsRunOf, Settles, SettlesWithin, StaysWithin, Turns};
+ghost use Rattle.mw_fork.specs.OnWay.{Cycles, CyclesStop, HavePaths, IsFirst, IsRunOf, Settles, SettlesNot, SettlesWithin};
+ghost use Rattle.mw_fork.specs.OnWay.{StaysWithin, Turns};
 ghost use Rattle.mw_fork.specs.Runs.{IsIdle, IsTurned};
 
 use crate::decide::decide;
@@ -132,6 +133,7 @@ impl Run {
         ensures few { length self.old.board.place.decided < 14 }
         ensures goes { OnOk result (Settles (job_of job.now) way.old way.new self.old self.new kind term) }
         ensures nodes { OnOk result (SettlesWithin (job_of job.now) nodes way.old way.new self.old kind term) }
+        ensures over { IfErr result (SettlesNot (job_of job.now) nodes way.old way.new self.old kind term) }
         ensures paths { OnOk result (HavePaths self.new.space self.new.paths) }
     {
         // A call for the proof: what holds of every job.
@@ -157,6 +159,7 @@ impl Run {
         ensures idle { OnOk result (IsIdle self.new.board (self.old.board.place.cycle + 1)) }
         ensures goes { OnOk result (Cycles (job_of job.now) way.old way.new self.old self.new) }
         ensures nodes { OnOk result (StaysWithin (job_of job.now) nodes way.old way.new self.old self.old.board.place.cycle) }
+        ensures over { IfErr result (CyclesStop (job_of job.now) nodes way.old way.new self.old) }
         ensures paths { OnOk result (HavePaths self.new.space self.new.paths) }
     {
         loop {

@@ -1,5 +1,5 @@
 // The segment of a case.
-ghost use Rattle.std.specs.Prelude.{◌≡◌, ◌<◌, ◌≤◌, ℕ, List, None, IfOk, IfSome, OnOk, map};
+ghost use Rattle.std.specs.Prelude.{◌≡◌, ◌<◌, ◌≤◌, ℕ, List, None, IfErr, IfOk, IfSome, OnOk, map};
 ghost use Rattle.std.specs.Option.{is_none, unwrap_or};
 ghost use Rattle.mw_cycle.specs.Boundary.{is_named};
 ghost use Rattle.mw_rel.specs.Seen.{boundaries_of};
@@ -7,7 +7,7 @@ ghost use Rattle.mw_rel.specs.Start.{addresses_of};
 ghost use Rattle.mw_rel.specs.Views.{job_of};
 ghost use Rattle.mw_rel.specs.Free.{numbered};
 ghost use Rattle.mw_fork.specs.declared.way.Kept.{Kept};
-ghost use Rattle.mw_fork.specs.OnWay.{HasMetSegment, HavePaths, IsOnRun, IsRunOf, MadeWithin};
+ghost use Rattle.mw_fork.specs.OnWay.{HasMetSegment, HavePaths, IsOnRun, IsRunOf, MadeWithin, SegmentStops};
 ghost use Rattle.mw_fork.specs.Runs.{IsIdle};
 ghost use Rattle.mw_fork.specs.Segments.{HasReached, IsLate};
 
@@ -59,6 +59,7 @@ pub(crate) fn segment(
         → bound ≡ (numbered (job_of job.now) number).bound
         → HasMetSegment (job_of job.now) number elements from (unwrap_or o bound) (is_none o) way.new run.new) }
     ensures nodes { OnOk result (MadeWithin (job_of job.now) nodes way.old way.new run.old bound) }
+    ensures over { IfErr result (SegmentStops (job_of job.now) nodes way.old way.new run.old bound) }
 {
     for number in 0..bound {
         run.cycle(alloc, job, way, nodes)?;

@@ -1,23 +1,24 @@
 // The described step of a case, on terms.
-ghost use Rattle.std.specs.Prelude.{◌≡◌, ◌+◌, ◌-◌, ◌<◌, ◌≤◌, ℕ, IfOk, List, OnOk, Some, false};
+ghost use Rattle.std.specs.Prelude.{◌≡◌, ◌+◌, ◌-◌, ◌<◌, ◌≤◌, ℕ, IfErr, IfOk, List, OnOk, Some, false};
 ghost use Rattle.mw_macro.specs.Described.{description_of};
 ghost use Rattle.mw_macro.specs.declared.counts.Counted.TheVariants.{Statements};
 ghost use Rattle.mw_macro.specs.Counts.{total};
 ghost use Rattle.mw_macro.specs.StepWords.{Underway};
 ghost use Rattle.mw_term.specs.declared.kinds.WordKind.TheVariants.{Line};
 ghost use Rattle.mw_term.specs.WordList.{term_of};
-ghost use Rattle.mw_symmem.specs.declared.turn.Turn.TheVariants.{Ask};
+ghost use Rattle.mw_symmem.specs.declared.turn.Turn.TheVariants.{Ask, Finished};
 ghost use Rattle.mw_symmem.specs.Memory.{IsOfWidth};
+ghost use Rattle.mw_symboard.specs.Turns.{Symbolic};
 ghost use Rattle.mw_symmach.specs.Turns.{Asks, is_asked};
 ghost use Rattle.mw_symmach.specs.Walks.{underway_of};
 ghost use Rattle.mw_rel.specs.Views.{job_of};
 ghost use Rattle.mw_cycle.specs.declared.decided.Decided.{Decided};
 ghost use Rattle.mw_fork.specs.declared.paths.Paths as diagrams;
 ghost use Rattle.mw_fork.specs.declared.way.Kept.{Kept};
-ghost use Rattle.mw_fork.specs.CasePaths.{HasCase};
-ghost use Rattle.mw_fork.specs.OnWay.{HasMetCase, HasMetSegment, HavePaths, IsOnStep, IsRunOf, IsTurnedOnStep, ground_in, path_in};
+ghost use Rattle.mw_fork.specs.OnWay.{HasMetCase, HasMetSegment, HavePaths, IsOnStep, IsRunOf, IsTurnedOnStep};
 ghost use Rattle.mw_fork.specs.Runs.{HasLine};
 ghost use Rattle.mw_fork.specs.Steps.{HasCome, HasEnded, HasStopped, IsStepTurned, IsUnderway};
+ghost use Rattle.mw_fork.specs.Stops.{StopsBy};
 ghost use Rattle.mw_fork.specs.Ways as ways;
 ghost use Rattle.mw_fork.specs.Within.{AreWithin};
 
@@ -60,7 +61,7 @@ fn begin(alloc: Global, job: &Job, run: &Run) -> Result<SymMach, NoMemory>
         run.now.space.terms run.now.space.words run.now.space.memory s) }
     ensures goes { IfOk result (λ s. (number cycles : ℕ) (elements : List ℕ) (from : List Kept) (way : ways.Way)
         → HasMetSegment (job_of job.now) number elements from cycles false way run.now
-        → IsOnStep (job_of job.now) number elements from cycles (ways.met_of way) way run.now.space run.now.paths s) }
+        → IsOnStep (job_of job.now) number elements from cycles (ways.met_of way) run.now.board way run.now.space run.now.paths s) }
 {
     // A call for the proof: what holds of every job.
     let _shape = job.shape();
@@ -82,9 +83,9 @@ fn turn(alloc: Global, job: &Job, space: &mut Space, step: &mut SymMach) -> Resu
         → IsStepTurned (description_of job.now.machine) from count
         space.new.terms space.new.words space.new.memory step.new turn) }
     ensures goes { IfOk result (λ turn. (number cycles : ℕ) (elements : List ℕ) (from : List Kept) (segment : List Decided)
-        (way : ways.Way) (paths : diagrams.Paths)
-        → IsOnStep (job_of job.now) number elements from cycles segment way space.old paths step.old
-        → IsTurnedOnStep (job_of job.now) number elements from cycles segment way space.new paths step.new turn) }
+        (board : Symbolic) (way : ways.Way) (paths : diagrams.Paths)
+        → IsOnStep (job_of job.now) number elements from cycles segment board way space.old paths step.old
+        → IsTurnedOnStep (job_of job.now) number elements from cycles segment board way space.new paths step.new turn) }
     ensures paths { OnOk result ((paths : diagrams.Paths) → HavePaths space.old paths → HavePaths space.new paths) }
 {
     // A call for the proof: what holds of every job.
@@ -129,12 +130,15 @@ fn settle(
         × HasCome (description_of job.now.machine) from (count + 1) space.now.terms space.now.words space.now.memory step.new) }
     ensures met { OnOk result (way.new.met ≡ way.old.met + 1) }
     ensures goes { OnOk result ((number cycles : ℕ) (elements : List ℕ) (from : List Kept) (segment : List Decided)
-        → IsTurnedOnStep (job_of job.now) number elements from cycles segment way.old space.now paths.old step.old (Ask kind term)
-        → IsOnStep (job_of job.now) number elements from cycles segment way.new space.now paths.new step.new) }
+        (board : Symbolic) → IsTurnedOnStep (job_of job.now) number elements from cycles segment board way.old space.now paths.old step.old (Ask kind term)
+        → IsOnStep (job_of job.now) number elements from cycles segment board way.new space.now paths.new step.new) }
     ensures nodes { OnOk result ((number cycles : ℕ) (elements : List ℕ) (from : List Kept) (segment : List Decided)
-        → IsTurnedOnStep (job_of job.now) number elements from cycles segment way.old space.now paths.old step.old (Ask kind term)
+        (board : Symbolic) → IsTurnedOnStep (job_of job.now) number elements from cycles segment board way.old space.now paths.old step.old (Ask kind term)
         → AreWithin (job_of job.now) number nodes (ways.met_of way.old)
         → AreWithin (job_of job.now) number nodes (ways.met_of way.new)) }
+    ensures over { IfErr result (λ stop. (number cycles : ℕ) (elements : List ℕ) (from : List Kept) (segment : List Decided)
+        (board : Symbolic) → IsTurnedOnStep (job_of job.now) number elements from cycles segment board way.old space.now paths.old step.old (Ask kind term)
+        → StopsBy (job_of job.now) number nodes from way.new stop) }
     ensures paths { OnOk result (HavePaths space.now paths.new) }
 {
     // A call for the proof: what holds of every job.
@@ -169,13 +173,15 @@ fn finish(
         (underway_of (description_of job.now.machine) space.old.terms space.old.words space.old.memory step.old)
         (way.new.met - way.old.met) space.new.terms space.new.words space.new.memory step.new) }
     ensures goes { OnOk result ((number cycles : ℕ) (elements : List ℕ) (from : List Kept) (segment : List Decided)
-        → IsOnStep (job_of job.now) number elements from cycles segment way.old space.old paths.old step.old
-        → IsOnStep (job_of job.now) number elements from cycles segment way.new space.new paths.new step.new
-        × HasCase (job_of job.now) number (ground_in space.new elements) (path_in paths.new) (ways.met_of way.new)) }
+        (board : Symbolic) → IsOnStep (job_of job.now) number elements from cycles segment board way.old space.old paths.old step.old
+        → IsTurnedOnStep (job_of job.now) number elements from cycles segment board way.new space.new paths.new step.new Finished) }
     ensures nodes { OnOk result ((number cycles : ℕ) (elements : List ℕ) (from : List Kept) (segment : List Decided)
-        → IsOnStep (job_of job.now) number elements from cycles segment way.old space.old paths.old step.old
+        (board : Symbolic) → IsOnStep (job_of job.now) number elements from cycles segment board way.old space.old paths.old step.old
         → AreWithin (job_of job.now) number nodes (ways.met_of way.old)
         → AreWithin (job_of job.now) number nodes (ways.met_of way.new)) }
+    ensures over { IfErr result (λ stop. (number cycles : ℕ) (elements : List ℕ) (from : List Kept) (segment : List Decided)
+        (board : Symbolic) → IsOnStep (job_of job.now) number elements from cycles segment board way.old space.old paths.old step.old
+        → StopsBy (job_of job.now) number nodes from way.new stop) }
     ensures paths { OnOk result (HavePaths space.new paths.new) }
 {
     loop {
@@ -201,13 +207,16 @@ pub(crate) fn step(
     requires paths { HavePaths run.old.space run.old.paths }
     ensures under { IfOk result (IsUnderway (description_of job.now.machine)
         run.new.space.terms run.new.space.words run.new.space.memory) }
-    ensures goes { OnOk result ((number cycles : ℕ) (elements : List ℕ) (from : List Kept)
+    ensures goes { IfOk result (λ s. (number cycles : ℕ) (elements : List ℕ) (from : List Kept)
         → HasMetSegment (job_of job.now) number elements from cycles false way.old run.old
-        → HasMetCase (job_of job.now) number elements from cycles false way.new run.new) }
+        → HasMetCase (job_of job.now) number elements from cycles false way.new run.new (Some s)) }
     ensures nodes { OnOk result ((number cycles : ℕ) (elements : List ℕ) (from : List Kept)
         → HasMetSegment (job_of job.now) number elements from cycles false way.old run.old
         → AreWithin (job_of job.now) number nodes (ways.met_of way.old)
         → AreWithin (job_of job.now) number nodes (ways.met_of way.new)) }
+    ensures over { IfErr result (λ stop. (number cycles : ℕ) (elements : List ℕ) (from : List Kept)
+        → HasMetSegment (job_of job.now) number elements from cycles false way.old run.old
+        → StopsBy (job_of job.now) number nodes from way.new stop) }
     ensures paths { OnOk result (HavePaths run.new.space run.new.paths) }
 {
     let mut step = begin(alloc, job, run)?;

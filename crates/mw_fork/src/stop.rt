@@ -1,4 +1,7 @@
 // Why a run doesn't come to its end.
+ghost use Rattle.std.specs.Prelude.{◌≡◌};
+ghost use Rattle.mw_fork.specs.declared.stop.Stop.TheVariants.{NoMemory as no_memory};
+
 use mw_base::NoMemory;
 use std::alloc::{AllocError, AllocFailed};
 
@@ -17,18 +20,24 @@ pub(crate) enum Stop {
 }
 
 impl From<NoMemory> for Stop {
+    ghost from_gives = { λ _ e. e ≡ no_memory };
+
     fn from(_: NoMemory) -> Stop {
         Stop::NoMemory
     }
 }
 
 impl From<AllocError> for Stop {
+    ghost from_gives = { λ _ e. e ≡ no_memory };
+
     fn from(_: AllocError) -> Stop {
         Stop::NoMemory
     }
 }
 
 impl<T: Drop> From<AllocFailed<T>> for Stop {
+    ghost from_gives = { λ _ e. e ≡ no_memory };
+
     fn from(_: AllocFailed<T>) -> Stop {
         Stop::NoMemory
     }

@@ -174,6 +174,13 @@ impl Way {
         false
     }
 
+    /// The next run meets the bits anew.
+    pub(crate) fn begin_anew(&mut self)
+        ensures { self.new ≡ way_of self.old.kept 0 }
+    {
+        self.met = 0;
+    }
+
     /// The bits that the run at hand has met.
     pub(crate) fn prefix(&self, alloc: Global) -> Result<Prefix, NoMemory>
         ensures { IfOk result (λ p. p ≡ met_of self.now) }

@@ -4,16 +4,20 @@ use Rattle.mw_dd.specs.declared.nodes.Node.{Node}
 use Rattle.mw_dd.specs.Nodes.{function_of}
 use Rattle.mw_term.specs.Functions.{Function}
 use Rattle.mw_cycle.specs.Decided.{decided}
+use Rattle.mw_rel.specs.CaseWords.{bit_values}
 use Rattle.mw_fork.specs.OnWay.{HasDecided, ground_in, path_in}
 use Rattle.mw_fork.specs.Ways.{met_of}
 use Rattle.mw_fork.specs.Within.{AreWithin}
 use Rattle.mw_fork.proofs.Budgets.{within_more}
 use Rattle.mw_fork.proofs.Choosing.{AreTold, has_decided}
 use Rattle.mw_fork.proofs.Grounds.{have_starts}
+use Rattle.mw_fork.proofs.Numbered.{AreNumbered, numbered_case}
+use Rattle.mw_fork.proofs.OverWords.{stops_by}
+use Rattle.mw_fork.proofs.WordPaths.{within_split}
 use Rattle.mw_fork.proofs.decide.decide.Goals as goal
 
 pub returns-clause-goes : goal.returns-clause-goes
-returns-clause-goes c = λ job number elements from valid on asked.
+returns-clause-goes c = λ job number elements from valid on asked asks.
     let g = ground_in c.args.space.now elements in
     let old = c.args.way.now in
     let new = c.take.new.self in
@@ -38,22 +42,42 @@ returns-clause-goes c = λ job number elements from valid on asked.
     subst (λ (v : Bool). HasDecided job number g from old new path (path_in c.go.new.self) c.args.kind c.args.term v) (sym same)
     (subst (λ (f : Function). HasDecided job number g from old new path f c.args.kind c.args.term k.bit.value) next
     (has_decided job number g from old new nodes path _ split c.args.kind c.args.term _ k
-    (have_starts job number g valid on.stands) on.stands.space.workspace.table c.requires.wide on asked c.in-Ok.ensures.split
+    (have_starts job number g valid on.stands) on.stands.space.workspace.table c.requires.wide on asked asks c.in-Ok.ensures.split
     told taken.within taken.value.1 taken.new))
 
 pub returns-clause-nodes : goal.returns-clause-nodes
-returns-clause-nodes c = λ job number elements from valid on asked are.
-    let has = returns-clause-goes c job number elements from valid on asked in
+returns-clause-nodes c = λ job number elements from valid on asked asks are.
+    let has = returns-clause-goes c job number elements from valid on asked asks in
     let k = decided c.args.kind c.in_ok-value.value in
     subst (AreWithin job number c.args.nodes) (sym has.met)
     (within_more job number c.args.nodes (met_of c.args.way.now) k are (record {
-      basis = ground_in c.args.space.now elements;
-      stands = on.stands;
-      path = path_in c.args.paths.now;
-      cases = on.cases;
-      term = c.args.term;
-      wide = c.requires.wide;
-      next = asked;
-      zero = c.in-Ok.ensures.split.zero_within;
-      one = c.in-Ok.ensures.split.one_within;
+      listed = record {
+        basis = ground_in c.args.space.now elements;
+        stands = on.stands;
+        path = path_in c.args.paths.now;
+        written = on.written;
+        cases = on.cases;
+        term = c.args.term;
+        asks = asks;
+        wide = c.requires.wide;
+        next = asked;
+      };
+      within = within_split job number c.args.nodes (met_of c.args.way.now) (ground_in c.args.space.now elements)
+          (path_in c.args.paths.now) c.args.term _ c.in-Ok.split on.stands.space.map asks on.written
+          c.in-Ok.ensures.split;
     }))
+
+pub returns-in-Err-clause-over : goal.returns-in-Err-clause-over
+returns-in-Err-clause-over c = λ job number elements from valid on asks.
+    let g = ground_in c.args.space.now elements in
+    let way = c.args.way.now in
+    let laws : AreNumbered = record {
+      starts = c.words_of_cases_are_numbered.ensures.starts;
+      cycles = c.words_of_cycles_are_numbered.ensures;
+      steps = c.words_are_numbered.ensures.steps;
+      comparisons = c.words_of_cases_are_numbered.ensures.comparisons;
+    } in
+    stops_by job number c.args.nodes g from way (path_in c.args.paths.now) c.args.term c.in-Err.fault c.stop_of.result
+    c.over_have_numbers.ensures.over (numbered_case laws job number (bit_values (met_of way)))
+    (have_starts job number g valid on.stands) on asks c.in-Err.ensures.over
+    (record { over = c.stop_of.ensures.over; none = c.stop_of.ensures.none })

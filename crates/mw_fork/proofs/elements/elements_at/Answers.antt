@@ -9,6 +9,7 @@ use Rattle.mw_rel.specs.Views.{job_of}
 use Rattle.mw_rel.proofs.Relations.{solved_at}
 use Rattle.mw_fork.proofs.Boundaries.{elements_with}
 use Rattle.mw_fork.proofs.Related.{seen_count}
+use Rattle.mw_fork.proofs.StartListed.{start_listed}
 use Rattle.mw_fork.proofs.Valued.{ground_begun, unwritten_still}
 use Rattle.mw_fork.proofs.elements.elements_at.Goals as goal
 
@@ -45,3 +46,11 @@ returns-clause-unwritten c =
       ap (λ (m : Memory). m.board) same ∙ none.0,
       ap (λ (m : Memory). m.machine) same ∙ none.1,
     )
+
+pub returns-clause-listed : goal.returns-clause-listed
+returns-clause-listed c =
+    let job = job_of c.args.job.now in
+    let here : lines_of c.as_slice-lines.result.now ≡ (numbered job c.args.boundary).lines =
+    ap lines_of c.as_slice-lines.ensures ∙ ap (λ (b : Boundary). b.lines) c.boundary.ensures in
+    start_listed job.relation.shape (numbered job c.args.boundary) _ _ _ _ _ _ _ c.in_ok-space.ensures.listed
+    c.in_ok-own.ensures.listed c.deref-2.ensures.value here c.in_ok-relate.ensures.listed

@@ -20,6 +20,10 @@ returns-then-is_free-clause-below c = rw c.in_ok-variable.ensures.words (below_p
 pub returns-then-is_free-clause-own : goal.returns-then-is_free-clause-own
 returns-then-is_free-clause-own c = own_variable _ _ _ _ _ c.in_ok-variable.ensures.words
 
+pub returns-then-is_free-clause-listed : goal.returns-then-is_free-clause-listed
+returns-then-is_free-clause-listed c =
+    rw c.if-is_free.true (c.in_ok-variable.ensures.listed c.args.space.now.memory.reads)
+
 pub build-requires : goal.build-requires
 build-requires c = (c.requires.width, pow_pos c.args.width)
 

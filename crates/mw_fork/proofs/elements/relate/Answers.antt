@@ -1,10 +1,11 @@
-use Rattle.std.proofs.Common.{arith, subst, sym}
+use Rattle.std.proofs.Common.{arith, subst, sym, ◌∙◌}
 use Rattle.mw_rel.specs.Rules.{IsLineOf}
 use Rattle.mw_rel.specs.Seen.{line_of, lines_of}
 use Rattle.mw_rel.specs.Views.{job_of}
 use Rattle.mw_rel.proofs.Seen.{each_seen}
 use Rattle.mw_fork.specs.OwnTerms.{AreRelated}
 use Rattle.mw_fork.proofs.Related.{reads_rest, related_first, related_step, seen_line}
+use Rattle.mw_fork.proofs.StartListed.{lines_first, lines_last, lines_step}
 use Rattle.mw_fork.proofs.elements.relate.Goals as goal
 
 pub relate_line-requires-clause-line_of : goal.relate_line-requires-clause-line_of
@@ -24,6 +25,8 @@ loop-line-init c =
       wide = c.requires.wide;
       related = subst (λ terms. AreRelated lines 0 t t words words m m c.args.own.now terms) (sym c.requires.at_first)
           (related_first lines t words m c.args.own.now c.requires.own.space.workspace);
+      unwritten = c.requires.unwritten;
+      listed = lines_first (job_of c.args.job.now).relation.shape _ _ lines _ c.requires.at_first;
     }
 
 pub loop-line-preserved : goal.loop-line-preserved
@@ -42,4 +45,12 @@ loop-line-preserved c =
       related = related_step job (lines_of lines) k (line_of line) _ _ _ _ _ _ _ _ _ _ _ _ c.requires.own
           (each_seen (IsLineOf c.args.job.now.relation.shape) line_of lines k line c.requires.lines_of inside c.line-item.is)
           inv.wide (seen_line lines k line inside c.line-item.is) ensures.related inv.related;
+      unwritten = ensures.unwritten;
+      listed = inv.listed ∙ lines_step job.relation.shape c.args.own.now lines k line _ _ inside c.line-item.is ensures.listed;
     }
+
+pub returns-clause-listed : goal.returns-clause-listed
+returns-clause-listed c =
+    let inv = c.loop-line.invariant in
+    inv.listed
+    ∙ lines_last (job_of c.args.job.now).relation.shape c.args.own.now c.args.lines.now c.loop-line.line-index _ (omega arith)

@@ -1,7 +1,9 @@
-use Rattle.std.proofs.Common.{refl}
+use Rattle.std.proofs.Common.{refl, ◌∙◌}
+use Rattle.mw_symmem.specs.declared.side.Side.TheVariants.{Machine}
 use Rattle.mw_rel.specs.Seen.{line_of}
 use Rattle.mw_rel.specs.Views.{job_of}
 use Rattle.mw_fork.proofs.Boundaries.{own_later, ready, wide_set}
+use Rattle.mw_fork.proofs.StartListed.{line_listed}
 use Rattle.mw_fork.proofs.elements.relate_line.Goals as goal
 
 pub expr_term-requires : goal.expr_term-requires
@@ -20,3 +22,12 @@ returns-clause-wide c =
 
 pub returns-clause-related : goal.returns-clause-related
 returns-clause-related c = record { term = c.in_ok-term.term; made = c.in_ok-term.ensures.made; terms = refl }
+
+pub returns-clause-unwritten : goal.returns-clause-unwritten
+returns-clause-unwritten c = c.in_ok-term.ensures.made.runs.writes.each Machine ∙ c.requires.unwritten
+
+pub returns-clause-listed : goal.returns-clause-listed
+returns-clause-listed c =
+    let now = c.expr_term.new in
+    line_listed (job_of c.args.job.now) _ now.terms _ now.words _ now.memory _ _ (line_of c.args.line.now) _
+    c.shape-shape.ensures.valid c.requires.own c.requires.unwritten c.in_ok-term.ensures.listed

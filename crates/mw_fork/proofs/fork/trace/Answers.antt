@@ -1,11 +1,11 @@
-use Rattle.std.proofs.Common.{[], ap, subst, sym}
+use Rattle.std.proofs.Common.{ap, refl, subst, sym}
+use Rattle.std.specs.Option.{unwrap_or}
+use Rattle.std.proofs.lemmas.Result.{err_from_is_err_and}
 use Rattle.mw_rel.specs.Relation.{Boundary}
 use Rattle.mw_rel.specs.Views.{job_of}
-use Rattle.mw_fork.specs.KeptBits.{AreKept}
-use Rattle.mw_fork.specs.OnWay.{HasMetSegment, IsOnRun}
 use Rattle.mw_fork.specs.Within.{AreWithin}
 use Rattle.mw_fork.proofs.Budgets.{within_none}
-use Rattle.mw_fork.proofs.Tracing.{bound_within, cycles_made, met_so, on_run_first}
+use Rattle.mw_fork.proofs.Tracing.{bound_within, cycles_made, on_run_first, segment_met}
 use Rattle.mw_fork.proofs.fork.trace.Goals as goal
 
 pub segment-requires-clause-some : goal.segment-requires-clause-some
@@ -32,25 +32,48 @@ with_step-requires-clause-few c =
     let e = c.in_ok-reached.ensures in
     (cycles_made job _ c.in_ok-reached.reached _ within.0 within.1 e.reached e.late).1
 
-pub returns : goal.returns
-returns c =
+pub returns-clause-case : goal.returns-clause-case
+returns-clause-case c = λ are.
+    let job = job_of c.args.job.now in
+    let first = c.in_ok-run.ensures.first in
+    let met = segment_met job c.args.boundary first.0 c.args.way.now c.in_ok-run.run' c.in_ok-reached.reached _
+    c.unwrap_or.result c.is_none-late.result _ _ c.shape-shape.ensures.valid first.1 c.in_ok-run.ensures.idle c.requires.anew
+    (ap (λ (b : Boundary). b.bound) c.boundary.ensures) c.is_none-late.ensures c.unwrap_or.ensures
+    c.in_ok-reached.ensures.goes are in
+    (first.0, c.in_ok-step.ensures.goes c.args.boundary c.unwrap_or.result first.0 c.args.way.now.kept met)
+
+pub returns-clause-nodes : goal.returns-clause-nodes
+returns-clause-nodes c = λ are.
     let job = job_of c.args.job.now in
     let number = c.args.boundary in
     let kept = c.args.way.now.kept in
     let first = c.in_ok-run.ensures.first in
     let bound = ap (λ (b : Boundary). b.bound) c.boundary.ensures in
-    let segment = c.in_ok-reached.ensures in
-    let begins : AreKept job number [] kept → IsOnRun job number first.0 kept c.args.way.now c.in_ok-run.run' 0 = λ are.
-    on_run_first job number first.0 c.args.way.now c.in_ok-run.run' first.1 c.in_ok-run.ensures.idle c.requires.anew are in
-    let met : (are : AreKept job number [] kept)
-    → HasMetSegment job number first.0 kept c.unwrap_or.result c.is_none-late.result c.segment.new.way c.segment.new.run = λ are.
-    met_so job number first.0 kept c.in_ok-reached.reached _ c.unwrap_or.result c.is_none-late.result _ _ c.is_none-late.ensures
-    c.unwrap_or.ensures (segment.goes number first.0 kept (begins are) bound) in
-    record {
-      case = λ are.
-          (first.0, c.in_ok-with_step.ensures.goes number c.unwrap_or.result first.0 kept (met are));
-      nodes = λ are.
-          c.in_ok-with_step.ensures.nodes number c.unwrap_or.result first.0 kept (met are)
-          (segment.nodes number first.0 kept (begins are) bound
-          (subst (AreWithin job number c.args.nodes) (sym c.requires.anew) (within_none job number c.args.nodes)));
-    }
+    let met = segment_met job number first.0 c.args.way.now c.in_ok-run.run' c.in_ok-reached.reached _
+    c.unwrap_or.result c.is_none-late.result _ _ c.shape-shape.ensures.valid first.1 c.in_ok-run.ensures.idle c.requires.anew bound
+    c.is_none-late.ensures c.unwrap_or.ensures c.in_ok-reached.ensures.goes are in
+    c.in_ok-step.ensures.nodes number c.unwrap_or.result first.0 kept met
+    (c.in_ok-reached.ensures.nodes number first.0 kept
+    (on_run_first job number first.0 c.args.way.now c.in_ok-run.run' c.shape-shape.ensures.valid first.1 c.in_ok-run.ensures.idle c.requires.anew are)
+    bound (subst (AreWithin job number c.args.nodes) (sym c.requires.anew) (within_none job number c.args.nodes)))
+
+pub returns-in_err-reached-clause-over : goal.returns-in_err-reached-clause-over
+returns-in_err-reached-clause-over c =
+    let p = err_from_is_err_and c.from_residual-in_err-reached.result c.from_residual-in_err-reached.ensures.1 in
+    rw (p.1, p.2) (λ are.
+    let first = c.in_ok-run.ensures.first in
+    c.in_err-reached.ensures.over c.args.boundary first.0 c.args.way.now.kept
+    (on_run_first (job_of c.args.job.now) c.args.boundary first.0 c.args.way.now c.in_ok-run.run' c.shape-shape.ensures.valid first.1
+    c.in_ok-run.ensures.idle c.requires.anew are)
+    (ap (λ (b : Boundary). b.bound) c.boundary.ensures))
+
+pub returns-in_err-step-clause-over : goal.returns-in_err-step-clause-over
+returns-in_err-step-clause-over c =
+    let p = err_from_is_err_and c.from_residual-in_err-step.result c.from_residual-in_err-step.ensures.1 in
+    rw (p.1, p.2) (λ are.
+    let first = c.in_ok-run.ensures.first in
+    c.in_err-step.ensures.over c.args.boundary (unwrap_or c.in_ok-reached.reached c.boundary.result.now.bound) first.0
+    c.args.way.now.kept
+    (segment_met (job_of c.args.job.now) c.args.boundary first.0 c.args.way.now c.in_ok-run.run' c.in_ok-reached.reached _
+    _ c.is_none-late.result _ _ c.shape-shape.ensures.valid first.1 c.in_ok-run.ensures.idle c.requires.anew
+    (ap (λ (b : Boundary). b.bound) c.boundary.ensures) c.is_none-late.ensures refl c.in_ok-reached.ensures.goes are))

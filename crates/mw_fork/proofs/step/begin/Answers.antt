@@ -1,6 +1,9 @@
-use Rattle.std.proofs.Common.{subst, sym}
+use Rattle.std.proofs.Common.{◌≡◌, subst, sym}
+use Rattle.mw_macro.specs.StepWords.{begun_words}
 use Rattle.mw_symmach.specs.Turns.{Waits}
+use Rattle.mw_symmach.specs.Walks.{underway_of}
 use Rattle.mw_rel.specs.Views.{job_of}
+use Rattle.mw_fork.specs.Listed.{list_of_space}
 use Rattle.mw_fork.proofs.OnStep.{Begins, begun_behind}
 use Rattle.mw_fork.proofs.Steps.{underway_behind, waits_behind}
 use Rattle.mw_fork.proofs.step.begin.Goals as goal
@@ -22,7 +25,10 @@ returns-clause-goes c = λ number cycles elements from way met.
     let job = job_of c.args.job.now in
     let run = c.args.run.now in
     let request = c.request-request.result in
+    let e = c.in_ok-step.ensures in
     begun_behind job number cycles elements from way run request c.in_ok-step.step
     (subst (λ registers. Begins job run.space.terms run.space.memory registers request c.in_ok-step.step)
-    c.deref.ensures.value (c.in_ok-step.ensures.step run.space.terms run.space.memory))
-    c.request-request.ensures.line met
+    c.deref.ensures.value (e.step run.space.terms run.space.memory)) e.left
+    (subst (λ registers. underway_of job.machine run.space.terms run.space.words run.space.memory c.in_ok-step.step
+    ≡ begun_words job.machine registers request run.space.memory.machine (list_of_space run.space)) c.deref.ensures.value
+    (e.listed run.space.terms run.space.words run.space.memory)) c.request-request.ensures.line met

@@ -1,11 +1,12 @@
 use Rattle.std.proofs.Common.{◌+◌, ◌-◌, ◌<◌, arith}
+use Rattle.std.proofs.lemmas.Result.{err_from_is_err_and}
 use Rattle.mw_macro.specs.Described.{description_of}
 use Rattle.mw_macro.specs.declared.counts.Counted.TheVariants.{Statements}
 use Rattle.mw_macro.specs.Counts.{total}
 use Rattle.mw_symmach.specs.Walks.{underway_of}
 use Rattle.mw_rel.specs.Views.{job_of}
 use Rattle.mw_fork.specs.Steps.{HasCome}
-use Rattle.mw_fork.proofs.OnStep.{asks_next, whole}
+use Rattle.mw_fork.proofs.OnStep.{asks_on, whole}
 use Rattle.mw_fork.proofs.Steps.{asked, come_more, ended}
 use Rattle.mw_fork.proofs.step.finish.Goals as goal
 
@@ -59,27 +60,31 @@ loop-turn-preserved c =
       met = omega (arith, e.met, c.loop-turn.invariant.met);
       come = come_more d (underway_of d old.terms old.words old.memory c.args.step.now) c.args.way.now.met
           c.loop-turn.way.met c.settle.new.way.met _ _ _ _ c.loop-turn.invariant.met e.met (come_on c).1;
-      goes = λ number cycles elements from segment on.
-          e.goes number cycles elements from segment
-          (asks_next (job_of c.args.job.now) number cycles elements from segment _ _ _ _ c.in_ok-turn.turn c.in-Ask.kind
-          c.in-Ask.term c.in-Ask.is
-          (c.in_ok-turn.ensures.goes number cycles elements from segment _ _
-          (c.loop-turn.invariant.goes number cycles elements from segment on)));
-      nodes = λ number cycles elements from segment on are.
-          e.nodes number cycles elements from segment
-          (asks_next (job_of c.args.job.now) number cycles elements from segment _ _ _ _ c.in_ok-turn.turn c.in-Ask.kind
-          c.in-Ask.term c.in-Ask.is
-          (c.in_ok-turn.ensures.goes number cycles elements from segment _ _
-          (c.loop-turn.invariant.goes number cycles elements from segment on)))
-          (c.loop-turn.invariant.nodes number cycles elements from segment on are);
+      goes = λ number cycles elements from segment board on.
+          e.goes number cycles elements from segment board
+          (asks_on (job_of c.args.job.now) number cycles elements from segment board _ _ _ _ _ _ _ _ _ _ c.in_ok-turn.turn c.in-Ask.kind
+          c.in-Ask.term c.in-Ask.is c.loop-turn.invariant.goes c.in_ok-turn.ensures.goes on);
+      nodes = λ number cycles elements from segment board on are.
+          e.nodes number cycles elements from segment board
+          (asks_on (job_of c.args.job.now) number cycles elements from segment board _ _ _ _ _ _ _ _ _ _ c.in_ok-turn.turn c.in-Ask.kind
+          c.in-Ask.term c.in-Ask.is c.loop-turn.invariant.goes c.in_ok-turn.ensures.goes on)
+          (c.loop-turn.invariant.nodes number cycles elements from segment board on are);
       paths = e.paths;
     }
 
 pub returns-in_default-clause-goes : goal.returns-in_default-clause-goes
-returns-in_default-clause-goes c = λ number cycles elements from segment on.
-    whole (job_of c.args.job.now) number cycles elements from segment _ _ _ _ c.in_ok-turn.turn c.in_default.is
-    (c.in_ok-turn.ensures.goes number cycles elements from segment _ _
-    (c.loop-turn.invariant.goes number cycles elements from segment on))
+returns-in_default-clause-goes c = λ number cycles elements from segment board on.
+    whole (job_of c.args.job.now) number cycles elements from segment board _ _ _ _ c.in_ok-turn.turn c.in_default.is
+    (c.in_ok-turn.ensures.goes number cycles elements from segment board _ _
+    (c.loop-turn.invariant.goes number cycles elements from segment board on))
 
 pub returns-in_default-clause-paths : goal.returns-in_default-clause-paths
 returns-in_default-clause-paths c = c.in_ok-turn.ensures.paths _ c.loop-turn.invariant.paths
+
+pub returns-in_err-settle-clause-over : goal.returns-in_err-settle-clause-over
+returns-in_err-settle-clause-over c =
+    let p = err_from_is_err_and c.from_residual-in_err-settle.result c.from_residual-in_err-settle.ensures.1 in
+    rw (p.1, p.2) (λ number cycles elements from segment board on.
+    c.in_err-settle.ensures.over number cycles elements from segment board
+    (asks_on (job_of c.args.job.now) number cycles elements from segment board _ _ _ _ _ _ _ _ _ _ c.in_ok-turn.turn c.in-Ask.kind
+    c.in-Ask.term c.in-Ask.is c.loop-turn.invariant.goes c.in_ok-turn.ensures.goes on))

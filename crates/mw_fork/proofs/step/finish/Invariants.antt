@@ -3,6 +3,7 @@ use Rattle.std.specs.Prelude.{false}
 use Rattle.mw_macro.specs.Described.{description_of}
 use Rattle.mw_macro.specs.declared.counts.Counted.TheVariants.{Statements}
 use Rattle.mw_macro.specs.Counts.{total}
+use Rattle.mw_symboard.specs.Turns.{Symbolic}
 use Rattle.mw_symmach.specs.Turns.{is_asked}
 use Rattle.mw_symmach.specs.Walks.{underway_of}
 use Rattle.mw_cycle.specs.declared.decided.Decided.{Decided}
@@ -23,10 +24,10 @@ invariant-loop-turn l = record {
       (underway_of (description_of l.job.machine) l.fn.space.terms l.fn.space.words l.fn.space.memory l.fn.step)
       (l.way.met - l.fn.way.met) l.space.terms l.space.words l.space.memory l.step;
   goes : (number cycles : ℕ) (elements : List ℕ) (from : List Kept) (segment : List Decided)
-      → IsOnStep (job_of l.job) number elements from cycles segment l.fn.way l.fn.space l.fn.paths l.fn.step
-      → IsOnStep (job_of l.job) number elements from cycles segment l.way l.space l.paths l.step;
+      (board : Symbolic) → IsOnStep (job_of l.job) number elements from cycles segment board l.fn.way l.fn.space l.fn.paths l.fn.step
+      → IsOnStep (job_of l.job) number elements from cycles segment board l.way l.space l.paths l.step;
   nodes : (number cycles : ℕ) (elements : List ℕ) (from : List Kept) (segment : List Decided)
-      → IsOnStep (job_of l.job) number elements from cycles segment l.fn.way l.fn.space l.fn.paths l.fn.step
+      (board : Symbolic) → IsOnStep (job_of l.job) number elements from cycles segment board l.fn.way l.fn.space l.fn.paths l.fn.step
       → AreWithin (job_of l.job) number l.nodes (met_of l.fn.way) → AreWithin (job_of l.job) number l.nodes (met_of l.way);
   paths : HavePaths l.space l.paths;
 }

@@ -1,6 +1,7 @@
+use Rattle.std.proofs.lemmas.Result.{err_from_is_err_and}
 use Rattle.mw_macro.specs.Described.{description_of}
 use Rattle.mw_rel.specs.Views.{job_of}
-use Rattle.mw_fork.proofs.OnStep.{takes}
+use Rattle.mw_fork.proofs.OnStep.{asks_where, takes}
 use Rattle.mw_fork.proofs.Steps.{decided_underway, goes_on, stops_early}
 use Rattle.mw_fork.proofs.step.settle.Goals as goal
 
@@ -18,14 +19,24 @@ returns-clause-come c = λ from count stopped.
     )
 
 pub returns-clause-goes : goal.returns-clause-goes
-returns-clause-goes c = λ number cycles elements from segment turned.
+returns-clause-goes c = λ number cycles elements from segment board turned.
     let job = job_of c.args.job.now in
     let under = c.requires.under in
-    takes job number cycles elements from segment _ _ c.args.space.now _ _ _ _ c.args.kind c.args.term _ c.requires.asks
-    (c.decide-2.ensures.decided job.machine _ _ _ under.stepping)
-    (c.in_ok-value.ensures.goes job number elements from c.shape-shape.ensures.valid turned.0.on turned.1) turned.0
+    let e = c.decide-2.ensures in
+    let asks = asks_where job number cycles elements from segment board _ _ _ _ _ _ turned in
+    takes job number cycles elements from segment board _ _ c.args.space.now _ _ _ _ c.args.kind c.args.term _ c.requires.asks
+    (e.decided job.machine _ _ _ under.stepping) c.steps_go_along.ensures.bits e.new (e.left job.machine _ _ _ under.stepping)
+    (c.in_ok-value.ensures.goes job number elements from c.shape-shape.ensures.valid turned.0.on turned.1 asks) turned
 
 pub returns-clause-nodes : goal.returns-clause-nodes
-returns-clause-nodes c = λ number cycles elements from segment turned are.
-    c.in_ok-value.ensures.nodes (job_of c.args.job.now) number elements from c.shape-shape.ensures.valid turned.0.on turned.1
-    are
+returns-clause-nodes c = λ number cycles elements from segment board turned are.
+    let job = job_of c.args.job.now in
+    c.in_ok-value.ensures.nodes job number elements from c.shape-shape.ensures.valid turned.0.on turned.1
+    (asks_where job number cycles elements from segment board _ _ _ _ _ _ turned) are
+
+pub returns-in_err-value-clause-over : goal.returns-in_err-value-clause-over
+returns-in_err-value-clause-over c =
+    let p = err_from_is_err_and c.from_residual.result c.from_residual.ensures.1 in
+    rw (p.1, p.2) (λ number cycles elements from segment board turned.
+    c.in_err-value.ensures.over (job_of c.args.job.now) number elements from c.shape-shape.ensures.valid turned.0.on
+    (asks_where (job_of c.args.job.now) number cycles elements from segment board _ _ _ _ _ _ turned))

@@ -8,6 +8,7 @@ use Rattle.mw_symboard.specs.Parts as board
 use Rattle.mw_rel.specs.Relation.{Boundary}
 use Rattle.mw_rel.specs.Views.{job_of}
 use Rattle.mw_rel.proofs.Elements.{widths_count}
+use Rattle.mw_fork.proofs.FirstListed.{first_listed}
 use Rattle.mw_fork.proofs.OnRun.{path_begins}
 use Rattle.mw_fork.proofs.Runs.{address_at, board_elements, pointer_at, start_inputs, start_no_later, under_first}
 use Rattle.mw_fork.proofs.run.Run.new.Goals as goal
@@ -56,6 +57,10 @@ returns-clause-first c =
     let e = c.in_ok-board.ensures in
     let same : c.board_terms.result.now ≡ take k terms = c.board_terms.ensures ∙ ap (take k) c.deref.ensures.value in
     let here = c.boundary-at.ensures in
+    let at = e.at ∙ ap (λ (b : Boundary). b.address) here in
+    let sp = e.sp ∙ ap (λ (b : Boundary). b.sp) here in
+    let none = c.in_ok-start.ensures.unwritten.0 in
+    let registers = c.in_ok-registers.ensures.items ∙ c.register_terms.ensures ∙ ap (drop k) c.deref-2.ensures.value in
     let new : IsNew job.board (take k terms) c.in_ok-board.board = record {
       elements = subst (λ (ts : List ℕ). (n : ℕ) → n < k
           → term_of_part c.in_ok-board.board.place.parts (element_of job.board n) ≡ slice_index ts n) same e.elements;
@@ -69,10 +74,13 @@ returns-clause-first c =
         stands = c.in_ok-start.ensures.stands;
         path = c.in_ok-paths.ensures.always;
         in_run = path_begins job c.args.boundary start.space terms c.in_ok-board.board _ c.shape-shape.ensures.valid
-            c.in_ok-start.ensures.elements new (e.at ∙ ap (λ (b : Boundary). b.address) here)
-            (e.sp ∙ ap (λ (b : Boundary). b.sp) here) c.in_ok-start.ensures.unwritten.0 c.in_ok-paths.ensures.always;
+            c.in_ok-start.ensures.elements new at sp none c.in_ok-paths.ensures.always;
         unwritten = c.in_ok-start.ensures.unwritten.1;
-        registers = c.in_ok-registers.ensures.items ∙ c.register_terms.ensures ∙ ap (drop k) c.deref-2.ensures.value;
+        registers = registers;
+        listed = first_listed job c.args.boundary start.space terms _ c.in_ok-board.board
+            (omega (arith, c.in_ok-start.ensures.elements.wide.count, widths_count job c.shape-shape.ensures.valid))
+            (returns-clause-under c).symbolic.parts new at sp none registers c.in_ok-start.ensures.listed;
+        before = c.in_ok-board.ensures.reading;
       },
     )
 

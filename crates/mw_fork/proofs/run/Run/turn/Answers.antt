@@ -9,10 +9,11 @@ returns-clause-turned c =
     turned (job_of c.args.job.now) _ _ _ _ _ _ _ _ _ _ c.requires.under e.goes e.turn e.symbolic e.reads e.all
 
 pub returns-clause-goes : goal.returns-clause-goes
-returns-clause-goes c = λ number count elements from way on.
+returns-clause-goes c = λ number elements from way on.
     let e = c.in_ok-turn.ensures in
-    on_turn (job_of c.args.job.now) number count elements from way c.args.self.now _ _ _ c.shape-shape.ensures.valid
-    c.requires.under.space.workspace c.requires.under.symbolic e.goes e.turn e.symbolic e.all e.machine c.count.ensures.own on
+    on_turn (job_of c.args.job.now) number elements from way c.args.self.now _ _ _ c.shape-shape.ensures.valid
+    c.requires.under.space.workspace c.requires.under.symbolic c.requires.idle e.goes e.turn e.listed e.symbolic e.all
+    e.machine c.count.ensures.own on
 
 pub returns-clause-paths : goal.returns-clause-paths
 returns-clause-paths c = record {

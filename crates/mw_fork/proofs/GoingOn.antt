@@ -1,0 +1,297 @@
+-- What is compared goes on: the comparisons so far stay the first ones, and the list so far stays the beginning.
+use Rattle.std.proofs.Common.{◌≡◌, ℕ, ◌+◌, ◌-◌, List, [], ◌∷◌, ◌++◌, length, append-nil, append_assoc, ap, sym, ◌∙◌, refl}
+use Rattle.std.specs.Prelude.{Bool, true, false, ◌==◌, if◌then◌else◌}
+use Rattle.mw_expr.specs.declared.expr.Pair2.{Pair2}
+use Rattle.mw_expr.specs.declared.expr.Pair2.TheVariants as sign
+use Rattle.mw_expr.specs.declared.shape.Shape.{Shape}
+use Rattle.mw_expr.specs.Tree.{Tree, element, constant, complement, pair, choice, part, join, widened, memory, Trees, none, more}
+use Rattle.mw_expr.specs.Values.{bits}
+use Rattle.mw_macro.specs.ExpressionWords.{beside_words, expression_words, join_words, sign_words, words_of_parts}
+use Rattle.mw_rel.specs.ComparisonWords.{Compared, Comparison, Sides, Subject, all_compared, compared_in, event, with_comparison, with_events, with_line, with_lines, with_memory}
+use Rattle.mw_rel.specs.Lines.{Line}
+use Rattle.mw_rel.specs.Relation.{Boundary}
+use Rattle.mw_term.specs.declared.event.SymEvent.{SymEvent}
+use Rattle.mw_term.specs.declared.event.SymEvent.TheVariants.{Out, Taken}
+use Rattle.mw_term.specs.declared.kinds.WordKind.{WordKind}
+use Rattle.mw_term.specs.declared.kinds.WordKind.TheVariants.{Base, Probe}
+use Rattle.mw_term.specs.declared.op.Op.{Op}
+use Rattle.mw_term.specs.declared.op.Op.TheVariants.{And, Con, Eq, Ite, Join, Lt, Not, Or, Part, Sum, Var, Xor}
+use Rattle.mw_term.specs.declared.word.Word.{Word}
+use Rattle.mw_term.specs.MemoryRead.{Held}
+use Rattle.mw_term.specs.WordList.{WordList, ended, memory_read_words, over_reads, over_write, over_writes, plain, variable, with_constant, with_part, with_same, with_sum, with_variable, with_word, with_zeros_above}
+use Rattle.mw_fork.specs.Comparing.{IsFrontOf}
+
+-- ---- lists
+
+-- as it is
+pub front_itself : (l : WordList) → IsFrontOf l l
+front_itself l = record {
+  ops = [];
+  words = [];
+  ops_are = sym (append-nil l.ops);
+  words_are = sym (append-nil l.words);
+}
+
+-- and further
+pub front_then : (a b c : WordList) → IsFrontOf a b → IsFrontOf b c → IsFrontOf a c
+front_then a b c first second = record {
+  ops = first.ops ++ second.ops;
+  words = first.words ++ second.words;
+  ops_are = second.ops_are ∙ ap (λ (xs : List Op). xs ++ second.ops) first.ops_are
+      ∙ append_assoc a.ops first.ops second.ops;
+  words_are = second.words_are ∙ ap (λ (xs : List Word). xs ++ second.words) first.words_are
+      ∙ append_assoc a.words first.words second.words;
+}
+
+-- ---- one more
+
+pub front_constant : (number width : ℕ) (l : WordList) → IsFrontOf l (with_constant number width l).list
+front_constant number width l = record {
+  ops = Con number width ∷ [];
+  words = [];
+  ops_are = refl;
+  words_are = sym (append-nil l.words);
+}
+
+pub front_word : (op : Op) (l : WordList) → IsFrontOf l (with_word op l).list
+front_word op l = record { ops = op ∷ []; words = plain (length l.ops) ∷ []; ops_are = refl; words_are = refl }
+
+pub front_variable : (kind : WordKind) (width : ℕ) (l : WordList) → IsFrontOf l (with_variable kind width l).list
+front_variable kind width l = record {
+  ops = Var (length l.words + 1) width ∷ [];
+  words = variable (length l.ops) kind ∷ [];
+  ops_are = refl;
+  words_are = refl;
+}
+
+-- ---- forms that many words have
+
+pub front_sum : (a b carry : ℕ) (l : WordList) → IsFrontOf l (with_sum a b carry l).list
+front_sum a b carry l =
+    front_then l (with_constant carry 1 l).list (with_sum a b carry l).list (front_constant carry 1 l)
+    (front_word (Sum a b (length l.ops)) (with_constant carry 1 l).list)
+
+part_or_whole : (all : Bool) (whole low width : ℕ) (l : WordList)
+    → IsFrontOf l (if all then ended whole l else with_word (Part whole low width) l).list
+part_or_whole true whole low width l = front_itself l
+part_or_whole false whole low width l = front_word (Part whole low width) l
+
+pub front_part : (whole_width whole low width : ℕ) (l : WordList)
+    → IsFrontOf l (with_part whole_width whole low width l).list
+front_part whole_width whole low width l = part_or_whole (width == whole_width) whole low width l
+
+wider_or_same : (same : Bool) (width term : ℕ) (l : WordList)
+    → IsFrontOf l (if same then ended term l
+    else with_word (Join (with_constant 0 width l).term term) (with_constant 0 width l).list).list
+wider_or_same true width term l = front_itself l
+wider_or_same false width term l =
+    let zeros = with_constant 0 width l in
+    front_then l zeros.list _ (front_constant 0 width l) (front_word (Join zeros.term term) zeros.list)
+
+pub front_zeros_above : (from to term : ℕ) (l : WordList) → IsFrontOf l (with_zeros_above from to term l).list
+front_zeros_above from to term l = wider_or_same (from == to) (to - from) term l
+
+-- ---- a memory read
+
+front_same : (address : ℕ) (reads : List Held) (l : WordList) → IsFrontOf l (with_same address reads l).list
+front_same address [] l = front_itself l
+front_same address (read ∷ newer) l =
+    let first = with_word (Eq address read.address) l in
+    front_then l first.list (with_same address newer first.list).list (front_word (Eq address read.address) l)
+    (front_same address newer first.list)
+
+front_older : (reads : List Held) (same : List ℕ) (base : ℕ) (l : WordList)
+    → IsFrontOf l (over_reads reads same base l).list
+front_older [] same base l = front_itself l
+front_older (read ∷ newer) [] base l = front_itself l
+front_older (read ∷ newer) (here ∷ same) base l =
+    let so_far = over_reads newer same base l in
+    front_then l so_far.list _ (front_older newer same base l) (front_word (Ite here read.word so_far.term) so_far.list)
+
+front_write : (write : Held) (address value : ℕ) (l : WordList) → IsFrontOf l (over_write write address value l).list
+front_write write address value l =
+    let here = with_word (Eq address write.address) l in
+    front_then l here.list _ (front_word (Eq address write.address) l)
+    (front_word (Ite here.term write.word value) here.list)
+
+front_writes : (address : ℕ) (writes : List Held) (value : ℕ) (l : WordList)
+    → IsFrontOf l (over_writes address writes value l).list
+front_writes address [] value l = front_itself l
+front_writes address (write ∷ newer) value l =
+    let next = over_write write address value l in
+    front_then l next.list _ (front_write write address value l) (front_writes address newer next.term next.list)
+
+pub front_read : (width address : ℕ) (writes : List Held) (l : WordList)
+    → IsFrontOf l (memory_read_words width address writes l).list
+unfolding memory_read_words
+front_read width address writes l =
+    let same = with_same address l.reads l in
+    let base = with_variable (Base (length l.reads)) width same.list in
+    let older = over_reads l.reads same.terms base.term base.list in
+    let all = over_writes address writes older.term older.list in
+    let front = front_then l same.list all.list (front_same address l.reads l)
+    (front_then same.list base.list all.list (front_variable (Base (length l.reads)) width same.list)
+    (front_then base.list older.list all.list (front_older l.reads same.terms base.term base.list)
+    (front_writes address writes older.term older.list))) in
+    record { ops = front.ops; words = front.words; ops_are = front.ops_are; words_are = front.words_are }
+
+-- ---- expressions
+
+front_sign : (s : Pair2) (a b : ℕ) (l : WordList) → IsFrontOf l (sign_words s a b l).list
+front_sign sign.And a b l = front_word (And a b) l
+front_sign sign.Or a b l = front_word (Or a b) l
+front_sign sign.Xor a b l = front_word (Xor a b) l
+front_sign sign.Add a b l = front_sum a b 0 l
+front_sign sign.Sub a b l =
+    front_then l (with_word (Not b) l).list _ (front_word (Not b) l)
+    (front_sum a (length l.ops) 1 (with_word (Not b) l).list)
+front_sign sign.Same a b l = front_word (Eq a b) l
+front_sign sign.Differ a b l =
+    front_then l (with_word (Eq a b) l).list _ (front_word (Eq a b) l)
+    (front_word (Not (length l.ops)) (with_word (Eq a b) l).list)
+front_sign sign.Less a b l = front_word (Lt a b) l
+
+front_beside : (first : ℕ) (rest : List ℕ) (l : WordList) → IsFrontOf l (beside_words first rest l).list
+front_beside first [] l = front_itself l
+front_beside first (second ∷ rest) l =
+    let joined = with_word (Join first second) l in
+    front_then l joined.list _ (front_word (Join first second) l) (front_beside joined.term rest joined.list)
+
+front_joins : (terms : List ℕ) (l : WordList) → IsFrontOf l (join_words terms l).list
+front_joins [] l = front_itself l
+front_joins (first ∷ rest) l = front_beside first rest l
+
+mutual
+  pub front_expression : (s : Shape) (elements : List ℕ) (writes : List Held) (tree : Tree) (l : WordList)
+      → IsFrontOf l (expression_words s elements writes tree l).list
+  front_expression s elements writes (element n) l = front_itself l
+  front_expression s elements writes (constant number w) l = front_constant number w l
+  front_expression s elements writes (complement e) l =
+      let operand = expression_words s elements writes e l in
+      front_then l operand.list _ (front_expression s elements writes e l) (front_word (Not operand.term) operand.list)
+  front_expression s elements writes (pair sign a b) l =
+      let left = expression_words s elements writes a l in
+      let right = expression_words s elements writes b left.list in
+      let all = sign_words sign left.term right.term right.list in
+      front_then l left.list all.list (front_expression s elements writes a l)
+      (front_then left.list right.list all.list (front_expression s elements writes b left.list)
+      (front_sign sign left.term right.term right.list))
+  front_expression s elements writes (choice c a b) l =
+      let condition = expression_words s elements writes c l in
+      let first = expression_words s elements writes a condition.list in
+      let second = expression_words s elements writes b first.list in
+      let all = with_word (Ite condition.term first.term second.term) second.list in
+      front_then l condition.list all.list (front_expression s elements writes c l)
+      (front_then condition.list first.list all.list (front_expression s elements writes a condition.list)
+      (front_then first.list second.list all.list (front_expression s elements writes b first.list)
+      (front_word (Ite condition.term first.term second.term) second.list)))
+  front_expression s elements writes (part e high low) l =
+      let whole = expression_words s elements writes e l in
+      front_then l whole.list _ (front_expression s elements writes e l)
+      (front_part (bits s e) whole.term low (high - low + 1) whole.list)
+  front_expression s elements writes (join parts) l =
+      let all = words_of_parts s elements writes parts l in
+      front_then l all.list _ (front_parts s elements writes parts l) (front_joins all.terms all.list)
+  front_expression s elements writes (widened e w) l =
+      let narrow = expression_words s elements writes e l in
+      front_then l narrow.list _ (front_expression s elements writes e l)
+      (front_zeros_above (bits s e) w narrow.term narrow.list)
+  front_expression s elements writes (memory address) l =
+      let place = expression_words s elements writes address l in
+      front_then l place.list _ (front_expression s elements writes address l)
+      (front_read s.word place.term writes place.list)
+
+  front_parts : (s : Shape) (elements : List ℕ) (writes : List Held) (parts : Trees) (l : WordList)
+      → IsFrontOf l (words_of_parts s elements writes parts l).list
+  front_parts s elements writes none l = front_itself l
+  front_parts s elements writes (more tree rest) l =
+      let first = expression_words s elements writes tree l in
+      front_then l first.list _ (front_expression s elements writes tree l)
+      (front_parts s elements writes rest first.list)
+
+-- ---- comparisons
+
+-- comparisons go on: those so far are the first, and their list is the beginning
+pub record GoesOnAs (so_far all : Compared) : Type 0 where
+  pub more : List Comparison
+  pub comparisons_are : all.comparisons ≡ so_far.comparisons ++ more
+  pub front : IsFrontOf so_far.list all.list
+
+pub goes_itself : (c : Compared) → GoesOnAs c c
+goes_itself c = record { more = []; comparisons_are = sym (append-nil c.comparisons); front = front_itself c.list }
+
+pub goes_then : (a b c : Compared) → GoesOnAs a b → GoesOnAs b c → GoesOnAs a c
+goes_then a b c first second = record {
+  more = first.more ++ second.more;
+  comparisons_are = second.comparisons_are ∙ ap (λ (xs : List Comparison). xs ++ second.more) first.comparisons_are
+      ∙ append_assoc a.comparisons first.more second.more;
+  front = front_then a.list b.list c.list first.front second.front;
+}
+
+-- the same comparisons, over a list that goes on
+pub goes_listed : (so_far : Compared) (l : WordList) → IsFrontOf so_far.list l
+    → GoesOnAs so_far (compared_in l so_far.comparisons)
+goes_listed so_far l front = record {
+  more = [];
+  comparisons_are = sym (append-nil so_far.comparisons);
+  front = front;
+}
+
+pub comparison_goes_on : (subject : Subject) (a b : ℕ) (so_far : Compared)
+    → GoesOnAs so_far (with_comparison subject a b so_far)
+comparison_goes_on subject a b so_far =
+    let same = with_word (Eq a b) so_far.list in
+    record {
+      more = record { subject = subject; term = same.term; list = same.list } ∷ [];
+      comparisons_are = refl;
+      front = front_word (Eq a b) so_far.list;
+    }
+
+pub events_go_on : (number : ℕ) (board machine : List SymEvent) (so_far : Compared)
+    → GoesOnAs so_far (with_events number board machine so_far)
+events_go_on number (Out a ∷ board) (Out b ∷ machine) so_far =
+    let next = with_comparison (event number) a b so_far in
+    goes_then so_far next _ (comparison_goes_on (event number) a b so_far)
+    (events_go_on (number + 1) board machine next)
+events_go_on number (Taken a ∷ board) (Taken b ∷ machine) so_far = events_go_on (number + 1) board machine so_far
+events_go_on number board machine so_far = goes_itself so_far
+
+pub line_goes_on : (s : Shape) (sides : Sides) (l : Line) (so_far : Compared)
+    → GoesOnAs so_far (with_line s sides l so_far)
+line_goes_on s sides l so_far =
+    let right = expression_words s sides.elements sides.machine_writes l.right so_far.list in
+    let listed = compared_in right.list so_far.comparisons in
+    goes_then so_far listed _
+    (goes_listed so_far right.list (front_expression s sides.elements sides.machine_writes l.right so_far.list))
+    (comparison_goes_on _ _ right.term listed)
+
+pub lines_go_on : (s : Shape) (sides : Sides) (lines : List Line) (so_far : Compared)
+    → GoesOnAs so_far (with_lines s sides lines so_far)
+lines_go_on s sides [] so_far = goes_itself so_far
+lines_go_on s sides (l ∷ rest) so_far =
+    let next = with_line s sides l so_far in
+    goes_then so_far next _ (line_goes_on s sides l so_far) (lines_go_on s sides rest next)
+
+pub memory_goes_on : (s : Shape) (sides : Sides) (so_far : Compared) → GoesOnAs so_far (with_memory s sides so_far)
+memory_goes_on s sides so_far =
+    let address = with_variable Probe s.address so_far.list in
+    let board = memory_read_words s.word address.term sides.board_writes address.list in
+    let machine = memory_read_words s.word address.term sides.machine_writes board.list in
+    let listed = compared_in machine.list so_far.comparisons in
+    goes_then so_far listed _
+    (goes_listed so_far machine.list
+    (front_then so_far.list address.list machine.list (front_variable Probe s.address so_far.list)
+    (front_then address.list board.list machine.list
+    (front_read s.word address.term sides.board_writes address.list)
+    (front_read s.word address.term sides.machine_writes board.list))))
+    (comparison_goes_on _ board.term machine.term listed)
+
+-- all of them, from none
+pub all_go_on : (s : Shape) (boundary : Boundary) (sides : Sides) (l : WordList)
+    → GoesOnAs (compared_in l []) (all_compared s boundary sides l)
+all_go_on s boundary sides l =
+    let events = with_events 0 sides.board_events sides.machine_events (compared_in l []) in
+    let lines = with_lines s sides boundary.lines events in
+    goes_then (compared_in l []) events _
+    (events_go_on 0 sides.board_events sides.machine_events (compared_in l []))
+    (goes_then events lines _ (lines_go_on s sides boundary.lines events) (memory_goes_on s sides lines))

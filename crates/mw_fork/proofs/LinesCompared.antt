@@ -1,0 +1,87 @@
+-- Lines, compared one after another.
+use Rattle.std.proofs.Common.{◌≡◌, inl, inr, ap, subst, sym, ◌∙◌, ℕ, zero, suc, ◌+◌, ◌<◌, ◌≤◌, List, [], ◌∷◌, arith, drop, get_or, length, true}
+use Rattle.std.specs.Prelude.{All, IfSome, None, Option, Some, slice_get}
+use Rattle.std.proofs.lemmas.Bool.{cases_lt}
+use Rattle.std.proofs.lemmas.List.{drop_all}
+use Rattle.std.proofs.lemmas.List.Elements.{All-head, All-tail}
+use Rattle.std.proofs.lemmas.Option.{same_Some}
+use Rattle.mw_expr.specs.declared.shape.Shape.{Shape}
+use Rattle.mw_rel.specs.ComparisonWords.{Compared, Sides, with_line, with_lines}
+use Rattle.mw_rel.specs.declared.line.Line.{Line as KeptLine}
+use Rattle.mw_rel.specs.Lines.{Line}
+use Rattle.mw_rel.specs.Rules.{IsLineOf}
+use Rattle.mw_rel.specs.Seen.{line_of, lines_of}
+use Rattle.mw_symmem.specs.Workspace.{IsWorkspace}
+use Rattle.mw_term.specs.Assigned.{Given}
+use Rattle.mw_term.specs.Cofactors.{Agree}
+use Rattle.mw_term.specs.Functions.{Function}
+use Rattle.mw_fork.specs.declared.elements.Space.{Space}
+use Rattle.mw_fork.specs.Boundaries.{AreWide}
+use Rattle.mw_fork.specs.Comparing.{GoesComparing, HoldsAt}
+use Rattle.mw_fork.proofs.GoingOn.{GoesOnAs, lines_go_on}
+use Rattle.mw_fork.proofs.LineCompared.{holds_later}
+use Rattle.mw_fork.proofs.Related.{lines_rest, seen_count, seen_line}
+
+-- the value that there is
+pub some_at : {X : Type 0} (P : X → Type 0) (o : Option X) (x : X) → o ≡ Some x → IfSome o P → P x
+some_at P None x is holds = absurd cc
+some_at P (Some y) x is holds = subst P (same_Some y x is) holds
+
+all_at : {X : Type 0} (P : X → Type 0) (xs : List X) (i : ℕ) (x : X) → All P xs → slice_get xs i ≡ Some x → P x
+all_at P [] i x all at = absurd cc
+all_at P (y ∷ rest) zero x all at = subst P (same_Some y x at) (All-head P y rest all)
+all_at P (y ∷ rest) (suc i) x all at = all_at P rest i x (All-tail P y rest all) at
+
+-- the next line
+pub lines_next : (s : Shape) (lines : List KeptLine) (k : ℕ) (line : KeptLine) (on : Sides) (so_far : Compared)
+    → k < length lines → line ≡ get_or lines k line
+    → with_lines s on (lines_of (drop k lines)) so_far
+    ≡ with_lines s on (lines_of (drop (k + 1) lines)) (with_line s on (line_of line) so_far)
+lines_next s lines k line on so_far inside is =
+    ap (λ ls. with_lines s on (lines_of ls) so_far) (lines_rest lines k line inside is)
+
+pub lines_behind : (s : Shape) (lines : List KeptLine) (k : ℕ) (line : KeptLine) (on : Sides) (so_far : Compared)
+    → k < length lines → line ≡ get_or lines k line
+    → GoesOnAs (with_line s on (line_of line) so_far) (with_lines s on (lines_of (drop k lines)) so_far)
+lines_behind s lines k line on so_far inside is =
+    subst (GoesOnAs (with_line s on (line_of line) so_far)) (sym (lines_next s lines k line on so_far inside is))
+    (lines_go_on s on (lines_of (drop (k + 1) lines)) (with_line s on (line_of line) so_far))
+
+pub lines_done : (s : Shape) (lines : List KeptLine) (k : ℕ) (on : Sides) (so_far : Compared) → length lines ≤ k
+    → with_lines s on (lines_of (drop k lines)) so_far ≡ so_far
+lines_done s lines k on so_far all = ap (λ ls. with_lines s on (lines_of ls) so_far) (drop_all k lines all)
+
+-- each of the first lines, so many, holds under each assignment on a path
+abbrev pub HoldSoFar : Shape → List KeptLine → (k : ℕ) → Space → (path : Function) → (elements : List ℕ) → Type 0
+HoldSoFar s lines k space path elements =
+    (i : ℕ) (line : Line) → i < k → slice_get (lines_of lines) i ≡ Some line → (given : Given) → path given ≡ true
+    → HoldsAt s space elements given line
+
+pub hold_more : (s : Shape) (lines : List KeptLine) (k : ℕ) (line : KeptLine) (old new : Space) (path other : Function)
+    (elements : List ℕ) → k < length lines → line ≡ get_or lines k line → All (IsLineOf s) (lines_of lines)
+    → IsWorkspace old.terms old.words old.memory → AreWide old.terms s.widths elements → GoesComparing old new
+    → Agree other path → HoldSoFar s lines k old path elements
+    → ((given : Given) → other given ≡ true → HoldsAt s new elements given (line_of line))
+    → HoldSoFar s lines (k + 1) new path elements
+hold_more s lines k line old new path other elements inside is lines_are workspace wide goes agree before now i at_line
+    below at given on = elim (cases_lt i k) [
+      | inl earlier ↦
+          holds_later s old new elements given at_line (all_at (IsLineOf s) (lines_of lines) i at_line lines_are at)
+          workspace wide goes (before i at_line earlier at given on)
+      | inr past ↦
+          let place : i ≡ k = omega (arith, past, below) in
+          let same : line_of line ≡ at_line =
+          same_Some (line_of line) at_line
+          (sym (seen_line lines k line inside is) ∙ ap (slice_get (lines_of lines)) (sym place) ∙ at) in
+          subst (λ l. HoldsAt s new elements given l) same (now given (agree given ∙ on))
+    ]
+
+-- a place at which there is a line
+inside_lines : (lines : List Line) (i : ℕ) (line : Line) → slice_get lines i ≡ Some line → i < length lines
+inside_lines [] i line at = absurd cc
+inside_lines (l ∷ rest) zero line at = omega arith
+inside_lines (l ∷ rest) (suc i) line at = omega (arith, inside_lines rest i line at)
+
+pub inside_kept : (lines : List KeptLine) (i : ℕ) (line : Line) → slice_get (lines_of lines) i ≡ Some line
+    → i < length lines
+inside_kept lines i line at = omega (arith, inside_lines (lines_of lines) i line at, seen_count lines)

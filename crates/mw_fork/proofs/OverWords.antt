@@ -1,0 +1,219 @@
+-- What is over a budget of nodes, said of the word list of the bits that a run has met.
+use Rattle.std.proofs.Common.{◌≡◌, inl, inr, ℕ, zero, suc, ◌+◌, ◌<◌, List, [], ◌∷◌, length, append-nil, ap, sym, subst, ◌∙◌, arith, refl}
+use Rattle.std.specs.Option.{unwrap_or}
+use Rattle.std.specs.Prelude.{Bool, true, false, IsSome, Option, Some, None, option_map, ◌==◌, if◌then◌else◌, slice_get, slice_index_or}
+use Rattle.std.proofs.lemmas.Bool.{eqb-true}
+use Rattle.std.proofs.lemmas.Option.{same_Some}
+use Rattle.mw_cycle.specs.declared.decided.Decided.{Decided}
+use Rattle.mw_term.specs.Cofactors.{Agree, HasMoreCofactors}
+use Rattle.mw_term.specs.declared.word.Word.{Word}
+use Rattle.mw_term.specs.Functions.{Function, Triple}
+use Rattle.mw_term.specs.Numbered.{IsNumbered}
+use Rattle.mw_term.specs.Rows.{bit}
+use Rattle.mw_term.specs.Table.{Table, table_of}
+use Rattle.mw_term.specs.WordList.{WordList, number_from, number_of}
+use Rattle.mw_dd.proofs.Cofactors.{more-same}
+use Rattle.mw_blast.specs.declared.fault.BlastFault.{BlastFault}
+use Rattle.mw_blast.specs.declared.fault.BlastFault.TheVariants as faults
+use Rattle.mw_blast.specs.Causes.{IsOver}
+use Rattle.mw_blast.specs.Numbers.{OverHaveNumbers}
+use Rattle.mw_blast.specs.Splits.{IsPathOver, IsSplitCause}
+use Rattle.mw_symmem.specs.Listed.{list_in}
+use Rattle.mw_symmem.proofs.Lists.{behind}
+use Rattle.mw_rel.specs.BitOperations.IsOperation.{of_path, of_row}
+use Rattle.mw_rel.specs.Case.{IsFeasiblePrefix}
+use Rattle.mw_rel.specs.CaseWords.{CaseWords, case_words}
+use Rattle.mw_rel.specs.Job.{Job}
+use Rattle.mw_rel.specs.OverBudget.{AreNodesOver}
+use Rattle.mw_rel.specs.PathWords.{IsWord, StandsAt, next_bit, path_of, path_word, table_with}
+use Rattle.mw_rel.specs.PathWords.StandsAt.{at_constant, at_word}
+use Rattle.mw_fork.specs.declared.stop.Stop.{Stop}
+use Rattle.mw_fork.specs.declared.stop.Stop.TheVariants as stops
+use Rattle.mw_fork.specs.declared.way.Kept.{Kept}
+use Rattle.mw_fork.specs.Comparing.{IsFrontOf}
+use Rattle.mw_fork.specs.Listed.{AsksFor}
+use Rattle.mw_fork.specs.OnWay.{IsOnWay}
+use Rattle.mw_fork.specs.Starts.{Ground, HaveStarts}
+use Rattle.mw_fork.specs.Stops.{StopsBy}
+use Rattle.mw_fork.specs.Ways.{Way, met_of}
+use Rattle.mw_fork.proofs.Choosing.{none_feasible}
+use Rattle.mw_fork.proofs.GoingOn.{front_itself}
+use Rattle.mw_fork.proofs.Ordering.{front_feasible}
+use Rattle.mw_fork.proofs.WordPaths.{word_same}
+
+-- ---- numbers of words
+
+-- a number that a list gives, counting from one on, is that of a word with the term
+abbrev IsFrom : (ws : List Word) → (first number term : ℕ) → Type 0
+IsFrom ws first number term =
+    (place : ℕ) × (number ≡ place + first) × (option_map (λ w. w.term) (slice_get ws place) ≡ Some term)
+
+from_next : (w : Word) (rest : List Word) (first number term : ℕ) → IsFrom rest (first + 1) number term
+    → IsFrom (w ∷ rest) first number term
+from_next w rest first number term is = (suc is.0, omega (arith, is.1), is.2)
+
+number_is_from : (ws : List Word) (first number term : ℕ) → number_from first ws term ≡ Some number
+    → IsFrom ws first number term
+number_is_from [] first number term is = absurd cc
+number_is_from (w ∷ rest) first number term is =
+    at (w.term == term) refl is (number_is_from rest (first + 1) number term) where
+      at : (here : Bool) → (w.term == term) ≡ here
+          → (if here then Some first else number_from (first + 1) rest term) ≡ Some number
+          → (number_from (first + 1) rest term ≡ Some number → IsFrom rest (first + 1) number term)
+          → IsFrom (w ∷ rest) first number term
+      at true same found further = (
+        zero,
+        omega (arith, same_Some first number found),
+        ap (λ (x : ℕ). Some x) (eqb-true w.term term same),
+      )
+      at false same found further = from_next w rest first number term (further found)
+
+-- the number that a list gives is that of a word with the term
+pub number_is_word : (l : WordList) (number term : ℕ) → number_of l.words term ≡ Some number → IsWord l number term
+number_is_word l number term is = number_is_from l.words 1 number term is
+
+-- so is the number of a term that has one
+pub has_word : (l : WordList) (term : ℕ) (found : Option ℕ) → number_of l.words term ≡ found → IsSome found
+    → IsWord l (unwrap_or found (length l.words)) term
+has_word l term None same some = absurd cc
+has_word l term (Some number) same some = number_is_word l number term same
+
+-- the number of a term or, where it has none, of the last word so far
+abbrev pub number_or_last : (words : List Word) → (term : ℕ) → ℕ
+number_or_last words term = unwrap_or (number_of words term) (length words)
+
+-- a path word of a term stands at its number or, where it has none, at the last one so far
+stands_at : (t : Table) (l : WordList) (term : ℕ) (found : Option ℕ) → number_of l.words term ≡ found
+    → StandsAt t l l term (unwrap_or found (length l.words))
+stands_at t l term None same = at_constant same refl
+stands_at t l term (Some number) same =
+    let word = number_is_word l number term same in
+    at_word number term word word (λ given. refl)
+
+-- ---- operations that are over
+
+-- an operation at the number of a term, of these bits
+abbrev IsOverAt : Job → (number nodes : ℕ) → (bits : List Decided) → Ground → (term j : ℕ) → Type 0
+IsOverAt job number nodes bits g term j = AreNodesOver job number nodes bits (number_or_last g.words term) j
+
+-- a word of the beginning of a list is one of the list
+pub word_front : (front all : WordList) (number term : ℕ) → IsFrontOf front all → IsWord front number term
+    → IsWord all number term
+word_front front all number term is word =
+    (word.0, word.1, at (slice_get front.words word.0) refl word.2) where
+      at : (o : Option Word) → slice_get front.words word.0 ≡ o → option_map (λ w. w.term) o ≡ Some term
+          → option_map (λ w. w.term) (slice_get all.words word.0) ≡ Some term
+      at None found same = absurd cc
+      at (Some w) found same =
+          ap (λ (o : Option Word). option_map (λ w. w.term) o)
+          (ap (λ (ws : List Word). slice_get ws word.0) is.words_are ∙ behind front.words is.words word.0 w found)
+          ∙ same
+
+-- one of the term table's row, at the number that the beginning of the list gives
+pub over_at : (job : Job) (number nodes : ℕ) (bits : List Decided) (front : WordList) (term j : ℕ)
+    → IsFrontOf front (case_words job number bits).list → IsSome (number_of front.words term)
+    → IsFeasiblePrefix job number bits → IsOver (table_with job (case_words job number bits)) term j nodes
+    → AreNodesOver job number nodes bits (number_or_last front.words term) j
+over_at job number nodes bits front term j is some feasible over = record {
+  feasible = feasible;
+  operation = over.over.1;
+  listed = of_row (record {
+    term = term;
+    at = word_front front (case_words job number bits).list (number_or_last front.words term) term is
+        (has_word front term (number_of front.words term) refl some);
+    op = over.op;
+    its = over.its;
+    among = (over.over.0, over.over.2, over.over.3);
+  });
+  over = over.over.4;
+}
+
+-- one of the term table's row
+row_over : (job : Job) (number nodes : ℕ) (bits : List Decided) (g : Ground) (term named j : ℕ) → OverHaveNumbers
+    → IsNumbered (case_words job number bits).list → g.table.map ≡ job.board.map_entries → AsksFor job number bits g term
+    → IsFeasiblePrefix job number bits → IsOver g.table named j nodes → IsOverAt job number nodes bits g named j
+row_over job number nodes bits g term named j law numbered map asks feasible over =
+    let l = list_in g.table g.words g.memory in
+    let same : (case_words job number bits).list ≡ l = ap (λ (w : CaseWords). w.list) asks in
+    let table : table_with job (case_words job number bits) ≡ g.table =
+    ap (λ (w : CaseWords). table_with job w) asks ∙ ap (λ (entries : List ℕ). table_of g.table.ops entries) (sym map) in
+    over_at job number nodes bits l named j (subst (λ (x : WordList). IsFrontOf l x) (sym same) (front_itself l))
+    (law g.table.map l named j nodes (subst IsNumbered same numbered) over) feasible
+    (subst (λ (t : Table). IsOver t named j nodes) (sym table) over)
+
+-- that of a path word for one value of the bit
+value_over : (job : Job) (number nodes : ℕ) (bits : List Decided) (g : Ground) (path : Function) (term : ℕ) (value : Bool)
+    → g.table.map ≡ job.board.map_entries → AsksFor job number bits g term → Agree path (path_of job number bits)
+    → IsFeasiblePrefix job number bits → HasMoreCofactors (path_word path (bit g.table term 0) value) nodes
+    → IsOverAt job number nodes bits g term 0
+value_over job number nodes bits g path term value map asks written feasible over = record {
+  feasible = feasible;
+  operation = path_word (path_of job number bits) (next_bit job number bits) value;
+  listed = of_path (record {
+    before = bits;
+    rest = [];
+    bits_are = sym (append-nil bits);
+    term = term;
+    asked = ap (λ (w : CaseWords). w.asked) asks;
+    at = subst (λ (l : WordList).
+        StandsAt (table_with job (case_words job number bits)) l l term (number_or_last g.words term))
+        (sym (ap (λ (w : CaseWords). w.list) asks))
+        (stands_at _ (list_in g.table g.words g.memory) term (number_of g.words term) refl);
+    lowest = refl;
+    value = value;
+    is = refl;
+  });
+  over = more-same _ _ nodes (word_same job number bits g path term value map asks written) over;
+}
+
+-- one of both path words
+path_over : (job : Job) (number nodes : ℕ) (bits : List Decided) (g : Ground) (path : Function) (term : ℕ)
+    → g.table.map ≡ job.board.map_entries → AsksFor job number bits g term → Agree path (path_of job number bits)
+    → IsFeasiblePrefix job number bits → IsPathOver path (bit g.table term 0) nodes
+    → IsOverAt job number nodes bits g term 0
+path_over job number nodes bits g path term map asks written feasible over =
+    at over.0 over.1 over.2 over.3 over.4 where
+      at : (k : ℕ) (u : Triple) → k < 2
+          → slice_index_or (path_word path (bit g.table term 0) false ∷ path_word path (bit g.table term 0) true ∷ []) k u ≡ u
+          → HasMoreCofactors u nodes → IsOverAt job number nodes bits g term 0
+      at zero u inside is more =
+          value_over job number nodes bits g path term false map asks written feasible
+          (subst (λ (t : Triple). HasMoreCofactors t nodes) (sym is) more)
+      at (suc zero) u inside is more =
+          value_over job number nodes bits g path term true map asks written feasible
+          (subst (λ (t : Triple). HasMoreCofactors t nodes) (sym is) more)
+      at (suc (suc k)) u inside is more = absurd (omega arith)
+
+-- ---- where a run stops
+
+-- the bits that a run has met are feasible
+met_feasible : (job : Job) (number : ℕ) (g : Ground) (from : List Kept) (way : Way) (path : Function)
+    → HaveStarts job number g → IsOnWay job number g from way path → IsFeasiblePrefix job number (met_of way)
+met_feasible job number g from way path starts on =
+    front_feasible job number way.met way.kept (none_feasible job number g starts) on.bits.kept
+
+-- a stop says the fault of a term by the number of its word
+pub record Tells (words : List Word) (fault : BlastFault) (stop : Stop) : Type 0 where
+  pub over : (term j : ℕ) → fault ≡ faults.Over term j → stop ≡ stops.Over (number_or_last words term) j
+  pub none : fault ≡ faults.NoMemory → stop ≡ stops.NoMemory
+
+-- a run whose path wasn't split stops by that
+pub stops_by : (job : Job) (number nodes : ℕ) (g : Ground) (from : List Kept) (way : Way) (path : Function) (term : ℕ)
+    (fault : BlastFault) (stop : Stop) → OverHaveNumbers → IsNumbered (case_words job number (met_of way)).list
+    → HaveStarts job number g → IsOnWay job number g from way path → AsksFor job number (met_of way) g term
+    → IsSplitCause g.table path term nodes fault → Tells g.words fault stop → StopsBy job number nodes from way stop
+stops_by job number nodes g from way path term (faults.Over named j) stop law numbered starts on asks cause tells =
+    let map = on.stands.space.map in
+    let feasible = met_feasible job number g from way path starts on in
+    rw (tells.over named j refl) (
+      on.bits,
+      elim cause [
+        | inl h ↦ row_over job number nodes (met_of way) g term named j law numbered map asks feasible h.1
+        | inr h ↦
+            subst (λ (x : ℕ). IsOverAt job number nodes (met_of way) g x j) (sym h.0)
+            (subst (λ (x : ℕ). IsOverAt job number nodes (met_of way) g term x) (sym h.1)
+            (path_over job number nodes (met_of way) g path term map asks on.written feasible h.2))
+      ],
+    )
+stops_by job number nodes g from way path term faults.NoMemory stop law numbered starts on asks cause tells =
+    rw (tells.none refl) tt

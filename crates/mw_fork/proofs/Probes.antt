@@ -1,0 +1,168 @@
+-- For each start and each address there is an assignment whose probe is that address; and the ground of a run stays while both
+-- sides are compared.
+use Rattle.std.proofs.Common.{◌≡◌, ◌⊎◌, inl, inr, ℕ, ◌+◌, ◌<◌, ◌%◌, ◌^◌, List, ◌++◌, ap, sym, subst, ◌∙◌, arith, refl}
+use Rattle.std.specs.Prelude.{◌==◌, if◌then◌else◌, Option, None, Some}
+use Rattle.std.proofs.Math.Nat.{mod-eq_of_lt}
+use Rattle.std.proofs.lemmas.Bool.Decides.{nat_tests}
+use Rattle.std.proofs.lemmas.Option.{same_Some}
+use Rattle.mw_board.specs.declared.parts.BoardParts.{BoardParts}
+use Rattle.mw_term.specs.declared.kinds.WordKind.TheVariants.{Base, Element, Input, Line, Noise, Probe}
+use Rattle.mw_term.specs.declared.word.Word.{Word}
+use Rattle.mw_term.specs.Assigned.{Given}
+use Rattle.mw_term.specs.Table.{Table}
+use Rattle.mw_term.specs.Values.{term_value}
+use Rattle.mw_term.specs.WordList.{term_of}
+use Rattle.mw_symmem.specs.Memory.{IsBaseNumber, IsOfWidth}
+use Rattle.mw_symmem.specs.Words.{HaveOwnKinds, IsVariable}
+use Rattle.mw_symmem.specs.Workspace.{HaveKinds, IsLater}
+use Rattle.mw_symmem.proofs.Later.{width_later}
+use Rattle.mw_symboard.specs.Kinds.{AreInputs}
+use Rattle.mw_symboard.specs.Variables.{HaveVariables, IsOutsideKind, IsOutsideNumber}
+use Rattle.mw_symboard.proofs.Environments.{variables_have_values, variables_stay}
+use Rattle.mw_symboard.proofs.Standing.{found_stays}
+use Rattle.mw_symboard.proofs.Variables.{none_both, none_kind}
+use Rattle.mw_rel.specs.Case.{IsStartAt}
+use Rattle.mw_rel.specs.InRelation.{values_of}
+use Rattle.mw_rel.specs.Job.{Job, IsJob}
+use Rattle.mw_rel.specs.Start.{Start}
+use Rattle.mw_fork.specs.declared.elements.Space.{Space}
+use Rattle.mw_fork.specs.Comparing.{GoesComparing, IsComparedKind}
+use Rattle.mw_fork.specs.OnWay.{ground_in}
+use Rattle.mw_fork.specs.Starts.{GoesTo, Ground, IsGround, IsStartOf}
+use Rattle.mw_fork.proofs.FreeValues.{same_kind, with_values}
+use Rattle.mw_fork.proofs.Grounds.{reached_from}
+use Rattle.mw_fork.proofs.Growing.{goes_to, ground_later, start_before}
+
+-- ---- the probe's number is no other variable's
+
+probe_outside : ¬ IsOutsideKind Probe
+probe_outside is = elim is [
+  | inl h ↦ (let e : Probe ≡ Line h.0 = h.1 in cc)
+  | inr h ↦ elim h [
+    | inl h ↦ (let e : Probe ≡ Noise h.0 = h.1 in cc)
+    | inr h ↦ (let e : Probe ≡ Input h.0 = h.1 in cc)
+  ]
+]
+
+probe_inside : (words : List Word) (place term : ℕ) → IsVariable words place term Probe
+    → ¬ IsOutsideNumber words (place + 1)
+probe_inside words place term is other =
+    probe_outside
+    (subst IsOutsideKind (sym (same_kind words place other.place term other.term Probe other.kind other.number is
+    other.is)) other.outside)
+
+probe_no_base : (words : List Word) (place term : ℕ) → IsVariable words place term Probe
+    → ¬ IsBaseNumber words (place + 1)
+probe_no_base words place term is other =
+    let e : Probe ≡ Base other.k =
+    same_kind words place other.place term other.term Probe (Base other.k) other.number is other.is in cc
+
+probe_no_element : (words : List Word) (i j a b n : ℕ) → IsVariable words i a Probe → IsVariable words j b (Element n)
+    → ¬ (i + 1 ≡ j + 1)
+probe_no_element words i j a b n is other same =
+    let e : Probe ≡ Element n = same_kind words i j a b Probe (Element n) same is other in cc
+
+-- ---- each address is the probe's
+
+-- an assignment with another value for a number
+with_number : (number value : ℕ) → Given → Given
+with_number number value given n = if n == number then value else given n
+
+own_number : (number value : ℕ) (given : Given) → with_number number value given number ≡ value
+unfolding with_number
+own_number number value given = grind (arith, nat_tests)
+
+other_number : (number value : ℕ) (given : Given) (n : ℕ) → ¬ (number ≡ n) → with_number number value given n ≡ given n
+unfolding with_number
+other_number number value given n other = grind (arith, nat_tests)
+
+pub reached_at : (job : Job) (number : ℕ) (g : Ground) (place probe address : ℕ) → IsJob job → IsGround job number g
+    → IsVariable g.words place probe Probe → IsOfWidth g.table g.memory.address probe → address < 2 ^ g.memory.address
+    → (start : Start) → IsStartAt job number start
+    → (given : Given) × IsStartOf job number g given start × (term_value g.table given probe ≡ address)
+reached_at job number g place probe address is ground at wide less start starts =
+    let work = ground.space.workspace in
+    let width = g.memory.address in
+    let values = with_values g.words (values_of job.board start.pair) in
+    let reached = reached_from job number g is ground start starts (with_number (place + 1) address values)
+    (λ other term n element.
+    other_number (place + 1) address values (other + 1) (probe_no_element g.words place other probe term n at element)) in
+    let has : reached.0 (place + 1) ≡ address =
+    reached.2 (place + 1) (probe_inside g.words place probe at) (probe_no_base g.words place probe at)
+    ∙ own_number (place + 1) address values in (
+      reached.0,
+      reached.1,
+      variables_have_values g.table g.words place probe Probe width reached.0 work.table work.of at wide
+          ∙ ap (λ v. v % 2 ^ width) has ∙ mod-eq_of_lt less,
+    )
+
+-- ---- the ground while both sides are compared
+
+line_not_compared : (n : ℕ) → IsComparedKind (Line n) → ⊥
+line_not_compared n is = is
+
+noise_not_compared : (n : ℕ) → IsComparedKind (Noise n) → ⊥
+noise_not_compared n is = is
+
+input_not_compared : (n : ℕ) → IsComparedKind (Input n) → ⊥
+input_not_compared n is = is
+
+found_or_none : (o : Option ℕ) → (o ≡ None) ⊎ ((term : ℕ) × (o ≡ Some term))
+found_or_none None = inl refl
+found_or_none (Some term) = inr (term, refl)
+
+-- the inputs' variables are those that there were
+inputs_compared : (board : BoardParts) (told tnew : Table) (wold wnew more : List Word) → IsLater told tnew
+    → wnew ≡ wold ++ more → HaveKinds IsComparedKind more → AreInputs board told wold → AreInputs board tnew wnew
+inputs_compared board told tnew wold wnew more later words kinds inputs n term is =
+    let there : term_of (wold ++ more) (Input n) ≡ Some term = ap (λ (ws : List Word). term_of ws (Input n)) (sym words) ∙ is in
+    elim (found_or_none (term_of wold (Input n))) [
+      | inl none ↦
+          let no : term_of (wold ++ more) (Input n) ≡ None =
+          none_both wold more (Input n) none (none_kind IsComparedKind more (Input n) kinds (input_not_compared n)) in
+          absurd cc
+      | inr some ↦
+          let old : term_of (wold ++ more) (Input n) ≡ Some some.0 = found_stays wold more (Input n) some.0 some.1 in
+          subst (IsOfWidth tnew board.width) (same_Some some.0 term (sym old ∙ there))
+          (width_later told tnew board.width some.0 later (inputs n some.0 some.1))
+    ]
+
+-- the variables of the cycles stay all that there are
+cycles_compared : (board : BoardParts) (told tnew : Table) (wold wnew more : List Word) (cycles : ℕ) → IsLater told tnew
+    → wnew ≡ wold ++ more → HaveKinds IsComparedKind more → HaveVariables board told wold cycles
+    → HaveVariables board tnew wnew cycles
+cycles_compared board told tnew wold wnew more cycles later words kinds has = record {
+  each = λ n less. variables_stay told tnew wold wnew more n later words (has.each n less);
+  none = λ n past. (
+    ap (λ (ws : List Word). term_of ws (Line n)) words
+        ∙ none_both wold more (Line n) (has.none n past).0
+        (none_kind IsComparedKind more (Line n) kinds (line_not_compared n)),
+    ap (λ (ws : List Word). term_of ws (Noise n)) words
+        ∙ none_both wold more (Noise n) (has.none n past).1
+        (none_kind IsComparedKind more (Noise n) kinds (noise_not_compared n)),
+  );
+  inputs = inputs_compared board told tnew wold wnew more later words kinds has.inputs;
+}
+
+-- what a comparison works on went on
+pub goes_compared : (old new : Space) (elements : List ℕ) → GoesComparing old new → HaveOwnKinds new.words
+    → GoesTo (ground_in old elements) (ground_in new elements)
+goes_compared old new elements compared own = goes_to IsComparedKind old new elements compared.goes own
+
+pub ground_compared : (job : Job) (number : ℕ) (old new : Space) (elements : List ℕ) → IsJob job
+    → IsGround job number (ground_in old elements) → GoesComparing old new → HaveOwnKinds new.words
+    → IsGround job number (ground_in new elements)
+ground_compared job number old new elements is ground compared own =
+    let goes = compared.goes in
+    ground_later job number (ground_in old elements) (ground_in new elements) ground.cycles is ground
+    (goes_compared old new elements compared own)
+    (cycles_compared job.board old.terms new.terms old.words new.words goes.more ground.cycles goes.later goes.words
+    goes.kinds ground.variables)
+
+-- a start over what there is after a comparison was one before
+pub start_compared : (job : Job) (number : ℕ) (old new : Space) (elements : List ℕ) (given : Given) (start : Start)
+    → IsJob job → IsGround job number (ground_in old elements) → GoesComparing old new → HaveOwnKinds new.words
+    → IsStartOf job number (ground_in new elements) given start → IsStartOf job number (ground_in old elements) given start
+start_compared job number old new elements given start is ground compared own one =
+    start_before job number (ground_in old elements) (ground_in new elements) given start is ground
+    (goes_compared old new elements compared own) one

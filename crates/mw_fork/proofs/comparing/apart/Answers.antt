@@ -1,0 +1,69 @@
+use Rattle.std.proofs.Common.{[], ◌∷◌, ◌∙◌, ap, refl}
+use Rattle.mw_symmem.proofs.Made.{pair_of}
+use Rattle.mw_symmem.proofs.Later.{writes_itself}
+use Rattle.mw_symmem.proofs.Lists.{plain_behind}
+use Rattle.mw_term.specs.declared.kinds.WordKind.TheVariants.{Probe}
+use Rattle.mw_term.specs.WordList.{term_of}
+use Rattle.mw_fork.specs.OnWay.{path_in}
+use Rattle.mw_fork.proofs.Apart.{compared_found_if, compared_goes, compared_none, compared_over, compared_wide, one_on, two_at_first}
+use Rattle.mw_fork.proofs.comparing.apart.Goals as goal
+
+pub add-requires : goal.add-requires
+add-requires c =
+    pair_of c.args.space.now.terms c.requires.wide.0 c.args.a c.args.b c.requires.wide.1 c.requires.wide.2
+
+pub failing-requires-clause-wide : goal.failing-requires-clause-wide
+failing-requires-clause-wide c =
+    compared_wide c.args.space.now.terms _ c.args.a c.args.b c.in_ok-same.same c.in_ok-same.ensures.made
+
+pub returns-in-Ok-clause-goes : goal.returns-in-Ok-clause-goes
+returns-in-Ok-clause-goes c =
+    let e = c.in_ok-same.ensures in
+    record {
+      goes = compared_goes _ _ _ _ c.args.space.now.memory c.args.a c.args.b c.in_ok-same.same
+          (record { words = e.words; made = e.made; listed = e.listed; of = e.of; extends = e.extends; keeps = e.keeps; table = e.table })
+          c.requires.workspace;
+      writes = writes_itself c.args.space.now.memory;
+    }
+
+pub returns-in-Ok-clause-probe : goal.returns-in-Ok-clause-probe
+returns-in-Ok-clause-probe c =
+    ap (λ ws. term_of ws Probe) c.in_ok-same.ensures.words
+    ∙ plain_behind c.args.space.now.words (c.in_ok-same.same ∷ []) Probe
+
+pub returns-in-Ok-clause-none : goal.returns-in-Ok-clause-none
+returns-in-Ok-clause-none c = λ none subject so_far have.
+    let e = c.in_ok-same.ensures in
+    compared_none c.args.nodes c.args.space.now _ (path_in c.args.paths.now) subject c.args.a c.args.b c.in_ok-same.same
+    so_far refl
+    (record { words = e.words; made = e.made; listed = e.listed; of = e.of; extends = e.extends; keeps = e.keeps; table = e.table })
+    (c.in-Ok.ensures.none none) c.in-Ok.ensures.within have
+
+pub returns-in-Ok-clause-found : goal.returns-in-Ok-clause-found
+returns-in-Ok-clause-found c =
+    let e = c.in_ok-same.ensures in
+    compared_found_if c.args.nodes c.args.space.now
+    (record { terms = c.add.new.terms; words = c.add.new.self; memory = c.args.space.now.memory })
+    (path_in c.args.paths.now) c.args.a c.args.b c.in_ok-same.same c.in-Ok.found refl
+    (record { words = e.words; made = e.made; listed = e.listed; of = e.of; extends = e.extends; keeps = e.keeps; table = e.table })
+    c.in-Ok.ensures.first
+
+pub returns-in-Ok-clause-same : goal.returns-in-Ok-clause-same
+returns-in-Ok-clause-same c = λ none.
+    one_on c.args.space.now.terms c.add.new.terms c.args.a c.args.b c.in_ok-same.same (path_in c.args.paths.now)
+    c.in_ok-same.ensures.made c.in_ok-same.ensures.keeps c.requires.wide.1.there c.requires.wide.2.there
+    (c.in-Ok.ensures.none none)
+
+pub returns-in-Ok-clause-apart : goal.returns-in-Ok-clause-apart
+returns-in-Ok-clause-apart c =
+    two_at_first c.args.space.now.terms c.add.new.terms c.args.a c.args.b c.in_ok-same.same (path_in c.args.paths.now)
+    c.in-Ok.found c.in_ok-same.ensures.made c.in_ok-same.ensures.keeps c.requires.wide.1.there c.requires.wide.2.there
+    c.in-Ok.ensures.first
+
+pub returns-in-Err-clause-over : goal.returns-in-Err-clause-over
+returns-in-Err-clause-over c = λ word j is subject so_far have.
+    let e = c.in_ok-same.ensures in
+    compared_over c.args.nodes c.args.space.now _ (path_in c.args.paths.now) subject c.args.a c.args.b c.in_ok-same.same
+    so_far c.in-Err.fault c.stop_of.result word j refl
+    (record { words = e.words; made = e.made; listed = e.listed; of = e.of; extends = e.extends; keeps = e.keeps; table = e.table })
+    c.in-Err.ensures.over (record { over = c.stop_of.ensures.over; none = c.stop_of.ensures.none }) is have

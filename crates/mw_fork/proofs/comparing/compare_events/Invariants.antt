@@ -1,0 +1,27 @@
+use Rattle.std.proofs.Common.{◌≡◌, ◌<◌, ℕ, drop, length, true}
+use Rattle.mw_rel.specs.ComparisonWords.{are_alike, with_events}
+use Rattle.mw_symmem.specs.Workspace.{IsWorkspace}
+use Rattle.mw_term.specs.declared.kinds.WordKind.TheVariants.{Probe}
+use Rattle.mw_term.specs.Cofactors.{Agree}
+use Rattle.mw_term.specs.WordList.{term_of}
+use Rattle.mw_fork.specs.Comparing.{AreOneOn, ArePutOut, GoesComparing}
+use Rattle.mw_fork.specs.OnWay.{HavePaths, path_in}
+use Rattle.mw_fork.proofs.CameTo.{CameTo}
+use Rattle.mw_fork.proofs.comparing.compare_events.Given as goal
+
+abbrev pub invariant-loop-number : goal.invariant-loop-number
+invariant-loop-number l = record {
+  count : length l.board ≡ length l.machine;
+  alike : are_alike (drop l.number l.board) (drop l.number l.machine) ≡ true;
+  workspace : IsWorkspace l.space.terms l.space.words l.space.memory;
+  paths : HavePaths l.space l.paths;
+  path : Agree (path_in l.paths) (path_in l.fn.paths);
+  goes : GoesComparing l.fn.space l.space;
+  memory : l.space.memory ≡ l.fn.space.memory;
+  probe : term_of l.space.words Probe ≡ term_of l.fn.space.words Probe;
+  came : CameTo l.nodes l.fn.space l.space (path_in l.fn.paths) (λ (x : ℕ). x ≡ x)
+      (λ x so_far. with_events 0 l.board l.machine so_far)
+      (λ x so_far. with_events l.number (drop l.number l.board) (drop l.number l.machine) so_far);
+  same : (number a b : ℕ) → number < l.number → ArePutOut l.board l.machine number a b
+      → AreOneOn l.space.terms (path_in l.fn.paths) a b;
+}

@@ -1,0 +1,138 @@
+use Rattle.std.proofs.Common.{sym, ◌≡◌, ◌∙◌}
+use Rattle.std.proofs.lemmas.Result.{on_ok_weaker}
+use Rattle.mw_rel.specs.ComparisonWords.{with_line}
+use Rattle.mw_rel.specs.Seen.{line_of}
+use Rattle.mw_rel.specs.Views.{job_of}
+use Rattle.mw_rel.proofs.Standing.{board_address}
+use Rattle.mw_symmach.specs.Expressions.{IsBase}
+use Rattle.mw_term.specs.declared.kinds.WordKind.TheVariants.{Probe}
+use Rattle.mw_term.specs.WordList.{term_of}
+use Rattle.mw_fork.specs.declared.elements.Space.{Space}
+use Rattle.mw_fork.specs.Comparing.{AreSidesOn, GoesComparing}
+use Rattle.mw_fork.specs.OnWay.{path_in}
+use Rattle.mw_fork.proofs.Boundaries.{machine_word}
+use Rattle.mw_fork.proofs.ComparingOn.{Leads, comparing_paths, comparing_then, leads_found, leads_none, leads_over}
+use Rattle.mw_fork.proofs.LineCompared.{HasMadeRight, base_goes, both_wide, line_fails, line_holds, left_at, line_leads, line_ready, shape_is}
+use Rattle.mw_fork.proofs.MemoryCompared.{not_base}
+use Rattle.mw_fork.proofs.Runs.{probe_kept}
+use Rattle.mw_fork.proofs.comparing.compare_line.Goals as goal
+
+pub expr_term-requires : goal.expr_term-requires
+expr_term-requires c =
+    let job = job_of c.args.job.now in
+    let valid = c.shape-shape.ensures.valid in
+    line_ready job.relation.shape c.args.space.now c.args.elements.now (line_of c.args.line.now) c.requires.line_of
+    c.requires.space.workspace c.requires.wide
+    (shape_is job.relation.shape c.args.space.now.terms c.args.elements.now c.args.space.now.memory c.requires.wide
+    (board_address job valid ∙ sym c.requires.space.address)
+    (machine_word job valid ∙ valid.matched.word ∙ sym c.requires.space.word)) c.requires.few
+
+pub apart-requires-clause-paths : goal.apart-requires-clause-paths
+apart-requires-clause-paths c =
+    let mid : Space =
+    record { terms = c.expr_term.new.terms; words = c.expr_term.new.words; memory = c.expr_term.new.memory } in
+    comparing_paths c.args.space.now mid c.args.paths.now (base_goes c.args.space.now mid _ c.in_ok-right.ensures.made.runs)
+    c.requires.paths
+
+pub apart-requires-clause-wide : goal.apart-requires-clause-wide
+apart-requires-clause-wide c =
+    let job = job_of c.args.job.now in
+    let valid = c.shape-shape.ensures.valid in
+    let mid : Space =
+    record { terms = c.expr_term.new.terms; words = c.expr_term.new.words; memory = c.expr_term.new.memory } in
+    both_wide job.relation.shape c.args.space.now mid c.args.elements.now (line_of c.args.line.now)
+    c.index-elements-line.result c.in_ok-right.right c.requires.line_of
+    (record {
+      workspace = c.requires.space.workspace;
+      shape = shape_is job.relation.shape c.args.space.now.terms c.args.elements.now c.args.space.now.memory
+          c.requires.wide (board_address job valid ∙ sym c.requires.space.address)
+          (machine_word job valid ∙ valid.matched.word ∙ sym c.requires.space.word);
+      wide = c.requires.wide;
+      made = c.in_ok-right.ensures.made;
+      listed = c.in_ok-right.ensures.listed;
+    })
+    (left_at (job_of c.args.job.now).relation.shape c.args.space.now.terms c.args.elements.now (line_of c.args.line.now) _
+    c.requires.line_of c.requires.wide c.index-elements-line.is)
+
+abbrev mid_space : (c : goal.After-apart) → Space
+mid_space c = record { terms = c.expr_term.new.terms; words = c.expr_term.new.words; memory = c.expr_term.new.memory }
+
+right_made : (c : goal.After-apart)
+    → HasMadeRight (job_of c.args.job.now).relation.shape c.args.space.now (mid_space c) c.args.elements.now
+    (line_of c.args.line.now) c.in_ok-right.right
+right_made c =
+    let job = job_of c.args.job.now in
+    let valid = c.shape-shape.ensures.valid in
+    record {
+      workspace = c.requires.space.workspace;
+      shape = shape_is job.relation.shape c.args.space.now.terms c.args.elements.now c.args.space.now.memory
+          c.requires.wide (board_address job valid ∙ sym c.requires.space.address)
+          (machine_word job valid ∙ valid.matched.word ∙ sym c.requires.space.word);
+      wide = c.requires.wide;
+      made = c.in_ok-right.ensures.made;
+      listed = c.in_ok-right.ensures.listed;
+    }
+
+to_apart : (c : goal.After-apart) → GoesComparing c.args.space.now (mid_space c)
+to_apart c = base_goes c.args.space.now (mid_space c) _ c.in_ok-right.ensures.made.runs
+
+leads : (c : goal.After-apart)
+    → Leads c.args.nodes c.args.space.now (mid_space c) (path_in c.args.paths.now) c.index-elements-line.result
+    c.in_ok-right.right (λ on. AreSidesOn c.args.elements.now c.args.space.now on)
+    (λ on so_far. with_line (job_of c.args.job.now).relation.shape on (line_of c.args.line.now) so_far)
+leads c =
+    line_leads (job_of c.args.job.now).relation.shape c.args.nodes c.args.space.now (mid_space c)
+    (path_in c.args.paths.now) c.args.elements.now (line_of c.args.line.now) c.index-elements-line.result
+    c.in_ok-right.right (right_made c) (left_at (job_of c.args.job.now).relation.shape c.args.space.now.terms c.args.elements.now (line_of c.args.line.now) _
+    c.requires.line_of c.requires.wide c.index-elements-line.is)
+
+pub returns-clause-goes : goal.returns-clause-goes
+returns-clause-goes c =
+    on_ok_weaker c.apart.result (comparing_then c.args.space.now (mid_space c) c.apart.new.space (to_apart c))
+    c.apart.ensures.goes
+
+-- the right side has base reads, but no probe
+pub returns-clause-probe : goal.returns-clause-probe
+returns-clause-probe c =
+    let old = c.args.space.now in
+    let mid = mid_space c in
+    on_ok_weaker c.apart.result
+    (λ (same : term_of c.apart.new.space.words Probe ≡ term_of mid.words Probe).
+    same ∙ probe_kept IsBase old.terms mid.terms old.words mid.words old.memory mid.memory
+    c.in_ok-right.ensures.made.runs.goes (λ is. not_base is.0 is.1))
+    c.apart.ensures.probe
+
+pub returns-clause-none : goal.returns-clause-none
+returns-clause-none c =
+    leads_none c.args.nodes c.args.space.now (mid_space c) c.apart.new.space (path_in c.args.paths.now)
+    c.index-elements-line.result c.in_ok-right.right (λ on. AreSidesOn c.args.elements.now c.args.space.now on)
+    (λ on so_far. with_line (job_of c.args.job.now).relation.shape on (line_of c.args.line.now) so_far)
+    c.apart.result (to_apart c).goes.later.extends.map (leads c) c.apart.ensures.none
+
+pub returns-clause-found : goal.returns-clause-found
+returns-clause-found c =
+    leads_found c.args.nodes c.args.space.now (mid_space c) c.apart.new.space (path_in c.args.paths.now)
+    c.index-elements-line.result c.in_ok-right.right (λ on. AreSidesOn c.args.elements.now c.args.space.now on)
+    (λ on so_far. with_line (job_of c.args.job.now).relation.shape on (line_of c.args.line.now) so_far)
+    c.apart.result (to_apart c).goes.later.extends.map (leads c) c.apart.ensures.found
+
+pub returns-clause-over : goal.returns-clause-over
+returns-clause-over c =
+    leads_over c.args.nodes c.args.space.now (mid_space c) c.apart.new.space (path_in c.args.paths.now)
+    c.index-elements-line.result c.in_ok-right.right (λ on. AreSidesOn c.args.elements.now c.args.space.now on)
+    (λ on so_far. with_line (job_of c.args.job.now).relation.shape on (line_of c.args.line.now) so_far)
+    c.apart.result (to_apart c).goes.later.extends.map (leads c) c.apart.ensures.over
+
+pub returns-clause-same : goal.returns-clause-same
+returns-clause-same c =
+    line_holds (job_of c.args.job.now).relation.shape c.args.space.now (mid_space c) c.apart.new.space
+    (path_in c.args.paths.now) c.args.elements.now (line_of c.args.line.now) c.index-elements-line.result
+    c.in_ok-right.right c.apart.result (right_made c) (left_at (job_of c.args.job.now).relation.shape c.args.space.now.terms c.args.elements.now (line_of c.args.line.now) _
+    c.requires.line_of c.requires.wide c.index-elements-line.is) c.apart.ensures.goes c.apart.ensures.same
+
+pub returns-clause-apart : goal.returns-clause-apart
+returns-clause-apart c =
+    line_fails (job_of c.args.job.now).relation.shape c.args.space.now (mid_space c) c.apart.new.space
+    c.args.elements.now (line_of c.args.line.now) c.index-elements-line.result c.in_ok-right.right c.apart.result
+    (right_made c) (left_at (job_of c.args.job.now).relation.shape c.args.space.now.terms c.args.elements.now (line_of c.args.line.now) _
+    c.requires.line_of c.requires.wide c.index-elements-line.is) c.apart.ensures.goes c.apart.ensures.apart

@@ -1,0 +1,136 @@
+use Rattle.std.proofs.Common.{ap, refl, sym, ◌∙◌}
+use Rattle.std.proofs.lemmas.Result.{on_ok_weaker}
+use Rattle.mw_rel.specs.ComparisonWords.{with_memory}
+use Rattle.mw_rel.specs.Views.{job_of}
+use Rattle.mw_rel.proofs.Standing.{board_address}
+use Rattle.mw_symmem.specs.declared.side.Side.TheVariants as sides
+use Rattle.mw_symmem.proofs.Later.{width_later}
+use Rattle.mw_fork.specs.declared.elements.Space.{Space}
+use Rattle.mw_fork.specs.Comparing.{AreWritesOn, GoesComparing}
+use Rattle.mw_fork.specs.OnWay.{path_in}
+use Rattle.mw_fork.proofs.Boundaries.{machine_word}
+use Rattle.mw_fork.proofs.ComparingOn.{Leads, comparing_paths, comparing_then, leads_found, leads_none, leads_over}
+use Rattle.mw_fork.proofs.MemoryCompared.{HasProbe, HasRead, memory_leads, one_at_probe, probe_made, two_in_memory}
+use Rattle.mw_fork.proofs.comparing.compare_memory.Goals as goal
+
+pub read_at-requires-clause-workspace : goal.read_at-requires-clause-workspace
+read_at-requires-clause-workspace c =
+    let e = c.in_ok-probe.ensures in
+    (probe_made c.args.space.now
+    (record { terms = c.fresh.new.terms; words = c.fresh.new.self; memory = c.args.space.now.memory }) _ _
+    c.in_ok-probe.probe refl c.requires.space.workspace e.words e.made e.listed e.of e.extends e.keeps
+    e.table).goes.goes.workspace
+
+pub read_at-requires-clause-probe : goal.read_at-requires-clause-probe
+read_at-requires-clause-probe c =
+    let e = c.in_ok-probe.ensures in
+    let wide = (probe_made c.args.space.now
+    (record { terms = c.fresh.new.terms; words = c.fresh.new.self; memory = c.args.space.now.memory }) _ _
+    c.in_ok-probe.probe refl c.requires.space.workspace e.words e.made e.listed e.of e.extends e.keeps e.table).wide in
+    record {
+      there = wide.there;
+      width_is = wide.width_is ∙ ap (λ b. b.address) c.parts.ensures.exact ∙ sym c.requires.space.address;
+    }
+
+pub read_at-requires-2-clause-probe : goal.read_at-requires-2-clause-probe
+read_at-requires-2-clause-probe c =
+    let e = c.in_ok-probe.ensures in
+    let has = probe_made c.args.space.now
+    (record { terms = c.fresh.new.terms; words = c.fresh.new.self; memory = c.args.space.now.memory }) _ _
+    c.in_ok-probe.probe refl c.requires.space.workspace e.words e.made e.listed e.of e.extends e.keeps e.table in
+    let board = c.in_ok-board.ensures.goes.goes in
+    let later = width_later _ c.read_at.new.space.terms _ c.in_ok-probe.probe board.later has.wide in
+    record {
+      there = later.there;
+      width_is = later.width_is ∙ ap (λ b. b.address) c.parts.ensures.exact ∙ sym c.requires.space.address
+          ∙ sym board.reads.address;
+    }
+
+abbrev first_space : (c : goal.After-apart) → Space
+first_space c = record { terms = c.fresh.new.terms; words = c.fresh.new.self; memory = c.args.space.now.memory }
+
+probed : (c : goal.After-apart)
+    → HasProbe c.args.space.now (first_space c) c.parts.result.now.address c.in_ok-probe.probe
+probed c =
+    let e = c.in_ok-probe.ensures in
+    probe_made c.args.space.now (first_space c) c.parts.result.now.address _ c.in_ok-probe.probe refl
+    c.requires.space.workspace e.words e.made e.listed e.of e.extends e.keeps e.table
+
+board_read : (c : goal.After-apart)
+    → HasRead (first_space c) c.read_at.new.space sides.Board c.in_ok-probe.probe c.in_ok-board.board
+board_read c =
+    let e = c.in_ok-board.ensures in
+    record { goes = e.goes; there = e.wide.there; means = e.means; listed = e.listed }
+
+machine_read : (c : goal.After-apart)
+    → HasRead c.read_at.new.space c.read_at-2.new.space sides.Machine c.in_ok-probe.probe c.in_ok-machine.machine
+machine_read c =
+    let e = c.in_ok-machine.ensures in
+    record { goes = e.goes; there = e.wide.there; means = e.means; listed = e.listed }
+
+to_apart : (c : goal.After-apart) → GoesComparing c.args.space.now c.read_at-2.new.space
+to_apart c =
+    comparing_then c.args.space.now c.read_at.new.space c.read_at-2.new.space
+    (comparing_then c.args.space.now (first_space c) c.read_at.new.space (probed c).goes (board_read c).goes)
+    (machine_read c).goes
+
+leads : (c : goal.After-apart)
+    → Leads c.args.nodes c.args.space.now c.read_at-2.new.space (path_in c.args.paths.now) c.in_ok-board.board
+    c.in_ok-machine.machine (λ on. AreWritesOn c.args.space.now on)
+    (λ on so_far. with_memory (job_of c.args.job.now).relation.shape on so_far)
+leads c =
+    let job = job_of c.args.job.now in
+    let valid = c.shape-shape.ensures.valid in
+    memory_leads job.relation.shape c.args.nodes c.args.space.now (first_space c) c.read_at.new.space
+    c.read_at-2.new.space (path_in c.args.paths.now) c.parts.result.now.address c.in_ok-probe.probe c.in_ok-board.board
+    c.in_ok-machine.machine (board_address job valid ∙ sym (ap (λ b. b.address) c.parts.ensures.exact))
+    (machine_word job valid ∙ valid.matched.word ∙ sym c.requires.space.word) (probed c) (board_read c) (machine_read c)
+
+pub apart-requires-clause-paths : goal.apart-requires-clause-paths
+apart-requires-clause-paths c =
+    let e = c.in_ok-probe.ensures in
+    let s1 : Space = record { terms = c.fresh.new.terms; words = c.fresh.new.self; memory = c.args.space.now.memory } in
+    let has = probe_made c.args.space.now s1 _ _ c.in_ok-probe.probe refl c.requires.space.workspace e.words e.made e.listed
+    e.of e.extends e.keeps e.table in
+    comparing_paths c.read_at.new.space c.read_at-2.new.space c.args.paths.now c.in_ok-machine.ensures.goes
+    (comparing_paths s1 c.read_at.new.space c.args.paths.now c.in_ok-board.ensures.goes
+    (comparing_paths c.args.space.now s1 c.args.paths.now has.goes c.requires.paths))
+
+pub returns-clause-goes : goal.returns-clause-goes
+returns-clause-goes c =
+    on_ok_weaker c.apart.result (comparing_then c.args.space.now c.read_at-2.new.space c.apart.new.space (to_apart c))
+    c.apart.ensures.goes
+
+pub returns-clause-none : goal.returns-clause-none
+returns-clause-none c =
+    leads_none c.args.nodes c.args.space.now c.read_at-2.new.space c.apart.new.space (path_in c.args.paths.now)
+    c.in_ok-board.board c.in_ok-machine.machine (λ on. AreWritesOn c.args.space.now on)
+    (λ on so_far. with_memory (job_of c.args.job.now).relation.shape on so_far)
+    c.apart.result (to_apart c).goes.later.extends.map (leads c) c.apart.ensures.none
+
+pub returns-clause-found : goal.returns-clause-found
+returns-clause-found c =
+    leads_found c.args.nodes c.args.space.now c.read_at-2.new.space c.apart.new.space (path_in c.args.paths.now)
+    c.in_ok-board.board c.in_ok-machine.machine (λ on. AreWritesOn c.args.space.now on)
+    (λ on so_far. with_memory (job_of c.args.job.now).relation.shape on so_far)
+    c.apart.result (to_apart c).goes.later.extends.map (leads c) c.apart.ensures.found
+
+pub returns-clause-over : goal.returns-clause-over
+returns-clause-over c =
+    leads_over c.args.nodes c.args.space.now c.read_at-2.new.space c.apart.new.space (path_in c.args.paths.now)
+    c.in_ok-board.board c.in_ok-machine.machine (λ on. AreWritesOn c.args.space.now on)
+    (λ on so_far. with_memory (job_of c.args.job.now).relation.shape on so_far)
+    c.apart.result (to_apart c).goes.later.extends.map (leads c) c.apart.ensures.over
+
+pub returns-clause-same : goal.returns-clause-same
+returns-clause-same c =
+    one_at_probe c.args.space.now (first_space c) c.read_at.new.space c.read_at-2.new.space c.apart.new.space
+    (path_in c.args.paths.now) _ c.in_ok-probe.probe c.in_ok-board.board c.in_ok-machine.machine c.apart.result
+    (ap (λ b. b.address) c.parts.ensures.exact ∙ sym c.requires.space.address) (probed c) (board_read c) (machine_read c)
+    c.apart.ensures.goes c.apart.ensures.same
+
+pub returns-clause-apart : goal.returns-clause-apart
+returns-clause-apart c =
+    two_in_memory c.args.space.now (first_space c) c.read_at.new.space c.read_at-2.new.space c.apart.new.space
+    c.parts.result.now.address c.in_ok-probe.probe c.in_ok-board.board c.in_ok-machine.machine c.apart.result (probed c)
+    (board_read c) (machine_read c) c.apart.ensures.goes c.apart.ensures.apart

@@ -1,0 +1,252 @@
+use Rattle.std.proofs.Common.{◌≡◌, refl, true, false, ap, ap₂, arith, subst, sym, ◌∙◌}
+use Rattle.std.specs.Prelude.{All, IfSome, Some}
+use Rattle.std.proofs.lemmas.Result.{err_from_is_err_and}
+use Rattle.mw_dd.specs.Diagrams.{IsFirst}
+use Rattle.mw_term.specs.Assigned.{given_by}
+use Rattle.mw_rel.specs.Certified.{boundary_at}
+use Rattle.mw_rel.specs.Lines.{reads_of}
+use Rattle.mw_rel.specs.Rules.{IsLineOf}
+use Rattle.mw_rel.specs.Seen.{boundary_of, lines_of}
+use Rattle.mw_rel.specs.Views.{job_of}
+use Rattle.mw_fork.specs.Boundaries.{AreWide}
+use Rattle.mw_symmach.specs.Steps.{event_term}
+use Rattle.mw_symmem.specs.Memory.{IsOfWidth}
+use Rattle.mw_fork.specs.Comparing.{AreApart, AreEventsOf, AreOne, FailsFirst, HaveCompared, StopsComparing}
+use Rattle.mw_fork.specs.OnWay.{ground_in, path_in}
+use Rattle.mw_fork.specs.Ways.{met_of}
+use Rattle.mw_rel.specs.ComparisonWords.{are_alike}
+use Rattle.mw_fork.proofs.CaseCompared.{at_boundary, ended_met, lines_at, none_differs, nowhere_none}
+use Rattle.mw_fork.proofs.ComparedAll.{some_as}
+use Rattle.mw_fork.proofs.Differing.{wide_at_end}
+use Rattle.mw_fork.proofs.Numbered.{AreNumbered}
+use Rattle.mw_fork.proofs.Sides.{terms_at_end}
+use Rattle.mw_fork.proofs.SidesCompared.{OfAll, alike_at, alike_found, alike_stops, alike_within, same_ends, some_both, unlike_as, unlike_found, unlike_within}
+use Rattle.mw_fork.proofs.comparing.compare_sides.Goals as goal
+
+pub unreachable-requires : goal.unreachable-requires
+unreachable-requires c =
+    let job = job_of c.args.job.now in
+    let run = c.args.run.now in
+    let m = c.requires.met in
+    let valid = c.shape-shape.ensures.valid in
+    at_boundary job m.0 m.2 (met_of m.5) m.1 run.space (path_in run.paths) run.board c.args.step.now valid
+    (ended_met job m.0 m.2 m.3 m.1 m.4 m.5 run c.args.step.now valid m.6)
+    (ap (boundary_at job) (sym c.at.ensures) ∙ c.in_default.ensures.none refl)
+
+pub returns-then-alike-sp-clause-none : goal.returns-then-alike-sp-clause-none
+returns-then-alike-sp-clause-none c = λ none number cycles elements from late way met.
+    let run = c.args.run.now in
+    nowhere_none (job_of c.args.job.now) number elements (met_of way) run.space (path_in run.paths) c.shape-shape.ensures.valid
+    met.on.stands met.on.cases (c.in_ok-first.ensures.none none)
+
+pub returns-then-alike-sp-clause-within : goal.returns-then-alike-sp-clause-within
+returns-then-alike-sp-clause-within c = λ none number cycles elements from late way met.
+    let job = job_of c.args.job.now in
+    let run = c.args.run.now in
+    let step = c.args.step.now in
+    let valid = c.shape-shape.ensures.valid in
+    let reached = boundary_of c.in-Some.reached.now in
+    let there : boundary_at job run.board.place.at ≡ Some reached =
+    ap (boundary_at job) (sym c.at.ensures) ∙ c.in-Some.ensures.some in
+    let is = ended_met job number elements from cycles late way run step valid met in
+    let unlike = unlike_as job run.space run.board step reached c.alike.result c.sp.result true
+    (c.alike.ensures ∙ ap₂ are_alike c.events.ensures c.events-2.ensures) c.sp.ensures c.if-alike-sp.true in
+    unlike_within job number c.args.nodes elements (met_of way) cycles run.space (path_in run.paths) run.board step reached is
+    there unlike
+
+pub returns-then-alike-sp-clause-found : goal.returns-then-alike-sp-clause-found
+returns-then-alike-sp-clause-found c =
+    let job = job_of c.args.job.now in
+    let run = c.args.run.now in
+    let step = c.args.step.now in
+    let valid = c.shape-shape.ensures.valid in
+    let reached = boundary_of c.in-Some.reached.now in
+    let there : boundary_at job run.board.place.at ≡ Some reached =
+    ap (boundary_at job) (sym c.at.ensures) ∙ c.in-Some.ensures.some in
+    let lines = lines_at job run.board.place.at reached valid there in
+    let unlike = unlike_as job run.space run.board step reached c.alike.result c.sp.result true
+    (c.alike.ensures ∙ ap₂ are_alike c.events.ensures c.events-2.ensures) c.sp.ensures c.if-alike-sp.true in
+    some_as (IsFirst (path_in run.paths)) _ c.in_ok-first.field-0
+    (λ numbers first number cycles elements from late way met.
+    unlike_found job number elements (met_of way) cycles run.space (path_in run.paths) run.board step reached numbers valid
+    (ended_met job number elements from cycles late way run step valid met) lines.0 there unlike first)
+    c.in_ok-first.ensures.first
+
+pub compare_all-requires-clause-events : goal.compare_all-requires-clause-events
+compare_all-requires-clause-events c =
+    let job = job_of c.args.job.now in
+    let run = c.args.run.now in
+    let step = c.args.step.now in
+    let valid = c.shape-shape.ensures.valid in
+    let reached = boundary_of c.in-Some.reached.now in
+    let there : boundary_at job run.board.place.at ≡ Some reached =
+    ap (boundary_at job) (sym c.at.ensures) ∙ c.in-Some.ensures.some in
+    let here : lines_of c.as_slice.result.now ≡ reached.lines = ap lines_of c.as_slice.ensures in
+    let lines = lines_at job run.board.place.at reached valid there in
+    let m = c.requires.met in
+    let is = ended_met job m.0 m.2 m.3 m.1 m.4 m.5 run step valid m.6 in (
+      job.board.width,
+      subst (AreEventsOf run.space.terms job.board.width) (sym c.events-3.ensures)
+          is.ended.of_board.events,
+      subst (AreEventsOf run.space.terms job.board.width) (sym c.events-4.ensures)
+          (λ number e at. subst (λ w. IsOfWidth run.space.terms w (event_term e)) valid.matched.word
+          (is.ended.of_step.stands.event number e at)),
+    )
+
+pub compare_all-requires-clause-lines_of : goal.compare_all-requires-clause-lines_of
+compare_all-requires-clause-lines_of c =
+    let job = job_of c.args.job.now in
+    let run = c.args.run.now in
+    let step = c.args.step.now in
+    let valid = c.shape-shape.ensures.valid in
+    let reached = boundary_of c.in-Some.reached.now in
+    let there : boundary_at job run.board.place.at ≡ Some reached =
+    ap (boundary_at job) (sym c.at.ensures) ∙ c.in-Some.ensures.some in
+    let here : lines_of c.as_slice.result.now ≡ reached.lines = ap lines_of c.as_slice.ensures in
+    let lines = lines_at job run.board.place.at reached valid there in
+    subst (λ ls. All (IsLineOf job.relation.shape) ls) (sym here) lines.0
+
+pub compare_all-requires-clause-few : goal.compare_all-requires-clause-few
+compare_all-requires-clause-few c =
+    let job = job_of c.args.job.now in
+    let run = c.args.run.now in
+    let step = c.args.step.now in
+    let valid = c.shape-shape.ensures.valid in
+    let reached = boundary_of c.in-Some.reached.now in
+    let there : boundary_at job run.board.place.at ≡ Some reached =
+    ap (boundary_at job) (sym c.at.ensures) ∙ c.in-Some.ensures.some in
+    let here : lines_of c.as_slice.result.now ≡ reached.lines = ap lines_of c.as_slice.ensures in
+    let lines = lines_at job run.board.place.at reached valid there in
+    let same : reads_of (lines_of c.as_slice.result.now) ≡ reads_of reached.lines = ap reads_of here in
+    omega (arith, same, lines.1, c.requires.few)
+
+pub compare_all-requires-clause-wide : goal.compare_all-requires-clause-wide
+compare_all-requires-clause-wide c =
+    let job = job_of c.args.job.now in
+    let run = c.args.run.now in
+    let step = c.args.step.now in
+    let valid = c.shape-shape.ensures.valid in
+    let reached = boundary_of c.in-Some.reached.now in
+    let there : boundary_at job run.board.place.at ≡ Some reached =
+    ap (boundary_at job) (sym c.at.ensures) ∙ c.in-Some.ensures.some in
+    let here : lines_of c.as_slice.result.now ≡ reached.lines = ap lines_of c.as_slice.ensures in
+    let lines = lines_at job run.board.place.at reached valid there in
+    let m = c.requires.met in
+    let is = ended_met job m.0 m.2 m.3 m.1 m.4 m.5 run step valid m.6 in
+    subst (AreWide run.space.terms job.relation.shape.widths) (sym (c.deref.ensures.value ∙ c.in_ok-elements.ensures))
+    (wide_at_end job m.0 (ground_in run.space m.2) (met_of m.5) m.1 run.space (path_in run.paths) run.board step valid
+    is.ended)
+
+pub returns-clause-none : goal.returns-clause-none
+returns-clause-none c = λ none number cycles elements from late way met.
+    let job = job_of c.args.job.now in
+    let run = c.args.run.now in
+    let step = c.args.step.now in
+    let valid = c.shape-shape.ensures.valid in
+    let reached = boundary_of c.in-Some.reached.now in
+    let there : boundary_at job run.board.place.at ≡ Some reached =
+    ap (boundary_at job) (sym c.at.ensures) ∙ c.in-Some.ensures.some in
+    let lines = lines_at job run.board.place.at reached valid there in
+    let here : lines_of c.as_slice.result.now ≡ reached.lines = ap lines_of c.as_slice.ensures in
+    let terms = c.deref.ensures.value ∙ c.in_ok-elements.ensures in
+    let old = run.space in
+    let new = c.compare_all.new.space in
+    let path = path_in run.paths in
+    let nodes = c.args.nodes in
+    let unlike = unlike_as job run.space run.board step reached c.alike.result c.sp.result false
+    (c.alike.ensures ∙ ap₂ are_alike c.events.ensures c.events-2.ensures) c.sp.ensures c.if-alike-sp.false in
+    let e = c.in_ok-found.ensures in
+    let alike = alike_at job old run.board step reached unlike in
+    none_differs job number elements (met_of way) cycles old new path run.board step reached valid
+    (ended_met job number elements from cycles late way run step valid met) e.goes e.own lines.0 there alike.0 alike.1
+    (same_ends (λ t ls b m. AreOne job.relation.shape new path t ls b m) _ _ _ _ _ _ _ _ terms here c.events-3.ensures
+    c.events-4.ensures (e.same none))
+
+pub returns-clause-within : goal.returns-clause-within
+returns-clause-within c = λ none number cycles elements from late way met.
+    let job = job_of c.args.job.now in
+    let run = c.args.run.now in
+    let step = c.args.step.now in
+    let valid = c.shape-shape.ensures.valid in
+    let reached = boundary_of c.in-Some.reached.now in
+    let there : boundary_at job run.board.place.at ≡ Some reached =
+    ap (boundary_at job) (sym c.at.ensures) ∙ c.in-Some.ensures.some in
+    let here : lines_of c.as_slice.result.now ≡ reached.lines = ap lines_of c.as_slice.ensures in
+    let terms = c.deref.ensures.value ∙ c.in_ok-elements.ensures in
+    let old = run.space in
+    let new = c.compare_all.new.space in
+    let path = path_in run.paths in
+    let nodes = c.args.nodes in
+    let unlike = unlike_as job run.space run.board step reached c.alike.result c.sp.result false
+    (c.alike.ensures ∙ ap₂ are_alike c.events.ensures c.events-2.ensures) c.sp.ensures c.if-alike-sp.false in
+    let e = c.in_ok-found.ensures in
+    alike_within job number nodes elements (met_of way) cycles old new path run.board step reached
+    (ended_met job number elements from cycles late way run step valid met) there unlike
+    (same_ends (OfAll job nodes old path (HaveCompared old.terms.map nodes new path)) _ _ _ _ _ _ _ _ terms here
+    c.events-3.ensures c.events-4.ensures (e.none none))
+
+pub returns-clause-found : goal.returns-clause-found
+returns-clause-found c =
+    let job = job_of c.args.job.now in
+    let run = c.args.run.now in
+    let step = c.args.step.now in
+    let valid = c.shape-shape.ensures.valid in
+    let reached = boundary_of c.in-Some.reached.now in
+    let there : boundary_at job run.board.place.at ≡ Some reached =
+    ap (boundary_at job) (sym c.at.ensures) ∙ c.in-Some.ensures.some in
+    let lines = lines_at job run.board.place.at reached valid there in
+    let here : lines_of c.as_slice.result.now ≡ reached.lines = ap lines_of c.as_slice.ensures in
+    let terms = c.deref.ensures.value ∙ c.in_ok-elements.ensures in
+    let old = run.space in
+    let new = c.compare_all.new.space in
+    let path = path_in run.paths in
+    let nodes = c.args.nodes in
+    let unlike = unlike_as job run.space run.board step reached c.alike.result c.sp.result false
+    (c.alike.ensures ∙ ap₂ are_alike c.events.ensures c.events-2.ensures) c.sp.ensures c.if-alike-sp.false in
+    let e = c.in_ok-found.ensures in
+    let found = c.in_ok-found.found in
+    let fails = same_ends
+    (λ t ls b m.
+    IfSome found (λ numbers. OfAll job nodes old path (λ all. FailsFirst old.terms.map new path all numbers) t ls b m))
+    _ _ _ _ _ _ _ _ terms here c.events-3.ensures c.events-4.ensures e.found in
+    let two = same_ends (λ t ls b m. IfSome found (λ numbers. AreApart job.relation.shape new (given_by numbers) t ls b m))
+    _ _ _ _ _ _ _ _ terms here c.events-3.ensures c.events-4.ensures e.apart in
+    some_both (λ numbers. OfAll job nodes old path (λ all. FailsFirst old.terms.map new path all numbers)
+    (terms_at_end job run.board step) reached.lines run.board.events step.parts.events)
+    (λ numbers. AreApart job.relation.shape new (given_by numbers) (terms_at_end job run.board step) reached.lines
+    run.board.events step.parts.events) _ found
+    (λ numbers fail apart number cycles elements from late way met.
+    alike_found job number nodes elements (met_of way) cycles old new path run.board step reached numbers valid
+    (ended_met job number elements from cycles late way run step valid met) e.goes e.own lines.0 there unlike fail apart)
+    fails two
+
+pub returns-in_err-found-clause-over : goal.returns-in_err-found-clause-over
+returns-in_err-found-clause-over c =
+    let job = job_of c.args.job.now in
+    let run = c.args.run.now in
+    let step = c.args.step.now in
+    let valid = c.shape-shape.ensures.valid in
+    let reached = boundary_of c.in-Some.reached.now in
+    let there : boundary_at job run.board.place.at ≡ Some reached =
+    ap (boundary_at job) (sym c.at.ensures) ∙ c.in-Some.ensures.some in
+    let here : lines_of c.as_slice.result.now ≡ reached.lines = ap lines_of c.as_slice.ensures in
+    let terms = c.deref.ensures.value ∙ c.in_ok-elements.ensures in
+    let old = run.space in
+    let new = c.compare_all.new.space in
+    let path = path_in run.paths in
+    let nodes = c.args.nodes in
+    let unlike = unlike_as job run.space run.board step reached c.alike.result c.sp.result false
+    (c.alike.ensures ∙ ap₂ are_alike c.events.ensures c.events-2.ensures) c.sp.ensures c.if-alike-sp.false in
+    let laws : AreNumbered = record {
+      starts = c.words_of_cases_are_numbered.ensures.starts;
+      cycles = c.words_of_cycles_are_numbered.ensures;
+      steps = c.words_are_numbered.ensures.steps;
+      comparisons = c.words_of_cases_are_numbered.ensures.comparisons;
+    } in
+    let p = err_from_is_err_and c.from_residual-in_err-found.result c.from_residual-in_err-found.ensures.1 in
+    rw (p.1, p.2) (λ number cycles elements from late way met.
+    alike_stops job number nodes elements (met_of way) cycles old new path run.board step reached c.in_err-found.field-0.0
+    c.over_have_numbers.ensures.over laws (ended_met job number elements from cycles late way run step valid met) there unlike
+    (λ word j over.
+    same_ends (OfAll job nodes old path (λ all. StopsComparing old.terms.map nodes new path all word j)) _ _ _ _ _ _ _ _ terms
+    here c.events-3.ensures c.events-4.ensures (c.in_err-found.ensures.over word j over)))

@@ -1,0 +1,54 @@
+use Rattle.mw_dd.specs.Diagrams.{IsFirst}
+use Rattle.mw_rel.specs.Views.{job_of}
+use Rattle.mw_fork.specs.Failing.{ComparisonStops, ComparisonsAreWithin, IsFound, NoneDiffersOf}
+use Rattle.mw_fork.specs.OnWay.{path_in}
+use Rattle.mw_fork.specs.Ways.{met_of}
+use Rattle.mw_fork.proofs.ComparedAll.{some_as}
+use Rattle.mw_fork.proofs.LateCompared.{found_so, late_found, late_none, none_so, stops_so}
+use Rattle.mw_fork.proofs.comparing.first_failing.Goals as goal
+
+pub returns-in_ok-first-in-None-clause-none : goal.returns-in_ok-first-in-None-clause-none
+returns-in_ok-first-in-None-clause-none c = λ none number elements from way met.
+    let traced = c.args.traced.now in
+    late_none (job_of c.args.job.now) number elements from traced.cycles traced.late way traced.run traced.step
+    c.shape-shape.ensures.valid met (c.in_ok-first-in-None.ensures.none none)
+
+pub returns-in_ok-first-in-None-clause-found : goal.returns-in_ok-first-in-None-clause-found
+returns-in_ok-first-in-None-clause-found c =
+    let traced = c.args.traced.now in
+    some_as (IsFirst (path_in traced.run.paths)) _ c.in_ok-first-in-None.field-0
+    (λ numbers first number elements from way met.
+    late_found (job_of c.args.job.now) number elements from traced.cycles traced.late way traced.run traced.step numbers
+    c.shape-shape.ensures.valid c.in-None.is met first) c.in_ok-first-in-None.ensures.first
+
+pub returns-in-Some-clause-none : goal.returns-in-Some-clause-none
+returns-in-Some-clause-none c =
+    let traced = c.args.traced.now in
+    let job = job_of c.args.job.now in
+    none_so job traced.cycles traced.late traced.run traced.step c.in-Some.step
+    (λ number elements way. NoneDiffersOf job number (met_of way)) c.compare_sides.result c.in-Some.is
+    c.compare_sides.ensures.none
+
+pub returns-in-Some-clause-within : goal.returns-in-Some-clause-within
+returns-in-Some-clause-within c =
+    let traced = c.args.traced.now in
+    let job = job_of c.args.job.now in
+    none_so job traced.cycles traced.late traced.run traced.step c.in-Some.step
+    (λ number elements way. ComparisonsAreWithin job number c.args.nodes (met_of way)) c.compare_sides.result c.in-Some.is
+    c.compare_sides.ensures.within
+
+pub returns-in-Some-clause-found : goal.returns-in-Some-clause-found
+returns-in-Some-clause-found c =
+    let traced = c.args.traced.now in
+    let job = job_of c.args.job.now in
+    found_so job traced.cycles traced.late traced.run traced.step c.in-Some.step
+    (λ numbers number elements way. IsFound job number elements (met_of way) c.compare_sides.new.run.space numbers)
+    c.compare_sides.result c.in-Some.is c.compare_sides.ensures.found
+
+pub returns-in-Some-clause-over : goal.returns-in-Some-clause-over
+returns-in-Some-clause-over c =
+    let traced = c.args.traced.now in
+    let job = job_of c.args.job.now in
+    stops_so job traced.cycles traced.late traced.run traced.step c.in-Some.step
+    (λ stop number elements way. ComparisonStops job number c.args.nodes (met_of way) stop) c.compare_sides.result
+    c.in-Some.is c.compare_sides.ensures.over

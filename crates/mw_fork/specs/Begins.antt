@@ -1,0 +1,75 @@
+-- The start that an assignment gives, and starts that differ.
+use Rattle.std.specs.Prelude.{◌≡◌, ◌≢◌, ℕ, ◌<◌, ◌-◌, List, length, map, false, Option, Some, None, slice_index, slice_index_or}
+use Rattle.mw_base.specs.Words.{num}
+use Rattle.mw_cycle.specs.declared.decided.Decided.{Decided}
+use Rattle.mw_cycle.specs.Environment.{Environment}
+use Rattle.mw_rel.specs.Begin.{Begin, IsCompleted, free_elements}
+use Rattle.mw_rel.specs.Case.{IsStartAt, case_of}
+use Rattle.mw_rel.specs.Differs.{difference_of}
+use Rattle.mw_rel.specs.Free.{numbered}
+use Rattle.mw_rel.specs.Job.{Job}
+use Rattle.mw_rel.specs.Sought.{IsSought}
+use Rattle.mw_rel.specs.Start.{Start}
+use Rattle.mw_term.specs.declared.kinds.WordKind.{WordKind}
+use Rattle.mw_term.specs.declared.kinds.WordKind.TheVariants.{Element, Input, Line, Noise}
+use Rattle.mw_term.specs.Assigned.{Given, Numbers, given_by}
+use Rattle.mw_term.specs.Functions.{Function}
+use Rattle.mw_term.specs.Table.{Table}
+use Rattle.mw_term.specs.Values.{term_value}
+use Rattle.mw_term.specs.WordList.{WordList, table_in, term_of}
+use Rattle.mw_dd.specs.Diagrams.{IsFirst}
+use Rattle.mw_symmem.specs.Memory.{base_word}
+
+-- what a term has under an assignment; 0 where there is none
+abbrev pub value_or_zero : Table → Given → Option ℕ → ℕ
+value_or_zero t given (Some term) = term_value t given term
+value_or_zero t given None = 0
+
+-- what a list's variable of a kind has under an assignment
+abbrev pub kind_value : Table → WordList → Given → WordKind → ℕ
+kind_value t l given kind = value_or_zero t given (term_of l.words kind)
+
+-- a list's last entry isn't 0
+abbrev pub HasNoZeroAtEnd : List ℕ → Type 0
+HasNoZeroAtEnd xs = 0 < length xs → slice_index xs (length xs - 1) ≢ 0
+
+-- no list of an environment has a 0 at its end
+pub record IsTrimmed (env : Environment) : Type 0 where
+  pub line : HasNoZeroAtEnd (map num env.line)
+  pub noise : HasNoZeroAtEnd env.noise
+  pub inputs : HasNoZeroAtEnd env.inputs
+
+-- What an assignment gives by a list: the free elements, lines, noise and inputs have the values of their variables, and
+-- the memory that of the oldest base read at an address, and 0 elsewhere.
+pub record IsAssigned (job : Job) (number : ℕ) (l : WordList) (given : Given) (begin : Begin) : Type 0 where
+  pub values : begin.values
+      ≡ map (λ e. kind_value (table_in job.board.map_entries l) l given (Element e)) (free_elements job (numbered job number))
+  pub memory : (address : ℕ)
+      → slice_index begin.memory address ≡ base_word (table_in job.board.map_entries l) given l.reads address
+  pub line : (n : ℕ)
+      → num (slice_index_or begin.env.line n false) ≡ kind_value (table_in job.board.map_entries l) l given (Line n)
+  pub noise : (n : ℕ) → slice_index begin.env.noise n ≡ kind_value (table_in job.board.map_entries l) l given (Noise n)
+  pub inputs : (n : ℕ) → slice_index begin.env.inputs n ≡ kind_value (table_in job.board.map_entries l) l given (Input n)
+  pub trimmed : IsTrimmed begin.env
+
+-- a start of the boundary that a choice gives
+pub record IsChosen (job : Job) (number : ℕ) (begin : Begin) (start : Start) : Type 0 where
+  pub starts : IsStartAt job number start
+  pub pair : IsCompleted job (numbered job number) begin start.pair
+  pub env : start.env ≡ begin.env
+
+-- It gives a start with this case, which differs.
+pub record IsDiffering (job : Job) (number : ℕ) (bits : List Decided) (begin : Begin) : Type 0 where
+  pub start : Start
+  pub chosen : IsChosen job number begin start
+  pub of_case : case_of job start ≡ bits
+  pub differs : difference_of job start ≢ None
+
+-- It is what the first assignment gives among those that are sought.
+pub record IsLeast (job : Job) (number : ℕ) (bits : List Decided) (begin : Begin) : Type 0 where
+  pub sought : Function
+  pub list : WordList
+  pub among : IsSought job number bits sought list
+  pub numbers : Numbers
+  pub first : IsFirst sought numbers
+  pub assigned : IsAssigned job number list (given_by numbers) begin

@@ -1,0 +1,199 @@
+// The start that an assignment gives.
+ghost use Rattle.std.specs.Prelude.{◌≡◌, ◌≢◌, ℕ, ◌<◌, ◌^◌, ◌==◌, if◌then◌else◌, List, [], ◌∷◌, ◌++◌, filter, length, map, true, Some, IfOk, OnOk, slice_index_or};
+ghost use Rattle.mw_term.specs.declared.kinds.WordKind.{WordKind};
+ghost use Rattle.mw_term.specs.declared.kinds.WordKind.TheVariants.{Element, Line, Noise};
+ghost use Rattle.mw_term.specs.Assigned.{given_by};
+ghost use Rattle.mw_term.specs.Values.{term_value};
+ghost use Rattle.mw_term.specs.WordList.{is_of, term_of};
+ghost use Rattle.mw_symmem.specs.Memory.{IsOfWidth};
+ghost use Rattle.mw_symmem.specs.Words.{AreOf};
+ghost use Rattle.mw_rel.specs.Begin.{free_elements};
+ghost use Rattle.mw_rel.specs.Free.{is_free, numbered};
+ghost use Rattle.mw_rel.specs.Job.{Job as JobParts};
+ghost use Rattle.mw_rel.specs.Start.{Start};
+ghost use Rattle.mw_rel.specs.Views.{job_of};
+ghost use Rattle.mw_fork.specs.Begins.{IsAssigned, IsChosen, IsTrimmed, value_or_zero};
+ghost use Rattle.mw_fork.specs.Entries.{EndsWell, HasTaken, entry, is_outside};
+ghost use Rattle.mw_fork.specs.Listed.{list_of_space};
+ghost use Rattle.mw_fork.specs.OnWay.{ground_in};
+ghost use Rattle.mw_fork.specs.Starts.{IsGround, IsStartOf};
+
+use crate::elements::Space;
+use mw_base::NoMemory;
+use mw_cycle::Env;
+use mw_rel::{Begin, Job, free};
+use mw_term::{Assignment, Term, Word, WordKind};
+use std::alloc::Global;
+
+/// The value of the variable of a kind; 0 where there is none.
+fn kind_value(
+    alloc: Global,
+    space: &Space,
+    kind: WordKind,
+    given: &Assignment,
+) -> Result<u32, NoMemory>
+    requires { AreOf space.now.terms space.now.words }
+    ensures { IfOk result (λ value. value
+        ≡ value_or_zero space.now.terms (given_by given.now) (term_of space.now.words kind)) }
+{
+    match space.words.find(kind) {
+        Some(term) => space.terms.value(alloc, term, given),
+        None => Ok(0),
+    }
+}
+
+/// The value of an element, where it is free.
+fn push_free(
+    alloc: Global,
+    job: &Job,
+    boundary: usize,
+    space: &Space,
+    given: &Assignment,
+    number: usize,
+    values: &mut Vec<u32>,
+) -> Result<(), NoMemory>
+    requires there { boundary < length (job_of job.now).relation.boundaries }
+    requires few { number < 170 }
+    requires of { AreOf space.now.terms space.now.words }
+    ensures { OnOk result (values.new.items ≡ values.old.items ++ map
+        (λ e. value_or_zero space.now.terms (given_by given.now) (term_of space.now.words (Element e)))
+        (filter (is_free (numbered (job_of job.now) boundary)) (number ∷ []))) }
+{
+    let element = number as u32;
+    if !free(job, boundary, element) {
+        return Ok(());
+    }
+    let value = kind_value(alloc, space, WordKind::Element(element), given)?;
+    values.push(value)?;
+    Ok(())
+}
+
+/// The values of the free elements, in the order of their numbers.
+fn free_values(
+    alloc: Global,
+    job: &Job,
+    boundary: usize,
+    space: &Space,
+    given: &Assignment,
+) -> Result<Vec<u32>, NoMemory>
+    requires there { boundary < length (job_of job.now).relation.boundaries }
+    requires of { AreOf space.now.terms space.now.words }
+    ensures { IfOk result (λ values. values.items ≡ map
+        (λ e. value_or_zero space.now.terms (given_by given.now) (term_of space.now.words (Element e)))
+        (free_elements (job_of job.now) (numbered (job_of job.now) boundary))) }
+{
+    let mut values = Vec::new(alloc);
+    for number in 0..job.element_count() {
+        push_free(alloc, job, boundary, space, given, number, &mut values)?;
+    }
+    Ok(values)
+}
+
+/// The entry of a number gets a value. It is appended with those before it where it isn't there yet; `other` is what entries
+/// have which aren't there.
+fn place<T: Copy>(items: &mut Vec<T>, number: u32, other: T, value: T) -> Result<(), NoMemory>
+    ensures entries { OnOk result ((n : ℕ) → slice_index_or items.new.items n other
+        ≡ (if number == n then value else slice_index_or items.old.items n other)) }
+    ensures end { OnOk result (value ≢ other → EndsWell other items.old.items → EndsWell other items.new.items) }
+{
+    let at = number as usize;
+    while items.len() <= at {
+        items.push(other)?;
+    }
+    items[at] = value;
+    Ok(())
+}
+
+/// The environment takes the value of a variable of a line, of noise or of an input. A 0 is left out.
+fn take(env: &mut Env, kind: WordKind, value: u32) -> Result<(), NoMemory>
+    requires fresh { entry env.old kind ≡ 0 }
+    requires line { (n : ℕ) → kind ≡ Line n → value < 2 }
+    requires noise { (n : ℕ) → kind ≡ Noise n → value < 2 ^ 14 }
+    ensures took { OnOk result (HasTaken env.old env.new kind value) }
+    ensures trimmed { OnOk result (IsTrimmed env.old → IsTrimmed env.new) }
+{
+    if value == 0 {
+        return Ok(());
+    }
+    match kind {
+        WordKind::Line(number) => place(&mut env.line, number, false, true),
+        WordKind::Noise(number) => place(&mut env.noise, number, 0, value as u16),
+        WordKind::Input(number) => place(&mut env.inputs, number, 0, value),
+        _ => Ok(()),
+    }
+}
+
+/// The environment takes the value of a word, where that is a variable.
+fn take_word(
+    alloc: Global,
+    space: &Space,
+    word: Word,
+    given: &Assignment,
+    env: &mut Env,
+) -> Result<(), NoMemory>
+    requires there { word.term < length space.now.terms.ops }
+    requires fresh { (kind : WordKind) → word.kind ≡ Some kind → entry env.old kind ≡ 0 }
+    requires line { (n : ℕ) → word.kind ≡ Some (Line n) → IsOfWidth space.now.terms 1 word.term }
+    requires noise { (n : ℕ) → word.kind ≡ Some (Noise n) → IsOfWidth space.now.terms 14 word.term }
+    ensures took { OnOk result ((other : WordKind) → is_outside other ≡ true → entry env.new other
+        ≡ (if is_of word.kind other then term_value space.now.terms (given_by given.now) word.term else entry env.old other)) }
+    ensures trimmed { OnOk result (IsTrimmed env.old → IsTrimmed env.new) }
+{
+    match word.kind {
+        Some(kind) => {
+            let value = space.terms.value(alloc, word.term, given)?;
+            take(env, kind, value)
+        }
+        None => Ok(()),
+    }
+}
+
+/// The environment with the values of all variables.
+fn environment(alloc: Global, space: &Space, given: &Assignment) -> Result<Env, NoMemory>
+    requires { (job : JobParts) × (number : ℕ) × (elements : List ℕ) × IsGround job number (ground_in space.now elements) }
+    ensures entries { IfOk result (λ env. (kind : WordKind) → is_outside kind ≡ true → entry env kind
+        ≡ value_or_zero space.now.terms (given_by given.now) (term_of space.now.words kind)) }
+    ensures trimmed { IfOk result (λ env. IsTrimmed env) }
+{
+    let mut env = Env {
+        line: Vec::new(alloc),
+        noise: Vec::new(alloc),
+        inputs: Vec::new(alloc),
+    };
+    for word in space.words.as_slice() {
+        take_word(alloc, space, *word, given, &mut env)?;
+    }
+    Ok(env)
+}
+
+/// What an assignment gives at a boundary: the values of the free elements' variables, an image that the base reads fit, and
+/// the environment with the values of its variables.
+///
+/// # Errors
+///
+/// Memory ran out.
+pub(crate) fn begin_of(
+    alloc: Global,
+    job: &Job,
+    boundary: usize,
+    space: &Space,
+    given: &Assignment,
+) -> Result<Begin, NoMemory>
+    requires stands { (elements : List ℕ) × IsGround (job_of job.now) boundary (ground_in space.now elements) }
+    ensures assigned { IfOk result (λ begin.
+        IsAssigned (job_of job.now) boundary (list_of_space space.now) (given_by given.now) begin) }
+    ensures start { IfOk result (λ begin. (elements : List ℕ) → IsGround (job_of job.now) boundary (ground_in space.now elements)
+        → (start : Start) × IsChosen (job_of job.now) boundary begin start
+        × IsStartOf (job_of job.now) boundary (ground_in space.now elements) (given_by given.now) start) }
+{
+    // A call for the proof: what holds of every job.
+    let _shape = job.shape();
+    let values = free_values(alloc, job, boundary, space, given)?;
+    let memory = space.memory.image_of(alloc, &space.terms, given)?;
+    let env = environment(alloc, space, given)?;
+    Ok(Begin {
+        values,
+        memory,
+        env,
+    })
+}

@@ -1,0 +1,525 @@
+// The comparison of both sides of a case, on terms.
+ghost use Rattle.std.specs.Prelude.{◌≡◌, ◌↔◌, ◌<◌, ◌≤◌, ◌+◌, ◌^◌, ◌==◌, Bool, ℕ, List, All, IfErr, IfOk, IfSome, None, OnOk, Some, find, length, slice_get, take, true};
+ghost use Rattle.mw_macro.specs.Counts.{reads};
+ghost use Rattle.mw_rel.specs.Certified.{boundary_at};
+ghost use Rattle.mw_rel.specs.ComparisonWords.{Compared, Sides, Subject, are_alike, with_comparison, with_events, with_line};
+ghost use Rattle.mw_rel.specs.ComparisonWords.{with_lines, with_memory};
+ghost use Rattle.mw_rel.specs.Lines as rel_line;
+ghost use Rattle.mw_rel.specs.Lines.{reads_of};
+ghost use Rattle.mw_rel.specs.Rules.{IsLineOf};
+ghost use Rattle.mw_rel.specs.Seen.{boundaries_of, boundary_of, line_of, lines_of};
+ghost use Rattle.mw_rel.specs.Views.{job_of};
+ghost use Rattle.mw_term.specs.Assigned.{Given, given_by};
+ghost use Rattle.mw_term.specs.Cofactors.{Agree};
+ghost use Rattle.mw_term.specs.declared.event.SymEvent.TheVariants.{Out};
+ghost use Rattle.mw_term.specs.declared.kinds.WordKind.TheVariants.{Probe};
+ghost use Rattle.mw_term.specs.WordList.{ended, memory_read_words, term_of};
+ghost use Rattle.mw_symmem.specs.Memory.{IsOfWidth, IsRead, writes_of};
+ghost use Rattle.mw_symmem.specs.Workspace.{IsWorkspace};
+ghost use Rattle.mw_fork.specs.declared.stop.Stop.TheVariants as stops;
+ghost use Rattle.mw_fork.specs.declared.way.Kept.{Kept};
+ghost use Rattle.mw_fork.specs.Boundaries.{AreWide, IsSpace};
+ghost use Rattle.mw_fork.specs.Comparing.{AreApart, AreEventsOf, AreOne, AreOneAtProbe, AreOneOn, ArePutOut, AreSidesOn, AreTwoAt, AreTwoInMemory};
+ghost use Rattle.mw_fork.specs.Comparing.{AreWritesOn, FailsAt, FailsFirst, GoesComparing, HaveCompared, HoldsAt, StopsComparing};
+ghost use Rattle.mw_fork.specs.Comparing.{compared_all};
+ghost use Rattle.mw_rel.specs.CaseWords.{terms_with};
+ghost use Rattle.mw_symboard.specs.Parts.{AreParts};
+ghost use Rattle.mw_symmem.specs.Words.{HaveOwnKinds};
+ghost use Rattle.mw_term.specs.Table.{Table};
+ghost use Rattle.mw_fork.specs.Listed.{list_of_space};
+ghost use Rattle.mw_fork.specs.Failing.{ComparisonStops, ComparisonsAreWithin, IsFound, NoneDiffersOf};
+ghost use Rattle.mw_fork.specs.OnWay.{HasMetCase, HavePaths, path_in};
+ghost use Rattle.mw_fork.specs.Ways.{Way, met_of};
+
+use crate::decide::stop_of;
+use crate::elements::Space;
+use crate::fork::Traced;
+use crate::paths::Paths;
+use crate::run::Run;
+use crate::stop::Stop;
+use mw_base::NoMemory;
+use mw_blast::over_have_numbers;
+use mw_macro::words_are_numbered;
+use mw_rel::{Boundary, Job, Line, words_of_cases_are_numbered};
+use mw_symboard::{SymBoard, words_of_cycles_are_numbered};
+use mw_symmach::{SymMach, expr_term};
+use mw_symmem::{Side, SymEvent};
+use mw_term::{Assignment, Op, Term, WordKind};
+use std::alloc::Global;
+
+/// The word that an event puts out, if it is none that was taken.
+fn out_of(event: SymEvent) -> Option<Term>
+    ensures { (term : ℕ) → (result ≡ Some term) ↔ (event ≡ Out term) }
+{
+    match event {
+        SymEvent::Out(term) => Some(term),
+        SymEvent::Taken(_) => None,
+    }
+}
+
+/// Whether both sides have equally many events, of the same kinds.
+fn alike(board: &[SymEvent], machine: &[SymEvent]) -> bool
+    ensures { result ≡ are_alike board.now machine.now }
+{
+    if board.len() != machine.len() {
+        return false;
+    }
+    for number in 0..board.len() {
+        if out_of(board[number]).is_some() != out_of(machine[number]).is_some() {
+            return false;
+        }
+    }
+    true
+}
+
+/// The first assignment on the path under which two terms have two values, if there is one.
+fn apart(
+    alloc: Global,
+    space: &mut Space,
+    paths: &mut Paths,
+    a: Term,
+    b: Term,
+    nodes: u32,
+) -> Result<Option<Assignment>, Stop>
+    requires wide { (width : ℕ) × IsOfWidth space.old.terms width a × IsOfWidth space.old.terms width b }
+    requires workspace { IsWorkspace space.old.terms space.old.words space.old.memory }
+    requires paths { HavePaths space.old paths.old }
+    ensures goes { OnOk result (GoesComparing space.old space.new) }
+    ensures memory { space.new.memory ≡ space.old.memory }
+    ensures probe { OnOk result (term_of space.new.words Probe ≡ term_of space.old.words Probe) }
+    ensures paths { OnOk result (HavePaths space.new paths.new) }
+    ensures path { Agree (path_in paths.new) (path_in paths.old) }
+    ensures none { IfOk result (λ o. o ≡ None → (subject : Subject) (so_far : Compared)
+        → HaveCompared space.old.terms.map nodes space.old (path_in paths.old) so_far
+        → HaveCompared space.old.terms.map nodes space.new (path_in paths.old) (with_comparison subject a b so_far)) }
+    ensures found { IfOk result (λ o. IfSome o (λ numbers. (subject : Subject) (so_far : Compared)
+        → HaveCompared space.old.terms.map nodes space.old (path_in paths.old) so_far
+        → FailsFirst space.old.terms.map space.new (path_in paths.old) (with_comparison subject a b so_far) numbers)) }
+    ensures over { IfErr result (λ stop. (word j : ℕ) → stop ≡ stops.Over word j → (subject : Subject) (so_far : Compared)
+        → HaveCompared space.old.terms.map nodes space.old (path_in paths.old) so_far
+        → StopsComparing space.old.terms.map nodes space.new (path_in paths.old) (with_comparison subject a b so_far) word j) }
+    ensures same { IfOk result (λ o. o ≡ None → AreOneOn space.new.terms (path_in paths.old) a b) }
+    ensures apart { IfOk result (λ o. IfSome o (λ numbers. AreTwoAt space.new.terms (given_by numbers) a b)) }
+{
+    let same = space.words.add(alloc, &mut space.terms, Op::Eq(a, b))?;
+    match paths.failing(alloc, &space.terms, same, nodes) {
+        Ok(found) => Ok(found),
+        Err(fault) => Err(stop_of(&space.words, fault)),
+    }
+}
+
+/// Compares the words that both sides put out, pair by pair.
+fn compare_events(
+    alloc: Global,
+    space: &mut Space,
+    paths: &mut Paths,
+    board: &[SymEvent],
+    machine: &[SymEvent],
+    nodes: u32,
+) -> Result<Option<Assignment>, Stop>
+    requires alike { are_alike board.now machine.now ≡ true }
+    requires wide { (word : ℕ) × AreEventsOf space.old.terms word board.now × AreEventsOf space.old.terms word machine.now }
+    requires workspace { IsWorkspace space.old.terms space.old.words space.old.memory }
+    requires paths { HavePaths space.old paths.old }
+    ensures goes { OnOk result (GoesComparing space.old space.new) }
+    ensures paths { OnOk result (HavePaths space.new paths.new) }
+    ensures path { Agree (path_in paths.new) (path_in paths.old) }
+    ensures memory { OnOk result (space.new.memory ≡ space.old.memory) }
+    ensures probe { OnOk result (term_of space.new.words Probe ≡ term_of space.old.words Probe) }
+    ensures none { IfOk result (λ o. o ≡ None → (so_far : Compared)
+        → HaveCompared space.old.terms.map nodes space.old (path_in paths.old) so_far
+        → HaveCompared space.old.terms.map nodes space.new (path_in paths.old) (with_events 0 board.now machine.now so_far)) }
+    ensures found { IfOk result (λ o. IfSome o (λ numbers. (so_far : Compared)
+        → HaveCompared space.old.terms.map nodes space.old (path_in paths.old) so_far
+        → FailsFirst space.old.terms.map space.new (path_in paths.old) (with_events 0 board.now machine.now so_far) numbers)) }
+    ensures over { IfErr result (λ stop. (word j : ℕ) → stop ≡ stops.Over word j → (so_far : Compared)
+        → HaveCompared space.old.terms.map nodes space.old (path_in paths.old) so_far
+        → StopsComparing space.old.terms.map nodes space.new (path_in paths.old) (with_events 0 board.now machine.now so_far) word j) }
+    ensures same { IfOk result (λ o. o ≡ None → (number a b : ℕ) → ArePutOut board.now machine.now number a b
+        → AreOneOn space.new.terms (path_in paths.old) a b) }
+    ensures apart { IfOk result (λ o. IfSome o (λ numbers. (number : ℕ) × (a : ℕ) × (b : ℕ)
+        × ArePutOut board.now machine.now number a b × AreTwoAt space.new.terms (given_by numbers) a b)) }
+{
+    for number in 0..board.len() {
+        if let Some(a) = out_of(board[number]) {
+            if let Some(b) = out_of(machine[number]) {
+                if let Some(found) = apart(alloc, space, paths, a, b, nodes)? {
+                    return Ok(Some(found));
+                }
+            }
+        }
+    }
+    Ok(None)
+}
+
+/// Compares the left element of a line with its right side.
+fn compare_line(
+    alloc: Global,
+    job: &Job,
+    space: &mut Space,
+    paths: &mut Paths,
+    elements: &[Term],
+    line: &Line,
+    nodes: u32,
+) -> Result<Option<Assignment>, Stop>
+    requires line_of { IsLineOf (job_of job.now).relation.shape (line_of line.now) }
+    requires few { length space.old.memory.reads + reads (line_of line.now).right < 2 ^ 32 }
+    requires space { IsSpace (job_of job.now) space.old.terms space.old.words space.old.memory }
+    requires wide { AreWide space.old.terms (job_of job.now).relation.shape.widths elements.now }
+    requires paths { HavePaths space.old paths.old }
+    ensures goes { OnOk result (GoesComparing space.old space.new) }
+    ensures paths { OnOk result (HavePaths space.new paths.new) }
+    ensures path { Agree (path_in paths.new) (path_in paths.old) }
+    ensures probe { OnOk result (term_of space.new.words Probe ≡ term_of space.old.words Probe) }
+    ensures none { IfOk result (λ o. o ≡ None → (sides : Sides) (so_far : Compared)
+        → AreSidesOn elements.now space.old sides
+        → HaveCompared space.old.terms.map nodes space.old (path_in paths.old) so_far
+        → HaveCompared space.old.terms.map nodes space.new (path_in paths.old)
+        (with_line (job_of job.now).relation.shape sides (line_of line.now) so_far)) }
+    ensures found { IfOk result (λ o. IfSome o (λ numbers. (sides : Sides) (so_far : Compared)
+        → AreSidesOn elements.now space.old sides
+        → HaveCompared space.old.terms.map nodes space.old (path_in paths.old) so_far
+        → FailsFirst space.old.terms.map space.new (path_in paths.old)
+        (with_line (job_of job.now).relation.shape sides (line_of line.now) so_far) numbers)) }
+    ensures over { IfErr result (λ stop. (word j : ℕ) → stop ≡ stops.Over word j → (sides : Sides) (so_far : Compared)
+        → AreSidesOn elements.now space.old sides
+        → HaveCompared space.old.terms.map nodes space.old (path_in paths.old) so_far
+        → StopsComparing space.old.terms.map nodes space.new (path_in paths.old)
+        (with_line (job_of job.now).relation.shape sides (line_of line.now) so_far) word j) }
+    ensures more { OnOk result (length space.new.memory.reads
+        ≡ length space.old.memory.reads + reads (line_of line.now).right) }
+    ensures same { IfOk result (λ o. o ≡ None → (given : Given) → path_in paths.old given ≡ true
+        → HoldsAt (job_of job.now).relation.shape space.new elements.now given (line_of line.now)) }
+    ensures apart { IfOk result (λ o. IfSome o (λ numbers.
+        FailsAt (job_of job.now).relation.shape space.new elements.now (given_by numbers) (line_of line.now))) }
+{
+    // A call for the proof: what holds of every job.
+    let _shape = job.shape();
+    let right = expr_term(
+        alloc,
+        &line.right,
+        elements,
+        Side::Machine,
+        &mut space.terms,
+        &mut space.words,
+        &mut space.memory,
+    )?;
+    apart(
+        alloc,
+        space,
+        paths,
+        elements[line.left as usize],
+        right,
+        nodes,
+    )
+}
+
+/// Compares each line's left element with its right side, line after line.
+fn compare_lines(
+    alloc: Global,
+    job: &Job,
+    space: &mut Space,
+    paths: &mut Paths,
+    elements: &[Term],
+    lines: &[Line],
+    nodes: u32,
+) -> Result<Option<Assignment>, Stop>
+    requires lines_of { All (IsLineOf (job_of job.now).relation.shape) (lines_of lines.now) }
+    requires few { length space.old.memory.reads + reads_of (lines_of lines.now) < 2 ^ 32 }
+    requires space { IsSpace (job_of job.now) space.old.terms space.old.words space.old.memory }
+    requires wide { AreWide space.old.terms (job_of job.now).relation.shape.widths elements.now }
+    requires paths { HavePaths space.old paths.old }
+    ensures goes { OnOk result (GoesComparing space.old space.new) }
+    ensures paths { OnOk result (HavePaths space.new paths.new) }
+    ensures path { Agree (path_in paths.new) (path_in paths.old) }
+    ensures probe { OnOk result (term_of space.new.words Probe ≡ term_of space.old.words Probe) }
+    ensures none { IfOk result (λ o. o ≡ None → (sides : Sides) (so_far : Compared)
+        → AreSidesOn elements.now space.old sides
+        → HaveCompared space.old.terms.map nodes space.old (path_in paths.old) so_far
+        → HaveCompared space.old.terms.map nodes space.new (path_in paths.old)
+        (with_lines (job_of job.now).relation.shape sides (lines_of lines.now) so_far)) }
+    ensures found { IfOk result (λ o. IfSome o (λ numbers. (sides : Sides) (so_far : Compared)
+        → AreSidesOn elements.now space.old sides
+        → HaveCompared space.old.terms.map nodes space.old (path_in paths.old) so_far
+        → FailsFirst space.old.terms.map space.new (path_in paths.old)
+        (with_lines (job_of job.now).relation.shape sides (lines_of lines.now) so_far) numbers)) }
+    ensures over { IfErr result (λ stop. (word j : ℕ) → stop ≡ stops.Over word j → (sides : Sides) (so_far : Compared)
+        → AreSidesOn elements.now space.old sides
+        → HaveCompared space.old.terms.map nodes space.old (path_in paths.old) so_far
+        → StopsComparing space.old.terms.map nodes space.new (path_in paths.old)
+        (with_lines (job_of job.now).relation.shape sides (lines_of lines.now) so_far) word j) }
+    ensures more { OnOk result (length space.new.memory.reads
+        ≤ length space.old.memory.reads + reads_of (lines_of lines.now)) }
+    ensures same { IfOk result (λ o. o ≡ None → (i : ℕ) (line : rel_line.Line) → slice_get (lines_of lines.now) i ≡ Some line
+        → (given : Given) → path_in paths.old given ≡ true
+        → HoldsAt (job_of job.now).relation.shape space.new elements.now given line) }
+    ensures apart { IfOk result (λ o. IfSome o (λ numbers. (i : ℕ) × (line : rel_line.Line)
+        × (slice_get (lines_of lines.now) i ≡ Some line)
+        × FailsAt (job_of job.now).relation.shape space.new elements.now (given_by numbers) line)) }
+{
+    for line in lines {
+        if let Some(found) = compare_line(alloc, job, space, paths, elements, line, nodes)? {
+            return Ok(Some(found));
+        }
+    }
+    Ok(None)
+}
+
+/// What a side's memory holds at the probe.
+fn read_at(alloc: Global, space: &mut Space, side: Side, probe: Term) -> Result<Term, NoMemory>
+    requires few { length space.old.memory.reads < 2 ^ 32 }
+    requires workspace { IsWorkspace space.old.terms space.old.words space.old.memory }
+    requires probe { IsOfWidth space.old.terms space.old.memory.address probe }
+    ensures goes { OnOk result (GoesComparing space.old space.new) }
+    ensures more { OnOk result (length space.new.memory.reads ≡ length space.old.memory.reads + 1) }
+    ensures means { IfOk result (IsRead space.new.terms space.new.memory side probe) }
+    ensures wide { IfOk result (IsOfWidth space.new.terms space.old.memory.word) }
+    ensures listed { IfOk result (λ term. ended term (list_of_space space.new)
+        ≡ memory_read_words space.old.memory.word probe (writes_of space.old.memory side) (list_of_space space.old)) }
+{
+    space
+        .memory
+        .read(alloc, side, probe, &mut space.terms, &mut space.words)
+}
+
+/// Compares the memories of both sides at an address that may be any.
+fn compare_memory(
+    alloc: Global,
+    job: &Job,
+    space: &mut Space,
+    paths: &mut Paths,
+    nodes: u32,
+) -> Result<Option<Assignment>, Stop>
+    requires space { IsSpace (job_of job.now) space.old.terms space.old.words space.old.memory }
+    requires fresh { term_of space.old.words Probe ≡ None }
+    requires few { length space.old.memory.reads + 2 < 2 ^ 32 }
+    requires paths { HavePaths space.old paths.old }
+    ensures goes { OnOk result (GoesComparing space.old space.new) }
+    ensures paths { OnOk result (HavePaths space.new paths.new) }
+    ensures path { Agree (path_in paths.new) (path_in paths.old) }
+    ensures none { IfOk result (λ o. o ≡ None → (sides : Sides) (so_far : Compared)
+        → AreWritesOn space.old sides
+        → HaveCompared space.old.terms.map nodes space.old (path_in paths.old) so_far
+        → HaveCompared space.old.terms.map nodes space.new (path_in paths.old)
+        (with_memory (job_of job.now).relation.shape sides so_far)) }
+    ensures found { IfOk result (λ o. IfSome o (λ numbers. (sides : Sides) (so_far : Compared)
+        → AreWritesOn space.old sides
+        → HaveCompared space.old.terms.map nodes space.old (path_in paths.old) so_far
+        → FailsFirst space.old.terms.map space.new (path_in paths.old)
+        (with_memory (job_of job.now).relation.shape sides so_far) numbers)) }
+    ensures over { IfErr result (λ stop. (word j : ℕ) → stop ≡ stops.Over word j → (sides : Sides) (so_far : Compared)
+        → AreWritesOn space.old sides
+        → HaveCompared space.old.terms.map nodes space.old (path_in paths.old) so_far
+        → StopsComparing space.old.terms.map nodes space.new (path_in paths.old)
+        (with_memory (job_of job.now).relation.shape sides so_far) word j) }
+    ensures same { IfOk result (λ o. o ≡ None → AreOneAtProbe space.new (path_in paths.old)) }
+    ensures apart { IfOk result (λ o. IfSome o (λ numbers. AreTwoInMemory space.new (given_by numbers))) }
+{
+    // A call for the proof: what holds of every job.
+    let _shape = job.shape();
+    let address = job.board.parts().address;
+    let probe = space
+        .words
+        .fresh(alloc, &mut space.terms, WordKind::Probe, address)?;
+    let board = read_at(alloc, space, Side::Board, probe)?;
+    let machine = read_at(alloc, space, Side::Machine, probe)?;
+    apart(alloc, space, paths, board, machine, nodes)
+}
+
+/// The terms of all elements at the end, by number.
+fn elements_at_end(
+    alloc: Global,
+    job: &Job,
+    board: &SymBoard,
+    step: &SymMach,
+) -> Result<Vec<Term>, NoMemory>
+    requires parts { (t : Table) × AreParts (job_of job.now).board t board.now.place.parts }
+    requires registers { (job_of job.now).machine.registers ≤ length step.now.parts.values }
+    ensures { IfOk result (λ v. v.items ≡ terms_with (job_of job.now).board board.now.place.parts
+        (take (job_of job.now).machine.registers step.now.parts.values)) }
+{
+    let mut elements = Vec::new(alloc);
+    let all = job.element_count();
+    let count = job.board.element_count();
+    for number in 0..count {
+        elements.push(board.element(&job.board, number as u32))?;
+    }
+    for number in count..all {
+        elements.push(step.register((number - count) as u32))?;
+    }
+    Ok(elements)
+}
+
+/// The boundary of some at a control address, if there is one.
+fn found_at(boundaries: &[Boundary], address: u16) -> Option<&Boundary>
+    ensures some { IfSome result (λ boundary. find (λ b. b.address == address) (boundaries_of boundaries.now)
+        ≡ Some (boundary_of boundary.now)) }
+    ensures none { result ≡ None → find (λ b. b.address == address) (boundaries_of boundaries.now) ≡ None }
+{
+    for boundary in boundaries {
+        if boundary.address == address {
+            return Some(boundary);
+        }
+    }
+    None
+}
+
+/// The boundary at a control address, if there is one.
+fn boundary_at(job: &Job, address: u16) -> Option<&Boundary>
+    ensures some { IfSome result (λ boundary. boundary_at (job_of job.now) address ≡ Some (boundary_of boundary.now)) }
+    ensures none { result ≡ None → boundary_at (job_of job.now) address ≡ None }
+{
+    found_at(job.relation.boundaries(), address)
+}
+
+/// Compares the events, the lines of the boundary reached, and the memory.
+fn compare_all(
+    alloc: Global,
+    job: &Job,
+    space: &mut Space,
+    paths: &mut Paths,
+    elements: &[Term],
+    lines: &[Line],
+    board: &[SymEvent],
+    machine: &[SymEvent],
+    nodes: u32,
+) -> Result<Option<Assignment>, Stop>
+    requires alike { are_alike board.now machine.now ≡ true }
+    requires events { (word : ℕ) × AreEventsOf space.old.terms word board.now × AreEventsOf space.old.terms word machine.now }
+    requires lines_of { All (IsLineOf (job_of job.now).relation.shape) (lines_of lines.now) }
+    requires few { length space.old.memory.reads + reads_of (lines_of lines.now) + 2 < 2 ^ 32 }
+    requires space { IsSpace (job_of job.now) space.old.terms space.old.words space.old.memory }
+    requires fresh { term_of space.old.words Probe ≡ None }
+    requires wide { AreWide space.old.terms (job_of job.now).relation.shape.widths elements.now }
+    requires paths { HavePaths space.old paths.old }
+    ensures goes { OnOk result (GoesComparing space.old space.new) }
+    ensures own { OnOk result (HaveOwnKinds space.new.words) }
+    ensures none { IfOk result (λ o. o ≡ None → (sides : Sides) (so_far : Compared)
+        → AreSidesOn elements.now space.old sides
+        → HaveCompared space.old.terms.map nodes space.old (path_in paths.old) so_far
+        → HaveCompared space.old.terms.map nodes space.new (path_in paths.old)
+        (compared_all (job_of job.now).relation.shape sides (lines_of lines.now) board.now machine.now so_far)) }
+    ensures found { IfOk result (λ o. IfSome o (λ numbers. (sides : Sides) (so_far : Compared)
+        → AreSidesOn elements.now space.old sides
+        → HaveCompared space.old.terms.map nodes space.old (path_in paths.old) so_far
+        → FailsFirst space.old.terms.map space.new (path_in paths.old)
+        (compared_all (job_of job.now).relation.shape sides (lines_of lines.now) board.now machine.now so_far) numbers)) }
+    ensures over { IfErr result (λ stop. (word j : ℕ) → stop ≡ stops.Over word j → (sides : Sides) (so_far : Compared)
+        → AreSidesOn elements.now space.old sides
+        → HaveCompared space.old.terms.map nodes space.old (path_in paths.old) so_far
+        → StopsComparing space.old.terms.map nodes space.new (path_in paths.old)
+        (compared_all (job_of job.now).relation.shape sides (lines_of lines.now) board.now machine.now so_far) word j) }
+    ensures same { IfOk result (λ o. o ≡ None → AreOne (job_of job.now).relation.shape space.new (path_in paths.old)
+        elements.now (lines_of lines.now) board.now machine.now) }
+    ensures apart { IfOk result (λ o. IfSome o (λ numbers. AreApart (job_of job.now).relation.shape space.new
+        (given_by numbers) elements.now (lines_of lines.now) board.now machine.now)) }
+{
+    // A call for the proof: what holds of every job.
+    let _shape = job.shape();
+    if let Some(found) = compare_events(alloc, space, paths, board, machine, nodes)? {
+        // A call for the proof: no two variables have one kind.
+        let _ = space.words.count();
+        return Ok(Some(found));
+    }
+    if let Some(found) = compare_lines(alloc, job, space, paths, elements, lines, nodes)? {
+        // A call for the proof: no two variables have one kind.
+        let _ = space.words.count();
+        return Ok(Some(found));
+    }
+    let found = compare_memory(alloc, job, space, paths, nodes)?;
+    // A call for the proof: no two variables have one kind.
+    let _ = space.words.count();
+    Ok(found)
+}
+
+/// Compares both sides: the events, the lines of the boundary reached, the memory. Where the events aren't alike or the stack
+/// pointer is another number than the boundary's, each assignment on the path shows a difference.
+fn compare_sides(
+    alloc: Global,
+    job: &Job,
+    run: &mut Run,
+    step: &SymMach,
+    nodes: u32,
+) -> Result<Option<Assignment>, Stop>
+    requires met { (number cycles : ℕ) × (elements : List ℕ) × (from : List Kept) × (late : Bool) × (way : Way)
+        × HasMetCase (job_of job.now) number elements from cycles late way run.old (Some step.now) }
+    requires few { length run.old.space.memory.reads ≤ 1024 }
+    requires fresh { term_of run.old.space.words Probe ≡ None }
+    requires paths { HavePaths run.old.space run.old.paths }
+    ensures none { IfOk result (λ o. o ≡ None
+        → (number cycles : ℕ) (elements : List ℕ) (from : List Kept) (late : Bool) (way : Way)
+        → HasMetCase (job_of job.now) number elements from cycles late way run.old (Some step.now)
+        → NoneDiffersOf (job_of job.now) number (met_of way)) }
+    ensures within { IfOk result (λ o. o ≡ None
+        → (number cycles : ℕ) (elements : List ℕ) (from : List Kept) (late : Bool) (way : Way)
+        → HasMetCase (job_of job.now) number elements from cycles late way run.old (Some step.now)
+        → ComparisonsAreWithin (job_of job.now) number nodes (met_of way)) }
+    ensures found { IfOk result (λ o. IfSome o (λ numbers.
+        (number cycles : ℕ) (elements : List ℕ) (from : List Kept) (late : Bool) (way : Way)
+        → HasMetCase (job_of job.now) number elements from cycles late way run.old (Some step.now)
+        → IsFound (job_of job.now) number elements (met_of way) run.new.space numbers)) }
+    ensures over { IfErr result (λ stop. (number cycles : ℕ) (elements : List ℕ) (from : List Kept) (late : Bool) (way : Way)
+        → HasMetCase (job_of job.now) number elements from cycles late way run.old (Some step.now)
+        → ComparisonStops (job_of job.now) number nodes (met_of way) stop) }
+{
+    // A call for the proof: what holds of every job.
+    let _shape = job.shape();
+    // Laws for the proof: each term of the word list that is no constant has a word, and so has one that is over a budget.
+    words_of_cases_are_numbered();
+    words_of_cycles_are_numbered();
+    words_are_numbered();
+    over_have_numbers();
+    let Some(reached) = boundary_at(job, run.board.at()) else {
+        unreachable!()
+    };
+    if !alike(run.board.events(), step.events()) | (run.board.sp() != reached.sp) {
+        return Ok(run.paths.first(alloc)?);
+    }
+    let elements = elements_at_end(alloc, job, &run.board, step)?;
+    let found = compare_all(
+        alloc,
+        job,
+        &mut run.space,
+        &mut run.paths,
+        &elements,
+        reached.lines.as_slice(),
+        run.board.events(),
+        step.events(),
+        nodes,
+    )?;
+    Ok(found)
+}
+
+/// The first assignment of those that are sought in a case that was run, if there is one.
+pub(crate) fn first_failing(
+    alloc: Global,
+    job: &Job,
+    traced: &mut Traced,
+    nodes: u32,
+) -> Result<Option<Assignment>, Stop>
+    requires met { (number : ℕ) × (elements : List ℕ) × (from : List Kept) × (way : Way)
+        × HasMetCase (job_of job.now) number elements from traced.old.cycles traced.old.late way traced.old.run
+        traced.old.step }
+    requires few { length traced.old.run.space.memory.reads ≤ 1024 }
+    requires fresh { term_of traced.old.run.space.words Probe ≡ None }
+    requires paths { HavePaths traced.old.run.space traced.old.run.paths }
+    ensures none { IfOk result (λ o. o ≡ None → (number : ℕ) (elements : List ℕ) (from : List Kept) (way : Way)
+        → HasMetCase (job_of job.now) number elements from traced.old.cycles traced.old.late way traced.old.run traced.old.step
+        → NoneDiffersOf (job_of job.now) number (met_of way)) }
+    ensures within { IfOk result (λ o. o ≡ None → (number : ℕ) (elements : List ℕ) (from : List Kept) (way : Way)
+        → HasMetCase (job_of job.now) number elements from traced.old.cycles traced.old.late way traced.old.run traced.old.step
+        → ComparisonsAreWithin (job_of job.now) number nodes (met_of way)) }
+    ensures found { IfOk result (λ o. IfSome o (λ numbers. (number : ℕ) (elements : List ℕ) (from : List Kept) (way : Way)
+        → HasMetCase (job_of job.now) number elements from traced.old.cycles traced.old.late way traced.old.run traced.old.step
+        → IsFound (job_of job.now) number elements (met_of way) traced.new.run.space numbers)) }
+    ensures over { IfErr result (λ stop. (number : ℕ) (elements : List ℕ) (from : List Kept) (way : Way)
+        → HasMetCase (job_of job.now) number elements from traced.old.cycles traced.old.late way traced.old.run traced.old.step
+        → ComparisonStops (job_of job.now) number nodes (met_of way) stop) }
+{
+    // A call for the proof: what holds of every job.
+    let _shape = job.shape();
+    match &traced.step {
+        None => Ok(traced.run.paths.first(alloc)?),
+        Some(step) => compare_sides(alloc, job, &mut traced.run, step, nodes),
+    }
+}
