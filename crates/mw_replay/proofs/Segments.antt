@@ -1,5 +1,5 @@
 -- The segment of a replay: where it ends, and what is compared there.
-use Rattle.std.proofs.Common.{◌≡◌, ℕ, zero, suc, ◌+◌, ◌<◌, ◌≤◌, ◌^◌, List, [], ◌∷◌, ◌++◌, drop, length, Option, Some, None, option_map, Bool, false, slice_index, slice_index_or, refl, sym, ap, ap₂, ◌∙◌, subst, rules, arith}
+use Rattle.std.proofs.Common.{◌≡◌, ℕ, zero, suc, ◌+◌, ◌<◌, ◌≤◌, List, [], ◌∷◌, drop, length, Option, Some, None, option_map, Bool, false, slice_index_or, refl, sym, ap, ap₂, ◌∙◌, subst, arith}
 use Rattle.std.specs.Option.{option_to_list}
 use Rattle.std.proofs.lemmas.List.{length-append}
 use Rattle.mw_base.specs.declared.event.Event.{Event}
@@ -15,13 +15,12 @@ use Rattle.mw_macro.specs.Laws.{inputs_in}
 use Rattle.mw_macro.specs.State.{MachineState}
 use Rattle.mw_rel.specs.declared.difference.Difference.{Difference}
 use Rattle.mw_rel.specs.declared.difference.Difference.TheVariants.{Late}
-use Rattle.mw_rel.specs.Certified.{boundary_at}
-use Rattle.mw_rel.specs.Differs.{difference_at, difference_of, first_step, segment_of, shown_at, shown_by, start_after}
+use Rattle.mw_rel.specs.Differs.{difference_at, difference_of, first_step, segment_of, shown_at, shown_by}
 use Rattle.mw_rel.specs.Free.{numbered}
 use Rattle.mw_rel.specs.InRelation.{Pair, pair_of}
 use Rattle.mw_rel.specs.Job.{Job, IsJob}
 use Rattle.mw_rel.specs.Relation.{Boundary}
-use Rattle.mw_rel.specs.Start.{Start, IsStart, addresses_of}
+use Rattle.mw_rel.specs.Start.{Start, addresses_of}
 use Rattle.mw_macro.proofs.Steps.{steps_take_from_first}
 use Rattle.mw_rel.proofs.Runs.{cycles_are, inputs_are, line_left}
 use Rattle.mw_rel.proofs.Same.{segment}

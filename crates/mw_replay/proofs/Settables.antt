@@ -1,7 +1,6 @@
 -- The elements of both sides, and the values of the free ones.
 use Rattle.std.proofs.Common.{◌≡◌, ℕ, zero, suc, ◌+◌, ◌-◌, ◌<◌, ◌≤◌, ◌^◌, List, [], ◌∷◌, ◌++◌, length, map, Option, Some, None, option_map, slice_get, slice_index, Bool, true, false, cond, lit≤, refl, sym, ap, ◌∙◌, subst, inl, inr, arith}
 use Rattle.std.specs.Prelude.{filter, unwrap_or}
-use Rattle.std.specs.List.{All}
 use Rattle.std.proofs.Math.Pow.{pow_mono}
 use Rattle.std.proofs.lemmas.Bool.{cases_lt}
 use Rattle.std.proofs.lemmas.List.{length-map, map-append}
@@ -11,14 +10,13 @@ use Rattle.mw_board.specs.Elements.{element_count, element_width}
 use Rattle.mw_cycle.specs.Boundary.{numbers}
 use Rattle.mw_cycle.specs.Environment.{Environment, IsEnvironment}
 use Rattle.mw_expr.specs.Values.{IsImage}
-use Rattle.mw_rel.specs.Begin.{Begin, IsBegin, free_elements}
+use Rattle.mw_rel.specs.Begin.{IsBegin, free_elements}
 use Rattle.mw_rel.specs.Free.{is_free, numbered}
 use Rattle.mw_rel.specs.Job.{Job, IsJob, shape_of}
 use Rattle.mw_rel.specs.Relation.{Boundary}
 use Rattle.mw_rel.proofs.Completed.{free_more, numbers_more}
 use Rattle.mw_rel.proofs.Elements.{board_width, numbers_length, register_width, widths_count}
 use Rattle.mw_rel.proofs.Standing.{board_address}
-use Rattle.mw_sim.specs.declared.given.Settable.{Settable}
 use Rattle.mw_sim.specs.Given.{Given, IsGiven, bound_of}
 use Rattle.mw_sim.proofs.Starts.{width_few}
 use Rattle.mw_replay.specs.Counter.{IsCounter}
@@ -70,7 +68,7 @@ chosen_more f p n true is = sym (ap (map f) (free_more p n true is) ∙ map-appe
 chosen_more f p n false is = sym (ap (map f) (free_more p n false is) ∙ map-append f (filter p (numbers 0 n)) [])
 
 -- one number of some
-numbers_at : (from count i : ℕ) → i < count → slice_get (numbers from count) i ≡ Some (from + i)
+pub numbers_at : (from count i : ℕ) → i < count → slice_get (numbers from count) i ≡ Some (from + i)
 numbers_at from zero i below = absurd (omega arith)
 numbers_at from (suc count) zero below = ap Some (omega arith)
 numbers_at from (suc count) (suc i) below =
@@ -116,7 +114,7 @@ settables_count job boundary =
     ∙ numbers_length 0 (length job.relation.shape.widths)
 
 -- the bound of each
-bound_is : (job : Job) (boundary : Boundary) (n : ℕ) → n < length job.relation.shape.widths
+pub bound_is : (job : Job) (boundary : Boundary) (n : ℕ) → n < length job.relation.shape.widths
     → bound_of (slice_get (settables_of job boundary) n) ≡ 2 ^ slice_index job.relation.shape.widths n
 bound_is job boundary n below =
     let all = numbers 0 (length job.relation.shape.widths) in

@@ -1,7 +1,6 @@
 -- What a start shows, from its run and its step.
-use Rattle.std.proofs.Common.{◌≡◌, ℕ, [], ◌∷◌, List, Bool, true, false, ◌==◌, Option, Some, None, option_map, find, cond, refl, ap, sym, ◌∙◌, ◌+◌}
+use Rattle.std.proofs.Common.{◌≡◌, [], ◌∷◌, Option, Some, None, refl}
 use Rattle.std.specs.Option.{option_or}
-use Rattle.std.specs.List.{position}
 use Rattle.mw_rel.specs.declared.difference.Difference.{Difference}
 use Rattle.mw_rel.specs.Differs.{first_of}
 

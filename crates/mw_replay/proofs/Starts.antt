@@ -1,8 +1,6 @@
 -- The start that a counter gives.
-use Rattle.std.proofs.Common.{◌≡◌, ℕ, zero, suc, ◌+◌, ◌<◌, ◌≤◌, List, [], ◌∷◌, length, map, Some, slice_get, slice_index, slice_index_or, true, refl, sym, ap, ◌∙◌, subst, inl, inr, arith}
-use Rattle.std.specs.Prelude.{filter}
+use Rattle.std.proofs.Common.{◌≡◌, ℕ, zero, suc, ◌<◌, ◌≤◌, List, [], ◌∷◌, length, map, Some, slice_get, slice_index, slice_index_or, true, refl, sym, ap, ◌∙◌, subst, inl, inr, arith}
 use Rattle.std.proofs.lemmas.Bool.{cases_lt}
-use Rattle.mw_cycle.specs.Boundary.{numbers}
 use Rattle.mw_cycle.specs.Environment.{Environment, IsEnvironment}
 use Rattle.mw_rel.specs.Begin.{free_elements, free_values}
 use Rattle.mw_rel.specs.Completed.{free_before}
@@ -10,12 +8,11 @@ use Rattle.mw_rel.specs.Free.{AreFreelyAlike, is_free, no_boundary, numbered}
 use Rattle.mw_rel.specs.InRelation.{InRelation, Pair, values_of}
 use Rattle.mw_rel.specs.Job.{Job, IsJob}
 use Rattle.mw_rel.specs.Relation.{Boundary}
-use Rattle.mw_rel.specs.Start.{Start, IsStart}
+use Rattle.mw_rel.specs.Start.{Start}
 use Rattle.mw_rel.proofs.Chosen.{place_is}
 use Rattle.mw_rel.proofs.Completed.{place_within}
 use Rattle.mw_rel.proofs.Decided.{pairs_are_one}
 use Rattle.mw_rel.proofs.Elements.{values_length, widths_count}
-use Rattle.mw_replay.specs.Counter.{Counter, IsCounter, IsStartOf}
 use Rattle.mw_replay.specs.Laws.{CountersGiveStarts, StartsAreOne}
 
 -- ---- lists

@@ -1,10 +1,13 @@
 -- Laws of counters and replays.
 use Rattle.std.specs.Prelude.{◌≡◌, ◌↔◌, ℕ, ◌+◌, ◌≤◌, ◌<◌, length, Some}
+use Rattle.mw_cycle.specs.declared.environment.Clock.{Clock}
+use Rattle.mw_cycle.specs.Environment.{Environment, given_at}
 use Rattle.mw_rel.specs.declared.difference.Difference.{Difference}
 use Rattle.mw_rel.specs.Differs.{difference_of, DiffersAt}
 use Rattle.mw_rel.specs.Job.{Job, IsJob}
 use Rattle.mw_rel.specs.Start.{Start, IsStart}
 use Rattle.mw_replay.specs.Counter.{Counter, IsCounter, IsStartOf}
+use Rattle.mw_replay.specs.CounterPrinted.{shortened}
 use Rattle.mw_replay.specs.Replay.{IsReached}
 
 -- a counter gives one start at most
@@ -29,3 +32,12 @@ StepsDiffer = (job : Job) (start : Start) (k : ℕ) (difference : Difference) �
 abbrev pub NoneDiffersBefore : Type 0
 NoneDiffersBefore = (job : Job) (start here : Start) (k step : ℕ) (difference : Difference)
     → IsReached job start k here → step ≤ k → ¬ DiffersAt job start step difference
+
+-- an environment without the zeros at its lists' ends gives the same in each cycle
+abbrev pub ZerosGiveNothing : Type 0
+ZerosGiveNothing = (env : Environment) (place : Clock) → given_at (shortened env) place ≡ given_at env place
+
+-- a start shows the same without these zeros
+abbrev pub ZerosShowNothing : Type 0
+ZerosShowNothing = (job : Job) (start : Start)
+    → difference_of job (record start { env = shortened start.env }) ≡ difference_of job start

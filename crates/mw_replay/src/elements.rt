@@ -12,7 +12,7 @@ use mw_sim::{Owner, Settable, two_to};
 use std::alloc::Global;
 
 /// Whose the element with a number is.
-fn owner_of(job: &Job, number: usize) -> Owner
+pub(crate) fn owner_of(job: &Job, number: usize) -> Owner
     ensures { result ≡ owner_of (job_of job.now) number }
 {
     if number < job.board.element_count() {
@@ -23,7 +23,7 @@ fn owner_of(job: &Job, number: usize) -> Owner
 }
 
 /// The name of the element with a number.
-fn name_of(job: &Job, number: usize) -> &[u8]
+pub(crate) fn name_of(job: &Job, number: usize) -> &[u8]
     requires { number < length (job_of job.now).relation.shape.widths }
     ensures { result.now ≡ name_of (job_of job.now) number }
 {

@@ -1,5 +1,5 @@
 // Laws of counters and replays.
-ghost use Rattle.mw_replay.specs.Laws.{StartsAreOne, CountersGiveStarts, StepsDiffer, NoneDiffersBefore};
+ghost use Rattle.mw_replay.specs.Laws.{StartsAreOne, CountersGiveStarts, StepsDiffer, NoneDiffersBefore, ZerosGiveNothing, ZerosShowNothing};
 
 /// The law of one start: a counter gives one start at most, since its pair is the one in relation with its values and
 /// its memory.
@@ -21,4 +21,14 @@ pub fn steps_differ()
 /// The law of the steps before: where k steps from a start show no difference, it differs at none of them.
 pub fn none_differs_before()
     ensures { NoneDiffersBefore }
+{}
+
+/// The law of zeros: an environment without the zeros at its lists' ends gives the same in each cycle.
+pub fn zeros_give_nothing()
+    ensures { ZerosGiveNothing }
+{}
+
+/// The law of what zeros show: a start without them shows the same difference, or none.
+pub fn zeros_show_nothing()
+    ensures { ZerosShowNothing }
 {}

@@ -6,13 +6,18 @@ mod difference;
 mod elements;
 mod laws;
 mod one_replay;
+mod printed;
 mod reached;
 mod stepping;
 mod text;
 
 pub use counter::Counter;
-pub use laws::{counters_give_starts, none_differs_before, starts_are_one, steps_differ};
+pub use laws::{
+    counters_give_starts, none_differs_before, starts_are_one, steps_differ, zeros_give_nothing,
+    zeros_show_nothing,
+};
 pub use mw_rel::Difference;
 pub use one_replay::replay;
+pub use printed::print_counter;
 pub use stepping::Replay;
 pub use text::read_counter;

@@ -1,4 +1,4 @@
-use Rattle.std.proofs.Common.{◌≡◌, ◌≤◌, length, map}
+use Rattle.std.proofs.Common.{◌≡◌, map}
 use Rattle.mw_cycle.specs.Boundary.{numbers}
 use Rattle.mw_rel.specs.Free.{numbered}
 use Rattle.mw_rel.specs.Views.{job_of}

@@ -1,4 +1,4 @@
-use Rattle.std.proofs.Common.{ap, arith, subst, sym, ◌≤◌, ℕ}
+use Rattle.std.proofs.Common.{ap, arith}
 use Rattle.mw_cycle.specs.declared.environment.Clock.{Clock}
 use Rattle.mw_macro.specs.Described.{description_of}
 use Rattle.mw_macro.proofs.Accepted.{accepted_few}

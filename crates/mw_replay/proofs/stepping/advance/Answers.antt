@@ -1,7 +1,6 @@
-use Rattle.std.proofs.Common.{◌≡◌, sym, ◌∙◌}
-use Rattle.mw_cycle.specs.Environment.{Environment}
+use Rattle.std.proofs.Common.{sym, ◌∙◌}
 use Rattle.mw_rel.specs.Views.{job_of}
-use Rattle.mw_replay.specs.Replay.{Follows, IsReplay, next_start}
+use Rattle.mw_replay.specs.Replay.{next_start}
 use Rattle.mw_replay.specs.Views.{replay_of}
 use Rattle.mw_replay.proofs.Segments.{follows_after, shown_after, stands_after}
 use Rattle.mw_replay.proofs.stepping.advance.Goals as goal

@@ -1,5 +1,4 @@
-use Rattle.std.proofs.Common.{◌≡◌, ℕ, length, List, sym, ap, ◌∙◌, arith}
-use Rattle.mw_base.specs.declared.event.Event.{Event}
+use Rattle.std.proofs.Common.{sym, ap, ◌∙◌, arith}
 use Rattle.mw_rel.specs.InRelation.{Pair}
 use Rattle.mw_rel.specs.Relation.{Boundary}
 use Rattle.mw_rel.specs.Views.{job_of}

@@ -1,0 +1,44 @@
+-- Lines behind a text, one after another.
+use Rattle.std.proofs.Common.{◌≡◌, ◌≢◌, ℕ, ◌+◌, ◌-◌, ◌<◌, ◌≤◌, take, List, [], ◌∷◌, ◌++◌, length, slice_index, Bool, false, zero-add, refl, sym, ap, ◌∙◌, subst, arith}
+use Rattle.std.specs.List.{flat_map, range_with_len}
+use Rattle.std.proofs.lemmas.List.{map-id, flat_map_more}
+use Rattle.std.proofs.lemmas.List.FromFn.{map-range_with_len_more}
+use Rattle.mw_rel.specs.Completed.{free_value}
+use Rattle.mw_rel.specs.Job.{Job}
+use Rattle.mw_sim.specs.Given.{trimmed}
+use Rattle.mw_sim.proofs.Starts.{front_is}
+use Rattle.mw_replay.specs.CounterPrinted.{set_line}
+
+-- the numbers up to one more
+numbers_more : (n : ℕ) → range_with_len 0 (n + 1) ≡ range_with_len 0 n ++ n ∷ []
+numbers_more n = simp map-id at (map-range_with_len_more (λ (i : ℕ). i) 0 n n (zero-add n))
+
+-- the lines of numbers, and those of one more
+pub numbered_more : (lines : ℕ → List ℕ) (n : ℕ) (front before after : List ℕ)
+    → before ≡ front ++ flat_map lines (range_with_len 0 n) → after ≡ before ++ lines n
+    → after ≡ front ++ flat_map lines (range_with_len 0 (n + 1))
+numbered_more lines n front before after was is =
+    is ∙ ap (λ (text : List ℕ). text ++ lines n) was ∙ flat_map_more lines front (range_with_len 0 n) n
+    ∙ ap (λ (numbers : List ℕ). front ++ flat_map lines numbers) (sym (numbers_more n))
+
+-- ---- the elements that are free
+
+-- one that isn't has no line
+pub left_line : (job : Job) (p : ℕ → Bool) (values : List ℕ) (e : ℕ) → p e ≡ false
+    → set_line job e (free_value p values e) ≡ []
+unfolding set_line
+left_line job p values e is = rw is refl
+
+-- ---- zeros at the end
+
+-- the front of a list up to its last number that isn't 0
+pub kept_front : (xs : List ℕ) (kept : ℕ) → kept ≤ length xs
+    → ((i : ℕ) → kept ≤ i → i < length xs → slice_index xs i ≡ 0) → (0 < kept → slice_index xs (kept - 1) ≢ 0)
+    → take kept xs ≡ trimmed xs
+kept_front xs kept within rest last = front_is xs kept (record {
+  within = within;
+  last = λ k is.
+      let place : kept - 1 ≡ k = omega arith in
+      subst (λ i. slice_index xs i ≢ 0) place (last (omega arith));
+  rest = rest;
+})

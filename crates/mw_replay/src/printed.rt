@@ -1,0 +1,273 @@
+// The text of a counter.
+ghost use Rattle.std.specs.Prelude.{◌≡◌, ℕ, ◌+◌, ◌*◌, ◌<◌, ◌≤◌, ◌++◌, List, IfOk, OnOk, Ok, codes, length, map, slice_index, true};
+ghost use Rattle.std.specs.List.{flat_map};
+ghost use Rattle.mw_base.specs.Words.{num};
+ghost use Rattle.mw_rel.specs.Begin.{free_elements};
+ghost use Rattle.mw_rel.specs.Completed.{free_before, free_value};
+ghost use Rattle.mw_rel.specs.Free.{is_free, numbered};
+ghost use Rattle.mw_rel.specs.Views.{job_of};
+ghost use Rattle.mw_sim.specs.Given.{owner_text, trimmed};
+ghost use Rattle.mw_replay.specs.Counter.{IsCounter};
+ghost use Rattle.mw_replay.specs.CounterText.{counter_of, owner_of};
+ghost use Rattle.mw_asm.specs.declared.assembled.Label.{Label};
+ghost use Rattle.mw_replay.specs.CounterPrinted.{AreShort, MayFollow, in_short, no_lines, shortened, boundary_line, set_line, set_lines, word_line, memory_lines, value_text, series_line, line_count, values_at, series_lines, environment_lines, counter_text};
+
+use crate::counter::Counter;
+use crate::elements::{name_of, owner_of};
+use mw_base::{NoMemory, append_hex};
+use mw_cycle::Env;
+use mw_rel::{Job, free};
+use mw_sim::{Owner, append_hex_line, append_line};
+use std::alloc::Global;
+
+/// How many values a line of a list has at most.
+const MOST_VALUES: usize = 16;
+
+/// How the line begins that sets the element with a number.
+fn set_front(job: &Job, number: usize) -> &'static [u8]
+    ensures { result.now ≡ codes "set " ++ owner_text (owner_of (job_of job.now) number) ++ codes "." }
+{
+    match owner_of(job, number) {
+        Owner::Board => b"set b.",
+        Owner::Machine => b"set m.",
+    }
+}
+
+/// Appends the line that sets the element with a number; none where its value is 0.
+#[tactic(auto, unfolding(crate::specs::CounterPrinted::set_line))]
+fn append_set(
+    alloc: Global,
+    text: &mut Vec<u8>,
+    job: &Job,
+    number: usize,
+    value: u32,
+) -> Result<(), NoMemory>
+    requires element { number < length (job_of job.now).relation.shape.widths }
+    ensures { OnOk result (text.new.items ≡ text.old.items ++ set_line (job_of job.now) number value) }
+{
+    if value != 0 {
+        text.extend_from_slice(set_front(job, number))?;
+        text.extend_from_slice(name_of(job, number))?;
+        append_hex_line(alloc, text, b" ", value)?;
+    }
+    Ok(())
+}
+
+/// Appends the line of the element with a number where it is free at a boundary, and answers how many elements are
+/// free up to it; so many are before it. A free element has the value at its place among the free ones.
+fn append_free(
+    alloc: Global,
+    text: &mut Vec<u8>,
+    job: &Job,
+    boundary: usize,
+    values: &[u32],
+    number: usize,
+    before: usize,
+) -> Result<usize, NoMemory>
+    requires there { boundary < length (job_of job.now).relation.boundaries }
+    requires element { number < length (job_of job.now).relation.shape.widths }
+    requires few { length (job_of job.now).relation.shape.widths ≤ 170 }
+    requires before { before ≡ free_before (is_free (numbered (job_of job.now) boundary)) number }
+    requires each { is_free (numbered (job_of job.now) boundary) number ≡ true → before < length values.now }
+    ensures after { IfOk result (λ after. after ≡ free_before (is_free (numbered (job_of job.now) boundary)) (number + 1)) }
+    ensures exact { OnOk result (text.new.items ≡ text.old.items ++ set_line (job_of job.now) number
+        (free_value (is_free (numbered (job_of job.now) boundary)) values.now number)) }
+{
+    if !free(job, boundary, number as u32) {
+        return Ok(before);
+    }
+    append_set(alloc, text, job, number, values[before])?;
+    Ok(before + 1)
+}
+
+/// Appends the lines of the elements that are free at a boundary, by number: these are their values.
+fn append_sets(
+    alloc: Global,
+    text: &mut Vec<u8>,
+    job: &Job,
+    boundary: usize,
+    values: &[u32],
+) -> Result<(), NoMemory>
+    requires there { boundary < length (job_of job.now).relation.boundaries }
+    requires each { length values.now ≡ length (free_elements (job_of job.now) (numbered (job_of job.now) boundary)) }
+    ensures { OnOk result (text.new.items
+        ≡ text.old.items ++ set_lines (job_of job.now) (numbered (job_of job.now) boundary) values.now) }
+{
+    let mut before = 0;
+    for number in 0..job.element_count() {
+        before = append_free(alloc, text, job, boundary, values, number, before)?;
+    }
+    Ok(())
+}
+
+/// Appends the line that gives the word at an address; none where it is 0.
+#[tactic(auto, unfolding(crate::specs::CounterPrinted::word_line))]
+fn append_word(
+    alloc: Global,
+    text: &mut Vec<u8>,
+    words: &[u32],
+    address: usize,
+) -> Result<(), NoMemory>
+    requires there { address < length words.now }
+    ensures { OnOk result (text.new.items ≡ text.old.items ++ word_line address (slice_index words.now address)) }
+{
+    let word = words[address];
+    if word != 0 {
+        text.extend_from_slice(b"mem ")?;
+        append_hex(alloc, text, address as u128)?;
+        append_hex_line(alloc, text, b" ", word)?;
+    }
+    Ok(())
+}
+
+/// Appends the lines of a memory, in rising order of addresses.
+fn append_memory(alloc: Global, text: &mut Vec<u8>, words: &[u32]) -> Result<(), NoMemory>
+    ensures { OnOk result (text.new.items ≡ text.old.items ++ memory_lines words.now) }
+{
+    for address in 0..words.len() {
+        append_word(alloc, text, words, address)?;
+    }
+    Ok(())
+}
+
+/// Appends a value behind a blank.
+fn append_value(alloc: Global, text: &mut Vec<u8>, value: u32) -> Result<(), NoMemory>
+    ensures { OnOk result (text.new.items ≡ text.old.items ++ value_text value) }
+{
+    text.push(b' ')?;
+    append_hex(alloc, text, u128::from(value))
+}
+
+/// Appends values, each behind a blank.
+fn append_values(alloc: Global, text: &mut Vec<u8>, values: &[u32]) -> Result<(), NoMemory>
+    ensures { OnOk result (text.new.items ≡ text.old.items ++ flat_map value_text values.now) }
+{
+    for value in values {
+        append_value(alloc, text, *value)?;
+    }
+    Ok(())
+}
+
+/// Appends a line of a list.
+fn append_series_line(
+    alloc: Global,
+    text: &mut Vec<u8>,
+    keyword: &[u8],
+    values: &[u32],
+) -> Result<(), NoMemory>
+    ensures { OnOk result (text.new.items ≡ text.old.items ++ series_line keyword.now values.now) }
+{
+    text.extend_from_slice(keyword)?;
+    append_values(alloc, text, values)?;
+    append_line(text, b"")
+}
+
+/// The values of the line of a list with a number, from 0.
+fn values_at(values: &[u32], number: usize) -> &[u32]
+    requires { 16 * number ≤ length values.now }
+    ensures { result.now ≡ values_at values.now number }
+{
+    let rest = &values[MOST_VALUES * number..];
+    &rest[..rest.len().min(MOST_VALUES)]
+}
+
+/// The values without the zeros at their end.
+fn without_zeros(values: &[u32]) -> &[u32]
+    ensures { result.now ≡ trimmed values.now }
+{
+    let mut kept = values.len();
+    while kept > 0 && values[kept - 1] == 0 {
+        kept -= 1;
+    }
+    &values[..kept]
+}
+
+/// Appends the lines of a list, without the zeros at its end.
+fn append_series(
+    alloc: Global,
+    text: &mut Vec<u8>,
+    keyword: &[u8],
+    values: &[u32],
+) -> Result<(), NoMemory>
+    ensures { OnOk result (text.new.items ≡ text.old.items ++ series_lines keyword.now values.now) }
+{
+    let values = without_zeros(values);
+    for number in 0..values.len().div_ceil(MOST_VALUES) {
+        append_series_line(alloc, text, keyword, values_at(values, number))?;
+    }
+    Ok(())
+}
+
+/// Bits as numbers.
+fn numbers_of_bits(alloc: Global, bits: &[bool]) -> Result<Vec<u32>, NoMemory>
+    ensures { IfOk result (λ numbers. numbers.items ≡ map num bits.now) }
+{
+    let mut numbers = Vec::new(alloc);
+    for bit in bits {
+        numbers.push(u32::from(*bit))?;
+    }
+    Ok(numbers)
+}
+
+/// Words of 16 bits as numbers.
+fn numbers_of_words(alloc: Global, words: &[u16]) -> Result<Vec<u32>, NoMemory>
+    ensures { IfOk result (λ numbers. numbers.items ≡ words.now) }
+{
+    let mut numbers = Vec::new(alloc);
+    for word in words {
+        numbers.push(u32::from(*word))?;
+    }
+    Ok(numbers)
+}
+
+/// Appends the lines of the lists of an environment.
+fn append_environment(alloc: Global, text: &mut Vec<u8>, env: &Env) -> Result<(), NoMemory>
+    ensures { OnOk result (text.new.items ≡ text.old.items ++ environment_lines env.now) }
+{
+    let line = numbers_of_bits(alloc, &env.line)?;
+    let noise = numbers_of_words(alloc, &env.noise)?;
+    append_series(alloc, text, b"inputs", &env.inputs)?;
+    append_series(alloc, text, b"line", &line)?;
+    append_series(alloc, text, b"noise", &noise)
+}
+
+/// The text of a counter of a job.
+#[tactic(auto, unfolding(crate::specs::CounterPrinted::counter_text))]
+fn counter_text(alloc: Global, job: &Job, counter: &Counter) -> Result<Vec<u8>, NoMemory>
+    requires { IsCounter (job_of job.now) counter.now }
+    ensures { IfOk result (λ text. text.items ≡ counter_text (job_of job.now) counter.now) }
+{
+    let Counter { boundary, begin } = counter;
+    let mut text = Vec::new(alloc);
+    let address = job.boundary(*boundary).address;
+    append_hex_line(alloc, &mut text, b"boundary ", u32::from(address))?;
+    append_sets(alloc, &mut text, job, *boundary, &begin.values)?;
+    append_memory(alloc, &mut text, &begin.memory)?;
+    append_environment(alloc, &mut text, &begin.env)?;
+    Ok(text)
+}
+
+/// The text of a counter of a job: the line `boundary`, with its control address; then, of what isn't 0, `set` for the
+/// elements that are free there, by number, `mem` for each word of the memory, by address, and the lists `inputs`,
+/// `line` and `noise` without the zeros at their ends, sixteen values to a line. Where none of these has more than 65,536
+/// values then, it is read back, whatever the labels, as the counter without these zeros; also behind the lines `no` and
+/// `difference ..`, where what stands on the second has tokens and its line at most 4,096 bytes.
+///
+/// # Errors
+///
+/// Memory ran out.
+pub fn print_counter(alloc: Global, job: &Job, counter: &Counter) -> Result<Vec<u8>, NoMemory>
+    requires { IsCounter (job_of job.now) counter.now }
+    ensures exact { IfOk result (λ text. text.items ≡ counter_text (job_of job.now) counter.now) }
+    ensures reads_back { IfOk result (λ text. (labels : List Label) → AreShort (shortened counter.now.begin.env)
+        → counter_of (job_of job.now) labels text.items ≡ Ok (in_short counter.now)) }
+    ensures in_report { IfOk result (λ text. (labels : List Label) (difference : List ℕ) → MayFollow difference
+        → AreShort (shortened counter.now.begin.env)
+        → counter_of (job_of job.now) labels (no_lines difference ++ text.items) ≡ Ok (in_short counter.now)) }
+{
+    // Calls for the proof: their clauses `valid` and `kept` say what holds of every job and of every board.
+    let _ = job.shape();
+    let _ = job.board.parts();
+    let text = counter_text(alloc, job, counter)?;
+    Ok(text)
+}
