@@ -5,6 +5,8 @@
 #[cfg(test)]
 mod cases;
 #[cfg(test)]
+mod counters;
+#[cfg(test)]
 mod descriptions;
 #[cfg(test)]
 mod expressions;
