@@ -42,6 +42,25 @@ class Choice:
         return entries[number] if number < len(entries) else 0
 
 
+def piece(bits):
+    """A cycle as a report prints it: pass, counter zero and the next address, or the bits that are decided of that."""
+    known = dict(bits)
+    address = "".join(str(known[place]) for place in range(11, -1, -1) if place in known)
+    return f"{known.get('pass', '-')}{known.get('zero', '-')}" + (f"{int(address, 2):03x}" if 0 in known else f"b{address}")
+
+
+def bits_text(bits):
+    """Decided bits as a report prints them: a piece for each cycle of which something is decided, and the branch bits."""
+    cycles, branches = [[]], ""
+    for bit in bits:
+        if bit[0] == "branch":
+            branches += str(bit[1])
+        else:
+            cycles[-1].append(bit)
+            cycles += [[]] if bit[0] == 0 else []
+    return (" ".join(piece(cycle) for cycle in cycles if cycle) or "-") + (f" / {branches}" if branches else "")
+
+
 class Case:
     """What a start decides: a list of bits for each cycle, those of the step, and whether the segment is late."""
 
@@ -65,15 +84,8 @@ class Case:
     def bits(self):
         return tuple(bit for each in [*self.cycles, self.branches] for bit in each)
 
-    def piece(self, bits):
-        """A cycle as a report prints it: pass, counter zero and the next address."""
-        known = dict(bits)
-        address = sum(known[place] << place for place in range(12))
-        return f"{known.get('pass', '-')}{known.get('zero', '-')}{address:03x}"
-
     def text(self):
-        pieces = " ".join(map(self.piece, self.cycles))
-        return pieces + (" / " + "".join(str(value) for _, value in self.branches) if self.branches else "")
+        return bits_text(self.bits())
 
     def line(self):
         return f"case {self.text()} cycles {len(self.cycles)} late {int(self.late)}"

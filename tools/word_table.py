@@ -113,8 +113,8 @@ class Words:
 class Memory:
     """The base reads that both sides share, and the writes of one side, both in their order."""
 
-    def __init__(self, width):
-        self.width, self.reads, self.writes = width, [], []
+    def __init__(self, width, reads=None):
+        self.width, self.reads, self.writes = width, [] if reads is None else reads, []
 
     def read(self, words, address):
         equal = [words.add("eq", address, earlier) for earlier, _ in self.reads]
@@ -141,13 +141,13 @@ def element_widths(board):
 
 
 class Cycle:
-    """The first cycle of a case: what it adds to the list, and what it comes to. `elements` has a term by each name, and `decided` the values of the
-    bits that are decided, in their order."""
+    """A cycle of a case, behind so many others that took so many inputs: what it adds to the list, and what it comes to. `elements` has a term by
+    each name, and `decided` the values of the bits that are decided, in their order."""
 
-    def __init__(self, words, board, microword, elements, sp, memory, decided):
+    def __init__(self, words, board, microword, elements, sp, memory, decided, number=0, taken=0):
         self.words, self.board, self.microword, self.old, self.sp, self.memory = words, board, microword, elements, sp, memory
         self.waiting, self.asked, self.made, self.event = list(decided), [], {}, None
-        self.line, self.noise = words.fresh("line", 0, 1), words.fresh("noise", 0, 14)
+        self.line, self.noise, self.taken = words.fresh("line", number, 1), words.fresh("noise", number, 14), taken
         self.elements = dict(elements)
         self.run()
         assert not self.waiting
@@ -193,7 +193,7 @@ class Cycle:
         if source == "memory":
             return self.memory.read(self.words, self.old["mar"])
         if source == "input":
-            self.event = "taken", self.words.input(0, width)
+            self.event = "taken", self.words.input(self.taken, width)
             return self.event[1]
         if source == "zero":
             return self.zero()
@@ -365,34 +365,13 @@ def symbolic_cycle(board, store, at, state, given):
     return first, Cycle(words, board, microword, elements, state.sp, Memory(board.width), decided_bits(board, microword, state, nets))
 
 
-# ---- a described step
+# ---- expressions
 
-class Step:
-    """A described step: what it adds to the list along its branch bits, and what it comes to."""
+class Nodes:
+    """What expressions add to the list. `elements` has a term by each name."""
 
-    def __init__(self, words, machine, registers, request, memory, branches):
-        self.words, self.memory, self.waiting, self.asked = words, memory, list(branches), []
-        self.word, self.events, self.taken = machine.over.word, [], 0
-        self.elements = registers | {name: constant(0, width) for name, width in machine.elements["temp"]} | {"request": request}
-        self.do(machine.steps)
-        assert not self.waiting
-
-    def do(self, statements):
-        for kind, _, lists, parts in statements:
-            if kind == "assign":
-                self.elements[parts[0]] = self.nodes(parts[1])
-            elif kind == "write":
-                address = self.nodes(parts[0])
-                self.memory.write(address, self.nodes(parts[1]))
-            elif kind == "put":
-                self.events.append(("out", self.nodes(parts[0])))
-            elif kind == "take":
-                self.elements[parts[0]] = self.words.input(self.taken, self.word)
-                self.events.append(("taken", self.elements[parts[0]]))
-                self.taken += 1
-            else:
-                self.asked.append((self.nodes(parts[0]), self.waiting.pop(0)))
-                self.do(lists["then" if self.asked[-1][1] else "else"])
+    def __init__(self, words, elements, memory):
+        self.words, self.elements, self.memory = words, elements, memory
 
     def nodes(self, tree):
         """Adds the nodes of an expression, its parts first."""
@@ -429,6 +408,36 @@ class Step:
         if what == "!=":
             return add("not", add("eq", *found))
         return add({"~": "not", "&": "and", "|": "or", "^": "xor", "==": "eq", "<": "lt", "?": "ite"}[what], *found)
+
+
+# ---- a described step
+
+class Step(Nodes):
+    """A described step: what it adds to the list along its branch bits, and what it comes to."""
+
+    def __init__(self, words, machine, registers, request, memory, branches):
+        temps = {name: constant(0, width) for name, width in machine.elements["temp"]}
+        super().__init__(words, registers | temps | {"request": request}, memory)
+        self.waiting, self.asked, self.word, self.events, self.taken = list(branches), [], machine.over.word, [], 0
+        self.do(machine.steps)
+        assert not self.waiting
+
+    def do(self, statements):
+        for kind, _, lists, parts in statements:
+            if kind == "assign":
+                self.elements[parts[0]] = self.nodes(parts[1])
+            elif kind == "write":
+                address = self.nodes(parts[0])
+                self.memory.write(address, self.nodes(parts[1]))
+            elif kind == "put":
+                self.events.append(("out", self.nodes(parts[0])))
+            elif kind == "take":
+                self.elements[parts[0]] = self.words.input(self.taken, self.word)
+                self.events.append(("taken", self.elements[parts[0]]))
+                self.taken += 1
+            else:
+                self.asked.append((self.nodes(parts[0]), self.waiting.pop(0)))
+                self.do(lists["then" if self.asked[-1][1] else "else"])
 
 
 def symbolic_step(machine, setting):

@@ -2,6 +2,7 @@
 mod cases;
 mod cycles;
 mod diagrams;
+mod differs;
 mod expressions;
 mod machines;
 mod numbers;
@@ -40,6 +41,8 @@ pub fn made(alloc: Global, words: &[String], files: &[File]) -> Result<Vec<u8>, 
         "step" => parts::stepped(alloc, given),
         "cases" => cases::list(alloc, given, files),
         "count-cases" => cases::count(alloc, given, files),
+        "differs" => differs::list(alloc, given, files),
+        "counter" => differs::read(alloc, files),
         "cycle" => cycles::run(alloc, given, files),
         "symbolic" => symbolic::run(alloc, given, files),
         "cycle-words" => symbolic::words(alloc, given, files),

@@ -2,7 +2,9 @@
 // the machine of the file `k` and the relation of the file `text`, within this budget; nodes and paths are hexadecimal. A
 // line for each boundary with its address, and one for each case: its cycles, each as pass, counter zero and next address, its
 // branch bits behind `/`, how many cycles it has, and whether it is late. `call count-cases` with the same words: a line for
-// each boundary, with how many cases it has and the cycles of the longest. What is over its budget ends the list with a line.
+// each boundary, with how many cases it has and the cycles of the longest. What is over its budget ends the list with a line:
+// the limit of paths, or the bits before an operation, its word and its bit. Bits are printed as those of a case, or as `-`
+// where there are none; of a cycle that isn't whole, `b` and the bits so far stand in place of the next address.
 ghost use Rattle.std.specs.Prelude.{◌≡◌, ◌<◌, length, true, IfOk};
 ghost use Rattle.mw_rel.specs.Views.{job_of};
 ghost use Rattle.mw_fork.specs.Forks.{IsForkOf};
@@ -17,24 +19,31 @@ use mw_term::DecidedKind;
 use std::alloc::Global;
 
 /// More cases than this are not asked for.
-const MOST_CASES: u32 = 65_536;
+pub(super) const MOST_CASES: u32 = 65_536;
 
-/// What is decided of a cycle so far: the digits of pass and counter zero, and the bits of the next address.
-#[derive(Clone, Copy)]
+/// What is decided of a cycle so far: the digits of pass and counter zero, and the bits of the next address, also as digits.
+#[derive(Drop)]
 struct Piece {
     pass: u8,
     zero: u8,
     address: u16,
+    digits: Vec<u8>,
 }
 
 impl Piece {
     /// Nothing is decided.
-    fn new() -> Piece {
+    fn new(alloc: Global) -> Piece {
         Piece {
             pass: b'-',
             zero: b'-',
             address: 0,
+            digits: Vec::new(alloc),
         }
+    }
+
+    /// Whether something is decided.
+    fn is_begun(&self) -> bool {
+        self.pass != b'-' || self.zero != b'-' || !self.digits.is_empty()
     }
 }
 
@@ -43,13 +52,29 @@ fn digit(value: bool) -> u8 {
     if value { b'1' } else { b'0' }
 }
 
-/// Appends a cycle, with a blank before it.
-fn push_piece(alloc: Global, text: &mut Vec<u8>, piece: Piece) -> Result<(), Fault> {
+/// Appends the digits of pass and counter zero, with a blank before them.
+fn push_tests(text: &mut Vec<u8>, piece: &Piece) -> Result<(), Fault> {
     text.push(b' ')?;
     text.push(piece.pass)?;
     text.push(piece.zero)?;
+    Ok(())
+}
+
+/// Appends a cycle.
+fn push_piece(alloc: Global, text: &mut Vec<u8>, piece: &Piece) -> Result<(), Fault> {
+    push_tests(text, piece)?;
     let address = format!(in alloc; "{:03x}", piece.address)?;
     text.extend_from_slice(address.as_bytes())?;
+    Ok(())
+}
+
+/// Appends what is decided of a cycle that isn't whole, where something is.
+fn push_begun(text: &mut Vec<u8>, piece: &Piece) -> Result<(), Fault> {
+    if piece.is_begun() {
+        push_tests(text, piece)?;
+        text.push(b'b')?;
+        text.extend_from_slice(&piece.digits)?;
+    }
     Ok(())
 }
 
@@ -66,9 +91,10 @@ fn take_bit(
         DecidedKind::CounterZero => piece.zero = digit(value),
         DecidedKind::Next(place) => {
             piece.address = piece.address << 1 | u16::from(value);
+            piece.digits.push(digit(value))?;
             if place == 0 {
-                push_piece(alloc, text, *piece)?;
-                *piece = Piece::new();
+                push_piece(alloc, text, piece)?;
+                *piece = Piece::new(alloc);
             }
         }
         DecidedKind::Branch => {}
@@ -76,16 +102,16 @@ fn take_bit(
     Ok(())
 }
 
-/// Appends the cycles of a case.
+/// Appends the cycles of some bits. The last one may not be whole.
 fn push_cycles(alloc: Global, text: &mut Vec<u8>, bits: &[Decided]) -> Result<(), Fault> {
-    let mut piece = Piece::new();
+    let mut piece = Piece::new(alloc);
     for bit in bits {
         take_bit(alloc, text, &mut piece, bit.kind, bit.value)?;
     }
-    Ok(())
+    push_begun(text, &piece)
 }
 
-/// Appends the branch bits of a case, where it has any.
+/// Appends the branch bits, where there are any.
 fn push_branches(text: &mut Vec<u8>, bits: &[Decided]) -> Result<(), Fault> {
     let mut before: &[u8] = b" / ";
     for bit in bits {
@@ -98,12 +124,19 @@ fn push_branches(text: &mut Vec<u8>, bits: &[Decided]) -> Result<(), Fault> {
     Ok(())
 }
 
-/// Appends the line of a case.
-fn push_case(alloc: Global, text: &mut Vec<u8>, case: &Case) -> Result<(), Fault> {
-    let bits = case.prefix.as_slice();
-    text.extend_from_slice(b"case")?;
+/// Appends decided bits, with a blank before them.
+fn push_prefix(alloc: Global, text: &mut Vec<u8>, bits: &[Decided]) -> Result<(), Fault> {
+    if bits.is_empty() {
+        text.extend_from_slice(b" -")?;
+    }
     push_cycles(alloc, text, bits)?;
-    push_branches(text, bits)?;
+    push_branches(text, bits)
+}
+
+/// Appends the line of a case.
+pub(super) fn push_case(alloc: Global, text: &mut Vec<u8>, case: &Case) -> Result<(), Fault> {
+    text.extend_from_slice(b"case")?;
+    push_prefix(alloc, text, case.prefix.as_slice())?;
     let (cycles, late) = (case.cycles, u8::from(case.late));
     let end = format!(in alloc; " cycles {cycles} late {late}\n")?;
     text.extend_from_slice(end.as_bytes())?;
@@ -111,12 +144,21 @@ fn push_case(alloc: Global, text: &mut Vec<u8>, case: &Case) -> Result<(), Fault
 }
 
 /// Appends what is over its budget.
-fn push_over(alloc: Global, text: &mut Vec<u8>, over: &Over) -> Result<(), Fault> {
-    let line = match over {
-        Over::Nodes { word, bit, .. } => format!(in alloc; "over word {word} bit {bit}\n")?,
+pub(super) fn push_over(alloc: Global, text: &mut Vec<u8>, over: &Over) -> Result<(), Fault> {
+    let end = match over {
+        Over::Nodes {
+            prefix,
+            word,
+            bit,
+            ..
+        } => {
+            text.extend_from_slice(b"over nodes prefix")?;
+            push_prefix(alloc, text, prefix.as_slice())?;
+            format!(in alloc; " word {word} bit {bit}\n")?
+        }
         Over::Paths { limit, .. } => format!(in alloc; "over paths {limit}\n")?,
     };
-    text.extend_from_slice(line.as_bytes())?;
+    text.extend_from_slice(end.as_bytes())?;
     Ok(())
 }
 
@@ -224,7 +266,7 @@ fn push_boundary(
 }
 
 /// The budget that the words of a call name.
-fn budget_of(given: &[String]) -> Result<Budget, Fault> {
+pub(super) fn budget_of(given: &[String]) -> Result<Budget, Fault> {
     Ok(Budget {
         nodes: word(number_of(given, "nodes")?)?,
         paths: word(number_of(given, "paths")?)?,

@@ -25,7 +25,11 @@ fn push_name(alloc: Global, names: &mut Vec<Name>, side: &[u8], name: &[u8]) -> 
 }
 
 /// The names of the elements of a relation.
-fn names_of(alloc: Global, board: &Board, machine: &Machine) -> Result<Vec<Name>, Fault> {
+pub(super) fn names_of(
+    alloc: Global,
+    board: &Board,
+    machine: &Machine,
+) -> Result<Vec<Name>, Fault> {
     let mut names = Vec::new(alloc);
     for number in 0..board.element_count() {
         let name = board.element_name(number).unwrap_or(b"");
@@ -98,7 +102,7 @@ fn lines_of(
 }
 
 /// The line of a fault.
-fn refused(alloc: Global, refusal: Refusal) -> Result<Vec<u8>, Fault> {
+pub(super) fn refused(alloc: Global, refusal: Refusal) -> Result<Vec<u8>, Fault> {
     let mut report = Vec::new(alloc);
     push_refusal(alloc, &mut report, refusal)?;
     Ok(report)

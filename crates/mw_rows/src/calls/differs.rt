@@ -1,0 +1,243 @@
+// `call differs nodes=N paths=N`: the cases of each boundary of a job as `call cases` has them, over the same files and with
+// the same words, and behind each one a start of it that differs: its counter, and the first difference that a replay of
+// this text shows; or `same` where none of its starts differs. What is over its budget ends the list of its boundary with a
+// line. `call counter`: the text of the file `s`, read as a counter of the same job and printed again, or its first fault.
+// A boundary stands there by its address.
+ghost use Rattle.std.specs.Prelude.{◌≡◌, ◌<◌, ◌^◌, List, length, true, false, IfOk};
+ghost use Rattle.mw_cycle.specs.declared.decided.Decided.{Decided};
+ghost use Rattle.mw_rel.specs.Views.{job_of};
+ghost use Rattle.mw_fork.specs.Begins.{IsDiffering};
+ghost use Rattle.mw_fork.specs.Forks.{At, IsForkOf};
+ghost use Rattle.mw_replay.specs.Counter.{IsCounter};
+
+use super::cases::{MOST_CASES, budget_of, push_case, push_over};
+use super::pairs::{read_job, text_of};
+use super::relations::{names_of, refused};
+use mw_base::append_hex;
+use mw_fork::{Budget, Fork, ForkFault};
+use mw_rel::{Begin, Job};
+use mw_replay::{Counter, Difference, print_counter, read_counter, replay};
+use mw_rowfile::{Fault, File, wrong};
+use std::alloc::Global;
+
+/// The counter of a start that differs. It has a value for each free element and a word for each address.
+fn counter_of(job: &Job, boundary: usize, begin: Begin) -> Result<Counter, Fault>
+    requires there { boundary < length (job_of job.now).relation.boundaries }
+    requires differs { (bits : List Decided) × IsDiffering (job_of job.now) boundary bits begin }
+    ensures { IfOk result (IsCounter (job_of job.now)) }
+{
+    if !begin.fits(job, boundary) {
+        return Err(wrong("no start"));
+    }
+    Ok(Counter { boundary, begin })
+}
+
+/// Appends the name of an element.
+fn push_element(alloc: Global, report: &mut Vec<u8>, job: &Job, element: u32) -> Result<(), Fault> {
+    let names = names_of(alloc, &job.board, &job.machine)?;
+    match names.get(element as usize) {
+        Some(name) => report.extend_from_slice(name.as_slice())?,
+        None => return Err(wrong("no such element")),
+    }
+    Ok(())
+}
+
+/// Appends a difference.
+fn push_difference(
+    alloc: Global,
+    report: &mut Vec<u8>,
+    job: &Job,
+    difference: Difference,
+) -> Result<(), Fault> {
+    match difference {
+        Difference::Late => report.extend_from_slice(b"late")?,
+        Difference::Event(number) => {
+            let text = format!(in alloc; "event {number}")?;
+            report.extend_from_slice(text.as_bytes())?;
+        }
+        Difference::StackPointer => report.extend_from_slice(b"stack pointer")?,
+        Difference::Element(element) => {
+            report.extend_from_slice(b"element ")?;
+            push_element(alloc, report, job, element)?;
+        }
+        Difference::Memory(address) => {
+            report.extend_from_slice(b"memory ")?;
+            append_hex(alloc, report, u128::from(address))?;
+        }
+    }
+    report.push(b'\n')?;
+    Ok(())
+}
+
+/// Appends what a replay of a counter shows.
+fn push_shown(
+    alloc: Global,
+    report: &mut Vec<u8>,
+    job: &Job,
+    counter: &Counter,
+) -> Result<(), Fault>
+    requires { IsCounter (job_of job.now) counter.now }
+{
+    match replay(alloc, job, counter)? {
+        Some(difference) => push_difference(alloc, report, job, difference),
+        None => {
+            report.extend_from_slice(b"no difference\n")?;
+            Ok(())
+        }
+    }
+}
+
+/// The counter that a text of another one gives.
+fn read_back(alloc: Global, job: &Job, text: &[u8]) -> Result<Counter, Fault>
+    ensures { IfOk result (IsCounter (job_of job.now)) }
+{
+    if text.len() > 1_048_576 {
+        return Err(wrong("a counter that is too long"));
+    }
+    match read_counter(alloc, job, &[], text) {
+        Ok(counter) => Ok(counter),
+        Err(_) => Err(wrong("a counter isn't read back")),
+    }
+}
+
+/// Appends a counter, and what is shown by a replay of its text, which has to be the same when it is printed again.
+fn push_counter(
+    alloc: Global,
+    report: &mut Vec<u8>,
+    job: &Job,
+    counter: &Counter,
+) -> Result<(), Fault>
+    requires { IsCounter (job_of job.now) counter.now }
+{
+    let text = print_counter(alloc, job, counter)?;
+    report.extend_from_slice(&text)?;
+    let again = read_back(alloc, job, &text)?;
+    let printed = print_counter(alloc, job, &again)?;
+    if printed.as_slice() != text.as_slice() {
+        report.extend_from_slice(b"another text\n")?;
+    }
+    push_shown(alloc, report, job, &again)
+}
+
+/// Appends what is over its budget. Nothing comes behind it.
+fn push_fault(alloc: Global, report: &mut Vec<u8>, fault: &ForkFault) -> Result<bool, Fault>
+    ensures { IfOk result (λ more. more ≡ false) }
+{
+    match fault {
+        ForkFault::Over(over) => push_over(alloc, report, over)?,
+        ForkFault::NoMemory => return Err(Fault::NoMemory),
+    }
+    Ok(false)
+}
+
+/// Appends a start of the case given last that differs, and answers whether more may come.
+fn push_differing(
+    alloc: Global,
+    report: &mut Vec<u8>,
+    job: &Job,
+    boundary: usize,
+    fork: &mut Fork,
+) -> Result<bool, Fault>
+    requires of { IsForkOf (job_of job.now) fork.old }
+    requires there { boundary < length (job_of job.now).relation.boundaries }
+    requires boundary { fork.old.boundary ≡ boundary }
+    requires given { (last : List Decided) × (fork.old.at ≡ At last) }
+    ensures same { IfOk result (λ more. more ≡ true → fork.new ≡ fork.old) }
+{
+    match fork.differs(alloc, job) {
+        Ok(Some(begin)) => {
+            let counter = counter_of(job, boundary, begin)?;
+            push_counter(alloc, report, job, &counter)?;
+            Ok(true)
+        }
+        Ok(None) => {
+            report.extend_from_slice(b"same\n")?;
+            Ok(true)
+        }
+        Err(fault) => push_fault(alloc, report, &fault),
+    }
+}
+
+/// Appends the next case of a fork with a start that differs, and answers whether more may come.
+fn push_next(
+    alloc: Global,
+    report: &mut Vec<u8>,
+    job: &Job,
+    boundary: usize,
+    fork: &mut Fork,
+) -> Result<bool, Fault>
+    requires of { IsForkOf (job_of job.now) fork.old }
+    requires there { boundary < length (job_of job.now).relation.boundaries }
+    requires boundary { fork.old.boundary ≡ boundary }
+    ensures of { IfOk result (λ more. more ≡ true → IsForkOf (job_of job.now) fork.new) }
+    ensures boundary { IfOk result (λ more. more ≡ true → fork.new.boundary ≡ boundary) }
+{
+    match fork.next_case(alloc, job) {
+        Ok(Some(case)) => {
+            push_case(alloc, report, &case)?;
+            push_differing(alloc, report, job, boundary, fork)
+        }
+        Ok(None) => Ok(false),
+        Err(fault) => push_fault(alloc, report, &fault),
+    }
+}
+
+/// Appends the cases of the boundary of this number, each with a start that differs.
+fn push_boundary(
+    alloc: Global,
+    report: &mut Vec<u8>,
+    job: &Job,
+    boundary: usize,
+    budget: Budget,
+) -> Result<(), Fault>
+    requires { boundary < length (job_of job.now).relation.boundaries }
+{
+    let address = job.boundary(boundary).address;
+    let head = format!(in alloc; "boundary 0x{address:x}\n")?;
+    report.extend_from_slice(head.as_bytes())?;
+    let Ok(mut fork) = Fork::start(alloc, job, boundary, budget) else {
+        unreachable!()
+    };
+    for _ in 0..=MOST_CASES {
+        if !push_next(alloc, report, job, boundary, &mut fork)? {
+            return Ok(());
+        }
+    }
+    Err(wrong("more cases than are asked for"))
+}
+
+/// The cases of each boundary of a job, each with a start that differs.
+///
+/// # Errors
+///
+/// Words or files that aren't what the call reads, and want of memory.
+pub fn list(alloc: Global, given: &[String], files: &[File]) -> Result<Vec<u8>, Fault> {
+    let budget = budget_of(given)?;
+    let job = read_job(alloc, files, "text")?;
+    let mut report = Vec::new(alloc);
+    for number in 0..job.relation.boundaries().len() {
+        push_boundary(alloc, &mut report, &job, number, budget)?;
+    }
+    Ok(report)
+}
+
+/// A text that is read as a counter of a job and printed again.
+fn printed_again(alloc: Global, job: &Job, text: &[u8]) -> Result<Vec<u8>, Fault>
+    requires { length text.now < 2 ^ 32 }
+{
+    match read_counter(alloc, job, &[], text) {
+        Ok(counter) => Ok(print_counter(alloc, job, &counter)?),
+        Err(refusal) => refused(alloc, refusal),
+    }
+}
+
+/// The counter of a text, printed again.
+///
+/// # Errors
+///
+/// Files that aren't what the call reads, and want of memory.
+pub fn read(alloc: Global, files: &[File]) -> Result<Vec<u8>, Fault> {
+    let text = text_of(files, "s")?;
+    let job = read_job(alloc, files, "text")?;
+    printed_again(alloc, &job, text)
+}
