@@ -1,13 +1,16 @@
 -- Lists without the zeros at their ends.
-use Rattle.std.proofs.Common.{◌≡◌, ℕ, zero, suc, ◌<◌, List, [], ◌∷◌, map, slice_index, slice_index_or, Bool, true, false, ◌==◌, lit<, refl, ap, ◌∙◌, subst, sym}
-use Rattle.std.specs.Prelude.{All}
+use Rattle.std.proofs.Common.{◌≡◌, ◌≢◌, ℕ, zero, suc, ◌<◌, List, [], ◌∷◌, map, slice_index, slice_index_or, Bool, true, false, ◌==◌, lit<, refl, ap, ◌∙◌, subst, sym, arith}
+use Rattle.std.specs.Prelude.{All, length}
+use Rattle.std.proofs.Math.Seq.{take-length}
 use Rattle.std.proofs.lemmas.Bool.{eqb-true}
 use Rattle.std.proofs.lemmas.Grind.{get_or_default_zero}
 use Rattle.mw_base.specs.Words.{num}
 use Rattle.mw_cycle.specs.declared.state.CycleIn.{CycleIn}
-use Rattle.mw_replay.specs.Laws.{ZerosGiveNothing}
+use Rattle.mw_replay.specs.CounterPrinted.{shortened}
+use Rattle.mw_replay.specs.Laws.{EndsInNoZero, NothingIsCut, ZerosGiveNothing}
 use Rattle.mw_sim.specs.Given.{before_trimmed, trimmed}
 use Rattle.mw_sim.proofs.Starts.{trimmed_below}
+use Rattle.mw_replay.proofs.Appended.{kept_front}
 
 put_once : (x : ℕ) (ys : List ℕ) (b : Bool) → (x == 0) ≡ b → trimmed ys ≡ ys
     → trimmed (before_trimmed x ys) ≡ before_trimmed x ys
@@ -82,3 +85,23 @@ zeros_give_nothing env place =
     (bit_at (trimmed (map num line)) place.cycle
     ∙ ap (λ n. n == 1) (trimmed_same (map num line) place.cycle) ∙ number_at line place.cycle)
     (trimmed_same env.inputs place.taken)
+
+-- ---- with no 0 at its end a list stays
+
+trimmed_stays : (xs : List ℕ) → EndsInNoZero xs → trimmed xs ≡ xs
+trimmed_stays xs ends =
+    sym (kept_front xs (length xs) (omega arith) (λ i after before. omega arith) ends) ∙ take-length xs
+
+bits_back : (bits : List Bool) → map (λ bit. bit == 1) (map num bits) ≡ bits
+bits_back [] = refl
+bits_back (true ∷ rest) = ap (λ bits. true ∷ bits) (bits_back rest)
+bits_back (false ∷ rest) = ap (λ bits. false ∷ bits) (bits_back rest)
+
+pub nothing_is_cut : NothingIsCut
+nothing_is_cut env line noise inputs =
+    rw (
+      trimmed_stays (map num env.line) line,
+      bits_back env.line,
+      trimmed_stays env.noise noise,
+      trimmed_stays env.inputs inputs,
+    ) refl

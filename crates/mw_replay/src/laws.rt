@@ -1,5 +1,5 @@
 // Laws of counters and replays.
-ghost use Rattle.mw_replay.specs.Laws.{StartsAreOne, CountersGiveStarts, StepsDiffer, NoneDiffersBefore, ZerosGiveNothing, ZerosShowNothing};
+ghost use Rattle.mw_replay.specs.Laws.{StartsAreOne, CountersGiveStarts, StepsDiffer, NoneDiffersBefore, ZerosGiveNothing, ZerosShowNothing, NothingIsCut};
 
 /// The law of one start: a counter gives one start at most, since its pair is the one in relation with its values and
 /// its memory.
@@ -31,4 +31,10 @@ pub fn zeros_give_nothing()
 /// The law of what zeros show: a start without them shows the same difference, or none.
 pub fn zeros_show_nothing()
     ensures { ZerosShowNothing }
+{}
+
+/// The law of what is cut: an environment with no 0 at a list's end loses nothing where it is printed, so that its
+/// counter is read back as it was.
+pub fn nothing_is_cut()
+    ensures { NothingIsCut }
 {}
