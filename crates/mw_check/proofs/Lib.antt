@@ -1,10 +1,14 @@
 pub mod Answered
+pub mod Counters
 pub mod Declared
 pub mod Differences
+pub mod Gone
 pub mod Loops
 pub mod Memoryless
 pub mod Numbered
 pub mod QuestionLines
+pub mod Searching
 pub mod Shown
 pub mod SideTerms
 pub mod Sides
+pub mod Stopping

@@ -1,5 +1,5 @@
 -- What steps from a start show is one thing.
-use Rattle.std.proofs.Common.{◌≡◌, ℕ, ◌+◌, Some, refl, sym, ap, ap₂, ◌∙◌}
+use Rattle.std.proofs.Common.{◌≡◌, ℕ, ◌+◌, refl, sym, ap, ap₂, ◌∙◌}
 use Rattle.std.proofs.lemmas.Option.{none-some, same_Some}
 use Rattle.mw_cycle.specs.Run.{BoardRun}
 use Rattle.mw_rel.specs.declared.difference.Difference.{Difference}

@@ -1,3 +1,4 @@
+pub mod Cases
 pub mod Comparison
 pub mod Equal
 pub mod Made
@@ -8,3 +9,5 @@ pub mod QuestionTerms
 pub mod QuestionText
 pub mod QuestionViews
 pub mod QuestionWords
+pub mod Searched
+pub mod Verdict
