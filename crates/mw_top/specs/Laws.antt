@@ -1,9 +1,15 @@
--- The law of options: what `--parts` changes.
-use Rattle.std.specs.Prelude.{◌≡◌, ℕ, List, Bool, true}
+-- The laws: what `--parts` changes, and what a difference reads as.
+use Rattle.std.specs.Prelude.{◌≡◌, ℕ, List, Bool, true, Ok}
+use Rattle.mw_board.specs.Check.{check_of}
+use Rattle.mw_rel.specs.declared.difference.Difference.{Difference}
+use Rattle.mw_rel.specs.Job.{Job, IsJob}
+use Rattle.mw_replay.specs.CounterPrinted.{MayFollow}
 use Rattle.mw_top.specs.declared.status.Status.{Status}
 use Rattle.mw_top.specs.Answer.{IsWorked}
 use Rattle.mw_top.specs.Call.{Call}
 use Rattle.mw_top.specs.Commands.Table.{is_determined}
+use Rattle.mw_top.specs.Differences.{IsDifferenceOf}
+use Rattle.mw_top.specs.Report.{difference_text}
 
 -- two calls of a command whose answer is determined, whose requests differ in nothing but `--parts`, and for which the
 -- same was read, are answered alike
@@ -12,3 +18,8 @@ PartsChangeNothing = (call other : Call) (status otherwise : Status) (report tex
     → (worked : IsWorked call status report) → (again : IsWorked other otherwise text)
     → is_determined worked.request.command ≡ true → again.request ≡ record worked.request { parts = parts } → again.contents ≡ worked.contents
     → (otherwise ≡ status) × (text ≡ report)
+
+-- what a difference of a job reads as may stand behind the word of a line `difference ..`
+abbrev pub DifferencesMayFollow : Type 0
+DifferencesMayFollow = (job : Job) (difference : Difference) → IsJob job → check_of job.board ≡ Ok tt
+    → IsDifferenceOf job difference → MayFollow (difference_text job difference)

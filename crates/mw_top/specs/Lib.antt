@@ -2,6 +2,7 @@ pub mod Answer
 pub mod Call
 pub mod Codes
 pub mod Commands
+pub mod Differences
 pub mod Laws
 pub mod Line
 pub mod LineRead

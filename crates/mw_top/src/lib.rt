@@ -11,7 +11,7 @@ mod state_text;
 mod status;
 mod top_call;
 
-pub use laws::parts_change_nothing;
+pub use laws::{differences_may_follow, parts_change_nothing};
 pub use request::{Command, Request, read_words};
 pub use status::Status;
 pub use top_call::bench;

@@ -1,0 +1,12 @@
+-- Differences that name something of a job.
+use Rattle.std.specs.Prelude.{◌<◌, ◌^◌, length}
+use Rattle.mw_rel.specs.declared.difference.Difference.{Difference}
+use Rattle.mw_rel.specs.declared.difference.Difference.TheVariants.{Event, Element, Memory}
+use Rattle.mw_rel.specs.Job.{Job}
+
+-- an element that a difference names is one of the job's, and the number of an event or an address has at most 32 bits
+abbrev pub IsDifferenceOf : Job → Difference → Type 0
+IsDifferenceOf job (Event n) = n < 2 ^ 32
+IsDifferenceOf job (Element e) = e < length job.relation.shape.widths
+IsDifferenceOf job (Memory a) = a < 2 ^ 32
+IsDifferenceOf job other = Unit {0}
