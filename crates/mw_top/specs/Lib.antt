@@ -7,6 +7,7 @@ pub mod Laws
 pub mod Line
 pub mod LineRead
 pub mod Options
+pub mod PrefixText
 pub mod Report
 pub mod Request
 pub mod RunText

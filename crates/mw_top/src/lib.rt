@@ -5,6 +5,7 @@ mod commands;
 mod fault;
 mod laws;
 mod outcome;
+mod prefix_text;
 mod report;
 mod request;
 mod state_text;
