@@ -6,7 +6,12 @@ const ASM: [&str; 3] = ["asm", "b", "m"];
 
 #[test]
 fn usage_lines(rt: HostRuntime) -> Result<(), Fail> {
-    let faulty: [&[&str]; 3] = [&[], &["asm", "b"], &["compare", "t"]];
+    let faulty: [&[&str]; 4] = [
+        &[],
+        &["asm", "b"],
+        &["compare", "t"],
+        &["certify", "b", "m", "k", "r", "--nodes", "0"],
+    ];
     for words in faulty {
         let mut shelf = MemoryShelf::new(rt.alloc(), 4096, &[])?;
         let mut out = MemorySink::new(rt.alloc(), 4096, &[])?;

@@ -48,6 +48,8 @@ fn main(rt: HostRuntime) -> ExitCode {
 }
 
 #[cfg(test)]
+mod certify_tests;
+#[cfg(test)]
 mod command_tests;
 #[cfg(test)]
 mod compare_tests;

@@ -2,5 +2,8 @@ pub mod Alike
 pub mod Cycles
 pub mod Ends
 pub mod Followed
+pub mod Headlines
 pub mod Lines
+pub mod Made
+pub mod Noes
 pub mod Reports

@@ -2,6 +2,8 @@
 use Rattle.std.proofs.Common.{◌≡◌, ℕ, List, true, Some, refl, ap, subst}
 use Rattle.mw_check.specs.declared.equality.Equality.{Equality}
 use Rattle.mw_check.specs.declared.equality.Equality.TheVariants as equalities
+use Rattle.mw_check.specs.declared.verdict.Verdict.{Verdict}
+use Rattle.mw_check.specs.declared.verdict.Verdict.TheVariants as verdicts
 use Rattle.mw_plan.specs.Files.{FilesRead, IsLeft}
 use Rattle.mw_plan.specs.Plan.{done}
 use Rattle.mw_top.specs.declared.commands.Work.{Work}
@@ -12,6 +14,7 @@ use Rattle.mw_top.specs.declared.status.Status.{Status}
 use Rattle.mw_top.specs.declared.status.Status.TheVariants.{Done, Differs, Unknown, Usage, Refused, ReadFault, WriteFault, NoMemory}
 use Rattle.mw_top.specs.Answer.{is_worked, IsWorked, IsReport}
 use Rattle.mw_top.specs.Call.{Call}
+use Rattle.mw_top.specs.Commands.Certify.{verdict_status}
 use Rattle.mw_top.specs.Commands.Compare.{compare_status}
 use Rattle.mw_top.specs.Commands.Equal.{equality_status}
 use Rattle.mw_top.specs.Commands.Table.{plan_of, IsAnswer}
@@ -28,6 +31,11 @@ equality_is_worked equalities.Yes = refl
 equality_is_worked (equalities.No values) = refl
 equality_is_worked (equalities.Unknown word bit) = refl
 
+verdict_is_worked : (verdict : Verdict) → is_worked (verdict_status verdict) ≡ true
+verdict_is_worked (verdicts.Yes summaries) = refl
+verdict_is_worked (verdicts.No counter) = refl
+verdict_is_worked (verdicts.Unknown over) = refl
+
 answer_is_worked : (request : RequestData) (work : Work) (status : Status) (report : List ℕ)
     → IsAnswer request work status report → is_worked status ≡ true
 answer_is_worked request (works.Comparison comparison) status report answer =
@@ -37,6 +45,8 @@ answer_is_worked request (works.Run prepared) status report answer = rw answer.s
 answer_is_worked request (works.Trace trace) status report answer = rw answer.status_is refl
 answer_is_worked request (works.Question question) status report answer =
     rw answer.status_is (equality_is_worked answer.equality)
+answer_is_worked request (works.Certification job) status report answer =
+    rw answer.status_is (verdict_is_worked answer.verdict)
 
 -- the report of work that was done
 worked_is_report : (call : Call) (status : Status) (report : List ℕ) → is_worked status ≡ true

@@ -1,8 +1,10 @@
 -- The commands: what each makes of its files, and what is answered then.
 pub mod Asm
+pub mod Certify
 pub mod Compare
 pub mod Debug
 pub mod Equal
+pub mod Job
 pub mod Prepared
 pub mod Run
 pub mod Table

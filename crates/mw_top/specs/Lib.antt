@@ -3,6 +3,7 @@ pub mod Call
 pub mod Codes
 pub mod Commands
 pub mod Differences
+pub mod Headline
 pub mod Laws
 pub mod Line
 pub mod LineRead

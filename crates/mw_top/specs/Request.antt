@@ -6,7 +6,7 @@ use Rattle.clap.specs.Kinds.{Kinds}
 use Rattle.clap.specs.Words.{Row, all_of, fault_of, first_of, matches_of}
 use Rattle.mw_plan.specs.Files.{FilesRead}
 use Rattle.mw_top.specs.declared.request.Command.{Command}
-use Rattle.mw_top.specs.declared.request.Command.TheVariants.{Asm, Compare, Debug, Equal, Run}
+use Rattle.mw_top.specs.declared.request.Command.TheVariants.{Asm, Certify, Compare, Debug, Equal, Replay, Run}
 use Rattle.mw_top.specs.declared.request.Request.{Request}
 use Rattle.mw_top.specs.declared.request.options.Number.{Number}
 use Rattle.mw_top.specs.declared.request.options.Number.TheVariants.{Nodes, Paths, Steps, Cycles}
@@ -55,10 +55,12 @@ row_of Asm = record { word = codes "asm"; files = 2; numbers = []; parts = false
 row_of Run = record { word = codes "run"; files = 3; numbers = Cycles ∷ []; parts = true }
 row_of Debug = record { word = codes "debug"; files = 4; numbers = []; parts = false }
 row_of Equal = record { word = codes "equal"; files = 1; numbers = Nodes ∷ []; parts = false }
+row_of Certify = record { word = codes "certify"; files = 4; numbers = Nodes ∷ Paths ∷ []; parts = false }
+row_of Replay = record { word = codes "replay"; files = 5; numbers = []; parts = false }
 
 -- the commands
 abbrev pub commands : List Command
-commands = Compare ∷ Asm ∷ Run ∷ Debug ∷ Equal ∷ []
+commands = Compare ∷ Asm ∷ Run ∷ Debug ∷ Equal ∷ Certify ∷ Replay ∷ []
 
 -- the command of a word
 abbrev pub command_of : List ℕ → Option Command

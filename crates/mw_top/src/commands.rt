@@ -2,17 +2,20 @@
 ghost use Rattle.std.specs.Prelude.{◌≡◌, [], IfOk, length};
 ghost use Rattle.mw_outside.specs.Views.{IsLater, shelf_shown};
 ghost use Rattle.mw_plan.specs.Steps.{Ends};
-ghost use Rattle.mw_top.specs.Commands.Table.{plan_of, IsAnswer};
+ghost use Rattle.mw_top.specs.Commands.Table.{budget_of, plan_of, IsAnswer};
 ghost use Rattle.mw_top.specs.Request.{data_of, row_of};
 
 mod asm;
+mod certify;
 mod compare;
 mod debug;
 mod equal;
+mod job;
 mod microprogram;
 mod prepared;
 mod run;
 
+use self::certify::Certification;
 use self::compare::Comparison;
 use self::equal::Asked;
 use self::microprogram::Program;
@@ -21,6 +24,7 @@ use crate::fault::Fault;
 use crate::outcome::Outcome;
 use crate::request::{Command, Request};
 use mw_base::{Items, NoMemory};
+use mw_fork::Budget;
 use mw_outside::Shelf;
 use mw_plan::{Files, Stop};
 use std::alloc::Global;
@@ -38,6 +42,8 @@ pub(crate) enum Work {
     Trace(Items<u8>),
     /// A question.
     Question(Asked),
+    /// A job that is to be certified.
+    Certification(Certification),
 }
 
 /// Reads the files of a command, and makes of them what its plan says.
@@ -59,6 +65,18 @@ pub(crate) fn read_files<S: Shelf>(
         Command::Run => run::read(alloc, shelf, files),
         Command::Debug => debug::read(alloc, shelf, files),
         Command::Equal => equal::read(alloc, shelf, files),
+        Command::Certify => certify::read(alloc, shelf, files),
+        Command::Replay => compare::read(alloc, shelf, files),
+    }
+}
+
+/// What the certification that is asked may cost.
+fn budget_of(request: &Request) -> Budget
+    ensures { result ≡ budget_of (data_of request.now) }
+{
+    Budget {
+        nodes: request.nodes,
+        paths: request.paths,
     }
 }
 
@@ -74,5 +92,10 @@ pub(crate) fn answer_with(alloc: Global, request: &Request, work: Work) -> Resul
         Work::Run(prepared) => run::report(alloc, prepared, request.cycles, request.parts),
         Work::Trace(trace) => Ok(debug::report(trace)),
         Work::Question(asked) => equal::report(alloc, &asked, request.nodes),
+        Work::Certification(certification) => certify::report(
+            alloc,
+            &certification,
+            budget_of(request),
+        ),
     }
 }

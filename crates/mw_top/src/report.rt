@@ -2,6 +2,7 @@
 ghost use Rattle.std.specs.Prelude.{◌≡◌, ◌++◌, [], OnOk, slice_index_or};
 ghost use Rattle.mw_sim.specs.Texts.{line};
 ghost use Rattle.mw_top.specs.Report.{usage_line, value_line, fault_line, cause_text, place_text, reader_text, fault_text, refusal_line};
+ghost use Rattle.mw_top.specs.Differences.{AreOf32Bits};
 ghost use Rattle.mw_top.specs.Report.{element_text, difference_text};
 ghost use Rattle.mw_base.specs.Numbers.{decimal, hex};
 ghost use Rattle.mw_macro.specs.Described.{description_of};
@@ -170,7 +171,8 @@ pub(crate) fn append_difference(
     job: &Job,
     difference: Difference,
 ) -> Result<(), NoMemory>
-    ensures { OnOk result (report.new.items ≡ report.old.items ++ difference_text (job_of job.now) difference) }
+    ensures text { OnOk result (report.new.items ≡ report.old.items ++ difference_text (job_of job.now) difference) }
+    ensures numbers { OnOk result (AreOf32Bits difference) }
 {
     match difference {
         Difference::Late => report.extend_from_slice(b"late")?,

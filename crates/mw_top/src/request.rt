@@ -27,6 +27,10 @@ pub enum Command {
     Debug,
     /// Says whether two expressions agree for all values of their variables: a question.
     Equal,
+    /// Certifies a job: a board file, a microprogram for its board, a described machine, and a relation.
+    Certify,
+    /// Compares one step of a start that a report gives: the files of `Compare`.
+    Replay,
 }
 
 /// A command with its files and options. An option that isn't the command's own stands as it does where it isn't given.
@@ -38,7 +42,7 @@ pub struct Request {
     pub files: Vec<String>,
     /// The most joint cofactors of an operation: 1 to 16,000,000, and 1,000,000 where it isn't given.
     pub nodes: u32,
-    /// The most cases of a boundary: 1 to 65,536, and 4,096 where it isn't given. No command reads it yet.
+    /// The most cases of a boundary: 1 to 65,536, and 4,096 where it isn't given.
     pub paths: u32,
     /// How many steps are compared at most: 1 to 10,000, and 1 where it isn't given.
     pub steps: u32,
@@ -63,12 +67,14 @@ struct Row {
 
 impl Command {
     /// The commands.
-    const ALL: [Command; 5] = [
+    const ALL: &'static [Command] = &[
         Command::Compare,
         Command::Asm,
         Command::Run,
         Command::Debug,
         Command::Equal,
+        Command::Certify,
+        Command::Replay,
     ];
 
     /// The row of the command.
@@ -109,6 +115,18 @@ impl Command {
                 numbers: &[Number::Nodes],
                 parts: false,
             },
+            Command::Certify => Row {
+                word: "certify",
+                files: 4,
+                numbers: &[Number::Nodes, Number::Paths],
+                parts: false,
+            },
+            Command::Replay => Row {
+                word: "replay",
+                files: 5,
+                numbers: &[],
+                parts: false,
+            },
         }
     }
 }
@@ -125,7 +143,8 @@ fn command_of(word: &str) -> Option<Command>
     ensures { result ≡ command_of word.now }
 {
     Command::ALL
-        .into_iter()
+        .iter()
+        .copied()
         .find(|command| is_word_of(*command, word))
 }
 

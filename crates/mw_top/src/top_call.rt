@@ -1,10 +1,13 @@
 // The top call: all that the program does.
 ghost use Rattle.std.specs.Prelude.{◌≡◌, ◌≢◌, ◌≤◌, List, ℕ, [], ◌∷◌, None, Some, true, Contains, IfOk, map, string_bytes};
 ghost use Rattle.mw_outside.specs.Views.{ShelfView, SinkView, IsLater, shelf_shown, sink_shown};
+ghost use Rattle.mw_fork.specs.declared.budget.Budget.{Budget};
 ghost use Rattle.mw_plan.specs.Shelf.{AreTold};
+ghost use Rattle.mw_rel.specs.Job.{Job};
 ghost use Rattle.mw_top.specs.Answer.{AreAccepted, AreRefused, IsEnd, IsReport, is_worked};
 ghost use Rattle.mw_top.specs.Answer.{IsMemoryEnd, IsReadFaultEnd, IsRefusalEnd, IsUsageEnd, IsWorkEnd, IsWriteFaultEnd};
 ghost use Rattle.mw_top.specs.Call.{Call, NothingFailed, call_of};
+ghost use Rattle.mw_top.specs.Headline.{AreToCertify, AsksToCertify, IsNoEnd, IsSettled, IsUnknownEnd, IsYesEnd, NothingIsOver};
 ghost use Rattle.mw_top.specs.Request.{HasItsFiles, RequestData, data_of, request_of};
 
 use crate::commands::{answer_with, read_files};
@@ -104,6 +107,24 @@ pub fn bench<S: Shelf, K: Sink>(
     // `Done`, `Differs`, `Unknown`: the work was done, and its report was taken.
     ensures answer { is_worked result ≡ true
         → IsWorkEnd (call_of S.Shelf K.Sink words.now shelf.old shelf.new out.old out.new) result }
+
+    // The headline. `Done`, where the words ask to certify: the job of the four files is certified.
+    ensures yes { AsksToCertify (call_of S.Shelf K.Sink words.now shelf.old shelf.new out.old out.new) → result ≡ Status.Done
+        → IsYesEnd (call_of S.Shelf K.Sink words.now shelf.old shelf.new out.old out.new) }
+
+    // `Differs`: the start that the report gives differs.
+    ensures no { AsksToCertify (call_of S.Shelf K.Sink words.now shelf.old shelf.new out.old out.new) → result ≡ Status.Differs
+        → IsNoEnd (call_of S.Shelf K.Sink words.now shelf.old shelf.new out.old out.new) }
+
+    // `Unknown`: what the report names is over the budget.
+    ensures unknown { AsksToCertify (call_of S.Shelf K.Sink words.now shelf.old shelf.new out.old out.new) → result ≡ Status.Unknown
+        → IsUnknownEnd (call_of S.Shelf K.Sink words.now shelf.old shelf.new out.old out.new) }
+
+    // Where nothing is over the budget, and nothing fails, the answer is yes or no, as the job is certified or isn't.
+    ensures settled { (job : Job) (budget : Budget)
+        → AreToCertify (call_of S.Shelf K.Sink words.now shelf.old shelf.new out.old out.new) job budget
+        → NothingIsOver job budget → NothingFailed (call_of S.Shelf K.Sink words.now shelf.old shelf.new out.old out.new)
+        → IsSettled job result }
 
     // Good words and good files are not refused.
     ensures answer_due { (request : RequestData) (contents : List (List ℕ)) → request_of (map string_bytes words.now) ≡ Some request

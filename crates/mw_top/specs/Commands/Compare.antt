@@ -1,16 +1,11 @@
--- compare: a board file, a microprogram for its board, a described machine, a relation between both, and a start of it.
+-- compare, replay: a board file, a microprogram for its board, a described machine, a relation between both, and a start of it.
 use Rattle.std.specs.Prelude.{◌≡◌, ℕ, List, ◌++◌, codes}
 use Rattle.mw_base.specs.Numbers.{decimal}
-use Rattle.mw_asm.specs.declared.assembled.Label.{Label}
-use Rattle.mw_asm.specs.Microprogram.{store_of}
-use Rattle.mw_boardfile.specs.Board.{board_of}
 use Rattle.mw_check.specs.declared.comparison.Compared.{Compared}
 use Rattle.mw_check.specs.declared.comparison.Compared.TheVariants as compared
 use Rattle.mw_check.specs.Comparison.{Shows}
-use Rattle.mw_descfile.specs.Machine.{machine_of}
-use Rattle.mw_descfile.specs.Relation.{relation_of}
 use Rattle.mw_plan.specs.Plan.{Plan, done, ◌>>=◌, next_by}
-use Rattle.mw_rel.specs.Job.{Job, IsJob, job_with}
+use Rattle.mw_rel.specs.Job.{Job, IsJob}
 use Rattle.mw_rel.specs.Start.{Start}
 use Rattle.mw_replay.specs.Counter.{IsCounter, IsStartOf}
 use Rattle.mw_replay.specs.CounterText.{counter_of}
@@ -18,21 +13,12 @@ use Rattle.mw_sim.specs.Texts.{line}
 use Rattle.mw_top.specs.declared.commands.Work.{Work}
 use Rattle.mw_top.specs.declared.commands.Work.TheVariants as works
 use Rattle.mw_top.specs.declared.fault.Fault.{Fault}
-use Rattle.mw_top.specs.declared.fault.Fault.TheVariants.{Board, Text}
+use Rattle.mw_top.specs.declared.fault.Fault.TheVariants.{Text}
 use Rattle.mw_top.specs.declared.status.Status.{Status}
 use Rattle.mw_top.specs.declared.status.Status.TheVariants.{Done, Differs}
+use Rattle.mw_top.specs.Commands.Job.{job_plan}
 use Rattle.mw_top.specs.Report.{difference_text}
 use Rattle.mw_top.specs.Work.{Comparison}
-
--- the job of four files, and the labels of its microprogram: the board of the first, what the second is assembled to
--- for it, the machine of the third, and the relation between them of the fourth
-abbrev pub job_plan : (Job → List Label → Plan Fault Work) → Plan Fault Work
-job_plan rest = do
-  board ← next_by Board board_of
-  made ← next_by Text (store_of board)
-  machine ← next_by Text machine_of
-  relation ← next_by Text (relation_of board made.labels machine)
-  rest (job_with board made.store.words machine relation) made.labels
 
 -- the job of the first four files, and the start of the fifth
 unfoldable pub compare_plan : Plan Fault Work

@@ -154,7 +154,12 @@ fn append_no(
 }
 
 /// Appends a word and a bit of it.
-fn append_word(alloc: Global, report: &mut Vec<u8>, word: u64, bit: u8) -> Result<(), NoMemory>
+pub(super) fn append_word(
+    alloc: Global,
+    report: &mut Vec<u8>,
+    word: u64,
+    bit: u8,
+) -> Result<(), NoMemory>
     ensures { OnOk result (report.new.items ≡ report.old.items ++ word_text word bit) }
 {
     report.extend_from_slice(b" word ")?;

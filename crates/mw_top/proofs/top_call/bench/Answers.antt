@@ -1,4 +1,5 @@
 use Rattle.mw_top.proofs.Ends.{end_worked, end_usage, end_accepted, end_refused, end_complete}
+use Rattle.mw_top.proofs.Headlines.{end_no, end_settled, end_unknown, end_yes}
 use Rattle.mw_top.proofs.top_call.bench.Goals as goal
 
 pub returns-clause-usage : goal.returns-clause-usage
@@ -9,6 +10,18 @@ returns-clause-usage_due g c = end_usage _ _ c.run.ensures.end
 
 pub returns-clause-answer : goal.returns-clause-answer
 returns-clause-answer g c = end_worked _ _ c.run.ensures.end
+
+pub returns-clause-yes : goal.returns-clause-yes
+returns-clause-yes g c = λ asks is. end_yes _ (rw is at c.run.ensures.end) asks
+
+pub returns-clause-no : goal.returns-clause-no
+returns-clause-no g c = λ asks is. end_no _ (rw is at c.run.ensures.end) asks
+
+pub returns-clause-unknown : goal.returns-clause-unknown
+returns-clause-unknown g c = λ asks is. end_unknown _ (rw is at c.run.ensures.end) asks
+
+pub returns-clause-settled : goal.returns-clause-settled
+returns-clause-settled g c = end_settled _ _ c.run.ensures.end
 
 pub returns-clause-answer_due : goal.returns-clause-answer_due
 returns-clause-answer_due g c = end_accepted _ _ c.run.ensures.end

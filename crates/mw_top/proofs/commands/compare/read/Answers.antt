@@ -11,7 +11,7 @@ use Rattle.mw_replay.specs.Counter.{Counter}
 use Rattle.mw_replay.specs.CounterText.{counter_of}
 use Rattle.mw_top.specs.declared.commands.Work.{Work}
 use Rattle.mw_top.specs.declared.commands.Work.TheVariants as works
-use Rattle.mw_top.specs.declared.commands.compare.Labelled.{Labelled}
+use Rattle.mw_top.specs.declared.commands.job.Labelled.{Labelled}
 use Rattle.mw_top.specs.declared.fault.Fault.{Fault}
 use Rattle.mw_top.specs.declared.fault.Fault.TheVariants.{Text}
 use Rattle.mw_top.specs.Commands.Compare.{compare_plan}

@@ -13,7 +13,7 @@ use Rattle.mw_top.specs.declared.commands.Work.{Work}
 use Rattle.mw_top.specs.declared.commands.microprogram.Program.{Program}
 use Rattle.mw_top.specs.declared.fault.Fault.{Fault}
 use Rattle.mw_top.specs.declared.fault.Fault.TheVariants.{Text}
-use Rattle.mw_top.proofs.commands.compare.read_job.Goals as goal
+use Rattle.mw_top.proofs.commands.job.read_job.Goals as goal
 
 -- what follows the relation, the machine, and the microprogram
 abbrev after_relation : (Job → List Label → Plan Fault Work) → Program → Description → Relation → Plan Fault Work

@@ -1,0 +1,97 @@
+-- What a call that is to certify ends with: the headline.
+use Rattle.std.specs.Prelude.{◌≡◌, ℕ, List, [], ◌∷◌, Contains, Ok, Some}
+use Rattle.mw_asm.specs.declared.assembled.Label.{Label}
+use Rattle.mw_check.specs.declared.verdict.Summary.{Summary}
+use Rattle.mw_check.specs.Verdict.{AreSummaries, AreWithinBudget, IsNo, IsUnknown}
+use Rattle.mw_cycle.specs.declared.decided.Decided.{Decided}
+use Rattle.mw_fork.specs.declared.budget.Budget.{Budget}
+use Rattle.mw_fork.specs.declared.fault.Over.{Over}
+use Rattle.mw_plan.specs.Files.{IsLeft}
+use Rattle.mw_plan.specs.Plan.{after, done}
+use Rattle.mw_plan.specs.Shelf.{AreTold}
+use Rattle.mw_rel.specs.declared.difference.Difference.{Difference}
+use Rattle.mw_rel.specs.Certified.{Certified}
+use Rattle.mw_rel.specs.Differs.{Differs}
+use Rattle.mw_rel.specs.Job.{Job}
+use Rattle.mw_rel.specs.OverBudget.{AreNodesOver, ArePathsOver}
+use Rattle.mw_rel.specs.Start.{Start}
+use Rattle.mw_replay.specs.Counter.{Counter, IsStartOf}
+use Rattle.mw_replay.specs.CounterText.{counter_of}
+use Rattle.mw_top.specs.declared.commands.Work.TheVariants.{Certification}
+use Rattle.mw_top.specs.declared.request.Command.TheVariants.{Certify}
+use Rattle.mw_top.specs.declared.status.Status.{Status}
+use Rattle.mw_top.specs.declared.status.Status.TheVariants as statuses
+use Rattle.mw_top.specs.Call.{Call, Took}
+use Rattle.mw_top.specs.Commands.Certify.{certify_plan, no_report, unknown_report, yes_report}
+use Rattle.mw_top.specs.Commands.Table.{budget_of}
+use Rattle.mw_top.specs.Request.{RequestData, files_of, request_of}
+
+-- the words ask to certify
+pub record AsksToCertify (call : Call) : Type 0 where
+  pub request : RequestData
+  pub requested : request_of call.words ≡ Some request
+  pub command : request.command ≡ Certify
+
+-- They ask it within this budget; and the four files were read and accepted, as the board, the microprogram, the described
+-- machine and the relation of this job.
+pub record Certifies (call : Call) (job : Job) (budget : Budget) : Type 0 where
+  pub asks : AsksToCertify call
+  pub budget_is : budget ≡ budget_of asks.request
+  pub contents : List (List ℕ)
+  pub files : IsLeft certify_plan call.shelf_before (files_of asks.request contents) (done (Certification job))
+
+-- Yes: the job is certified. The report says so, and of each boundary how many feasible cases it has and how many cycles its
+-- longest segment; and all is within the budget.
+pub record IsYesEnd (call : Call) : Type 0 where
+  pub job : Job
+  pub budget : Budget
+  pub work : Certifies call job budget
+  pub certified : Certified job
+  pub summaries : List Summary
+  pub true_summaries : AreSummaries job summaries
+  pub within : AreWithinBudget job budget
+  pub report : Took call (yes_report job summaries)
+
+-- No: a start differs. The report has the difference, and the start's counter, as which it is read back; and this start is
+-- the first that there is to find.
+pub record IsNoEnd (call : Call) : Type 0 where
+  pub job : Job
+  pub budget : Budget
+  pub work : Certifies call job budget
+  pub counter : Counter
+  pub start : Start
+  pub its : IsStartOf job counter start
+  pub difference : Difference
+  pub differs : Differs job start difference
+  pub first : IsNo job counter
+  pub report : Took call (no_report job difference counter)
+  pub reads_back : (labels : List Label) → counter_of job labels (no_report job difference counter) ≡ Ok counter
+
+-- Unknown: what the report names is over the budget, and no start differs before it.
+pub record IsUnknownEnd (call : Call) : Type 0 where
+  pub job : Job
+  pub budget : Budget
+  pub work : Certifies call job budget
+  pub over : Over
+  pub unknown : IsUnknown job budget over
+  pub report : Took call (unknown_report job over)
+
+-- The words ask to certify within this budget, and the shelf tells contents of the four files that are accepted as those of
+-- this job.
+pub record AreToCertify (call : Call) (job : Job) (budget : Budget) : Type 0 where
+  pub asks : AsksToCertify call
+  pub budget_is : budget ≡ budget_of asks.request
+  pub contents : List (List ℕ)
+  pub told : AreTold call.shelf_before asks.request.files contents
+  pub accepted : after certify_plan contents ≡ Some (done (Certification job))
+
+-- no operation and no boundary of a job is over a budget
+pub record NothingIsOver (job : Job) (budget : Budget) : Type 0 where
+  pub nodes : (number : ℕ) (prefix : List Decided) (word j : ℕ) → ¬ AreNodesOver job number budget.nodes prefix word j
+  pub paths : (number : ℕ) → ¬ ArePathsOver job number budget.paths
+
+-- The answer is yes or no, unless memory ran out: yes where the job is certified, and no where it isn't.
+pub record IsSettled (job : Job) (status : Status) : Type 0 where
+  pub among : Contains (statuses.Done ∷ statuses.Differs ∷ statuses.NoMemory ∷ []) status
+  pub yes : status ≡ statuses.Done → Certified job
+  pub no : status ≡ statuses.Differs → ¬ Certified job
