@@ -1,6 +1,6 @@
 -- How many operations there are.
-use Rattle.std.proofs.Common.{◌≡◌, ℕ, zero, suc, ◌+◌, ◌*◌, ◌≤◌, refl, sym, ap, ◌∙◌, arith}
-use Rattle.mw_cases.specs.Operations.{operation_count, operations_before}
+use Rattle.std.proofs.Common.{◌≡◌, ℕ, zero, suc, ◌+◌, ◌*◌, ◌≤◌, refl, ◌∙◌, arith}
+use Rattle.mw_cases.specs.Operations.{operations_before}
 use Rattle.mw_cases.specs.Laws.{OperationsAre640, OperationsAreFew}
 
 -- each has one to four

@@ -3,7 +3,6 @@ use Rattle.std.proofs.Common.{◌≡◌, ℕ, zero, suc, ◌+◌, ◌<◌, List,
 use Rattle.std.specs.Prelude.{All}
 use Rattle.std.proofs.lemmas.List.FromFn.{length-map-range_with_len, get_or-map-range_with_len}
 use Rattle.std.specs.List.{range_with_len}
-
 use Rattle.mw_cases.specs.declared.operation.Operation.{Operation}
 use Rattle.mw_cases.specs.Operations.{next_value, value_after, operation_of, operations_before, operation_count, operation_at, instruction_of, instructions_of, IsOperation}
 
@@ -33,7 +32,7 @@ before_more number i = ap (operations_before number) (let e : suc i ≡ i + 1 = 
 -- the operations that a value goes on to are those of the instruction before which it stands
 pub made_is : (number i : ℕ)
     → map (λ j. operation_of (value_after (value_after number (operations_before number i)) (j + 1)))
-      (range_with_len 0 (operation_count number i)) ≡ instruction_of number i
+    (range_with_len 0 (operation_count number i)) ≡ instruction_of number i
 unfolding operation_at instruction_of
 made_is number i =
     same_map _ (operation_at number i)

@@ -58,8 +58,8 @@ unfoldable pub choice_of : (number bits first : ℕ) → Acts
 choice_of number zero first = acts_of (map act_of (instruction_of number first))
 choice_of number (suc bits) first =
     next (choose (part (element word_read) (8 + bits) (8 + bits))
-      (choice_of number bits (first + 2 ^ bits))
-      (choice_of number bits first)) nothing
+    (choice_of number bits (first + 2 ^ bits))
+    (choice_of number bits first)) nothing
 
 -- the word at PC's low byte is read
 abbrev pub reading : Act

@@ -1,8 +1,8 @@
 // The described machine of a job.
 ghost use Rattle.std.specs.Prelude.{◌≡◌, ◌+◌, ◌^◌, ◌<◌, ◌≤◌, [], ◌∷◌, map, IfOk};
-ghost use Rattle.mw_expr.specs.Tree.{element, view};
+ghost use Rattle.mw_expr.specs.Tree.{element, part, view};
 ghost use Rattle.mw_macro.specs.Described.{description_of};
-ghost use Rattle.mw_macro.specs.Statements.{act_of as act_seen, acts, acts_of, next};
+ghost use Rattle.mw_macro.specs.Statements.{act_of as act_seen, acts, acts_of, choose, next};
 ghost use Rattle.mw_cases.specs.Described.{generated_names, generated_shape, register, word_read, sign_of, outcome_of, act_of, choice_of, reading, counting, generated_machine};
 
 use crate::instructions::Instructions;
@@ -115,8 +115,24 @@ fn doing_all(alloc: Global, operations: &[Operation]) -> Result<Vec<Statement>, 
     Ok(statements)
 }
 
+/// The statement by which a bit of the word chooses between two lists, the first where it is 1.
+fn choosing(
+    alloc: Global,
+    bit: u8,
+    first: Vec<Statement>,
+    second: Vec<Statement>,
+) -> Result<Statement, NoMemory>
+    ensures { IfOk result (λ statement. act_seen statement
+        ≡ choose (part (element word_read) bit bit) (acts first.items) (acts second.items)) }
+{
+    Ok(Statement::If {
+        condition: Expr::Part(element(alloc, WORD_READ)?, bit, bit),
+        first,
+        second,
+    })
+}
+
 /// The statements of the instructions from the first on, which so many bits of the word choose.
-#[tactic(auto, unfolding(crate::specs::Described::choice_of))]
 fn choice(
     alloc: Global,
     instructions: &Instructions,
@@ -131,18 +147,10 @@ fn choice(
         return doing_all(alloc, instructions.operations(first));
     }
     let lower = bits - 1;
-    let bit = LOWEST_BIT + lower;
-    let half = 1 << lower;
-    let condition = Expr::Part(element(alloc, WORD_READ)?, bit, bit);
-    let second = choice(alloc, instructions, lower, first)?;
-    let first = choice(alloc, instructions, lower, first + half)?;
-    let choice = Statement::If {
-        condition,
-        first,
-        second,
-    };
+    let low = choice(alloc, instructions, lower, first)?;
+    let high = choice(alloc, instructions, lower, first + (1 << lower))?;
     let mut statements = Vec::new(alloc);
-    statements.push(choice)?;
+    statements.push(choosing(alloc, LOWEST_BIT + lower, high, low)?)?;
     Ok(statements)
 }
 
@@ -169,10 +177,7 @@ fn counting(alloc: Global) -> Result<Statement, NoMemory>
 }
 
 /// The statements of the step.
-fn statements(
-    alloc: Global,
-    instructions: &Instructions,
-) -> Result<Vec<Statement>, NoMemory>
+fn statements(alloc: Global, instructions: &Instructions) -> Result<Vec<Statement>, NoMemory>
     ensures { IfOk result (λ statements. acts statements.items
         ≡ next reading (next counting (choice_of instructions.now.number 8 0))) }
 {
@@ -189,10 +194,7 @@ fn statements(
 ///
 /// Memory ran out.
 #[tactic(auto, unfolding(crate::specs::Described::generated_machine))]
-pub(crate) fn machine(
-    alloc: Global,
-    instructions: &Instructions,
-) -> Result<Machine, NoMemory>
+pub(crate) fn machine(alloc: Global, instructions: &Instructions) -> Result<Machine, NoMemory>
     ensures { IfOk result (λ machine. description_of machine ≡ generated_machine instructions.now.number) }
 {
     let names = names(alloc)?;

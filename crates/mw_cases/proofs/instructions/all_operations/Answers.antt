@@ -1,4 +1,4 @@
-use Rattle.std.proofs.Common.{◌≡◌, ℕ, ◌+◌, ◌++◌, ◌∷◌, [], List, map, ◌∙◌, ap, ap₂, sym, arith, rules}
+use Rattle.std.proofs.Common.{ℕ, ◌+◌, ◌++◌, ◌∷◌, [], List, map, ◌∙◌, ap, ap₂, sym, arith, rules}
 use Rattle.std.specs.List.{range_with_len}
 use Rattle.std.proofs.lemmas.List.FromFn.{map-range_with_len_more}
 use Rattle.mw_cases.specs.declared.operation.Operation.{Operation}
@@ -19,8 +19,8 @@ loop-instruction-preserved c =
       made =
           c.in_ok-push.ensures.items
           ∙ ap₂ (λ xs (o : List Operation). xs ++ o ∷ []) c.loop-instruction.invariant.made
-            (c.in_ok-operations.ensures.made
-            ∙ ap₂ from c.loop-instruction.invariant.value c.operation_count-count.ensures ∙ made_is number i)
+          (c.in_ok-operations.ensures.made
+          ∙ ap₂ from c.loop-instruction.invariant.value c.operation_count-count.ensures ∙ made_is number i)
           ∙ sym (map-range_with_len_more (instruction_of number) 0 i i (omega arith));
       value =
           c.in_ok-operations.ensures.value

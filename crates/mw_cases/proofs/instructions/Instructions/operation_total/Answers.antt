@@ -1,4 +1,4 @@
-use Rattle.std.proofs.Common.{◌≡◌, ◌+◌, ◌∙◌, ◌<◌, ◌≤◌, ap, ap₂, refl, arith, length}
+use Rattle.std.proofs.Common.{◌≡◌, ◌+◌, ◌∙◌, ◌<◌, ap, ap₂, refl, arith, length}
 use Rattle.mw_cases.specs.Operations.{operations_before, operation_count}
 use Rattle.mw_cases.proofs.Values.{stands_there, instruction_count, instruction_length, before_more}
 use Rattle.mw_cases.proofs.Counts.{before_few}
@@ -22,7 +22,7 @@ length_is c =
     let below : i < 256 = omega (arith, count_is c) in
     ap length (c.as_slice.ensures
     ∙ stands_there self.number i c.deref-operations-items.result.now _
-      (c.deref-operations-items.ensures.value ∙ self.are_of_number) below c.operations-item.is)
+    (c.deref-operations-items.ensures.value ∙ self.are_of_number) below c.operations-item.is)
     ∙ instruction_length self.number i
 
 pub overflow_cast-total : goal.overflow_cast-total
@@ -30,8 +30,13 @@ overflow_cast-total c = omega (arith, length_is c)
 
 pub overflow_add-total : goal.overflow_add-total
 overflow_add-total c =
-    omega (arith, length_is c, count_is c, c.loop-operations.invariant,
-      before_few c.args.self.now.number c.loop-operations.operations-index)
+    omega (
+      arith,
+      length_is c,
+      count_is c,
+      c.loop-operations.invariant,
+      before_few c.args.self.now.number c.loop-operations.operations-index,
+    )
 
 pub loop-operations-preserved : goal.loop-operations-preserved
 loop-operations-preserved c =

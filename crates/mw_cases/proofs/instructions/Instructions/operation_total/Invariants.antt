@@ -1,4 +1,4 @@
-use Rattle.std.proofs.Common.{◌≡◌, ◌≤◌, ◌*◌}
+use Rattle.std.proofs.Common.{◌≡◌}
 use Rattle.mw_cases.specs.Operations.{operations_before}
 use Rattle.mw_cases.proofs.instructions.Instructions.operation_total.Given as goal
 

@@ -1,4 +1,4 @@
-use Rattle.std.proofs.Common.{◌≡◌, ◌∙◌, ◌<◌, ℕ, List, subst, sym, ap, arith, length, vec_len}
+use Rattle.std.proofs.Common.{◌≡◌, ◌∙◌, ◌<◌, List, subst, sym, ap, arith, length}
 use Rattle.std.specs.Prelude.{All}
 use Rattle.mw_cases.specs.declared.operation.Operation.{Operation}
 use Rattle.mw_cases.specs.Operations.{instruction_of, IsOperation}
