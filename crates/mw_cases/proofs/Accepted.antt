@@ -50,7 +50,8 @@ before_is_less Less before = refl
 before_is_less Equal before = absurd cc
 before_is_less Greater before = absurd cc
 
-all_less : (name : List ℕ) (rest : List (List ℕ)) → list_all (λ other. comes_before (slice_cmp nat_cmp name other)) rest ≡ true
+all_less : (name : List ℕ) (rest : List (List ℕ))
+    → list_all (λ other. comes_before (slice_cmp nat_cmp name other)) rest ≡ true
     → AllByRecursion (λ other. slice_cmp nat_cmp name other ≡ Less) rest
 all_less name [] all = tt
 all_less name (other ∷ rest) all =
@@ -163,7 +164,8 @@ relation_accepted = refl
 pub for_each_other : (number : ℕ) → AreForEachOther generated_board (generated_machine number) generated_relation
 for_each_other number = record {
   shape = sym (elements_are number);
-  pointers = All-from_recursion (λ (boundary : Boundary). boundary.sp ≤ depth_of generated_board) generated_relation.boundaries
+  pointers = All-from_recursion (λ (boundary : Boundary). boundary.sp ≤ depth_of generated_board)
+      generated_relation.boundaries
       (omega arith, tt);
 }
 

@@ -9,7 +9,7 @@ use Rattle.mw_cycle.specs.Control.{chosen}
 use Rattle.mw_cycle.specs.Microword.{points_of, no_source}
 use Rattle.mw_seq.specs.Instruction.{instruction_of as sequence_of}
 use Rattle.mw_cases.specs.declared.word.Word.{Word}
-use Rattle.mw_cases.specs.Board.{generated_fields, generated_points, generated_board, unmasked}
+use Rattle.mw_cases.specs.Board.{generated_fields, generated_board, unmasked}
 use Rattle.mw_cases.specs.Words.{choices_of, choices_in, Chooses, IsWord}
 
 -- the fields of a microword, with their values
@@ -114,7 +114,7 @@ choices_are : (word : Word) (w s f d q : ℕ) → s < 8 → f < 8 → d < 8
     → source_of s ≡ word.source → function_of (f * 8) ≡ word.function → destination_of (d * 64) ≡ word.destination
     → sequence_of q ≡ word.sequencer
     → choices_of generated_board w ≡ choices_in word
-unfolding choices_of points_of generated_board generated_points generated_fields
+unfolding choices_of points_of generated_board generated_fields
 choices_are word w s f d q s_below f_below d_below has source function destination sequencer =
     rw (
       has.source,
@@ -152,7 +152,8 @@ pub packed_chooses : (word : Word) → IsWord word → (w s f d q : ℕ) → s <
     → sequence_of q ≡ word.sequencer
     → Chooses w (choices_in word)
 packed_chooses word is w s f d q s_below f_below d_below q_below sum source function destination sequencer =
-    let has = packed_fields w s f d word.a word.b q word.branch word.carry_in word.test_disable word.reads_memory word.mar_load
+    let has =
+    packed_fields w s f d word.a word.b q word.branch word.carry_in word.test_disable word.reads_memory word.mar_load
     word.ir_load s_below f_below d_below is.a is.b q_below is.branch sum in
     record {
       below = packed_below w s f d word.a word.b q word.branch word.carry_in word.test_disable word.reads_memory word.mar_load

@@ -24,8 +24,8 @@ there_is number i j below =
     ∙ ap Some (operation_is number i j (operation_at number i j) below)
 
 -- the word of a place of an instruction is that of the operation there
-pub operating_is : (number i j place word : ℕ) (operations : List Operation) → operations ≡ instruction_of number i → place ≡ j
-    → j < operation_count number i
+pub operating_is : (number i j place word : ℕ) (operations : List Operation) → operations ≡ instruction_of number i
+    → place ≡ j → j < operation_count number i
     → IfSome (slice_get operations place) (λ operation.
     choices_of generated_board word ≡ operating operation (place + 1 == length operations))
     → choices_of generated_board word ≡ operating_at number i j

@@ -70,7 +70,9 @@ holds p all zero below = (and_parts (p 0) _ all).0
 holds p all (suc zero) below = (and_parts (p 1) _ (and_parts (p 0) _ all).1).0
 holds p all (suc (suc zero)) below = (and_parts (p 2) _ (and_parts (p 1) _ (and_parts (p 0) _ all).1).1).0
 holds p all (suc (suc (suc zero))) below =
-    (and_parts (p 3) true (and_parts (p 2) (p 3 && true) (and_parts (p 1) (p 2 && (p 3 && true)) (and_parts (p 0) _ all).1).1).1).0
+    let behind_0 = (and_parts (p 0) _ all).1 in
+    let behind_1 = (and_parts (p 1) (p 2 && (p 3 && true)) behind_0).1 in
+    (and_parts (p 3) true (and_parts (p 2) (p 3 && true) behind_1).1).0
 holds p all (suc (suc (suc (suc n)))) below = absurd (omega arith)
 
 -- what holds of each two of them

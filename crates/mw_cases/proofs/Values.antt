@@ -79,7 +79,7 @@ instruction_registers number i k d within =
     subst IsOperation (sym (operation_is number i k d below)) (registers_at number i k)
 
 -- what stands in the list of a number's instructions
-pub stands_there : (number i : ℕ) (all : List (List Operation)) (item : List Operation) → all ≡ instructions_of number → i < 256
-    → item ≡ slice_index_or all i item → item ≡ instruction_of number i
+pub stands_there : (number i : ℕ) (all : List (List Operation)) (item : List Operation) → all ≡ instructions_of number
+    → i < 256 → item ≡ slice_index_or all i item → item ≡ instruction_of number i
 stands_there number i all item are below is =
     is ∙ ap (λ (xs : List (List Operation)). slice_index_or xs i item) are ∙ instruction_is number i item below

@@ -32,7 +32,7 @@ generated_fields =
     ∷ []
 
 -- the control points: these fields, by their numbers in that order; the others are 0, and the carry into PC 1
-unfoldable pub generated_points : Points
+abbrev pub generated_points : Points
 generated_points = record {
   alu_source = Field 11;
   alu_function = Field 6;

@@ -132,8 +132,8 @@ abbrev pub carry_for : Kind → Bit
 carry_for kinds.Subr = One
 carry_for other = Zero
 
--- The operation of registers A and B, which B takes. The last one of an instruction jumps to 0 by CJP with the test disabled; the
--- others go on.
+-- The operation of registers A and B, which B takes. The last one of an instruction jumps to 0 by CJP with the test disabled;
+-- the others go on.
 abbrev pub operating : Operation → (is_last : Bool) → Choices
 operating operation is_last = record {
   source = operands.Ab;

@@ -45,7 +45,8 @@ fn push_field(
     name: &[u8],
     field: Field,
 ) -> Result<(), NoMemory>
-    ensures { OnOk result (fields.new.items ≡ fields.old.items ++ record { name = name.now; field = field } ∷ []) }
+    ensures { OnOk result (fields.new.items
+        ≡ fields.old.items ++ record { name = name.now; field = field } ∷ []) }
 {
     fields.push(NamedField::new(alloc, name, field.low, field.width)?)?;
     Ok(())
@@ -85,7 +86,7 @@ fn map_entries(alloc: Global) -> Result<Items<u16>, NoMemory>
 }
 
 /// The parts of the board.
-#[tactic(auto, unfolding(crate::specs::Board::generated_board, crate::specs::Board::generated_points))]
+#[tactic(auto, unfolding(crate::specs::Board::generated_board))]
 fn parts(alloc: Global) -> Result<BoardParts, NoMemory>
     ensures { IfOk result (λ parts. parts ≡ generated_board) }
 {

@@ -3,7 +3,9 @@ ghost use Rattle.std.specs.Prelude.{◌≡◌, ◌+◌, ◌^◌, ◌<◌, ◌≤
 ghost use Rattle.mw_expr.specs.Tree.{element, part, view};
 ghost use Rattle.mw_macro.specs.Described.{description_of};
 ghost use Rattle.mw_macro.specs.Statements.{act_of as act_seen, acts, acts_of, choose, next};
-ghost use Rattle.mw_cases.specs.Described.{generated_names, generated_shape, register, word_read, sign_of, outcome_of, act_of, choice_of, reading, counting, generated_machine};
+ghost use Rattle.mw_cases.specs.Described.{generated_names, generated_shape, register, word_read};
+ghost use Rattle.mw_cases.specs.Described.{sign_of, outcome_of, act_of, choice_of, reading};
+ghost use Rattle.mw_cases.specs.Described.{counting, generated_machine};
 
 use crate::instructions::Instructions;
 use crate::operation::{Kind, Operation};
@@ -106,7 +108,8 @@ fn doing(alloc: Global, operation: Operation) -> Result<Statement, NoMemory>
 
 /// The statements of an instruction.
 fn doing_all(alloc: Global, operations: &[Operation]) -> Result<Vec<Statement>, NoMemory>
-    ensures { IfOk result (λ statements. acts statements.items ≡ acts_of (map act_of operations.now)) }
+    ensures { IfOk result (λ statements.
+        acts statements.items ≡ acts_of (map act_of operations.now)) }
 {
     let mut statements = Vec::new(alloc);
     for operation in operations {
@@ -115,16 +118,18 @@ fn doing_all(alloc: Global, operations: &[Operation]) -> Result<Vec<Statement>, 
     Ok(statements)
 }
 
-/// The statement by which a bit of the word chooses between two lists, the first where it is 1.
+/// The statement by which a bit of the word's high byte chooses a list: the first where it is 1.
 fn choosing(
     alloc: Global,
     bit: u8,
     first: Vec<Statement>,
     second: Vec<Statement>,
 ) -> Result<Statement, NoMemory>
-    ensures { IfOk result (λ statement. act_seen statement
-        ≡ choose (part (element word_read) bit bit) (acts first.items) (acts second.items)) }
+    requires { bit < 8 }
+    ensures { IfOk result (λ statement. act_seen statement ≡ choose
+        (part (element word_read) (8 + bit) (8 + bit)) (acts first.items) (acts second.items)) }
 {
+    let bit = LOWEST_BIT + bit;
     Ok(Statement::If {
         condition: Expr::Part(element(alloc, WORD_READ)?, bit, bit),
         first,
@@ -141,7 +146,8 @@ fn choice(
 ) -> Result<Vec<Statement>, NoMemory>
     requires few { bits ≤ 8 }
     requires within { first + 2 ^ bits ≤ 256 }
-    ensures { IfOk result (λ statements. acts statements.items ≡ choice_of instructions.now.number bits first) }
+    ensures { IfOk result (λ statements.
+        acts statements.items ≡ choice_of instructions.now.number bits first) }
 {
     if bits == 0 {
         return doing_all(alloc, instructions.operations(first));
@@ -150,7 +156,7 @@ fn choice(
     let low = choice(alloc, instructions, lower, first)?;
     let high = choice(alloc, instructions, lower, first + (1 << lower))?;
     let mut statements = Vec::new(alloc);
-    statements.push(choosing(alloc, LOWEST_BIT + lower, high, low)?)?;
+    statements.push(choosing(alloc, lower, high, low)?)?;
     Ok(statements)
 }
 
@@ -195,7 +201,8 @@ fn statements(alloc: Global, instructions: &Instructions) -> Result<Vec<Statemen
 /// Memory ran out.
 #[tactic(auto, unfolding(crate::specs::Described::generated_machine))]
 pub(crate) fn machine(alloc: Global, instructions: &Instructions) -> Result<Machine, NoMemory>
-    ensures { IfOk result (λ machine. description_of machine ≡ generated_machine instructions.now.number) }
+    ensures { IfOk result (λ machine.
+        description_of machine ≡ generated_machine instructions.now.number) }
 {
     let names = names(alloc)?;
     let shape = shape(alloc)?;

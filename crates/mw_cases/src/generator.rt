@@ -41,7 +41,8 @@ fn job(alloc: Global, instructions: &Instructions) -> Result<Job, NoMemory>
     }
 }
 
-/// The job of a number: a board whose microprogram has 256 instructions, and a described machine that does the same.
+/// The job of a number: a board whose microprogram has 256 instructions, a described machine that
+/// does the same, and the relation between them.
 ///
 /// # Errors
 ///
@@ -60,7 +61,8 @@ pub fn generate(alloc: Global, number: u16) -> Result<Made, NoMemory>
     ensures count { IfOk result (λ made. length (job_of made.job).store ≤ 4096) }
     ensures words { IfOk result (λ made. (address : ℕ)
         → word_at (job_of made.job).board (job_of made.job).store address < 2 ^ 38) }
-    ensures statements { IfOk result (λ made. (job_of made.job).machine ≡ generated_machine number) }
+    ensures statements { IfOk result (λ made.
+        (job_of made.job).machine ≡ generated_machine number) }
     ensures relation { IfOk result (λ made. (job_of made.job).relation ≡ generated_relation) }
 {
     let instructions = Instructions::new(alloc, number)?;

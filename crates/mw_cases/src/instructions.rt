@@ -1,7 +1,8 @@
 // The operations of all instructions.
 ghost use Rattle.std.specs.Prelude.{◌≡◌, ◌+◌, ◌<◌, ◌^◌, All, map, IfOk, OnOk};
 ghost use Rattle.std.specs.List.{range_with_len};
-ghost use Rattle.mw_cases.specs.Operations.{value_after, operation_of, operations_before, instruction_of, instructions_of, IsOperation};
+ghost use Rattle.mw_cases.specs.Operations.{value_after, operation_of, operations_before};
+ghost use Rattle.mw_cases.specs.Operations.{instruction_of, instructions_of, IsOperation};
 
 use crate::operation::{Operation, next_value, operation_count};
 use mw_base::{Items, NoMemory};

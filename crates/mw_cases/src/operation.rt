@@ -2,7 +2,7 @@
 ghost use Rattle.std.specs.Prelude.{◌≡◌, ◌+◌, ◌%◌, ◌^◌, ◌<◌};
 ghost use Rattle.mw_cases.specs.Operations.{next_value, kind_of, operation_of, operation_count};
 
-/// What an operation makes of its registers A and B, as the Am2901's function of this name does with operands A and B.
+/// What an operation makes of its registers A and B, as the Am2901's function of this name does.
 #[derive(Clone, Copy, Debug, PartialEq, Eq)]
 pub enum Kind {
     /// A + B.
@@ -17,7 +17,8 @@ pub enum Kind {
     Exor,
 }
 
-/// An operation of an instruction: register B takes what is made of registers A and B, which are two of four.
+/// An operation of an instruction: register B takes what is made of A and B, which are two of four
+/// registers.
 #[derive(Clone, Copy, Debug, PartialEq, Eq)]
 pub struct Operation {
     /// What is made.

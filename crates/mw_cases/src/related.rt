@@ -5,7 +5,8 @@ ghost use Rattle.mw_macro.specs.Described.{description_of};
 ghost use Rattle.mw_rel.specs.Job.{shape_of};
 ghost use Rattle.mw_rel.specs.Seen.{boundary_of, line_of, lines_of};
 ghost use Rattle.mw_rel.specs.Views.{relation_of};
-ghost use Rattle.mw_cases.specs.Related.{counter_line, equal_registers, generated_boundary, generated_elements, generated_relation};
+ghost use Rattle.mw_cases.specs.Related.{counter_line, equal_registers, generated_boundary};
+ghost use Rattle.mw_cases.specs.Related.{generated_elements, generated_relation};
 
 use mw_base::{Items, NoMemory};
 use mw_board::Board;

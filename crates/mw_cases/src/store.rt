@@ -1,8 +1,10 @@
 // The microprogram of a job.
-ghost use Rattle.std.specs.Prelude.{◌≡◌, ◌+◌, ◌<◌, ◌^◌, ◌==◌, ℕ, All, length, slice_get, IfOk, IfSome};
+ghost use Rattle.std.specs.Prelude.{◌≡◌, ◌+◌, ◌<◌, ◌^◌, ◌==◌, ℕ, All, length, slice_get, IfOk};
+ghost use Rattle.std.specs.Prelude.{IfSome};
 ghost use Rattle.mw_cases.specs.Board.{generated_board, first_address};
 ghost use Rattle.mw_cases.specs.Operations.{IsOperation};
-ghost use Rattle.mw_cases.specs.Words.{choices_of, choices_in, function_for, operating, IsWord, StandsAt, IsStore};
+ghost use Rattle.mw_cases.specs.Words.{choices_of, choices_in, function_for, operating};
+ghost use Rattle.mw_cases.specs.Words.{IsWord, StandsAt, IsStore};
 
 use crate::instructions::{INSTRUCTIONS, Instructions};
 use crate::operation::{Kind, Operation};
@@ -99,7 +101,8 @@ fn operation_word(operations: &[Operation], place: usize) -> u128
     requires { All IsOperation operations.now }
     ensures below { result < 2 ^ 38 }
     ensures chooses { IfSome (slice_get operations.now place) (λ operation.
-        choices_of generated_board result ≡ operating operation (place + 1 == length operations.now)) }
+        choices_of generated_board result
+        ≡ operating operation (place + 1 == length operations.now)) }
 {
     match operations.get(place) {
         Some(operation) => operating(*operation, place + 1 == operations.len()).packed(),

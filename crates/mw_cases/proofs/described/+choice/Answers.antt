@@ -20,7 +20,8 @@ returns-then-bits-eq0 t c =
     let operations = c.operations.result.now in
     IfOk-weaker c.doing_all.result (λ statements. acts statements.items ≡ acts_of (map act_of operations))
     (λ statements. acts statements.items ≡ choice_of number c.args.bits c.args.first)
-    (λ statements made. made ∙ no_bits number c.args.bits c.args.first operations c.if-bits-eq0.true c.operations.ensures.exact)
+    (λ statements made.
+    made ∙ no_bits number c.args.bits c.args.first operations c.if-bits-eq0.true c.operations.ensures.exact)
     c.doing_all.ensures
 
 pub returns : goal.returns

@@ -1,8 +1,8 @@
-use Rattle.std.proofs.Common.{ℕ, ◌+◌, ◌++◌, ◌∷◌, [], List, map, ◌∙◌, ap, ap₂, sym, arith, rules}
+use Rattle.std.proofs.Common.{◌≡◌, ℕ, ◌+◌, List, map, ◌∙◌, ap, ap₂, rules}
 use Rattle.std.specs.List.{range_with_len}
-use Rattle.std.proofs.lemmas.List.FromFn.{map-range_with_len_more}
 use Rattle.mw_cases.specs.declared.operation.Operation.{Operation}
 use Rattle.mw_cases.specs.Operations.{value_after, operation_of, operations_before, operation_count, instruction_of, instructions_of}
+use Rattle.mw_cases.proofs.Pushed.{pushed}
 use Rattle.mw_cases.proofs.Values.{value_on, made_is, before_more}
 use Rattle.mw_cases.proofs.instructions.all_operations.Goals as goal
 
@@ -10,18 +10,25 @@ pub loop-instruction-init : goal.loop-instruction-init
 unfolding value_after operations_before
 loop-instruction-init c = search rules
 
+-- what was pushed is the instruction
+made_here : (c : goal.In_ok-push)
+    → c.in_ok-operations.field-0 ≡ instruction_of c.args.number c.loop-instruction.instruction
+made_here c =
+    let from : ℕ → ℕ → List Operation =
+    λ x count. map (λ j. operation_of (value_after x (j + 1))) (range_with_len 0 count) in
+    c.in_ok-operations.ensures.made
+    ∙ ap₂ from c.loop-instruction.invariant.value c.operation_count-count.ensures
+    ∙ made_is c.args.number c.loop-instruction.instruction
+
 pub loop-instruction-preserved : goal.loop-instruction-preserved
 loop-instruction-preserved c =
     let number = c.args.number in
     let i = c.loop-instruction.instruction in
-    let from : ℕ → ℕ → List Operation = λ x count. map (λ j. operation_of (value_after x (j + 1))) (range_with_len 0 count) in
     record {
       made =
           c.in_ok-push.ensures.items
-          ∙ ap₂ (λ xs (o : List Operation). xs ++ o ∷ []) c.loop-instruction.invariant.made
-          (c.in_ok-operations.ensures.made
-          ∙ ap₂ from c.loop-instruction.invariant.value c.operation_count-count.ensures ∙ made_is number i)
-          ∙ sym (map-range_with_len_more (instruction_of number) 0 i i (omega arith));
+          ∙ pushed (instruction_of number) i c.loop-instruction.instructions.items c.in_ok-operations.field-0
+          c.loop-instruction.invariant.made (made_here c);
       value =
           c.in_ok-operations.ensures.value
           ∙ ap₂ value_after c.loop-instruction.invariant.value c.operation_count-count.ensures

@@ -1,7 +1,6 @@
-use Rattle.std.proofs.Common.{◌≡◌, ◌+◌, ◌++◌, ◌∷◌, [], ◌∙◌, ap, ap₂, sym, arith, rules}
-use Rattle.std.proofs.lemmas.List.FromFn.{map-range_with_len_more}
-use Rattle.mw_cases.specs.declared.operation.Operation.{Operation}
+use Rattle.std.proofs.Common.{◌≡◌, ◌+◌, ◌∙◌, ap, rules}
 use Rattle.mw_cases.specs.Operations.{value_after, operation_of, next_value}
+use Rattle.mw_cases.proofs.Pushed.{pushed}
 use Rattle.mw_cases.proofs.Values.{value_more}
 use Rattle.mw_cases.proofs.instructions.operations.Goals as goal
 
@@ -9,17 +8,17 @@ pub loop-init : goal.loop-init
 unfolding value_after
 loop-init c = search rules
 
+-- the value has gone on once more
+value_is : (c : goal.In_ok-push) → c.next_value.result ≡ value_after c.args.value.now (c.loop.counter + 1)
+value_is c =
+    c.next_value.ensures.exact ∙ ap next_value c.loop.invariant.value ∙ value_more c.args.value.now c.loop.counter
+
 pub loop-preserved : goal.loop-preserved
-loop-preserved c =
-    let old = c.args.value.now in
-    let n = c.loop.counter in
-    let value : c.next_value.result ≡ value_after old (n + 1) =
-    c.next_value.ensures.exact ∙ ap next_value c.loop.invariant.value ∙ value_more old n in
-    record {
-      made =
-          c.in_ok-push.ensures.items
-          ∙ ap₂ (λ xs (o : Operation). xs ++ o ∷ []) c.loop.invariant.made (c.chosen_by.ensures.exact ∙ ap operation_of value)
-          ∙ sym (map-range_with_len_more (λ j. operation_of (value_after old (j + 1))) 0 n n (omega arith));
-      value = value;
-      below = c.next_value.ensures.below;
-    }
+loop-preserved c = record {
+  made =
+      c.in_ok-push.ensures.items
+      ∙ pushed (λ j. operation_of (value_after c.args.value.now (j + 1))) c.loop.counter c.loop.operations.items
+      c.chosen_by.result c.loop.invariant.made (c.chosen_by.ensures.exact ∙ ap operation_of (value_is c));
+  value = value_is c;
+  below = c.next_value.ensures.below;
+}

@@ -18,5 +18,6 @@ returns c =
           let at : (c.args.address - 16) / 4 ≡ i = omega arith in
           let place : c.from.result ≡ j = omega arith in
           operating_is number i j c.from.result c.operation_word.result c.operations-operations.result.now
-          (c.operations-operations.ensures.exact ∙ ap (instruction_of number) at) place j_below c.operation_word.ensures.chooses;
+          (c.operations-operations.ensures.exact ∙ ap (instruction_of number) at) place j_below
+          c.operation_word.ensures.chooses;
     }

@@ -11,7 +11,8 @@ loop-operations-init c = refl
 -- there are 256 instructions
 count_is : (c : goal.After-as_slice) → length c.deref-operations-items.result.now ≡ 256
 count_is c =
-    ap length (c.deref-operations-items.ensures.value ∙ c.args.self.now.are_of_number) ∙ instruction_count c.args.self.now.number
+    ap length (c.deref-operations-items.ensures.value ∙ c.args.self.now.are_of_number)
+    ∙ instruction_count c.args.self.now.number
 
 -- and this one has its operations
 length_is : (c : goal.After-as_slice)
