@@ -66,56 +66,42 @@ choices_at job address = choices_of job.board (word_at job.board job.store addre
 
 -- ---- the fetch
 
+-- Nothing is written, and the next word follows.
+abbrev pub idle : Choices
+idle = record {
+  source = operands.Dz;
+  function = functions.Or;
+  destination = destinations.Nop;
+  a = 0;
+  b = 0;
+  carry_in = Zero;
+  d = sources.Zero;
+  sequencer = Cont;
+  branch = 0;
+  test_disable = false;
+  mar_load = false;
+  ir_load = false;
+}
+
 -- Address 0: `mar` takes register 15, which is Y, and register 15 takes the sum of itself and 1.
 abbrev pub addressing : Choices
-addressing = record {
+addressing = record idle {
   source = operands.Zb;
   function = functions.Add;
   destination = destinations.Rama;
   a = 15;
   b = 15;
   carry_in = One;
-  d = sources.Zero;
-  sequencer = Cont;
-  branch = 0;
-  test_disable = false;
   mar_load = true;
-  ir_load = false;
 }
 
 -- Address 1: `ir` takes the memory's word.
 abbrev pub loading : Choices
-loading = record {
-  source = operands.Dz;
-  function = functions.Or;
-  destination = destinations.Nop;
-  a = 0;
-  b = 0;
-  carry_in = Zero;
-  d = sources.Memory;
-  sequencer = Cont;
-  branch = 0;
-  test_disable = false;
-  mar_load = false;
-  ir_load = true;
-}
+loading = record idle { d = sources.Memory; ir_load = true }
 
--- Address 2: the map gives the next address, and nothing is written.
+-- Address 2: the map gives the next address.
 abbrev pub mapping : Choices
-mapping = record {
-  source = operands.Dz;
-  function = functions.Or;
-  destination = destinations.Nop;
-  a = 0;
-  b = 0;
-  carry_in = Zero;
-  d = sources.Zero;
-  sequencer = Jmap;
-  branch = 0;
-  test_disable = false;
-  mar_load = false;
-  ir_load = false;
-}
+mapping = record idle { sequencer = Jmap }
 
 -- ---- the operations
 
@@ -135,19 +121,15 @@ carry_for other = Zero
 -- The operation of registers A and B, which B takes. The last one of an instruction jumps to 0 by CJP with the test disabled;
 -- the others go on.
 abbrev pub operating : Operation → (is_last : Bool) → Choices
-operating operation is_last = record {
+operating operation is_last = record idle {
   source = operands.Ab;
   function = function_for operation.kind;
   destination = destinations.Ramf;
   a = operation.a;
   b = operation.b;
   carry_in = carry_for operation.kind;
-  d = sources.Zero;
   sequencer = if is_last then Cjp else Cont;
-  branch = 0;
   test_disable = is_last;
-  mar_load = false;
-  ir_load = false;
 }
 
 -- what the word of operation j of instruction i chooses
