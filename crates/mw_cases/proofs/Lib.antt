@@ -6,4 +6,5 @@ pub mod Packed
 pub mod Pushed
 pub mod Standing
 pub mod Stated
+pub mod Steps
 pub mod Values

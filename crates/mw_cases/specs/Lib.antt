@@ -4,4 +4,5 @@ pub mod Generated
 pub mod Laws
 pub mod Operations
 pub mod Related
+pub mod Steps
 pub mod Words

@@ -13,5 +13,5 @@ mod store;
 mod word;
 
 pub use generator::{Made, generate};
-pub use laws::{operations_are_640, operations_are_few};
+pub use laws::{operations_are_640, operations_are_few, steps_do_operations};
 pub use operation::{Kind, Operation};

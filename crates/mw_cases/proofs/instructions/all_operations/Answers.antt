@@ -20,22 +20,26 @@ made_here c =
     ∙ ap₂ from c.loop-instruction.invariant.value c.operation_count-count.ensures
     ∙ made_is c.args.number c.loop-instruction.instruction
 
+-- the value has gone on by as many operations
+value_here : (c : goal.In_ok-push)
+    → c.operations.new.value
+    ≡ value_after c.args.number (operations_before c.args.number (c.loop-instruction.instruction + 1))
+value_here c =
+    c.in_ok-operations.ensures.value
+    ∙ ap₂ value_after c.loop-instruction.invariant.value c.operation_count-count.ensures
+    ∙ value_on c.args.number (operations_before c.args.number c.loop-instruction.instruction)
+    (operation_count c.args.number c.loop-instruction.instruction)
+    ∙ ap (value_after c.args.number) (before_more c.args.number c.loop-instruction.instruction)
+
 pub loop-instruction-preserved : goal.loop-instruction-preserved
-loop-instruction-preserved c =
-    let number = c.args.number in
-    let i = c.loop-instruction.instruction in
-    record {
-      made =
-          c.in_ok-push.ensures.items
-          ∙ pushed (instruction_of number) i c.loop-instruction.instructions.items c.in_ok-operations.field-0
-          c.loop-instruction.invariant.made (made_here c);
-      value =
-          c.in_ok-operations.ensures.value
-          ∙ ap₂ value_after c.loop-instruction.invariant.value c.operation_count-count.ensures
-          ∙ value_on number (operations_before number i) (operation_count number i)
-          ∙ ap (value_after number) (before_more number i);
-      below = c.in_ok-operations.ensures.below;
-    }
+loop-instruction-preserved c = record {
+  made =
+      c.in_ok-push.ensures.items
+      ∙ pushed (instruction_of c.args.number) c.loop-instruction.instruction c.loop-instruction.instructions.items
+      c.in_ok-operations.field-0 c.loop-instruction.invariant.made (made_here c);
+  value = value_here c;
+  below = c.in_ok-operations.ensures.below;
+}
 
 pub returns : goal.returns
 unfolding instructions_of
