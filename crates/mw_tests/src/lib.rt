@@ -11,6 +11,8 @@ mod descriptions;
 #[cfg(test)]
 mod expressions;
 #[cfg(test)]
+mod generator;
+#[cfg(test)]
 mod machines;
 #[cfg(test)]
 mod microprograms;

@@ -1,0 +1,10 @@
+pub mod Accepted
+pub mod Chosen
+pub mod Counts
+pub mod OnLiterals
+pub mod Packed
+pub mod Pushed
+pub mod Standing
+pub mod Stated
+pub mod Steps
+pub mod Values
