@@ -73,7 +73,7 @@ fn certify_restricted(rt: HostRuntime) -> Result<(), Fail> {
 fn certify_over_paths(rt: HostRuntime) -> Result<(), Fail> {
     let words = ["certify", "b", "m", "k", "r", "--paths", "1"];
     let machine =
-        b"memory 4 4\nregister X 4\nregister Y 4\nstep\nif X[0] then\nX := X + Y\nelse\nX := X + Y\nend\n";
+        b"memory 4 4\nregister X 4\nregister Y 4\nstep\nif X[0]\nX := X + Y\nelse\nX := X + Y\nend\n";
     let unknown = b"unknown paths boundary 0x0 limit 1\n";
     assert!(rt; ends(rt.alloc(), &words, "k", machine, 2, unknown)?);
     Ok(())

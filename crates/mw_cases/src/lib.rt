@@ -15,3 +15,6 @@ mod word;
 pub use generator::{Made, generate};
 pub use laws::{operations_are_640, operations_are_few, steps_do_operations};
 pub use operation::{Kind, Operation};
+
+#[cfg(test)]
+mod tests;

@@ -11,8 +11,6 @@ mod descriptions;
 #[cfg(test)]
 mod expressions;
 #[cfg(test)]
-mod generator;
-#[cfg(test)]
 mod machines;
 #[cfg(test)]
 mod microprograms;
