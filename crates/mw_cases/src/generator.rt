@@ -49,6 +49,7 @@ fn job(alloc: Global, instructions: &Instructions) -> Result<Job, NoMemory>
 /// Memory ran out.
 pub fn generate(alloc: Global, number: u16) -> Result<Made, NoMemory>
     ensures operations { IfOk result (λ made. made.operations ≡ 640) }
+    ensures generated { IfOk result (λ made. IsGenerated number (job_of made.job)) }
     ensures board { IfOk result (λ made. (job_of made.job).board ≡ generated_board) }
     // The words at addresses 0, 1 and 2.
     ensures addressing { IfOk result (λ made. choices_at (job_of made.job) 0 ≡ addressing) }
@@ -57,8 +58,8 @@ pub fn generate(alloc: Global, number: u16) -> Result<Made, NoMemory>
     // The words of the operations of each instruction.
     ensures chooses { IfOk result (λ made. (i j : ℕ) → i < 256 → j < operation_count number i
         → choices_at (job_of made.job) (16 + 4 * i + j) ≡ operating_at number i j) }
-    // Words are few, and microwords.
-    ensures count { IfOk result (λ made. length (job_of made.job).store ≤ 4096) }
+    // How many words there are, and that they are microwords.
+    ensures count { IfOk result (λ made. length (job_of made.job).store ≡ 1040) }
     ensures words { IfOk result (λ made. (address : ℕ)
         → word_at (job_of made.job).board (job_of made.job).store address < 2 ^ 38) }
     ensures statements { IfOk result (λ made.
