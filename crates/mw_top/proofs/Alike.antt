@@ -16,7 +16,7 @@ use Rattle.mw_top.specs.declared.commands.Work.TheVariants as works
 use Rattle.mw_top.specs.declared.fault.Fault.{Fault}
 use Rattle.mw_top.specs.declared.fault.Fault.TheVariants.{Board, Text}
 use Rattle.mw_top.specs.declared.request.Command.{Command}
-use Rattle.mw_top.specs.declared.request.Command.TheVariants.{Compare, Asm, Run, Debug, Equal, Certify, Replay}
+use Rattle.mw_top.specs.declared.request.Command.TheVariants.{Compare, Asm, Run, Debug, Equal, Certify, Replay, Generate}
 use Rattle.mw_top.specs.declared.status.Status.{Status}
 use Rattle.mw_top.specs.Commands.Asm.{asm_plan}
 use Rattle.mw_top.specs.Commands.Compare.{IsComparison, compare_plan, compare_report, compare_status}
@@ -34,6 +34,7 @@ use Rattle.mw_top.proofs.Made.{MakesOnly, done_once, made_so, makes_after, makes
 abbrev IsDetermined : Work → Type 0
 IsDetermined (works.Question question) = ⊥
 IsDetermined (works.Certification job) = ⊥
+IsDetermined works.Generation = ⊥
 IsDetermined other = Unit {0}
 
 abbrev compared : Job → Counter → Plan Fault Work
@@ -64,6 +65,7 @@ determined Debug is =
     (λ trace. tt))))
 determined Equal is = absurd cc
 determined Certify is = absurd cc
+determined Generate is = absurd cc
 
 -- a comparison has one answer
 comparison_once : (steps : ℕ) (comparison : Comparison) (status other : Status) (report text : List ℕ)
@@ -93,6 +95,7 @@ answer_once request parts (works.Trace trace) status other report text only firs
     (second.status_is ∙ sym first.status_is, second.report_is ∙ sym first.report_is)
 answer_once request parts (works.Question question) status other report text only first second = absurd only
 answer_once request parts (works.Certification job) status other report text only first second = absurd only
+answer_once request parts works.Generation status other report text only first second = absurd only
 
 pub parts_change_nothing : PartsChangeNothing
 parts_change_nothing call other status otherwise report text parts worked again one asks same =

@@ -1,5 +1,7 @@
 -- From how a call that is to certify ended to the headline.
-use Rattle.std.proofs.Common.{◌≡◌, ℕ, List, refl, sym, ap, ◌∙◌, subst, arith}
+use Rattle.std.proofs.Common.{◌≡◌, ℕ, List, [], ◌∷◌, ◌++◌, true, Some, None, refl, sym, ap, ◌∙◌, subst, arith}
+use Rattle.std.specs.Prelude.{◌≢◌, Contains}
+use Rattle.std.proofs.lemmas.List.{append-nil}
 use Rattle.mw_check.specs.declared.verdict.Verdict.{Verdict}
 use Rattle.mw_check.specs.declared.verdict.Verdict.TheVariants as verdicts
 use Rattle.mw_check.specs.Verdict.{IsUnknown, IsVerdict}
@@ -7,7 +9,7 @@ use Rattle.mw_fork.specs.declared.budget.Budget.{Budget}
 use Rattle.mw_fork.specs.declared.fault.Over.{Over}
 use Rattle.mw_fork.specs.declared.fault.Over.TheVariants as overs
 use Rattle.mw_plan.specs.Files.{IsLeft}
-use Rattle.mw_plan.specs.Plan.{Plan, done}
+use Rattle.mw_plan.specs.Plan.{Plan, done, refused, file, after}
 use Rattle.mw_plan.proofs.Once.{ends_once}
 use Rattle.mw_plan.proofs.Steps.{next_is_among}
 use Rattle.mw_rel.specs.Certified.{Certified}
@@ -16,14 +18,17 @@ use Rattle.mw_rel.proofs.Law.{certified_where_none_differs}
 use Rattle.mw_top.specs.declared.commands.Work.{Work}
 use Rattle.mw_top.specs.declared.commands.Work.TheVariants as works
 use Rattle.mw_top.specs.declared.fault.Fault.{Fault}
+use Rattle.mw_top.specs.declared.request.Command.{Command}
+use Rattle.mw_top.specs.declared.request.Command.TheVariants.{Compare, Asm, Run, Debug, Equal, Certify, Replay, Generate}
 use Rattle.mw_top.specs.declared.status.Status.{Status}
 use Rattle.mw_top.specs.declared.status.Status.TheVariants.{Done, Differs, Unknown, Usage, Refused, ReadFault, WriteFault, NoMemory}
 use Rattle.mw_top.specs.Answer.{AreAccepted, IsEnd, IsWorked}
 use Rattle.mw_top.specs.Call.{Call, NothingFailed, Took}
 use Rattle.mw_top.specs.Commands.Certify.{IsCertification, IsVerdictReport, certify_plan, verdict_status}
+use Rattle.mw_top.specs.Commands.Generate.{IsGeneration, generate_plan, operations_text}
 use Rattle.mw_top.specs.Commands.Table.{IsAnswer, budget_of, plan_of}
-use Rattle.mw_top.specs.Headline.{AreToCertify, AsksToCertify, Certifies, IsNoEnd, IsSettled, IsUnknownEnd, IsYesEnd, NothingIsOver}
-use Rattle.mw_top.specs.Request.{RequestData, files_of}
+use Rattle.mw_top.specs.Headline.{AreToCertify, AsksToCertify, AsksToGenerate, Certifies, IsJobOf, IsNoEnd, IsSettled, IsUnknownEnd, IsYesEnd, NoneIsOver, NothingIsOver, after_yes, certifies}
+use Rattle.mw_top.specs.Request.{RequestData, files_of, request_of}
 use Rattle.mw_top.proofs.Ends.{end_accepted}
 use Rattle.mw_top.proofs.Made.{MakesOnly, made_so, makes_of_job}
 
@@ -38,18 +43,6 @@ unfolding certify_plan
 certifies_only =
     makes_of_job IsToCertify (λ job labels. done (works.Certification job)) (λ job labels. tt {0})
 
--- the work of a call is the certification of a job
-record IsWorkOn (call : Call) (asks : AsksToCertify call) (status : Status) (report : List ℕ) : Type 0 where
-  job : Job
-  contents : List (List ℕ)
-  files : IsLeft certify_plan call.shelf_before (files_of asks.request contents) (done (works.Certification job))
-  answer : IsCertification (budget_of asks.request) job status report
-
-work_of : (call : Call) (asks : AsksToCertify call) (status : Status) (report : List ℕ)
-    (on : IsWorkOn call asks status report) → Certifies call on.job (budget_of asks.request)
-work_of call asks status report on =
-    record { asks = asks; budget_is = refl; contents = on.contents; files = on.files }
-
 certified_work : (request : RequestData) (work : Work) (status : Status) (report : List ℕ) → IsToCertify work
     → IsAnswer request work status report
     → (job : Job) × (work ≡ works.Certification job) × IsCertification (budget_of request) job status report
@@ -59,34 +52,103 @@ certified_work request (works.Assembly program) status report is answer = absurd
 certified_work request (works.Run prepared) status report is answer = absurd is
 certified_work request (works.Trace trace) status report is answer = absurd is
 certified_work request (works.Question question) status report is answer = absurd is
+certified_work request works.Generation status report is answer = absurd is
 
-work_on : (call : Call) (asks : AsksToCertify call) (status : Status) (report : List ℕ) → IsWorked call status report
-    → IsWorkOn call asks status report
-work_on call asks status report worked =
-    let same : worked.request ≡ asks.request = cc (worked.requested, asks.requested) in
-    let plan : plan_of worked.request.command ≡ certify_plan = ap (λ (r : RequestData). plan_of r.command) same
-    ∙ ap plan_of asks.command in
-    let left : IsLeft certify_plan call.shelf_before (files_of asks.request worked.contents) (done worked.work) =
-    subst (λ (p : Plan Fault Work). IsLeft p call.shelf_before (files_of asks.request worked.contents) (done worked.work))
-    plan (subst (λ (r : RequestData). IsLeft (plan_of worked.request.command) call.shelf_before
-    (files_of r worked.contents) (done worked.work)) same worked.made) in
-    let is = made_so IsToCertify certify_plan worked.contents worked.work certifies_only left.left_is in
-    let its = certified_work asks.request worked.work status report is
-    (subst (λ (r : RequestData). IsAnswer r worked.work status report) same worked.answer) in
+-- a plan that asks for no file is done
+done_is : (made : Work) (contents : List (List ℕ)) (left : Plan Fault Work) → after (done made) contents ≡ Some left
+    → left ≡ done made
+done_is made [] left is = cc
+done_is made (bytes ∷ rest) left is = absurd cc
+
+generation_is : (contents : List (List ℕ)) (left : Plan Fault Work) → after generate_plan contents ≡ Some left
+    → left ≡ done works.Generation
+unfolding generate_plan
+generation_is = done_is works.Generation
+
+generated_work : (request : RequestData) (work : Work) (status : Status) (report : List ℕ)
+    → ◌≡◌ {A = Plan Fault Work} (done work) (done works.Generation) → IsAnswer request work status report
+    → IsGeneration (budget_of request) request.number status report
+generated_work request work status report is answer =
+    let same : work ≡ works.Generation = cc in
+    subst (λ (w : Work). IsAnswer request w status report) same answer
+
+-- no number of operations follows another answer than yes
+none_after : (status : Status) → status ≢ Done → operations_text status 640 ≡ []
+none_after Done other = absurd (other refl)
+none_after Differs other = refl
+none_after Unknown other = refl
+none_after Usage other = refl
+none_after Refused other = refl
+none_after ReadFault other = refl
+none_after WriteFault other = refl
+none_after NoMemory other = refl
+
+-- The work of a command is the certification of a job, of which the report begins with these lines: behind a yes comes what
+-- the command adds, and nothing else.
+record IsWorkOn (command : Command) (call : Call) (request : RequestData) (status : Status)
+    (report : List ℕ) : Type 0 where
+  job : Job
+  job_is : IsJobOf command call request job
+  lines : List ℕ
+  answer : IsCertification (budget_of request) job status lines
+  yes : status ≡ Done → report ≡ lines ++ after_yes command
+  others : status ≢ Done → report ≡ lines
+
+work_by : (command : Command) → certifies command ≡ true → (call : Call) (request : RequestData)
+    (contents : List (List ℕ)) (work : Work) (status : Status) (report : List ℕ)
+    → IsLeft (plan_of command) call.shelf_before (files_of request contents) (done work)
+    → IsAnswer request work status report → IsWorkOn command call request status report
+work_by Certify is call request contents work status report left answer =
+    let its = certified_work request work status report
+    (made_so IsToCertify certify_plan contents work certifies_only left.left_is) answer in
     record {
       job = its.0;
-      contents = worked.contents;
-      files = subst (λ (w : Work). IsLeft certify_plan call.shelf_before (files_of asks.request worked.contents) (done w))
-          its.1 left;
+      job_is = (
+        contents,
+        subst (λ (w : Work). IsLeft certify_plan call.shelf_before (files_of request contents) (done w)) its.1 left,
+      );
+      lines = report;
       answer = its.2;
+      yes = λ done. sym (append-nil report);
+      others = λ other. refl;
     }
+work_by Generate is call request contents work status report left answer =
+    let its = generated_work request work status report (generation_is contents (done work) left.left_is) answer in
+    record {
+      job = its.job;
+      job_is = its.generated;
+      lines = its.certification;
+      answer = its.certified;
+      yes = λ done. its.report_is ∙ ap (λ (s : Status). its.certification ++ operations_text s 640) done;
+      others = λ other. its.report_is ∙ ap (λ (text : List ℕ). its.certification ++ text) (none_after status other)
+          ∙ append-nil its.certification;
+    }
+work_by Compare is call request contents work status report left answer = absurd cc
+work_by Asm is call request contents work status report left answer = absurd cc
+work_by Run is call request contents work status report left answer = absurd cc
+work_by Debug is call request contents work status report left answer = absurd cc
+work_by Equal is call request contents work status report left answer = absurd cc
+work_by Replay is call request contents work status report left answer = absurd cc
+
+work_on : (call : Call) (asks : AsksToCertify call) (status : Status) (report : List ℕ) → IsWorked call status report
+    → IsWorkOn asks.request.command call asks.request status report
+work_on call asks status report worked =
+    let same : worked.request ≡ asks.request = cc (worked.requested, asks.requested) in
+    work_by asks.request.command asks.command call asks.request worked.contents worked.work status report
+    (subst (λ (r : RequestData). IsLeft (plan_of r.command) call.shelf_before (files_of r worked.contents)
+    (done worked.work)) same worked.made)
+    (subst (λ (r : RequestData). IsAnswer r worked.work status report) same worked.answer)
+
+abbrev work_of : (call : Call) (asks : AsksToCertify call) (status : Status) (report : List ℕ)
+    (on : IsWorkOn asks.request.command call asks.request status report) → Certifies call on.job (budget_of asks.request)
+work_of call asks status report on = record { asks = asks; budget_is = refl; job_is = on.job_is }
 
 -- ---- yes, no and unknown
 
-yes_by : (call : Call) (job : Job) (budget : Budget) (report : List ℕ) (verdict : Verdict) → Certifies call job budget
-    → IsVerdict job budget verdict → Done ≡ verdict_status verdict → IsVerdictReport job verdict report → Took call report
-    → IsYesEnd call
-yes_by call job budget report (verdicts.Yes summaries) work is status text took = record {
+yes_by : (call : Call) (job : Job) (budget : Budget) (lines : List ℕ) (verdict : Verdict)
+    → (work : Certifies call job budget) → IsVerdict job budget verdict → Done ≡ verdict_status verdict
+    → IsVerdictReport job verdict lines → Took call (lines ++ after_yes work.asks.request.command) → IsYesEnd call
+yes_by call job budget lines (verdicts.Yes summaries) work is status text took = record {
   job = job;
   budget = budget;
   work = work;
@@ -94,10 +156,10 @@ yes_by call job budget report (verdicts.Yes summaries) work is status text took 
   summaries = summaries;
   true_summaries = is.true_summaries;
   within = is.within;
-  report = subst (Took call) text took;
+  report = subst (λ (ls : List ℕ). Took call (ls ++ after_yes work.asks.request.command)) text took;
 }
-yes_by call job budget report (verdicts.No counter) work is status text took = absurd cc
-yes_by call job budget report (verdicts.Unknown over) work is status text took = absurd cc
+yes_by call job budget lines (verdicts.No counter) work is status text took = absurd cc
+yes_by call job budget lines (verdicts.Unknown over) work is status text took = absurd cc
 
 no_by : (call : Call) (job : Job) (budget : Budget) (report : List ℕ) (verdict : Verdict) → Certifies call job budget
     → IsVerdict job budget verdict → Differs ≡ verdict_status verdict → IsVerdictReport job verdict report → Took call report
@@ -135,35 +197,41 @@ unknown_by call job budget report (verdicts.No counter) work is status text took
 pub end_yes : (call : Call) → IsEnd call Done → AsksToCertify call → IsYesEnd call
 end_yes call end asks =
     let on = work_on call asks Done end.0 end.1 in
-    let work = work_of call asks Done end.0 on in
-    yes_by call on.job (budget_of asks.request) end.0 on.answer.verdict work on.answer.answers on.answer.status_is
-    on.answer.report_is end.2
+    yes_by call on.job (budget_of asks.request) on.lines on.answer.verdict (work_of call asks Done end.0 on)
+    on.answer.answers on.answer.status_is on.answer.report_is (subst (Took call) (on.yes refl) end.2)
 
 pub end_no : (call : Call) → IsEnd call Differs → AsksToCertify call → IsNoEnd call
 end_no call end asks =
     let on = work_on call asks Differs end.0 end.1 in
-    let work = work_of call asks Differs end.0 on in
-    no_by call on.job (budget_of asks.request) end.0 on.answer.verdict work on.answer.answers on.answer.status_is
-    on.answer.report_is end.2
+    no_by call on.job (budget_of asks.request) on.lines on.answer.verdict (work_of call asks Differs end.0 on)
+    on.answer.answers on.answer.status_is on.answer.report_is (subst (Took call) (on.others (λ is. cc)) end.2)
 
 pub end_unknown : (call : Call) → IsEnd call Unknown → AsksToCertify call → IsUnknownEnd call
 end_unknown call end asks =
     let on = work_on call asks Unknown end.0 end.1 in
-    let work = work_of call asks Unknown end.0 on in
-    unknown_by call on.job (budget_of asks.request) end.0 on.answer.verdict work on.answer.answers on.answer.status_is
-    on.answer.report_is end.2
+    unknown_by call on.job (budget_of asks.request) on.lines on.answer.verdict (work_of call asks Unknown end.0 on)
+    on.answer.answers on.answer.status_is on.answer.report_is (subst (Took call) (on.others (λ is. cc)) end.2)
 
 -- ---- where nothing is over the budget
 
 once : (a b : Job) → ◌≡◌ {A = Plan Fault Work} (done (works.Certification a)) (done (works.Certification b)) → a ≡ b
 once a b same = cc
 
+-- what is to be certified is asked to be
+abbrev asked : (call : Call) (job : Job) (budget : Budget) → AreToCertify call job budget → AsksToCertify call
+asked call job budget to = record {
+  request = to.request;
+  requested = to.requested;
+  command = rw to.command refl;
+}
+
 -- the job of the contents that are told is that of those that were read
 same_job : (call : Call) (job : Job) (budget : Budget) (to : AreToCertify call job budget) (status : Status)
-    (report : List ℕ) (on : IsWorkOn call to.asks status report) → on.job ≡ job
+    (report : List ℕ) (on : IsWorkOn to.request.command call to.request status report) → on.job ≡ job
 same_job call job budget to status report on =
-    sym (once job on.job (ends_once certify_plan call.shelf_before (files_of to.asks.request on.contents) to.contents
-    (done (works.Certification job)) (done (works.Certification on.job)) to.told to.accepted tt on.files tt))
+    let read = subst (λ (c : Command). IsJobOf c call to.request on.job) to.command on.job_is in
+    sym (once job on.job (ends_once certify_plan call.shelf_before (files_of to.request read.0) to.contents
+    (done (works.Certification job)) (done (works.Certification on.job)) to.told to.accepted tt read.1 tt))
 
 not_over : (job : Job) (budget : Budget) (over : Over) → NothingIsOver job budget → IsUnknown job budget over → ⊥
 not_over job budget (overs.Nodes number prefix word j) none is = none.nodes number prefix word j is.over
@@ -192,39 +260,39 @@ over_by job budget (verdicts.No counter) is status none = absurd cc
 settled_yes : (call : Call) (job : Job) (budget : Budget) → AreToCertify call job budget → IsEnd call Done
     → IsSettled job Done
 settled_yes call job budget to end =
-    let on = work_on call to.asks Done end.0 end.1 in
+    let on = work_on call (asked call job budget to) Done end.0 end.1 in
     record {
       among = (0, omega arith, refl);
       yes = λ is. subst Certified (same_job call job budget to Done end.0 on)
-          (certified_by on.job (budget_of to.asks.request) on.answer.verdict on.answer.answers on.answer.status_is);
+          (certified_by on.job (budget_of to.request) on.answer.verdict on.answer.answers on.answer.status_is);
       no = λ is. absurd cc;
     }
 
 settled_no : (call : Call) (job : Job) (budget : Budget) → AreToCertify call job budget → IsEnd call Differs
     → IsSettled job Differs
 settled_no call job budget to end =
-    let on = work_on call to.asks Differs end.0 end.1 in
+    let on = work_on call (asked call job budget to) Differs end.0 end.1 in
     record {
       among = (1, omega arith, refl);
       yes = λ is. absurd cc;
       no = λ is. subst (λ (j : Job). ¬ Certified j) (same_job call job budget to Differs end.0 on)
-          (not_certified_by on.job end.0 on.answer.verdict on.answer.job_is on.answer.status_is on.answer.report_is);
+          (not_certified_by on.job on.lines on.answer.verdict on.answer.job_is on.answer.status_is on.answer.report_is);
     }
 
 never_unknown : (call : Call) (job : Job) (budget : Budget) → AreToCertify call job budget → NothingIsOver job budget
     → IsEnd call Unknown → ⊥
 never_unknown call job budget to none end =
-    let on = work_on call to.asks Unknown end.0 end.1 in
-    let here : NothingIsOver on.job (budget_of to.asks.request) =
-    subst (λ (j : Job). NothingIsOver j (budget_of to.asks.request)) (sym (same_job call job budget to Unknown end.0 on))
+    let on = work_on call (asked call job budget to) Unknown end.0 end.1 in
+    let here : NothingIsOver on.job (budget_of to.request) =
+    subst (λ (j : Job). NothingIsOver j (budget_of to.request)) (sym (same_job call job budget to Unknown end.0 on))
     (subst (NothingIsOver job) to.budget_is none) in
-    over_by on.job (budget_of to.asks.request) on.answer.verdict on.answer.answers on.answer.status_is here
+    over_by on.job (budget_of to.request) on.answer.verdict on.answer.answers on.answer.status_is here
 
 accepted : (call : Call) (job : Job) (budget : Budget) (to : AreToCertify call job budget)
-    → AreAccepted to.asks.request to.contents
+    → AreAccepted to.request to.contents
 accepted call job budget to = (
   works.Certification job,
-  rw to.asks.command to.accepted,
+  rw to.command to.accepted,
 )
 
 pub end_settled : (call : Call) (status : Status) → IsEnd call status → (job : Job) (budget : Budget)
@@ -233,10 +301,10 @@ end_settled call Done end job budget to none still = settled_yes call job budget
 end_settled call Differs end job budget to none still = settled_no call job budget to end
 end_settled call Unknown end job budget to none still = absurd (never_unknown call job budget to none end)
 end_settled call Usage end job budget to none still =
-    absurd ((end_accepted call Usage end to.asks.request to.contents to.asks.requested to.told
+    absurd ((end_accepted call Usage end to.request to.contents to.requested to.told
     (accepted call job budget to)).0 refl)
 end_settled call Refused end job budget to none still =
-    absurd ((end_accepted call Refused end to.asks.request to.contents to.asks.requested to.told
+    absurd ((end_accepted call Refused end to.request to.contents to.requested to.told
     (accepted call job budget to)).1 refl)
 end_settled call ReadFault end job budget to none still =
     let file = next_is_among _ _ end.1.file end.1.next.name_is in
@@ -244,3 +312,93 @@ end_settled call ReadFault end job budget to none still =
 end_settled call WriteFault end job budget to none still = absurd (still.sink end.0)
 end_settled call NoMemory end job budget to none still =
     record { among = (2, omega arith, refl); yes = λ is. absurd cc; no = λ is. absurd cc }
+
+-- ---- a number
+
+no_request : (call : Call) (request : RequestData) → request_of call.words ≡ Some request → request_of call.words ≡ None → ⊥
+no_request call request some none = cc
+
+-- the plan of the request is that of a number
+its_plan : (call : Call) (number : ℕ) (budget : Budget) (asks : AsksToGenerate call number budget) (request : RequestData)
+    → request_of call.words ≡ Some request → plan_of request.command ≡ generate_plan
+its_plan call number budget asks request requested =
+    let same : request ≡ asks.request = cc (requested, asks.requested) in
+    ap (λ (r : RequestData). plan_of r.command) same ∙ ap plan_of asks.command
+
+its_left : (call : Call) (number : ℕ) (budget : Budget) (asks : AsksToGenerate call number budget) (request : RequestData)
+    (contents : List (List ℕ)) (left : Plan Fault Work) → request_of call.words ≡ Some request
+    → after (plan_of request.command) contents ≡ Some left → left ≡ done works.Generation
+its_left call number budget asks request contents left requested is =
+    generation_is contents left
+    (subst (λ (p : Plan Fault Work). after p contents ≡ Some left) (its_plan call number budget asks request requested) is)
+
+never_unknown_of : (call : Call) (number : ℕ) (budget : Budget) → AsksToGenerate call number budget
+    → NoneIsOver number budget → IsEnd call Unknown → ⊥
+never_unknown_of call number budget asks none end =
+    let asked : AsksToCertify call = record {
+      request = asks.request;
+      requested = asks.requested;
+      command = rw asks.command refl;
+    } in
+    let on = work_on call asked Unknown end.0 end.1 in
+    let made = subst (λ (c : Command). IsJobOf c call asks.request on.job) asks.command on.job_is in
+    over_by on.job (budget_of asks.request) on.answer.verdict on.answer.answers on.answer.status_is
+    (subst (NothingIsOver on.job) asks.budget_is (none on.job (rw asks.number_is made)))
+
+-- no file is asked for, so none is refused, and none can't be read
+abbrev NeedsNoFile : Status → Type 0
+NeedsNoFile Usage = ⊥
+NeedsNoFile Refused = ⊥
+NeedsNoFile ReadFault = ⊥
+NeedsNoFile other = Unit {0}
+
+needs_no_file : (call : Call) (status : Status) → IsEnd call status → (number : ℕ) (budget : Budget)
+    → AsksToGenerate call number budget → NeedsNoFile status
+needs_no_file call Done end number budget asks = tt
+needs_no_file call Differs end number budget asks = tt
+needs_no_file call Unknown end number budget asks = tt
+needs_no_file call WriteFault end number budget asks = tt
+needs_no_file call NoMemory end number budget asks = tt
+needs_no_file call Usage end number budget asks = no_request call asks.request asks.requested end.0
+needs_no_file call Refused end number budget asks =
+    let refusal = end.1 in
+    let left = its_left call number budget asks refusal.request (refusal.contents ++ refusal.refused.last ∷ [])
+    (refused refusal.fault) refusal.requested refusal.refused.left.left_is in
+    cc left
+needs_no_file call ReadFault end number budget asks =
+    let fault = end.1 in
+    let left = its_left call number budget asks fault.request fault.contents (file fault.next.next) fault.requested
+    fault.next.left.left_is in
+    cc left
+
+among : (status : Status) → NeedsNoFile status → Contains (Done ∷ Differs ∷ Unknown ∷ WriteFault ∷ NoMemory ∷ []) status
+among Done needs = (0, omega arith, refl)
+among Differs needs = (1, omega arith, refl)
+among Unknown needs = (2, omega arith, refl)
+among WriteFault needs = (3, omega arith, refl)
+among NoMemory needs = (4, omega arith, refl)
+among Usage needs = absurd needs
+among Refused needs = absurd needs
+among ReadFault needs = absurd needs
+
+among_known : (status : Status) → NeedsNoFile status → status ≢ Unknown
+    → Contains (Done ∷ Differs ∷ WriteFault ∷ NoMemory ∷ []) status
+among_known Done needs known = (0, omega arith, refl)
+among_known Differs needs known = (1, omega arith, refl)
+among_known WriteFault needs known = (2, omega arith, refl)
+among_known NoMemory needs known = (3, omega arith, refl)
+among_known Unknown needs known = absurd (known refl)
+among_known Usage needs known = absurd needs
+among_known Refused needs known = absurd needs
+among_known ReadFault needs known = absurd needs
+
+pub end_generated : (call : Call) (status : Status) → IsEnd call status → (number : ℕ) (budget : Budget)
+    → AsksToGenerate call number budget → Contains (Done ∷ Differs ∷ Unknown ∷ WriteFault ∷ NoMemory ∷ []) status
+end_generated call status end number budget asks = among status (needs_no_file call status end number budget asks)
+
+pub end_generated_settled : (call : Call) (status : Status) → IsEnd call status → (number : ℕ) (budget : Budget)
+    → AsksToGenerate call number budget → NoneIsOver number budget
+    → Contains (Done ∷ Differs ∷ WriteFault ∷ NoMemory ∷ []) status
+end_generated_settled call status end number budget asks none =
+    among_known status (needs_no_file call status end number budget asks)
+    (λ is. never_unknown_of call number budget asks none (subst (IsEnd call) is end))

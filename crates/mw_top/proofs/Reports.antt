@@ -47,6 +47,8 @@ answer_is_worked request (works.Question question) status report answer =
     rw answer.status_is (equality_is_worked answer.equality)
 answer_is_worked request (works.Certification job) status report answer =
     rw answer.status_is (verdict_is_worked answer.verdict)
+answer_is_worked request works.Generation status report answer =
+    rw answer.certified.status_is (verdict_is_worked answer.certified.verdict)
 
 -- the report of work that was done
 worked_is_report : (call : Call) (status : Status) (report : List ℕ) → is_worked status ≡ true

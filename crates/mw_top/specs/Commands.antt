@@ -4,6 +4,7 @@ pub mod Certify
 pub mod Compare
 pub mod Debug
 pub mod Equal
+pub mod Generate
 pub mod Job
 pub mod Prepared
 pub mod Run

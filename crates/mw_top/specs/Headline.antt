@@ -1,6 +1,7 @@
 -- What a call that is to certify ends with: the headline.
-use Rattle.std.specs.Prelude.{◌≡◌, ℕ, List, [], ◌∷◌, Contains, Ok, Some}
+use Rattle.std.specs.Prelude.{◌≡◌, ℕ, List, [], ◌∷◌, ◌++◌, Bool, true, false, Contains, Ok, Some}
 use Rattle.mw_asm.specs.declared.assembled.Label.{Label}
+use Rattle.mw_cases.specs.Generated.{IsGenerated}
 use Rattle.mw_check.specs.declared.verdict.Summary.{Summary}
 use Rattle.mw_check.specs.Verdict.{AreSummaries, AreWithinBudget, IsNo, IsUnknown}
 use Rattle.mw_cycle.specs.declared.decided.Decided.{Decided}
@@ -18,27 +19,46 @@ use Rattle.mw_rel.specs.Start.{Start}
 use Rattle.mw_replay.specs.Counter.{Counter, IsStartOf}
 use Rattle.mw_replay.specs.CounterText.{counter_of}
 use Rattle.mw_top.specs.declared.commands.Work.TheVariants.{Certification}
-use Rattle.mw_top.specs.declared.request.Command.TheVariants.{Certify}
+use Rattle.mw_top.specs.declared.request.Command.{Command}
+use Rattle.mw_top.specs.declared.request.Command.TheVariants.{Certify, Generate}
 use Rattle.mw_top.specs.declared.status.Status.{Status}
 use Rattle.mw_top.specs.declared.status.Status.TheVariants as statuses
 use Rattle.mw_top.specs.Call.{Call, Took}
 use Rattle.mw_top.specs.Commands.Certify.{certify_plan, no_report, unknown_report, yes_report}
+use Rattle.mw_top.specs.Commands.Generate.{operations_line}
 use Rattle.mw_top.specs.Commands.Table.{budget_of}
 use Rattle.mw_top.specs.Request.{RequestData, files_of, request_of}
+
+-- what the report of a yes ends with: after the boundaries of a generated job, the number of its operations
+abbrev pub after_yes : Command → List ℕ
+after_yes Generate = operations_line 640
+after_yes other = []
+
+-- the commands that certify: a job of four files, or the one that is generated of a number
+abbrev pub certifies : Command → Bool
+certifies Certify = true
+certifies Generate = true
+certifies other = false
 
 -- the words ask to certify
 pub record AsksToCertify (call : Call) : Type 0 where
   pub request : RequestData
   pub requested : request_of call.words ≡ Some request
-  pub command : request.command ≡ Certify
+  pub command : certifies request.command ≡ true
 
--- They ask it within this budget; and the four files were read and accepted, as the board, the microprogram, the described
--- machine and the relation of this job.
+-- The job of a command that certifies: four files were read and accepted, as the board, the microprogram, the described machine
+-- and the relation of this job; or it is one that is generated of the number.
+abbrev pub IsJobOf : Command → Call → RequestData → Job → Type 0
+IsJobOf Certify call request job =
+    (contents : List (List ℕ)) × IsLeft certify_plan call.shelf_before (files_of request contents) (done (Certification job))
+IsJobOf Generate call request job = IsGenerated request.number job
+IsJobOf other call request job = ⊥
+
+-- the words ask to certify this job within this budget
 pub record Certifies (call : Call) (job : Job) (budget : Budget) : Type 0 where
   pub asks : AsksToCertify call
   pub budget_is : budget ≡ budget_of asks.request
-  pub contents : List (List ℕ)
-  pub files : IsLeft certify_plan call.shelf_before (files_of asks.request contents) (done (Certification job))
+  pub job_is : IsJobOf asks.request.command call asks.request job
 
 -- Yes: the job is certified. The report says so, and of each boundary how many feasible cases it has and how many cycles its
 -- longest segment; and all is within the budget.
@@ -50,7 +70,7 @@ pub record IsYesEnd (call : Call) : Type 0 where
   pub summaries : List Summary
   pub true_summaries : AreSummaries job summaries
   pub within : AreWithinBudget job budget
-  pub report : Took call (yes_report job summaries)
+  pub report : Took call (yes_report job summaries ++ after_yes work.asks.request.command)
 
 -- No: a start differs. The report has the difference, and the start's counter, as which it is read back; and this start is
 -- the first that there is to find.
@@ -76,13 +96,15 @@ pub record IsUnknownEnd (call : Call) : Type 0 where
   pub unknown : IsUnknown job budget over
   pub report : Took call (unknown_report job over)
 
--- The words ask to certify within this budget, and the shelf tells contents of the four files that are accepted as those of
--- this job.
+-- The words ask to certify files within this budget, and the shelf tells contents of them that are accepted as those of this
+-- job.
 pub record AreToCertify (call : Call) (job : Job) (budget : Budget) : Type 0 where
-  pub asks : AsksToCertify call
-  pub budget_is : budget ≡ budget_of asks.request
+  pub request : RequestData
+  pub requested : request_of call.words ≡ Some request
+  pub command : request.command ≡ Certify
+  pub budget_is : budget ≡ budget_of request
   pub contents : List (List ℕ)
-  pub told : AreTold call.shelf_before asks.request.files contents
+  pub told : AreTold call.shelf_before request.files contents
   pub accepted : after certify_plan contents ≡ Some (done (Certification job))
 
 -- no operation and no boundary of a job is over a budget
@@ -95,3 +117,15 @@ pub record IsSettled (job : Job) (status : Status) : Type 0 where
   pub among : Contains (statuses.Done ∷ statuses.Differs ∷ statuses.NoMemory ∷ []) status
   pub yes : status ≡ statuses.Done → Certified job
   pub no : status ≡ statuses.Differs → ¬ Certified job
+
+-- the words ask to certify the job that is generated of a number, within this budget
+pub record AsksToGenerate (call : Call) (number : ℕ) (budget : Budget) : Type 0 where
+  pub request : RequestData
+  pub requested : request_of call.words ≡ Some request
+  pub command : request.command ≡ Generate
+  pub number_is : number ≡ request.number
+  pub budget_is : budget ≡ budget_of request
+
+-- whichever job is generated of a number, none of its operations and boundaries is over a budget
+abbrev pub NoneIsOver : ℕ → Budget → Type 0
+NoneIsOver number budget = (job : Job) → IsGenerated number job → NothingIsOver job budget

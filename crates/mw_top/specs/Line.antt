@@ -9,9 +9,9 @@ use Rattle.clap.specs.declared.builder.action.ArgAction.TheVariants.{Set, SetTru
 abbrev pub command_rule : Rule
 command_rule = record (new_rule (codes "command")) { required = true; action = Some Set }
 
--- the file words, as many as there are
-abbrev pub files_rule : Rule
-files_rule = record (new_rule (codes "files")) {
+-- the words behind it, as many as there are
+abbrev pub operands_rule : Rule
+operands_rule = record (new_rule (codes "operands")) {
   action = Some Append;
   range = Some (record { start_inclusive = 0; end_inclusive = usize_max });
 }
@@ -35,7 +35,7 @@ bare app = on_top (λ shape. record shape {
 -- the whole line
 unfoldable pub line : App
 line =
-    let words = with_rule (with_rule (bare (new_app (codes "mw_bench"))) command_rule) files_rule in
+    let words = with_rule (with_rule (bare (new_app (codes "mw_bench"))) command_rule) operands_rule in
     let budgets = with_rule (with_rule words (option_rule (codes "nodes"))) (option_rule (codes "paths")) in
     let lengths = with_rule (with_rule budgets (option_rule (codes "steps"))) (option_rule (codes "cycles")) in
     with_rule lengths (flag_rule (codes "parts"))

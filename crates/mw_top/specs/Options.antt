@@ -28,20 +28,20 @@ limit_of Cycles = record { name = codes "cycles"; most = 1000000; otherwise = 10
 abbrev pub is_decimal : Text → Bool
 is_decimal text = nat_le 1 (length text) && (nat_le (length text) 8 && list_all is_ascii_digit text)
 
--- a number from 1 to the greatest
-abbrev pub up_to : ℕ → Result ℕ Cause → Option ℕ
-up_to most (Ok number) = if nat_le 1 number && nat_le number most then Some number else None
-up_to most (Err cause) = None
+-- a number from the least to the greatest
+abbrev pub within : (least most : ℕ) → Result ℕ Cause → Option ℕ
+within least most (Ok number) = if nat_le least number && nat_le number most then Some number else None
+within least most (Err cause) = None
 
--- the number that a text gives to an option
-abbrev pub number_within : ℕ → Text → Option ℕ
-number_within most text = if is_decimal text then up_to most (number_spelled text) else None
+-- the number of a text, from the least to the greatest
+abbrev pub number_within : (least most : ℕ) → Text → Option ℕ
+number_within least most text = if is_decimal text then within least most (number_spelled text) else None
 
 -- the number of an option, by the greatest, the one where the line doesn't give it, whether the option is the command's
 -- own, and the text that the line gives: nothing where that text isn't to be given
 abbrev pub number_of : ℕ → ℕ → Bool → Option Text → Option ℕ
 number_of most otherwise own None = Some otherwise
-number_of most otherwise own (Some text) = if own then number_within most text else None
+number_of most otherwise own (Some text) = if own then number_within 1 most text else None
 
 -- the flag is on the line
 abbrev pub is_true : Option Text → Bool

@@ -10,6 +10,7 @@ mod certify;
 mod compare;
 mod debug;
 mod equal;
+mod generate;
 mod job;
 mod microprogram;
 mod prepared;
@@ -44,6 +45,8 @@ pub(crate) enum Work {
     Question(Asked),
     /// A job that is to be certified.
     Certification(Certification),
+    /// No file: the job that is to be certified is made of the request's number.
+    Generation,
 }
 
 /// Reads the files of a command, and makes of them what its plan says.
@@ -67,6 +70,7 @@ pub(crate) fn read_files<S: Shelf>(
         Command::Equal => equal::read(alloc, shelf, files),
         Command::Certify => certify::read(alloc, shelf, files),
         Command::Replay => compare::read(alloc, shelf, files),
+        Command::Generate => Ok(Work::Generation),
     }
 }
 
@@ -97,5 +101,6 @@ pub(crate) fn answer_with(alloc: Global, request: &Request, work: Work) -> Resul
             &certification,
             budget_of(request),
         ),
+        Work::Generation => generate::report(alloc, request.number, budget_of(request)),
     }
 }

@@ -1,15 +1,15 @@
 // What the words of a command line ask for.
-ghost use Rattle.std.specs.Prelude.{◌≡◌, IfOk, IfSome, Some, map, option_map, string_bytes};
+ghost use Rattle.std.specs.Prelude.{◌≡◌, [], IfOk, IfSome, Some, length, map, option_map, string_bytes};
 ghost use Rattle.std.specs.Str.{bytes_eq};
 ghost use Rattle.clap.specs.Words.{first_of, found_of, rows_of};
-ghost use Rattle.mw_top.specs.Request.{HasItsFiles, command_in, command_of, data_of, files_in, number_in, options_in, request_in, request_of, row_of, with_options};
+ghost use Rattle.mw_top.specs.Request.{HasItsFiles, command_in, command_of, data_of, number_alone, number_in, operands_data, operands_of, options_in, request_in, request_of, row_of, with_options, words_in};
 
 mod computed_examples;
 mod line;
 mod options;
 
 use self::line::{LineRead, read_line};
-use self::options::{Number, Options, number_of, parts_of};
+use self::options::{Number, Options, number_of, number_within, parts_of};
 use clap::ArgMatches;
 use mw_base::NoMemory;
 use std::alloc::Global;
@@ -31,15 +31,20 @@ pub enum Command {
     Certify,
     /// Compares one step of a start that a report gives: the files of `Compare`.
     Replay,
+    /// Certifies the job that the generator makes of a number.
+    Generate,
 }
 
-/// A command with its files and options. An option that isn't the command's own stands as it does where it isn't given.
+/// A command with its files or its number, and its options. An option that isn't the command's own stands as it does where it
+/// isn't given.
 #[derive(Debug, Drop)]
 pub struct Request {
     /// What is to be done.
     pub command: Command,
     /// The names of its files, in the order of the words.
     pub files: Vec<String>,
+    /// The number of the job that is generated: 0 to 65,535, and 0 for the other commands.
+    pub number: u16,
     /// The most joint cofactors of an operation: 1 to 16,000,000, and 1,000,000 where it isn't given.
     pub nodes: u32,
     /// The most cases of a boundary: 1 to 65,536, and 4,096 where it isn't given.
@@ -59,6 +64,8 @@ struct Row {
     word: &'static str,
     /// How many files it has.
     files: usize,
+    /// Whether it has the number of a job in their place.
+    number: bool,
     /// Its own options with numbers.
     numbers: &'static [Number],
     /// Whether `--parts` is its own.
@@ -75,12 +82,14 @@ impl Command {
         Command::Equal,
         Command::Certify,
         Command::Replay,
+        Command::Generate,
     ];
 
     /// The row of the command.
     fn row(self) -> Row
         ensures word { result.word.now ≡ (row_of self).word }
         ensures files { result.files ≡ (row_of self).files }
+        ensures number { result.number ≡ (row_of self).number }
         ensures numbers { result.numbers.now ≡ (row_of self).numbers }
         ensures parts { result.parts ≡ (row_of self).parts }
     {
@@ -88,43 +97,57 @@ impl Command {
             Command::Compare => Row {
                 word: "compare",
                 files: 5,
+                number: false,
                 numbers: &[Number::Steps],
                 parts: true,
             },
             Command::Asm => Row {
                 word: "asm",
                 files: 2,
+                number: false,
                 numbers: &[],
                 parts: false,
             },
             Command::Run => Row {
                 word: "run",
                 files: 3,
+                number: false,
                 numbers: &[Number::Cycles],
                 parts: true,
             },
             Command::Debug => Row {
                 word: "debug",
                 files: 4,
+                number: false,
                 numbers: &[],
                 parts: false,
             },
             Command::Equal => Row {
                 word: "equal",
                 files: 1,
+                number: false,
                 numbers: &[Number::Nodes],
                 parts: false,
             },
             Command::Certify => Row {
                 word: "certify",
                 files: 4,
+                number: false,
                 numbers: &[Number::Nodes, Number::Paths],
                 parts: false,
             },
             Command::Replay => Row {
                 word: "replay",
                 files: 5,
+                number: false,
                 numbers: &[],
+                parts: false,
+            },
+            Command::Generate => Row {
+                word: "generate",
+                files: 0,
+                number: true,
+                numbers: &[Number::Nodes, Number::Paths],
                 parts: false,
             },
         }
@@ -187,6 +210,28 @@ fn options_in(command: Command, line: &ArgMatches<'_>) -> Option<Options>
     })
 }
 
+/// The words behind a command's own.
+#[derive(Drop)]
+struct Operands {
+    /// The names of its files.
+    files: Vec<String>,
+    /// The number of a job.
+    number: u16,
+}
+
+/// The number of a job, where the words are one.
+fn number_alone(words: &[&str]) -> Option<u16>
+    ensures { option_map (λ number. record { files = []; number = number }) result ≡ number_alone (map (λ word. word.now) words.now) }
+{
+    match words {
+        [word] => match number_within(0, 65_535, word.as_bytes()) {
+            Some(number) => Some(number as u16),
+            None => None,
+        },
+        _ => None,
+    }
+}
+
 /// Copies of texts.
 fn copies(alloc: Global, texts: &[&str]) -> Result<Vec<String>, NoMemory>
     ensures { IfOk result (λ copies. map string_bytes copies.items ≡ map (λ text. text.now) texts.now) }
@@ -198,33 +243,72 @@ fn copies(alloc: Global, texts: &[&str]) -> Result<Vec<String>, NoMemory>
     Ok(copies)
 }
 
-/// The file words of a line.
-fn files_in(alloc: Global, line: &ArgMatches<'_>) -> Result<Vec<String>, NoMemory>
-    ensures { IfOk result (λ files. map string_bytes files.items ≡ files_in (rows_of (found_of line.now))) }
+/// The operands of a command that has the number of a job.
+fn numbered(alloc: Global, words: &[&str]) -> Option<Operands>
+    ensures exact { option_map operands_data result ≡ number_alone (map (λ word. word.now) words.now) }
+    ensures none { IfSome result (λ operands. operands.files.items ≡ []) }
 {
-    match line.get_strs("files") {
-        Some(words) => copies(alloc, words),
-        None => Ok(Vec::new(alloc)),
+    match number_alone(words) {
+        Some(number) => Some(Operands {
+            files: Vec::new(alloc),
+            number,
+        }),
+        None => None,
     }
 }
 
-/// The command with its files and options, where it has as many files.
-fn with_options(command: Command, files: Vec<String>, options: Options) -> Option<Request>
-    ensures exact { option_map data_of result ≡ with_options command (map string_bytes files.items) (Some options) }
-    ensures count { IfSome result HasItsFiles }
+/// What a command makes of the words behind its own.
+fn operands_of(
+    alloc: Global,
+    command: Command,
+    words: &[&str],
+) -> Result<Option<Operands>, NoMemory>
+    ensures exact { IfOk result (λ operands. option_map operands_data operands ≡ operands_of command (map (λ word. word.now) words.now)) }
+    ensures count { IfOk result (λ operands. IfSome operands (λ o. length o.files.items ≡ (row_of command).files)) }
 {
-    if files.len() != command.row().files {
-        return None;
+    let row = command.row();
+    if row.number {
+        return Ok(numbered(alloc, words));
     }
-    Some(Request {
+    if words.len() != row.files {
+        return Ok(None);
+    }
+    let files = copies(alloc, words)?;
+    Ok(Some(Operands { files, number: 0 }))
+}
+
+/// The operands of a line.
+fn operands_in(
+    alloc: Global,
+    command: Command,
+    line: &ArgMatches<'_>,
+) -> Result<Option<Operands>, NoMemory>
+    ensures exact { IfOk result (λ operands. option_map operands_data operands ≡ operands_of command (words_in (rows_of (found_of line.now)))) }
+    ensures count { IfOk result (λ operands. IfSome operands (λ o. length o.files.items ≡ (row_of command).files)) }
+{
+    match line.get_strs("operands") {
+        Some(words) => operands_of(alloc, command, words),
+        None => operands_of(alloc, command, &[]),
+    }
+}
+
+/// The command with its files or its number, and its options.
+fn with_options(command: Command, operands: Operands, options: Options) -> Request
+    requires { length operands.files.items ≡ (row_of command).files }
+    ensures exact { Some (data_of result) ≡ with_options command (Some (operands_data operands)) (Some options) }
+    ensures count { HasItsFiles result }
+{
+    let Operands { files, number } = operands;
+    Request {
         command,
         files,
+        number,
         nodes: options.nodes,
         paths: options.paths,
         steps: options.steps,
         cycles: options.cycles,
         parts: options.parts,
-    })
+    }
 }
 
 /// The request of a line.
@@ -238,12 +322,14 @@ fn request_in(alloc: Global, line: &ArgMatches<'_>) -> Result<Option<Request>, N
     let Some(options) = options_in(command, line) else {
         return Ok(None);
     };
-    let files = files_in(alloc, line)?;
-    Ok(with_options(command, files, options))
+    match operands_in(alloc, command, line)? {
+        Some(operands) => Ok(Some(with_options(command, operands, options))),
+        None => Ok(None),
+    }
 }
 
 /// The request of the words of a command line, without the program's name. None where they are no request: `clap`
-/// refuses them, there is no such command, it has another number of files, an option isn't its own, or a number isn't
+/// refuses them, there is no such command, the words behind it aren't its own, an option isn't its own, or a number isn't
 /// one to eight decimal digits or is out of its range.
 ///
 /// # Errors

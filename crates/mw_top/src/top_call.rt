@@ -7,7 +7,7 @@ ghost use Rattle.mw_rel.specs.Job.{Job};
 ghost use Rattle.mw_top.specs.Answer.{AreAccepted, AreRefused, IsEnd, IsReport, is_worked};
 ghost use Rattle.mw_top.specs.Answer.{IsMemoryEnd, IsReadFaultEnd, IsRefusalEnd, IsUsageEnd, IsWorkEnd, IsWriteFaultEnd};
 ghost use Rattle.mw_top.specs.Call.{Call, NothingFailed, call_of};
-ghost use Rattle.mw_top.specs.Headline.{AreToCertify, AsksToCertify, IsNoEnd, IsSettled, IsUnknownEnd, IsYesEnd, NothingIsOver};
+ghost use Rattle.mw_top.specs.Headline.{AreToCertify, AsksToCertify, AsksToGenerate, IsNoEnd, IsSettled, IsUnknownEnd, IsYesEnd, NoneIsOver, NothingIsOver};
 ghost use Rattle.mw_top.specs.Request.{HasItsFiles, RequestData, data_of, request_of};
 
 use crate::commands::{answer_with, read_files};
@@ -108,7 +108,7 @@ pub fn bench<S: Shelf, K: Sink>(
     ensures answer { is_worked result ≡ true
         → IsWorkEnd (call_of S.Shelf K.Sink words.now shelf.old shelf.new out.old out.new) result }
 
-    // The headline. `Done`, where the words ask to certify: the job of the four files is certified.
+    // The headline. `Done`, where the words ask to certify: the job of the four files, or of the number, is certified.
     ensures yes { AsksToCertify (call_of S.Shelf K.Sink words.now shelf.old shelf.new out.old out.new) → result ≡ Status.Done
         → IsYesEnd (call_of S.Shelf K.Sink words.now shelf.old shelf.new out.old out.new) }
 
@@ -125,6 +125,17 @@ pub fn bench<S: Shelf, K: Sink>(
         → AreToCertify (call_of S.Shelf K.Sink words.now shelf.old shelf.new out.old out.new) job budget
         → NothingIsOver job budget → NothingFailed (call_of S.Shelf K.Sink words.now shelf.old shelf.new out.old out.new)
         → IsSettled job result }
+
+    // A number has no file: no file of it is refused, and none can't be read.
+    ensures generated { (number : ℕ) (budget : Budget)
+        → AsksToGenerate (call_of S.Shelf K.Sink words.now shelf.old shelf.new out.old out.new) number budget
+        → Contains (Status.Done ∷ Status.Differs ∷ Status.Unknown ∷ Status.WriteFault ∷ Status.NoMemory ∷ []) result }
+
+    // Where nothing is over the budget of its job, the answer is yes or no.
+    ensures generated_settled { (number : ℕ) (budget : Budget)
+        → AsksToGenerate (call_of S.Shelf K.Sink words.now shelf.old shelf.new out.old out.new) number budget
+        → NoneIsOver number budget
+        → Contains (Status.Done ∷ Status.Differs ∷ Status.WriteFault ∷ Status.NoMemory ∷ []) result }
 
     // Good words and good files are not refused.
     ensures answer_due { (request : RequestData) (contents : List (List ℕ)) → request_of (map string_bytes words.now) ≡ Some request

@@ -298,14 +298,9 @@ fn append_verdict(
 }
 
 /// Certifies a job within a budget.
-pub(super) fn report(
-    alloc: Global,
-    certification: &Certification,
-    budget: Budget,
-) -> Result<Outcome, NoMemory>
-    ensures { IfOk result (λ outcome. IsCertification budget certification.now outcome.status outcome.report.items) }
+pub(super) fn certify_job(alloc: Global, job: &Job, budget: Budget) -> Result<Outcome, NoMemory>
+    ensures { IfOk result (λ outcome. IsCertification budget (job_of job.now) outcome.status outcome.report.items) }
 {
-    let Certification { job } = certification;
     // A call for the proof: its clause `valid` says what holds of every job.
     let _ = job.shape();
     let verdict = certify(alloc, job, budget)?;
@@ -315,4 +310,15 @@ pub(super) fn report(
         status: status_of(&verdict),
         report,
     })
+}
+
+/// Certifies the job of the files within a budget.
+pub(super) fn report(
+    alloc: Global,
+    certification: &Certification,
+    budget: Budget,
+) -> Result<Outcome, NoMemory>
+    ensures { IfOk result (λ outcome. IsCertification budget certification.now outcome.status outcome.report.items) }
+{
+    certify_job(alloc, &certification.job, budget)
 }

@@ -1,13 +1,14 @@
 // Command lines on which the definitions compute.
 ghost use Rattle.std.specs.Prelude.{◌≡◌, [], ◌∷◌, None, Some, codes, false, true};
 ghost use Rattle.mw_top.specs.Request.{request_of};
-ghost use Rattle.mw_top.specs.declared.request.Command.TheVariants.{Asm, Compare, Run};
+ghost use Rattle.mw_top.specs.declared.request.Command.TheVariants.{Asm, Compare, Generate, Run};
 
 /// An option may stand anywhere, its number may be joined to it and have zeros in front, and `--` ends the options.
 fn requests()
     ensures one_cycle { request_of (codes "run" ∷ codes "b" ∷ codes "m" ∷ codes "e" ∷ codes "--cycles" ∷ codes "1" ∷ []) ≡ Some (record {
       command = Run;
       files = codes "b" ∷ codes "m" ∷ codes "e" ∷ [];
+      number = 0;
       nodes = 1000000;
       paths = 4096;
       steps = 1;
@@ -18,6 +19,7 @@ fn requests()
         ≡ Some (record {
           command = Compare;
           files = codes "b" ∷ codes "m" ∷ codes "k" ∷ codes "r" ∷ codes "s" ∷ [];
+          number = 0;
           nodes = 1000000;
           paths = 4096;
           steps = 7;
@@ -27,8 +29,19 @@ fn requests()
     ensures file_words { request_of (codes "asm" ∷ codes "--" ∷ codes "-b" ∷ codes "" ∷ []) ≡ Some (record {
       command = Asm;
       files = codes "-b" ∷ [] ∷ [];
+      number = 0;
       nodes = 1000000;
       paths = 4096;
+      steps = 1;
+      cycles = 1000;
+      parts = false;
+    }) }
+    ensures job_number { request_of (codes "generate" ∷ codes "65535" ∷ codes "--paths" ∷ codes "255" ∷ []) ≡ Some (record {
+      command = Generate;
+      files = [];
+      number = 65535;
+      nodes = 1000000;
+      paths = 255;
       steps = 1;
       cycles = 1000;
       parts = false;
@@ -36,7 +49,8 @@ fn requests()
 {}
 
 /// No words, no such command, another number of files, an unknown option, one of another command, one without its
-/// number or given twice, and numbers that are no decimal digits, too many digits, or out of their range.
+/// number or given twice, numbers that are no decimal digits, too many digits, or out of their range, and a number of a
+/// job that is too great, or one too many.
 fn no_requests()
     ensures no_words { request_of [] ≡ None }
     ensures no_command { request_of (codes "run2" ∷ codes "b" ∷ codes "m" ∷ codes "e" ∷ []) ≡ None }
@@ -50,4 +64,6 @@ fn no_requests()
     ensures nine_digits { request_of (codes "run" ∷ codes "b" ∷ codes "m" ∷ codes "e" ∷ codes "--cycles" ∷ codes "123456789" ∷ []) ≡ None }
     ensures zero { request_of (codes "run" ∷ codes "b" ∷ codes "m" ∷ codes "e" ∷ codes "--cycles" ∷ codes "0" ∷ []) ≡ None }
     ensures too_great { request_of (codes "run" ∷ codes "b" ∷ codes "m" ∷ codes "e" ∷ codes "--cycles" ∷ codes "1000001" ∷ []) ≡ None }
+    ensures job_too_great { request_of (codes "generate" ∷ codes "65536" ∷ []) ≡ None }
+    ensures two_jobs { request_of (codes "generate" ∷ codes "0" ∷ codes "7" ∷ []) ≡ None }
 {}

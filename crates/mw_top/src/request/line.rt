@@ -1,7 +1,7 @@
 // The words of a command line, as `clap` reads them.
 ghost use Rattle.std.specs.Prelude.{◌≡◌, IfOk, codes, false, map, string_bytes};
 ghost use Rattle.clap.specs.Words.{app_of, new_app, rule_of};
-ghost use Rattle.mw_top.specs.Line.{bare, command_rule, files_rule, flag_rule, line, option_rule};
+ghost use Rattle.mw_top.specs.Line.{bare, command_rule, flag_rule, line, operands_rule, option_rule};
 ghost use Rattle.mw_top.specs.LineRead.{IsRead};
 
 use clap::error::ErrorKind;
@@ -28,12 +28,12 @@ fn command<'a>(alloc: Global) -> Arg<'a>
         .action(ArgAction::Set)
 }
 
-/// The file words, as many as there are.
-fn files<'a>(alloc: Global) -> Arg<'a>
-    ensures rule { rule_of result ≡ files_rule }
+/// The words behind it, as many as there are.
+fn operands<'a>(alloc: Global) -> Arg<'a>
+    ensures rule { rule_of result ≡ operands_rule }
     ensures local { result.global ≡ false }
 {
-    Arg::new(alloc, "files")
+    Arg::new(alloc, "operands")
         .action(ArgAction::Append)
         .num_args(0..)
 }
@@ -69,7 +69,7 @@ fn line<'a>(alloc: Global) -> Result<Command<'a>, NoMemory>
     ensures { IfOk result (λ c. app_of c ≡ line) }
 {
     let line = bare(alloc).arg(command(alloc))?;
-    let line = line.arg(files(alloc))?;
+    let line = line.arg(operands(alloc))?;
     let line = line.arg(option(alloc, "nodes"))?;
     let line = line.arg(option(alloc, "paths"))?;
     let line = line.arg(option(alloc, "steps"))?;

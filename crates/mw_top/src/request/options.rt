@@ -91,15 +91,15 @@ fn is_decimal(text: &[u8]) -> bool
     1 <= text.len() && text.len() <= 8 && are_digits(text)
 }
 
-/// The number that a text gives, where it is one from 1 to the greatest.
-fn number_within(most: u32, text: &[u8]) -> Option<u32>
-    ensures { result ≡ number_within most text.now }
+/// The number of a text, where it is one from the least to the greatest.
+pub(crate) fn number_within(least: u32, most: u32, text: &[u8]) -> Option<u32>
+    ensures { result ≡ number_within least most text.now }
 {
     if !is_decimal(text) {
         return None;
     }
     match number(text) {
-        Ok(value) if 1 <= value && value <= u128::from(most) => Some(value as u32),
+        Ok(value) if u128::from(least) <= value && value <= u128::from(most) => Some(value as u32),
         _ => None,
     }
 }
@@ -110,7 +110,7 @@ pub(crate) fn number_of(limit: Limit, is_own: bool, text: Option<&str>) -> Optio
 {
     match text {
         None => Some(limit.otherwise),
-        Some(text) if is_own => number_within(limit.most, text.as_bytes()),
+        Some(text) if is_own => number_within(1, limit.most, text.as_bytes()),
         Some(_) => None,
     }
 }

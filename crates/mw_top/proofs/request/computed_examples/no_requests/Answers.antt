@@ -20,4 +20,6 @@ returns c = record {
   nine_digits = refl;
   zero = refl;
   too_great = refl;
+  job_too_great = refl;
+  two_jobs = refl;
 }

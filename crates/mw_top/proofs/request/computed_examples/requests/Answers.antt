@@ -7,4 +7,4 @@ use Rattle.mw_top.proofs.request.computed_examples.requests.Goals as goal
 
 pub returns : goal.returns
 unfolding clap_on_literals digits_number number_spelled line request_of
-returns c = record { one_cycle = refl; seven_steps = refl; file_words = refl }
+returns c = record { one_cycle = refl; seven_steps = refl; file_words = refl; job_number = refl }

@@ -9,7 +9,7 @@ use Rattle.mw_fork.specs.declared.fault.Over.TheVariants as overs
 use Rattle.mw_rel.specs.Certified.{Certified}
 use Rattle.mw_rel.specs.Job.{Job}
 use Rattle.mw_replay.specs.Counter.{Counter}
-use Rattle.mw_top.proofs.commands.certify.report.Goals as goal
+use Rattle.mw_top.proofs.commands.certify.certify_job.Goals as goal
 
 -- what a verdict says, case by case
 verdict_says : (job : Job) (budget : Budget) (verdict : Verdict)
@@ -38,11 +38,11 @@ append_verdict-requires-clause-is c =
 
 pub returns : goal.returns
 returns c = record {
-  job_is = rw (← c.certification.view_is) c.shape.ensures.valid;
+  job_is = c.shape.ensures.valid;
   verdict = c.in_ok-verdict.verdict;
-  answers = rw (← c.certification.view_is) (verdict_says _ c.args.budget c.in_ok-verdict.verdict c.in_ok-verdict.ensures.yes
+  answers = verdict_says _ c.args.budget c.in_ok-verdict.verdict c.in_ok-verdict.ensures.yes
       c.in_ok-verdict.ensures.summaries c.in_ok-verdict.ensures.within c.in_ok-verdict.ensures.no
-      c.in_ok-verdict.ensures.nodes c.in_ok-verdict.ensures.paths);
+      c.in_ok-verdict.ensures.nodes c.in_ok-verdict.ensures.paths;
   status_is = c.status_of.ensures;
-  report_is = rw (← c.certification.view_is) c.in_ok-append_verdict.ensures;
+  report_is = c.in_ok-append_verdict.ensures;
 }

@@ -1,0 +1,34 @@
+// generate: a number.
+ghost use Rattle.std.specs.Prelude.{◌≡◌, ◌++◌, IfOk, OnOk};
+ghost use Rattle.mw_top.specs.Commands.Generate.{IsGeneration, operations_line, operations_text};
+
+use super::certify::certify_job;
+use crate::outcome::Outcome;
+use crate::report::append_decimal_line;
+use crate::status::Status;
+use mw_base::NoMemory;
+use mw_cases::generate;
+use mw_fork::Budget;
+use std::alloc::Global;
+
+/// Appends the number of operations, where the job is certified.
+fn append_operations(alloc: Global, outcome: &mut Outcome, operations: u32) -> Result<(), NoMemory>
+    ensures status { outcome.new.status ≡ outcome.old.status }
+    ensures report { OnOk result (outcome.new.report.items
+        ≡ outcome.old.report.items ++ operations_text outcome.old.status operations) }
+{
+    match outcome.status {
+        Status::Done => append_decimal_line(alloc, &mut outcome.report, b"operations ", operations),
+        _ => Ok(()),
+    }
+}
+
+/// Certifies the job of a number within a budget.
+pub(super) fn report(alloc: Global, number: u16, budget: Budget) -> Result<Outcome, NoMemory>
+    ensures { IfOk result (λ outcome. IsGeneration budget number outcome.status outcome.report.items) }
+{
+    let made = generate(alloc, number)?;
+    let mut outcome = certify_job(alloc, &made.job, budget)?;
+    append_operations(alloc, &mut outcome, made.operations)?;
+    Ok(outcome)
+}
