@@ -5,11 +5,12 @@ It states one instruction anew, from the instruction set of the PDP-8/E and the 
 neither the microprogram nor the description. Words are numbers below 0o10000, and bits are numbered as DEC does, bit 0
 first. Nothing of the crates is used.
 
-    pdp8_table.py --check        no program: instructions that are worked by hand
+    pdp8_table.py --check        no program: instructions that are worked by hand, and whether crates/mw_rows/data/pdp8 is
+                                 what `rows` prints
     pdp8_table.py run PROGRAM    every instruction word, from three states and more: what the board of the built program
                                  holds at its next boundary, by scripts of `debug`, and for one of them what `compare`
                                  says; and comparisons of many steps on memories of any words
-    pdp8_table.py rows           the rows of some instructions worked by hand, for crates/mw_rows/data/pdp8
+    pdp8_table.py rows           the rows of crates/mw_rows/data/pdp8, with the texts of examples/pdp8
 """
 import random
 import subprocess
@@ -21,7 +22,9 @@ from pathlib import Path
 
 from rows import file_lines, row_lines
 
-EXAMPLE = Path(__file__).resolve().parent.parent / "examples" / "pdp8"
+TOP = Path(__file__).resolve().parent.parent
+EXAMPLE = TOP / "examples" / "pdp8"
+ROWS_FILE = TOP / "crates" / "mw_rows" / "data" / "pdp8"
 FILES = {"b": "board.toml", "m": "micro", "k": "machine", "r": "relation"}
 WORDS = 0o10000
 # Words that are often met.
@@ -472,8 +475,10 @@ def check_programs(program):
 # ---- rows
 
 HEAD = """\
-# Instructions of a PDP-8 on the board of examples/pdp8, printed by tools/pdp8_table.py. What they do is worked out by hand,
-# from the instruction set; each is also compared with the description there. Numbers of PDP-8 words are octal in the names."""
+# A PDP-8 on the board of examples/pdp8, printed by tools/pdp8_table.py. What an instruction does is worked out by hand, from
+# the instruction set, and each is also compared with the description; what a program does says the script's own PDP-8. The
+# ways through the microprogram, 31, and the longest, 21 cycles, are counted in docs/manual/pdp8.md, and the first start that
+# differs is worked out by hand in the script. Numbers of PDP-8 words are octal in the names."""
 # A name, a machine, the line of the first cycles, how many steps, and what is shown behind them.
 ROWS = [
     ("TAD of 0001 with AC 7777 and L 1", at_0200(0o1001, mem={1: 1}, ac=0o7777, link=1), [], 1,
@@ -495,42 +500,116 @@ ROWS = [
      {"mem 0x0": 0, "b.r1": 0o210, "b.ion": 1, "b.pend": 1}),
 ]
 
-# The word of TAD without its carry into L, and the first start that shows it.
+# The word of TAD without its carry into L.
 NO_LINK = ["change m", "without TAD_D:", "| org 0x58", "| TAD_D: MEMORY, DA, a=AC, ADD, RAMF, b=AC, GO, br=END"]
-SHOWN = ["no", "difference element b.link", "boundary 0x0", "set m.AC 0x800", "set m.PC 0x800", "mem 0x0 0x800",
-         "mem 0x800 0x200"]
+# What differs there, and the first start that shows it. A direct TAD comes before an indirect one, and of its comparisons
+# that of L alone fails. Bit 0 of each value is as low as it can be, then bit 1, and so on. Bits 0 to 8 may be 0 of all
+# values, and of bit 9 only the instruction's must be 1: it is 1000, TAD 0. Then nothing is carried out of AC plus
+# memory 0000 but where bit 11 of both is 1, and bit 10 is 0. So memory 0000 isn't the instruction, and PC isn't 0: of PC the
+# last bit is 1.
+DIFFERENCE = ["difference element b.link"]
+START = ["boundary 0x0", "set m.AC 0x800", "set m.PC 0x800", "mem 0x0 0x800", "mem 0x800 0x200"]
+# What examples/pdp8/script prints from there, but for L: 1000 is fetched and done, and 4000 and 4000 are 10000.
+TRACE = ["1 at 0x0 b.r0=0x800", "2 at 0x0 b.r0=0x800 b.link=0x0", "3 at 0x0 b.r0=0x800 b.link=0x0 b.mar=0x800",
+         "4 at 0x58 b.r0=0x800 b.link=0x0 b.mar=0x0", "5 b.ir=0x200", "6 mem 0x0=0x800",
+         "7 at 0x8 b.r0=0x0 b.link={link} b.mar=0x0", "8 at 0x0 b.r0=0x0 b.link={link} b.mar=0x801", "9 b.r1=0x801"]
 
 
-def print_row(name, words, files, report, status=0, change=()):
-    given = [f"$ {words}", "with pdp8", *(line for file, lines in files.items() for line in text_of(file, lines)), *change]
-    report = "".join(f"{line}\n" for line in report).encode()
-    print("\n".join(["", *row_lines(name, given, f"status {status}", report)]))
+def text_of(lines):
+    return "".join(f"{line}\n" for line in lines).encode()
+
+
+def example(file):
+    return (EXAMPLE / file).read_text().splitlines()
+
+
+def row(name, words, files, report, end="status 0", change=()):
+    """The lines of a row over the four texts and these files. Where a report only begins so, its last line may go on."""
+    given = [f"$ {words}", "with pdp8", *(line for file, lines in files.items() for line in file_lines(file, text_of(lines)))]
+    text = "\n".join(report).encode() if end.startswith("begins") else text_of(report)
+    return ["", *row_lines(name, [*given, *change], end, text)]
 
 
 def without_zeros(elements):
     return {name: value for name, value in elements.items() if value}
 
 
-def text_of(file, lines):
-    return file_lines(file, "".join(f"{line}\n" for line in lines).encode())
-
-
-def print_rows():
-    print(HEAD + "\n\nset pdp8")
-    for name, file in FILES.items():
-        print("\n".join(file_lines(name, (EXAMPLE / file).read_bytes())))
+def instruction_rows():
     for name, machine, line, steps, shown in ROWS:
         outside = memory_lines(machine.memory) + list_lines("line", line)
         environment = ["at FETCH", *set_lines("b", without_zeros(CONSTANTS | kept(machine))), *outside]
         script = [f"until FETCH {CYCLES}"] * steps + [f"show {what}" for what in shown]
         report = [f"{number + 1} at 0x0" for number in range(steps)]
         report += [f"{number} {what}=0x{value:X}" for number, (what, value) in enumerate(shown.items(), steps + 1)]
-        print_row(name, "debug b m e d", {"e": environment, "d": script}, report)
+        yield from row(name, "debug b m e d", {"e": environment, "d": script}, report)
         start = ["boundary FETCH", *set_lines("m", without_zeros(registers(machine))), *outside]
-        print_row(f"{name}, compared", f"compare b m k r s --steps {steps}", {"s": start}, [f"same {steps}"])
-    print_row("TAD of 4000 with AC 4000, compared", "compare b m k r s", {"s": SHOWN}, ["same 1"])
-    print_row("TAD of 4000 with AC 4000 without its carry into L, compared", "compare b m k r s", {"s": SHOWN},
-              ["differs step 1", "difference element b.link"], status=1, change=NO_LINK)
+        yield from row(f"{name}, compared", f"compare b m k r s --steps {steps}", {"s": start}, [f"same {steps}"])
+
+
+def machine_at(environment):
+    """The machine of an environment that sets PC and AC alone of its registers."""
+    machine = Machine()
+    for line in environment:
+        match line.partition(";")[0].split():
+            case ["set", "b.r0", value]:
+                machine.ac = int(value, 0)
+            case ["set", "b.r1", value]:
+                machine.pc = int(value, 0)
+            case ["mem", address, *words]:
+                machine.memory |= enumerate((int(word, 0) for word in words), int(address, 0))
+            case ["inputs", *words]:
+                machine.inputs += (int(word, 0) for word in words)
+    return machine
+
+
+def run_to_halt(machine):
+    """What a machine puts out and takes until it halts."""
+    events = []
+    while not machine.halt:
+        machine.step(0)
+        events += event_lines(machine)
+    return events
+
+
+def program_rows():
+    """The two programs of examples/pdp8, which halt within 1,000 cycles."""
+    environment = example("env-multiply")
+    machine = machine_at(environment)
+    run_to_halt(machine)
+    shown = {"b.r1": machine.pc, "b.r0": machine.ac, "b.halt": machine.halt, "mem 0x87": machine.memory[0o207],
+             "mem 0x88": machine.memory[0o210]}
+    assert shown["mem 0x88"] == 6 * 7
+    report = ["1 at 0x0", *(f"{number} {what}=0x{value:X}" for number, (what, value) in enumerate(shown.items(), 2))]
+    script = ["step 1000", *(f"show {what}" for what in shown)]
+    yield from row("6 times 7", "debug b m e d", {"e": environment, "d": script}, report)
+    environment = example("env-message")
+    report = ["cycles 1000", *run_to_halt(machine_at(environment)), "at 0x0", ""]
+    yield from row("two characters that are put out", "run b m e", {"e": environment}, report, end="begins 0")
+
+
+def certify_rows():
+    words = "certify b m k r"
+    yield from row("every start", words, {}, ["yes", "boundary 0x0 cases 31 cycles 21 machine-states all"])
+    yield from row("every start within 1 node", f"{words} --nodes 1", {}, ["unknown nodes boundary "], end="begins 2")
+    report = ["no", *DIFFERENCE, *START]
+    yield from row("every start of TAD without its carry into L", words, {}, report, end="status 1", change=NO_LINK)
+    for name, command in (("replayed", "replay"), ("compared", "compare")):
+        words, files = f"{command} b m k r c", {"c": report}
+        differs = ["differs step 1", *DIFFERENCE]
+        yield from row(f"the start of that no, {name}", words, files, differs, end="status 1", change=NO_LINK)
+        yield from row(f"the start of that no, {name} with the right word", words, files, ["same 1"])
+    files = {"e": example("env-carry"), "d": example("script")}
+    for name, link, change in (("", 0, NO_LINK), (" with the right word", 1, ())):
+        report = [line.format(link=f"0x{link}") for line in TRACE]
+        yield from row(f"the debugger at the start of that no{name}", "debug b m e d", files, report, change=change)
+
+
+def rows():
+    """The whole file."""
+    lines = [HEAD, "", "set pdp8"]
+    for name, file in FILES.items():
+        lines += file_lines(name, (EXAMPLE / file).read_bytes())
+    return "".join(f"{line}\n" for line in [*lines, *instruction_rows(), *program_rows(), *certify_rows()])
 
 
 def check():
@@ -540,13 +619,20 @@ def check():
     print("instructions by hand: as they are worked out", flush=True)
 
 
+def check_rows():
+    if not ROWS_FILE.exists() or ROWS_FILE.read_text() != rows():
+        sys.exit(f"{ROWS_FILE.relative_to(TOP)} is not what tools/pdp8_table.py rows prints")
+    print("rows: as they are printed", flush=True)
+
+
 def main():
     random.seed(1965)
     match sys.argv[1:]:
         case ["--check"]:
             check()
+            check_rows()
         case ["rows"]:
-            print_rows()
+            print(rows(), end="")
         case ["run", path]:
             check()
             program = Program(path)

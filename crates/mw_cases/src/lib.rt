@@ -1,4 +1,4 @@
-//! Jobs that come from no file: the generator makes one for each number.
+//! Jobs that come from no file: the generator makes one for each number, and the four texts of a PDP-8 are constants.
 #![tactic(auto)]
 
 mod board;
@@ -8,6 +8,8 @@ mod instructions;
 mod laws;
 mod layout;
 mod operation;
+mod pdp8_case;
+mod pdp8_texts;
 mod related;
 mod store;
 mod word;
@@ -15,6 +17,7 @@ mod word;
 pub use generator::{Made, generate};
 pub use laws::{operations_are_640, operations_are_few, steps_do_operations};
 pub use operation::{Kind, Operation};
+pub use pdp8_case::{Texts, pdp8};
 
 #[cfg(test)]
 mod tests;

@@ -1,5 +1,7 @@
 // Each public function, once with ample memory. The words are those that tools/generate_table.py prints.
-use crate::{Made, generate, operations_are_640, operations_are_few, steps_do_operations};
+use crate::{
+    Made, Texts, generate, operations_are_640, operations_are_few, pdp8, steps_do_operations,
+};
 use std::alloc::Global;
 use std::test::Fail;
 
@@ -25,5 +27,20 @@ fn generated_word(rt: HostRuntime) -> Result<(), Fail> {
     assert_eq!(rt; seventh.operations, 640);
     assert_eq!(rt; word_of(&seventh, 16), 0x38_24F1);
     assert_eq!(rt; word_of(&seventh, 20), 0x4_000E_02C9);
+    Ok(())
+}
+
+#[test]
+fn texts_of_the_pdp8(rt: HostRuntime) -> Result<(), Fail> {
+    let Texts {
+        board,
+        micro,
+        machine,
+        relation,
+    } = pdp8();
+    assert!(rt; board.starts_with(b"# A PDP-8 on twelve bits"));
+    assert!(rt; micro.starts_with(b"; A PDP-8 on twelve bits"));
+    assert!(rt; machine.starts_with(b"; One instruction of a PDP-8/E"));
+    assert!(rt; relation.starts_with(b"; Where the board and the PDP-8 are compared"));
     Ok(())
 }
