@@ -476,9 +476,9 @@ def check_programs(program):
 
 HEAD = """\
 # A PDP-8 on the board of examples/pdp8, printed by tools/pdp8_table.py. What an instruction does is worked out by hand, from
-# the instruction set, and each is also compared with the description; what a program does says the script's own PDP-8. The
-# ways through the microprogram, 31, and the longest, 21 cycles, are counted in docs/manual/pdp8.md, and the first start that
-# differs is worked out by hand in the script. Numbers of PDP-8 words are octal in the names."""
+# the instruction set, and each is also compared with the description; what a program does is said by the script's own
+# PDP-8. The ways through the microprogram, 31, and the longest, 21 cycles, are counted in docs/manual/pdp8.md, and the
+# first start that differs is worked out by hand in the script. Numbers of PDP-8 words are octal in the names."""
 # A name, a machine, the line of the first cycles, how many steps, and what is shown behind them.
 ROWS = [
     ("TAD of 0001 with AC 7777 and L 1", at_0200(0o1001, mem={1: 1}, ac=0o7777, link=1), [], 1,
@@ -503,10 +503,10 @@ ROWS = [
 # The word of TAD without its carry into L.
 NO_LINK = ["change m", "without TAD_D:", "| org 0x58", "| TAD_D: MEMORY, DA, a=AC, ADD, RAMF, b=AC, GO, br=END"]
 # What differs there, and the first start that shows it. A direct TAD comes before an indirect one, and of its comparisons
-# that of L alone fails. Bit 0 of each value is as low as it can be, then bit 1, and so on. Bits 0 to 8 may be 0 of all
-# values, and of bit 9 only the instruction's must be 1: it is 1000, TAD 0. Then nothing is carried out of AC plus
-# memory 0000 but where bit 11 of both is 1, and bit 10 is 0. So memory 0000 isn't the instruction, and PC isn't 0: of PC the
-# last bit is 1.
+# that of L alone fails. The first start has 0 in bit 0 of each value where it can, then in bit 1, and so on, with bits
+# numbered from the lowest here. Of the instruction bit 9 must be 1, and nothing else: it is 1000, TAD 0. L goes wrong
+# where AC plus memory 0000 has a carry; with 0 in bits 0 to 10 bit 11 of both is 1. So memory 0000 is 4000 and isn't the
+# instruction, and PC isn't 0: its highest bit, 11, is 1.
 DIFFERENCE = ["difference element b.link"]
 START = ["boundary 0x0", "set m.AC 0x800", "set m.PC 0x800", "mem 0x0 0x800", "mem 0x800 0x200"]
 # What examples/pdp8/script prints from there, but for L: 1000 is fetched and done, and 4000 and 4000 are 10000.

@@ -8,7 +8,7 @@ mod instructions;
 mod laws;
 mod layout;
 mod operation;
-mod pdp8_case;
+mod pdp8_job;
 mod pdp8_texts;
 mod related;
 mod store;
@@ -17,7 +17,7 @@ mod word;
 pub use generator::{Made, generate};
 pub use laws::{operations_are_640, operations_are_few, steps_do_operations};
 pub use operation::{Kind, Operation};
-pub use pdp8_case::{Texts, pdp8};
+pub use pdp8_job::{Texts, pdp8};
 
 #[cfg(test)]
 mod tests;

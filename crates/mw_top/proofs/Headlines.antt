@@ -27,7 +27,7 @@ use Rattle.mw_top.specs.Call.{Call, NothingFailed, Took}
 use Rattle.mw_top.specs.Commands.Certify.{IsCertification, IsVerdictReport, certify_plan, verdict_status}
 use Rattle.mw_top.specs.Commands.Generate.{IsGeneration, generate_plan, operations_text}
 use Rattle.mw_top.specs.Commands.Table.{IsAnswer, budget_of, plan_of}
-use Rattle.mw_top.specs.Headline.{AreToCertify, AsksToCertify, AsksToGenerate, Certifies, IsJobOf, IsNoEnd, IsSettled, IsUnknownEnd, IsYesEnd, NoneIsOver, NothingIsOver, after_yes, certifies}
+use Rattle.mw_top.specs.Headline.{AreToCertify, AsksFor, AsksToCertify, Certifies, IsJobOf, IsNoEnd, IsSettled, IsUnknownEnd, IsYesEnd, NoGeneratedJobIsOver, NothingIsOver, after_yes, is_certifying}
 use Rattle.mw_top.specs.Request.{RequestData, files_of, request_of}
 use Rattle.mw_top.proofs.Ends.{end_accepted}
 use Rattle.mw_top.proofs.Made.{MakesOnly, made_so, makes_of_job}
@@ -94,7 +94,7 @@ record IsWorkOn (command : Command) (call : Call) (request : RequestData) (statu
   yes : status ≡ Done → report ≡ lines ++ after_yes command
   others : status ≢ Done → report ≡ lines
 
-work_by : (command : Command) → certifies command ≡ true → (call : Call) (request : RequestData)
+work_by : (command : Command) → is_certifying command ≡ true → (call : Call) (request : RequestData)
     (contents : List (List ℕ)) (work : Work) (status : Status) (report : List ℕ)
     → IsLeft (plan_of command) call.shelf_before (files_of request contents) (done work)
     → IsAnswer request work status report → IsWorkOn command call request status report
@@ -217,20 +217,21 @@ end_unknown call end asks =
 once : (a b : Job) → ◌≡◌ {A = Plan Fault Work} (done (works.Certification a)) (done (works.Certification b)) → a ≡ b
 once a b same = cc
 
--- what is to be certified is asked to be
-abbrev asked : (call : Call) (job : Job) (budget : Budget) → AreToCertify call job budget → AsksToCertify call
-asked call job budget to = record {
-  request = to.request;
-  requested = to.requested;
-  command = rw to.command refl;
+-- who asks for a command that certifies asks to certify
+abbrev asked : (call : Call) (command : Command) (budget : Budget) → is_certifying command ≡ true
+    → AsksFor call command budget → AsksToCertify call
+asked call command budget is asks = record {
+  request = asks.request;
+  requested = asks.requested;
+  command = rw asks.command_is is;
 }
 
 -- the job of the contents that are told is that of those that were read
 same_job : (call : Call) (job : Job) (budget : Budget) (to : AreToCertify call job budget) (status : Status)
-    (report : List ℕ) (on : IsWorkOn to.request.command call to.request status report) → on.job ≡ job
+    (report : List ℕ) (on : IsWorkOn to.asks.request.command call to.asks.request status report) → on.job ≡ job
 same_job call job budget to status report on =
-    let read = subst (λ (c : Command). IsJobOf c call to.request on.job) to.command on.job_is in
-    sym (once job on.job (ends_once certify_plan call.shelf_before (files_of to.request read.0) to.contents
+    let read = subst (λ (c : Command). IsJobOf c call to.asks.request on.job) to.asks.command_is on.job_is in
+    sym (once job on.job (ends_once certify_plan call.shelf_before (files_of to.asks.request read.0) to.contents
     (done (works.Certification job)) (done (works.Certification on.job)) to.told to.accepted tt read.1 tt))
 
 not_over : (job : Job) (budget : Budget) (over : Over) → NothingIsOver job budget → IsUnknown job budget over → ⊥
@@ -260,18 +261,18 @@ over_by job budget (verdicts.No counter) is status none = absurd cc
 settled_yes : (call : Call) (job : Job) (budget : Budget) → AreToCertify call job budget → IsEnd call Done
     → IsSettled job Done
 settled_yes call job budget to end =
-    let on = work_on call (asked call job budget to) Done end.0 end.1 in
+    let on = work_on call (asked call Certify budget refl to.asks) Done end.0 end.1 in
     record {
       among = (0, omega arith, refl);
       yes = λ is. subst Certified (same_job call job budget to Done end.0 on)
-          (certified_by on.job (budget_of to.request) on.answer.verdict on.answer.answers on.answer.status_is);
+          (certified_by on.job (budget_of to.asks.request) on.answer.verdict on.answer.answers on.answer.status_is);
       no = λ is. absurd cc;
     }
 
 settled_no : (call : Call) (job : Job) (budget : Budget) → AreToCertify call job budget → IsEnd call Differs
     → IsSettled job Differs
 settled_no call job budget to end =
-    let on = work_on call (asked call job budget to) Differs end.0 end.1 in
+    let on = work_on call (asked call Certify budget refl to.asks) Differs end.0 end.1 in
     record {
       among = (1, omega arith, refl);
       yes = λ is. absurd cc;
@@ -282,17 +283,17 @@ settled_no call job budget to end =
 never_unknown : (call : Call) (job : Job) (budget : Budget) → AreToCertify call job budget → NothingIsOver job budget
     → IsEnd call Unknown → ⊥
 never_unknown call job budget to none end =
-    let on = work_on call (asked call job budget to) Unknown end.0 end.1 in
-    let here : NothingIsOver on.job (budget_of to.request) =
-    subst (λ (j : Job). NothingIsOver j (budget_of to.request)) (sym (same_job call job budget to Unknown end.0 on))
-    (subst (NothingIsOver job) to.budget_is none) in
-    over_by on.job (budget_of to.request) on.answer.verdict on.answer.answers on.answer.status_is here
+    let on = work_on call (asked call Certify budget refl to.asks) Unknown end.0 end.1 in
+    let here : NothingIsOver on.job (budget_of to.asks.request) =
+    subst (λ (j : Job). NothingIsOver j (budget_of to.asks.request)) (sym (same_job call job budget to Unknown end.0 on))
+    (subst (NothingIsOver job) to.asks.budget_is none) in
+    over_by on.job (budget_of to.asks.request) on.answer.verdict on.answer.answers on.answer.status_is here
 
 accepted : (call : Call) (job : Job) (budget : Budget) (to : AreToCertify call job budget)
-    → AreAccepted to.request to.contents
+    → AreAccepted to.asks.request to.contents
 accepted call job budget to = (
   works.Certification job,
-  rw to.command to.accepted,
+  rw to.asks.command_is to.accepted,
 )
 
 pub end_settled : (call : Call) (status : Status) → IsEnd call status → (job : Job) (budget : Budget)
@@ -301,10 +302,10 @@ end_settled call Done end job budget to none still = settled_yes call job budget
 end_settled call Differs end job budget to none still = settled_no call job budget to end
 end_settled call Unknown end job budget to none still = absurd (never_unknown call job budget to none end)
 end_settled call Usage end job budget to none still =
-    absurd ((end_accepted call Usage end to.request to.contents to.requested to.told
+    absurd ((end_accepted call Usage end to.asks.request to.contents to.asks.requested to.told
     (accepted call job budget to)).0 refl)
 end_settled call Refused end job budget to none still =
-    absurd ((end_accepted call Refused end to.request to.contents to.requested to.told
+    absurd ((end_accepted call Refused end to.asks.request to.contents to.asks.requested to.told
     (accepted call job budget to)).1 refl)
 end_settled call ReadFault end job budget to none still =
     let file = next_is_among _ _ end.1.file end.1.next.name_is in
@@ -319,31 +320,26 @@ no_request : (call : Call) (request : RequestData) → request_of call.words ≡
 no_request call request some none = cc
 
 -- the plan of the request is that of a number
-its_plan : (call : Call) (number : ℕ) (budget : Budget) (asks : AsksToGenerate call number budget) (request : RequestData)
+its_plan : (call : Call) (budget : Budget) (asks : AsksFor call Generate budget) (request : RequestData)
     → request_of call.words ≡ Some request → plan_of request.command ≡ generate_plan
-its_plan call number budget asks request requested =
+its_plan call budget asks request requested =
     let same : request ≡ asks.request = cc (requested, asks.requested) in
-    ap (λ (r : RequestData). plan_of r.command) same ∙ ap plan_of asks.command
+    ap (λ (r : RequestData). plan_of r.command) same ∙ ap plan_of asks.command_is
 
-its_left : (call : Call) (number : ℕ) (budget : Budget) (asks : AsksToGenerate call number budget) (request : RequestData)
+its_left : (call : Call) (budget : Budget) (asks : AsksFor call Generate budget) (request : RequestData)
     (contents : List (List ℕ)) (left : Plan Fault Work) → request_of call.words ≡ Some request
     → after (plan_of request.command) contents ≡ Some left → left ≡ done works.Generation
-its_left call number budget asks request contents left requested is =
+its_left call budget asks request contents left requested is =
     generation_is contents left
-    (subst (λ (p : Plan Fault Work). after p contents ≡ Some left) (its_plan call number budget asks request requested) is)
+    (subst (λ (p : Plan Fault Work). after p contents ≡ Some left) (its_plan call budget asks request requested) is)
 
-never_unknown_of : (call : Call) (number : ℕ) (budget : Budget) → AsksToGenerate call number budget
-    → NoneIsOver number budget → IsEnd call Unknown → ⊥
-never_unknown_of call number budget asks none end =
-    let asked : AsksToCertify call = record {
-      request = asks.request;
-      requested = asks.requested;
-      command = rw asks.command refl;
-    } in
-    let on = work_on call asked Unknown end.0 end.1 in
-    let made = subst (λ (c : Command). IsJobOf c call asks.request on.job) asks.command on.job_is in
+never_unknown_of : (call : Call) (budget : Budget) (asks : AsksFor call Generate budget)
+    → NoGeneratedJobIsOver asks.request.number budget → IsEnd call Unknown → ⊥
+never_unknown_of call budget asks none end =
+    let on = work_on call (asked call Generate budget refl asks) Unknown end.0 end.1 in
+    let made = subst (λ (c : Command). IsJobOf c call asks.request on.job) asks.command_is on.job_is in
     over_by on.job (budget_of asks.request) on.answer.verdict on.answer.answers on.answer.status_is
-    (subst (NothingIsOver on.job) asks.budget_is (none on.job (rw asks.number_is made)))
+    (subst (NothingIsOver on.job) asks.budget_is (none on.job made))
 
 -- no file is asked for, so none is refused, and none can't be read
 abbrev NeedsNoFile : Status → Type 0
@@ -352,22 +348,22 @@ NeedsNoFile Refused = ⊥
 NeedsNoFile ReadFault = ⊥
 NeedsNoFile other = Unit {0}
 
-needs_no_file : (call : Call) (status : Status) → IsEnd call status → (number : ℕ) (budget : Budget)
-    → AsksToGenerate call number budget → NeedsNoFile status
-needs_no_file call Done end number budget asks = tt
-needs_no_file call Differs end number budget asks = tt
-needs_no_file call Unknown end number budget asks = tt
-needs_no_file call WriteFault end number budget asks = tt
-needs_no_file call NoMemory end number budget asks = tt
-needs_no_file call Usage end number budget asks = no_request call asks.request asks.requested end.0
-needs_no_file call Refused end number budget asks =
+needs_no_file : (call : Call) (status : Status) → IsEnd call status → (budget : Budget)
+    → AsksFor call Generate budget → NeedsNoFile status
+needs_no_file call Done end budget asks = tt
+needs_no_file call Differs end budget asks = tt
+needs_no_file call Unknown end budget asks = tt
+needs_no_file call WriteFault end budget asks = tt
+needs_no_file call NoMemory end budget asks = tt
+needs_no_file call Usage end budget asks = no_request call asks.request asks.requested end.0
+needs_no_file call Refused end budget asks =
     let refusal = end.1 in
-    let left = its_left call number budget asks refusal.request (refusal.contents ++ refusal.refused.last ∷ [])
+    let left = its_left call budget asks refusal.request (refusal.contents ++ refusal.refused.last ∷ [])
     (refused refusal.fault) refusal.requested refusal.refused.left.left_is in
     cc left
-needs_no_file call ReadFault end number budget asks =
+needs_no_file call ReadFault end budget asks =
     let fault = end.1 in
-    let left = its_left call number budget asks fault.request fault.contents (file fault.next.next) fault.requested
+    let left = its_left call budget asks fault.request fault.contents (file fault.next.next) fault.requested
     fault.next.left.left_is in
     cc left
 
@@ -392,13 +388,13 @@ among_known Usage needs known = absurd needs
 among_known Refused needs known = absurd needs
 among_known ReadFault needs known = absurd needs
 
-pub end_generated : (call : Call) (status : Status) → IsEnd call status → (number : ℕ) (budget : Budget)
-    → AsksToGenerate call number budget → Contains (Done ∷ Differs ∷ Unknown ∷ WriteFault ∷ NoMemory ∷ []) status
-end_generated call status end number budget asks = among status (needs_no_file call status end number budget asks)
+pub end_without_files : (call : Call) (status : Status) → IsEnd call status → (budget : Budget)
+    → AsksFor call Generate budget → Contains (Done ∷ Differs ∷ Unknown ∷ WriteFault ∷ NoMemory ∷ []) status
+end_without_files call status end budget asks = among status (needs_no_file call status end budget asks)
 
-pub end_generated_settled : (call : Call) (status : Status) → IsEnd call status → (number : ℕ) (budget : Budget)
-    → AsksToGenerate call number budget → NoneIsOver number budget
+pub end_known : (call : Call) (status : Status) → IsEnd call status → (budget : Budget)
+    → (asks : AsksFor call Generate budget) → NoGeneratedJobIsOver asks.request.number budget
     → Contains (Done ∷ Differs ∷ WriteFault ∷ NoMemory ∷ []) status
-end_generated_settled call status end number budget asks none =
-    among_known status (needs_no_file call status end number budget asks)
-    (λ is. never_unknown_of call number budget asks none (subst (IsEnd call) is end))
+end_known call status end budget asks none =
+    among_known status (needs_no_file call status end budget asks)
+    (λ is. never_unknown_of call budget asks none (subst (IsEnd call) is end))

@@ -25,26 +25,26 @@ use Rattle.mw_top.specs.declared.status.Status.{Status}
 use Rattle.mw_top.specs.declared.status.Status.TheVariants as statuses
 use Rattle.mw_top.specs.Call.{Call, Took}
 use Rattle.mw_top.specs.Commands.Certify.{certify_plan, no_report, unknown_report, yes_report}
-use Rattle.mw_top.specs.Commands.Generate.{operations_line}
+use Rattle.mw_top.specs.Commands.Generate.{operations_text}
 use Rattle.mw_top.specs.Commands.Table.{budget_of}
 use Rattle.mw_top.specs.Request.{RequestData, files_of, request_of}
 
--- what the report of a yes ends with: after the boundaries of a generated job, the number of its operations
-abbrev pub after_yes : Command → List ℕ
-after_yes Generate = operations_line 640
-after_yes other = []
+-- the commands that certify: a job of four files, or one that is generated of a number
+abbrev pub is_certifying : Command → Bool
+is_certifying Certify = true
+is_certifying Generate = true
+is_certifying other = false
 
--- the commands that certify: a job of four files, or the one that is generated of a number
-abbrev pub certifies : Command → Bool
-certifies Certify = true
-certifies Generate = true
-certifies other = false
+-- what stands behind the boundaries of a yes: of a generated job, how many operations it has
+abbrev pub after_yes : Command → List ℕ
+after_yes Generate = operations_text statuses.Done 640
+after_yes other = []
 
 -- the words ask to certify
 pub record AsksToCertify (call : Call) : Type 0 where
   pub request : RequestData
   pub requested : request_of call.words ≡ Some request
-  pub command : certifies request.command ≡ true
+  pub command : is_certifying request.command ≡ true
 
 -- The job of a command that certifies: four files were read and accepted, as the board, the microprogram, the described machine
 -- and the relation of this job; or it is one that is generated of the number.
@@ -96,15 +96,19 @@ pub record IsUnknownEnd (call : Call) : Type 0 where
   pub unknown : IsUnknown job budget over
   pub report : Took call (unknown_report job over)
 
--- The words ask to certify files within this budget, and the shelf tells contents of them that are accepted as those of this
--- job.
-pub record AreToCertify (call : Call) (job : Job) (budget : Budget) : Type 0 where
+-- the words ask for a command, within this budget
+pub record AsksFor (call : Call) (command : Command) (budget : Budget) : Type 0 where
   pub request : RequestData
   pub requested : request_of call.words ≡ Some request
-  pub command : request.command ≡ Certify
+  pub command_is : request.command ≡ command
   pub budget_is : budget ≡ budget_of request
+
+-- The words ask to certify four files within this budget, and the shelf tells contents of them that are accepted as those of
+-- this job.
+pub record AreToCertify (call : Call) (job : Job) (budget : Budget) : Type 0 where
+  pub asks : AsksFor call Certify budget
   pub contents : List (List ℕ)
-  pub told : AreTold call.shelf_before request.files contents
+  pub told : AreTold call.shelf_before asks.request.files contents
   pub accepted : after certify_plan contents ≡ Some (done (Certification job))
 
 -- no operation and no boundary of a job is over a budget
@@ -118,14 +122,6 @@ pub record IsSettled (job : Job) (status : Status) : Type 0 where
   pub yes : status ≡ statuses.Done → Certified job
   pub no : status ≡ statuses.Differs → ¬ Certified job
 
--- the words ask to certify the job that is generated of a number, within this budget
-pub record AsksToGenerate (call : Call) (number : ℕ) (budget : Budget) : Type 0 where
-  pub request : RequestData
-  pub requested : request_of call.words ≡ Some request
-  pub command : request.command ≡ Generate
-  pub number_is : number ≡ request.number
-  pub budget_is : budget ≡ budget_of request
-
--- whichever job is generated of a number, none of its operations and boundaries is over a budget
-abbrev pub NoneIsOver : ℕ → Budget → Type 0
-NoneIsOver number budget = (job : Job) → IsGenerated number job → NothingIsOver job budget
+-- nothing is over a budget, whichever job is generated of a number
+abbrev pub NoGeneratedJobIsOver : ℕ → Budget → Type 0
+NoGeneratedJobIsOver number budget = (job : Job) → IsGenerated number job → NothingIsOver job budget

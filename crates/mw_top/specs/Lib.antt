@@ -7,6 +7,7 @@ pub mod Headline
 pub mod Laws
 pub mod Line
 pub mod LineRead
+pub mod Operands
 pub mod Options
 pub mod PrefixText
 pub mod Report

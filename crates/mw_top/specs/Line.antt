@@ -9,7 +9,7 @@ use Rattle.clap.specs.declared.builder.action.ArgAction.TheVariants.{Set, SetTru
 abbrev pub command_rule : Rule
 command_rule = record (new_rule (codes "command")) { required = true; action = Some Set }
 
--- the words behind it, as many as there are
+-- the words behind the command, as many as there are
 abbrev pub operands_rule : Rule
 operands_rule = record (new_rule (codes "operands")) {
   action = Some Append;

@@ -1,19 +1,21 @@
 -- What the words of a command line ask for.
-use Rattle.std.specs.Prelude.{◌≡◌, ℕ, List, [], ◌∷◌, codes, string_bytes, map, length, find, Bool, true, false, ◌==◌, if◌then◌else◌, Option, Some, None, option_and_then, option_map, unwrap_or}
+use Rattle.std.specs.Prelude.{◌≡◌, ℕ, List, [], ◌∷◌, codes, string_bytes, map, length, find, Bool, true, false, Option, Some, None, option_and_then}
 use Rattle.std.specs.List.{list_any}
 use Rattle.std.specs.Str.{bytes_eq}
 use Rattle.clap.specs.Kinds.{Kinds}
-use Rattle.clap.specs.Words.{Row, all_of, fault_of, first_of, matches_of}
+use Rattle.clap.specs.Words.{Row, fault_of, first_of, matches_of}
 use Rattle.mw_plan.specs.Files.{FilesRead}
 use Rattle.mw_top.specs.declared.request.Command.{Command}
 use Rattle.mw_top.specs.declared.request.Command.TheVariants.{Asm, Certify, Compare, Debug, Equal, Generate, Replay, Run}
-use Rattle.mw_top.specs.declared.request.Operands.{Operands}
 use Rattle.mw_top.specs.declared.request.Request.{Request}
+use Rattle.mw_top.specs.declared.request.operands.Expected.{Expected}
+use Rattle.mw_top.specs.declared.request.operands.Expected.TheVariants.{Files, JobNumber}
 use Rattle.mw_top.specs.declared.request.options.Number.{Number}
 use Rattle.mw_top.specs.declared.request.options.Number.TheVariants.{Nodes, Paths, Steps, Cycles}
 use Rattle.mw_top.specs.declared.request.options.Options.{Options}
 use Rattle.mw_top.specs.Line.{line}
-use Rattle.mw_top.specs.Options.{limit_of, number_of, number_within, is_true, parts_of, options_from}
+use Rattle.mw_top.specs.Operands.{OperandsData, file_count, operands_of, words_in}
+use Rattle.mw_top.specs.Options.{limit_of, number_of, is_true, parts_of, options_from}
 
 -- A command, the names of its files in the order of the words, the number of a job, and the options. An option that isn't
 -- the command's own stands as it does where no line gives it, and the number as 0.
@@ -44,25 +46,23 @@ data_of request = record {
 abbrev pub files_of : RequestData → List (List ℕ) → FilesRead
 files_of request contents = record { names = request.files; contents = contents }
 
--- the word that stands for a command, how many files it has, whether it has the number of a job in their place, and which
--- options are its own
+-- the word that stands for a command, what is expected behind it, and which options are its own
 pub record CommandRow : Type 0 where
   pub word : List ℕ
-  pub files : ℕ
-  pub number : Bool
+  pub operands : Expected
   pub numbers : List Number
   pub parts : Bool
 
 -- the row of each command
 abbrev pub row_of : Command → CommandRow
-row_of Compare = record { word = codes "compare"; files = 5; number = false; numbers = Steps ∷ []; parts = true }
-row_of Asm = record { word = codes "asm"; files = 2; number = false; numbers = []; parts = false }
-row_of Run = record { word = codes "run"; files = 3; number = false; numbers = Cycles ∷ []; parts = true }
-row_of Debug = record { word = codes "debug"; files = 4; number = false; numbers = []; parts = false }
-row_of Equal = record { word = codes "equal"; files = 1; number = false; numbers = Nodes ∷ []; parts = false }
-row_of Certify = record { word = codes "certify"; files = 4; number = false; numbers = Nodes ∷ Paths ∷ []; parts = false }
-row_of Replay = record { word = codes "replay"; files = 5; number = false; numbers = []; parts = false }
-row_of Generate = record { word = codes "generate"; files = 0; number = true; numbers = Nodes ∷ Paths ∷ []; parts = false }
+row_of Compare = record { word = codes "compare"; operands = Files 5; numbers = Steps ∷ []; parts = true }
+row_of Asm = record { word = codes "asm"; operands = Files 2; numbers = []; parts = false }
+row_of Run = record { word = codes "run"; operands = Files 3; numbers = Cycles ∷ []; parts = true }
+row_of Debug = record { word = codes "debug"; operands = Files 4; numbers = []; parts = false }
+row_of Equal = record { word = codes "equal"; operands = Files 1; numbers = Nodes ∷ []; parts = false }
+row_of Certify = record { word = codes "certify"; operands = Files 4; numbers = Nodes ∷ Paths ∷ []; parts = false }
+row_of Replay = record { word = codes "replay"; operands = Files 5; numbers = []; parts = false }
+row_of Generate = record { word = codes "generate"; operands = JobNumber; numbers = Nodes ∷ Paths ∷ []; parts = false }
 
 -- the commands
 abbrev pub commands : List Command
@@ -92,34 +92,7 @@ options_in command matches = options_from
     (number_in command matches Steps) (number_in command matches Cycles)
     (parts_of (row_of command).parts (is_true (first_of (codes "parts") matches)))
 
--- the words behind the command's
-abbrev pub words_in : List Row → List (List ℕ)
-words_in matches = unwrap_or (all_of (codes "operands") matches) []
-
--- what these words are: the names of files, or the number of a job
-pub record OperandsData : Type 0 where
-  pub files : List (List ℕ)
-  pub number : ℕ
-
--- operands with the bytes of their files' names
-abbrev pub operands_data : Operands → OperandsData
-operands_data operands = record { files = map string_bytes operands.files.items; number = operands.number }
-
--- one word: the number of a job, up to 65,535
-abbrev pub number_alone : List (List ℕ) → Option OperandsData
-number_alone (word ∷ []) = option_map (λ number. record { files = []; number = number }) (number_within 0 65535 word)
-number_alone words = None
-
--- as many files
-abbrev pub files_alone : ℕ → List (List ℕ) → Option OperandsData
-files_alone count words = if length words == count then Some (record { files = words; number = 0 }) else None
-
--- what a command makes of the words; nothing where they aren't its own
-abbrev pub operands_of : Command → List (List ℕ) → Option OperandsData
-operands_of command words =
-    if (row_of command).number then number_alone words else files_alone (row_of command).files words
-
--- the command with its files or its number, and its options, where they are its own
+-- the command with what stands behind it and with its options, where both are its own
 abbrev pub with_options : Command → Option OperandsData → Option Options → Option RequestData
 with_options command (Some operands) (Some options) = Some (record {
   command = command;
@@ -141,7 +114,7 @@ command_in matches = option_and_then command_of (first_of (codes "command") matc
 abbrev pub with_command : Option Command → List Row → Option RequestData
 with_command None matches = None
 with_command (Some command) matches =
-    with_options command (operands_of command (words_in matches)) (options_in command matches)
+    with_options command (operands_of (row_of command).operands (words_in matches)) (options_in command matches)
 
 -- the request of the matches of a line
 abbrev pub request_in : List Row → Option RequestData
@@ -158,4 +131,4 @@ request_of words = unless_refused (fault_of line words) (matches_of line words)
 
 -- a request has as many files as its command
 abbrev pub HasItsFiles : Request → Type 0
-HasItsFiles request = length request.files.items ≡ (row_of request.command).files
+HasItsFiles request = length request.files.items ≡ file_count (row_of request.command).operands

@@ -3,6 +3,7 @@ ghost use Rattle.std.specs.Prelude.{◌≡◌, [], IfOk, length};
 ghost use Rattle.mw_outside.specs.Views.{IsLater, shelf_shown};
 ghost use Rattle.mw_plan.specs.Steps.{Ends};
 ghost use Rattle.mw_top.specs.Commands.Table.{budget_of, plan_of, IsAnswer};
+ghost use Rattle.mw_top.specs.Operands.{file_count};
 ghost use Rattle.mw_top.specs.Request.{data_of, row_of};
 
 mod asm;
@@ -56,7 +57,7 @@ pub(crate) fn read_files<S: Shelf>(
     shelf: &mut S,
     files: &mut Files<'_, Work, Fault>,
 ) -> Result<Work, Stop<Fault>>
-    requires counted { length files.old.names ≡ (row_of command).files }
+    requires counted { length files.old.names ≡ file_count (row_of command).operands }
     requires none_read { files.old.contents ≡ [] }
     ensures ends { Ends (plan_of command) (shelf_shown S.Shelf shelf.old) (shelf_shown S.Shelf shelf.new) files.new result }
     ensures names { files.new.names ≡ files.old.names }
@@ -98,7 +99,7 @@ pub(crate) fn answer_with(alloc: Global, request: &Request, work: Work) -> Resul
         Work::Question(asked) => equal::report(alloc, &asked, request.nodes),
         Work::Certification(certification) => certify::report(
             alloc,
-            &certification,
+            &certification.job,
             budget_of(request),
         ),
         Work::Generation => generate::report(alloc, request.number, budget_of(request)),

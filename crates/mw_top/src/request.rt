@@ -1,15 +1,18 @@
 // What the words of a command line ask for.
-ghost use Rattle.std.specs.Prelude.{◌≡◌, [], IfOk, IfSome, Some, length, map, option_map, string_bytes};
+ghost use Rattle.std.specs.Prelude.{◌≡◌, IfOk, IfSome, Some, length, map, option_map, string_bytes};
 ghost use Rattle.std.specs.Str.{bytes_eq};
 ghost use Rattle.clap.specs.Words.{first_of, found_of, rows_of};
-ghost use Rattle.mw_top.specs.Request.{HasItsFiles, command_in, command_of, data_of, number_alone, number_in, operands_data, operands_of, options_in, request_in, request_of, row_of, with_options, words_in};
+ghost use Rattle.mw_top.specs.Request.{HasItsFiles, command_in, command_of, data_of, number_in, options_in, request_in, request_of, row_of, with_options};
+ghost use Rattle.mw_top.specs.Operands.{file_count, operands_data};
 
 mod computed_examples;
 mod line;
+mod operands;
 mod options;
 
 use self::line::{LineRead, read_line};
-use self::options::{Number, Options, number_of, number_within, parts_of};
+use self::operands::{Expected, Operands, operands_in};
+use self::options::{Number, Options, number_of, parts_of};
 use clap::ArgMatches;
 use mw_base::NoMemory;
 use std::alloc::Global;
@@ -35,8 +38,8 @@ pub enum Command {
     Generate,
 }
 
-/// A command with its files or its number, and its options. An option that isn't the command's own stands as it does where it
-/// isn't given.
+/// A command with what stands behind it, and its options. An option that isn't the command's own stands as it does where
+/// it isn't given.
 #[derive(Debug, Drop)]
 pub struct Request {
     /// What is to be done.
@@ -62,10 +65,8 @@ pub struct Request {
 struct Row {
     /// The word that stands for it.
     word: &'static str,
-    /// How many files it has.
-    files: usize,
-    /// Whether it has the number of a job in their place.
-    number: bool,
+    /// What is expected behind it.
+    operands: Expected,
     /// Its own options with numbers.
     numbers: &'static [Number],
     /// Whether `--parts` is its own.
@@ -88,65 +89,56 @@ impl Command {
     /// The row of the command.
     fn row(self) -> Row
         ensures word { result.word.now ≡ (row_of self).word }
-        ensures files { result.files ≡ (row_of self).files }
-        ensures number { result.number ≡ (row_of self).number }
+        ensures operands { result.operands ≡ (row_of self).operands }
         ensures numbers { result.numbers.now ≡ (row_of self).numbers }
         ensures parts { result.parts ≡ (row_of self).parts }
     {
         match self {
             Command::Compare => Row {
                 word: "compare",
-                files: 5,
-                number: false,
+                operands: Expected::Files(5),
                 numbers: &[Number::Steps],
                 parts: true,
             },
             Command::Asm => Row {
                 word: "asm",
-                files: 2,
-                number: false,
+                operands: Expected::Files(2),
                 numbers: &[],
                 parts: false,
             },
             Command::Run => Row {
                 word: "run",
-                files: 3,
-                number: false,
+                operands: Expected::Files(3),
                 numbers: &[Number::Cycles],
                 parts: true,
             },
             Command::Debug => Row {
                 word: "debug",
-                files: 4,
-                number: false,
+                operands: Expected::Files(4),
                 numbers: &[],
                 parts: false,
             },
             Command::Equal => Row {
                 word: "equal",
-                files: 1,
-                number: false,
+                operands: Expected::Files(1),
                 numbers: &[Number::Nodes],
                 parts: false,
             },
             Command::Certify => Row {
                 word: "certify",
-                files: 4,
-                number: false,
+                operands: Expected::Files(4),
                 numbers: &[Number::Nodes, Number::Paths],
                 parts: false,
             },
             Command::Replay => Row {
                 word: "replay",
-                files: 5,
-                number: false,
+                operands: Expected::Files(5),
                 numbers: &[],
                 parts: false,
             },
             Command::Generate => Row {
                 word: "generate",
-                files: 0,
-                number: true,
+                operands: Expected::JobNumber,
                 numbers: &[Number::Nodes, Number::Paths],
                 parts: false,
             },
@@ -210,91 +202,9 @@ fn options_in(command: Command, line: &ArgMatches<'_>) -> Option<Options>
     })
 }
 
-/// The words behind a command's own.
-#[derive(Drop)]
-struct Operands {
-    /// The names of its files.
-    files: Vec<String>,
-    /// The number of a job.
-    number: u16,
-}
-
-/// The number of a job, where the words are one.
-fn number_alone(words: &[&str]) -> Option<u16>
-    ensures { option_map (λ number. record { files = []; number = number }) result ≡ number_alone (map (λ word. word.now) words.now) }
-{
-    match words {
-        [word] => match number_within(0, 65_535, word.as_bytes()) {
-            Some(number) => Some(number as u16),
-            None => None,
-        },
-        _ => None,
-    }
-}
-
-/// Copies of texts.
-fn copies(alloc: Global, texts: &[&str]) -> Result<Vec<String>, NoMemory>
-    ensures { IfOk result (λ copies. map string_bytes copies.items ≡ map (λ text. text.now) texts.now) }
-{
-    let mut copies = Vec::new(alloc);
-    for text in texts {
-        copies.push(String::from_str(alloc, text)?)?;
-    }
-    Ok(copies)
-}
-
-/// The operands of a command that has the number of a job.
-fn numbered(alloc: Global, words: &[&str]) -> Option<Operands>
-    ensures exact { option_map operands_data result ≡ number_alone (map (λ word. word.now) words.now) }
-    ensures none { IfSome result (λ operands. operands.files.items ≡ []) }
-{
-    match number_alone(words) {
-        Some(number) => Some(Operands {
-            files: Vec::new(alloc),
-            number,
-        }),
-        None => None,
-    }
-}
-
-/// What a command makes of the words behind its own.
-fn operands_of(
-    alloc: Global,
-    command: Command,
-    words: &[&str],
-) -> Result<Option<Operands>, NoMemory>
-    ensures exact { IfOk result (λ operands. option_map operands_data operands ≡ operands_of command (map (λ word. word.now) words.now)) }
-    ensures count { IfOk result (λ operands. IfSome operands (λ o. length o.files.items ≡ (row_of command).files)) }
-{
-    let row = command.row();
-    if row.number {
-        return Ok(numbered(alloc, words));
-    }
-    if words.len() != row.files {
-        return Ok(None);
-    }
-    let files = copies(alloc, words)?;
-    Ok(Some(Operands { files, number: 0 }))
-}
-
-/// The operands of a line.
-fn operands_in(
-    alloc: Global,
-    command: Command,
-    line: &ArgMatches<'_>,
-) -> Result<Option<Operands>, NoMemory>
-    ensures exact { IfOk result (λ operands. option_map operands_data operands ≡ operands_of command (words_in (rows_of (found_of line.now)))) }
-    ensures count { IfOk result (λ operands. IfSome operands (λ o. length o.files.items ≡ (row_of command).files)) }
-{
-    match line.get_strs("operands") {
-        Some(words) => operands_of(alloc, command, words),
-        None => operands_of(alloc, command, &[]),
-    }
-}
-
-/// The command with its files or its number, and its options.
+/// The command with what stands behind it and with its options.
 fn with_options(command: Command, operands: Operands, options: Options) -> Request
-    requires { length operands.files.items ≡ (row_of command).files }
+    requires { length operands.files.items ≡ file_count (row_of command).operands }
     ensures exact { Some (data_of result) ≡ with_options command (Some (operands_data operands)) (Some options) }
     ensures count { HasItsFiles result }
 {
@@ -322,7 +232,7 @@ fn request_in(alloc: Global, line: &ArgMatches<'_>) -> Result<Option<Request>, N
     let Some(options) = options_in(command, line) else {
         return Ok(None);
     };
-    match operands_in(alloc, command, line)? {
+    match operands_in(alloc, command.row().operands, line)? {
         Some(operands) => Ok(Some(with_options(command, operands, options))),
         None => Ok(None),
     }

@@ -17,17 +17,13 @@ use Rattle.mw_top.specs.Commands.Certify.{IsCertification}
 unfoldable pub generate_plan : Plan Fault Work
 generate_plan = done works.Generation
 
--- operations N
-abbrev pub operations_line : ℕ → List ℕ
-operations_line operations = line (codes "operations " ++ decimal operations)
-
--- how many operations the instructions have, after a yes; nothing after another answer
+-- Behind a yes stands `operations N`, how many operations the instructions have together; behind another answer nothing.
 abbrev pub operations_text : Status → ℕ → List ℕ
-operations_text Done operations = operations_line operations
+operations_text Done operations = line (codes "operations " ++ decimal operations)
 operations_text other operations = []
 
--- The job is the one that is generated of the number. It is certified within a budget as that of files is, and the number of
--- its operations follows.
+-- A job that is generated of the number is certified within a budget, as one of files is, and behind a yes stand its 640
+-- operations.
 pub record IsGeneration (budget : Budget) (number : ℕ) (status : Status) (report : List ℕ) : Type 0 where
   pub job : Job
   pub generated : IsGenerated number job

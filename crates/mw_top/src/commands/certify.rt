@@ -34,7 +34,8 @@ use std::marker::Model;
 /// A job that is to be certified.
 #[derive(Drop)]
 pub(crate) struct Certification {
-    job: Job,
+    /// The job of its files.
+    pub(super) job: Job,
 }
 
 impl Model for Certification {
@@ -298,7 +299,7 @@ fn append_verdict(
 }
 
 /// Certifies a job within a budget.
-pub(super) fn certify_job(alloc: Global, job: &Job, budget: Budget) -> Result<Outcome, NoMemory>
+pub(super) fn report(alloc: Global, job: &Job, budget: Budget) -> Result<Outcome, NoMemory>
     ensures { IfOk result (λ outcome. IsCertification budget (job_of job.now) outcome.status outcome.report.items) }
 {
     // A call for the proof: its clause `valid` says what holds of every job.
@@ -310,15 +311,4 @@ pub(super) fn certify_job(alloc: Global, job: &Job, budget: Budget) -> Result<Ou
         status: status_of(&verdict),
         report,
     })
-}
-
-/// Certifies the job of the files within a budget.
-pub(super) fn report(
-    alloc: Global,
-    certification: &Certification,
-    budget: Budget,
-) -> Result<Outcome, NoMemory>
-    ensures { IfOk result (λ outcome. IsCertification budget certification.now outcome.status outcome.report.items) }
-{
-    certify_job(alloc, &certification.job, budget)
 }

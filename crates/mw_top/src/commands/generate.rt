@@ -1,8 +1,8 @@
 // generate: a number.
 ghost use Rattle.std.specs.Prelude.{◌≡◌, ◌++◌, IfOk, OnOk};
-ghost use Rattle.mw_top.specs.Commands.Generate.{IsGeneration, operations_line, operations_text};
+ghost use Rattle.mw_top.specs.Commands.Generate.{IsGeneration, operations_text};
 
-use super::certify::certify_job;
+use super::certify;
 use crate::outcome::Outcome;
 use crate::report::append_decimal_line;
 use crate::status::Status;
@@ -28,7 +28,7 @@ pub(super) fn report(alloc: Global, number: u16, budget: Budget) -> Result<Outco
     ensures { IfOk result (λ outcome. IsGeneration budget number outcome.status outcome.report.items) }
 {
     let made = generate(alloc, number)?;
-    let mut outcome = certify_job(alloc, &made.job, budget)?;
+    let mut outcome = certify::report(alloc, &made.job, budget)?;
     append_operations(alloc, &mut outcome, made.operations)?;
     Ok(outcome)
 }

@@ -28,7 +28,7 @@ fn command<'a>(alloc: Global) -> Arg<'a>
         .action(ArgAction::Set)
 }
 
-/// The words behind it, as many as there are.
+/// The words behind the command, as many as there are.
 fn operands<'a>(alloc: Global) -> Arg<'a>
     ensures rule { rule_of result ≡ operands_rule }
     ensures local { result.global ≡ false }

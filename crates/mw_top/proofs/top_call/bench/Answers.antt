@@ -1,5 +1,5 @@
 use Rattle.mw_top.proofs.Ends.{end_worked, end_usage, end_accepted, end_refused, end_complete}
-use Rattle.mw_top.proofs.Headlines.{end_generated, end_generated_settled, end_no, end_settled, end_unknown, end_yes}
+use Rattle.mw_top.proofs.Headlines.{end_known, end_no, end_settled, end_unknown, end_without_files, end_yes}
 use Rattle.mw_top.proofs.top_call.bench.Goals as goal
 
 pub returns-clause-usage : goal.returns-clause-usage
@@ -23,11 +23,11 @@ returns-clause-unknown g c = λ asks is. end_unknown _ (rw is at c.run.ensures.e
 pub returns-clause-settled : goal.returns-clause-settled
 returns-clause-settled g c = end_settled _ _ c.run.ensures.end
 
-pub returns-clause-generated : goal.returns-clause-generated
-returns-clause-generated g c = end_generated _ _ c.run.ensures.end
+pub returns-clause-without_files : goal.returns-clause-without_files
+returns-clause-without_files g c = end_without_files _ _ c.run.ensures.end
 
-pub returns-clause-generated_settled : goal.returns-clause-generated_settled
-returns-clause-generated_settled g c = end_generated_settled _ _ c.run.ensures.end
+pub returns-clause-generated_known : goal.returns-clause-generated_known
+returns-clause-generated_known g c = end_known _ _ c.run.ensures.end
 
 pub returns-clause-answer_due : goal.returns-clause-answer_due
 returns-clause-answer_due g c = end_accepted _ _ c.run.ensures.end

@@ -9,7 +9,7 @@ use Rattle.mw_fork.specs.declared.fault.Over.TheVariants as overs
 use Rattle.mw_rel.specs.Certified.{Certified}
 use Rattle.mw_rel.specs.Job.{Job}
 use Rattle.mw_replay.specs.Counter.{Counter}
-use Rattle.mw_top.proofs.commands.certify.certify_job.Goals as goal
+use Rattle.mw_top.proofs.commands.certify.report.Goals as goal
 
 -- what a verdict says, case by case
 verdict_says : (job : Job) (budget : Budget) (verdict : Verdict)

@@ -3,7 +3,7 @@ ghost use Rattle.std.specs.Prelude.{◌≤◌, length};
 
 use crate::pdp8_texts;
 
-/// The four texts of a case, as `certify` reads them.
+/// The four texts of a job, as `certify` reads them.
 pub struct Texts {
     /// The board file: parts, fields, flip-flops, selections and the map.
     pub board: &'static [u8],
