@@ -572,11 +572,11 @@ b.r14 = 0o10#12                 ; two registers hold constants
 b.r15 = 0o7776#12
 b.mar = m.PC                    ; the address of the next instruction, in mar
 b.r1 = m.PC                     ; and in register 1
-b.r0 = m.AC
-b.q = m.MQ
-b.link = m.L
-b.ion = m.ION
+b.r0 = m.AC                     ; the accumulator
+b.q = m.MQ                      ; the multiplier quotient, in the Am2901's Q
+b.link = m.L                    ; the link
+b.ion = m.ION                   ; whether interrupts are on
 b.pend = m.ION | m.DELAY        ; what ION becomes with the next instruction
-b.halt = m.HALT
+b.halt = m.HALT                 ; whether the machine has halted
 end
 "#;
