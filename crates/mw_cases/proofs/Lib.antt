@@ -7,4 +7,5 @@ pub mod Pushed
 pub mod Standing
 pub mod Stated
 pub mod Steps
+pub mod Unique
 pub mod Values

@@ -65,21 +65,21 @@ module _ (w s f d a b q r : ℕ) (c o e m i : Bool) (s_below : s < 8) (f_below :
 -- ---- the Am2901's instruction
 
 module _ (s f d : ℕ) (s_below : s < 8) (f_below : f < 8) (d_below : d < 8) where
-  source_at : source_of (join 6 d (join 3 f s)) ≡ source_of s
+  pub source_at : source_of (join 6 d (join 3 f s)) ≡ source_of s
   unfolding source_of
   source_at =
       let one : (d * 64 + (f * 8 + s)) % 8 ≡ s = omega arith in
       let other : s % 8 ≡ s = omega arith in
       rw (one, other) refl
 
-  function_at : function_of (join 6 d (join 3 f s)) ≡ function_of (f * 8)
+  pub function_at : function_of (join 6 d (join 3 f s)) ≡ function_of (f * 8)
   unfolding function_of
   function_at =
       let one : (d * 64 + (f * 8 + s)) / 8 % 8 ≡ f = omega arith in
       let other : f * 8 / 8 % 8 ≡ f = omega arith in
       rw (one, other) refl
 
-  destination_at : destination_of (join 6 d (join 3 f s)) ≡ destination_of (d * 64)
+  pub destination_at : destination_of (join 6 d (join 3 f s)) ≡ destination_of (d * 64)
   unfolding destination_of
   destination_at =
       let one : (d * 64 + (f * 8 + s)) / 64 % 8 ≡ d = omega arith in

@@ -2,7 +2,9 @@
 use Rattle.std.specs.Prelude.{◌≡◌, ℕ, List, [], length, Bool}
 use Rattle.mw_macro.specs.DescribedStep.{step_of, kept}
 use Rattle.mw_macro.specs.Right.{IsBetween}
+use Rattle.mw_rel.specs.Job.{Job}
 use Rattle.mw_cases.specs.Described.{generated_machine}
+use Rattle.mw_cases.specs.Generated.{IsGenerated}
 use Rattle.mw_cases.specs.Operations.{operation_count, operations_before, instruction_of}
 use Rattle.mw_cases.specs.Steps.{after_operations, instruction_in, counted}
 
@@ -13,6 +15,10 @@ OperationsAre640 = (number : ℕ) → operations_before number 256 ≡ 640
 -- and each of them has one to four
 abbrev pub OperationsAreFew : Type 0
 OperationsAreFew = (number i : ℕ) → IsBetween 1 (operation_count number i) 4
+
+-- one job is generated of a number
+abbrev pub JobsAreOne : Type 0
+JobsAreOne = (number : ℕ) (job other : Job) → IsGenerated number job → IsGenerated number other → other ≡ job
 
 -- A step of the machine of a number adds 1 to PC and does the operations of the instruction that is read. It leaves the
 -- memory as it is, makes no event and takes no input.

@@ -1,5 +1,5 @@
 -- What the microwords of a generated job choose.
-use Rattle.std.specs.Prelude.{◌≡◌, ℕ, ◌+◌, ◌<◌, ◌^◌, List, length, slice_index, Bool, true, false, if◌then◌else◌, ◌==◌}
+use Rattle.std.specs.Prelude.{◌≡◌, ◌≢◌, ℕ, ◌+◌, ◌<◌, ◌≤◌, ◌^◌, List, length, slice_index, Bool, true, false, if◌then◌else◌, ◌==◌}
 use Rattle.mw_alu.specs.declared.instruction.Destination.{Destination}
 use Rattle.mw_alu.specs.declared.instruction.Destination.TheVariants as destinations
 use Rattle.mw_alu.specs.declared.instruction.Function.{Function}
@@ -166,7 +166,7 @@ pub record Chooses (word : ℕ) (choices : Choices) : Type 0 where
   pub below : word < 2 ^ 38
   pub chosen : choices_of generated_board word ≡ choices
 
--- what stands at an address, for a number: the fetch from address 0 on, and each operation of each instruction
+-- what stands at an address, for a number: the fetch from address 0 on, each operation of each instruction, and else 0
 pub record StandsAt (number address word : ℕ) : Type 0 where
   pub below : word < 2 ^ 38
   pub addressing : address ≡ 0 → choices_of generated_board word ≡ addressing
@@ -174,6 +174,8 @@ pub record StandsAt (number address word : ℕ) : Type 0 where
   pub mapping : address ≡ 2 → choices_of generated_board word ≡ mapping
   pub operating : (i j : ℕ) → i < 256 → j < operation_count number i → address ≡ first_address i + j
       → choices_of generated_board word ≡ operating_at number i j
+  pub unused : 3 ≤ address
+      → ((i j : ℕ) → i < 256 → j < operation_count number i → address ≢ first_address i + j) → word ≡ 0
 
 -- the microwords for a number
 pub record IsStore (number : ℕ) (store : List ℕ) : Type 0 where

@@ -1,5 +1,5 @@
 // Laws of the generator.
-ghost use Rattle.mw_cases.specs.Laws.{OperationsAre640, OperationsAreFew, StepsDoOperations};
+ghost use Rattle.mw_cases.specs.Laws.{JobsAreOne, OperationsAre640, OperationsAreFew, StepsDoOperations};
 
 /// The law of counts: whatever the number, the 256 instructions have 640 operations together.
 pub fn operations_are_640()
@@ -9,6 +9,11 @@ pub fn operations_are_640()
 /// The law of instructions: each has one operation to four.
 pub fn operations_are_few()
     ensures { OperationsAreFew }
+{}
+
+/// The law of jobs: one is generated of a number.
+pub fn jobs_are_one()
+    ensures { JobsAreOne }
 {}
 
 /// The law of steps: a step of the described machine adds 1 to PC and does the operations of the

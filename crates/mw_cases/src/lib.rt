@@ -15,7 +15,7 @@ mod store;
 mod word;
 
 pub use generator::{Made, generate};
-pub use laws::{operations_are_640, operations_are_few, steps_do_operations};
+pub use laws::{jobs_are_one, operations_are_640, operations_are_few, steps_do_operations};
 pub use operation::{Kind, Operation};
 pub use pdp8_job::{Texts, pdp8};
 

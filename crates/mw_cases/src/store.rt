@@ -1,5 +1,5 @@
 // The microprogram of a job.
-ghost use Rattle.std.specs.Prelude.{◌≡◌, ◌+◌, ◌<◌, ◌^◌, ◌==◌, ℕ, All, length, slice_get, IfOk};
+ghost use Rattle.std.specs.Prelude.{◌≡◌, ◌+◌, ◌<◌, ◌≤◌, ◌^◌, ◌==◌, ℕ, All, length, slice_get, IfOk};
 ghost use Rattle.std.specs.Prelude.{IfSome};
 ghost use Rattle.mw_cases.specs.Board.{generated_board, first_address};
 ghost use Rattle.mw_cases.specs.Operations.{IsOperation};
@@ -103,6 +103,7 @@ fn operation_word(operations: &[Operation], place: usize) -> u128
     ensures chooses { IfSome (slice_get operations.now place) (λ operation.
         choices_of generated_board result
         ≡ operating operation (place + 1 == length operations.now)) }
+    ensures unused { length operations.now ≤ place → result ≡ 0 }
 {
     match operations.get(place) {
         Some(operation) => operating(*operation, place + 1 == operations.len()).packed(),

@@ -1,6 +1,7 @@
 // Each public function, once with ample memory. The words are those that tools/generate_table.py prints.
 use crate::{
-    Made, Texts, generate, operations_are_640, operations_are_few, pdp8, steps_do_operations,
+    Made, Texts, generate, jobs_are_one, operations_are_640, operations_are_few, pdp8,
+    steps_do_operations,
 };
 use std::alloc::Global;
 use std::test::Fail;
@@ -17,6 +18,7 @@ fn word_of(made: &Made, address: u16) -> u128 {
 
 #[test]
 fn generated_word(rt: HostRuntime) -> Result<(), Fail> {
+    jobs_are_one();
     operations_are_640();
     operations_are_few();
     steps_do_operations();

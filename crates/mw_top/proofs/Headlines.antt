@@ -1,7 +1,8 @@
 -- From how a call that is to certify ended to the headline.
-use Rattle.std.proofs.Common.{◌≡◌, ℕ, List, [], ◌∷◌, ◌++◌, true, Some, None, refl, sym, ap, ◌∙◌, subst, arith}
+use Rattle.std.proofs.Common.{◌≡◌, ℕ, List, [], ◌∷◌, ◌++◌, true, Some, refl, sym, ap, ◌∙◌, subst, arith}
 use Rattle.std.specs.Prelude.{◌≢◌, Contains}
 use Rattle.std.proofs.lemmas.List.{append-nil}
+use Rattle.mw_cases.proofs.Unique.{jobs_are_one}
 use Rattle.mw_check.specs.declared.verdict.Verdict.{Verdict}
 use Rattle.mw_check.specs.declared.verdict.Verdict.TheVariants as verdicts
 use Rattle.mw_check.specs.Verdict.{IsUnknown, IsVerdict}
@@ -9,6 +10,7 @@ use Rattle.mw_fork.specs.declared.budget.Budget.{Budget}
 use Rattle.mw_fork.specs.declared.fault.Over.{Over}
 use Rattle.mw_fork.specs.declared.fault.Over.TheVariants as overs
 use Rattle.mw_plan.specs.Files.{IsLeft}
+use Rattle.mw_plan.specs.Shelf.{AreTold}
 use Rattle.mw_plan.specs.Plan.{Plan, done, refused, file, after}
 use Rattle.mw_plan.proofs.Once.{ends_once}
 use Rattle.mw_plan.proofs.Steps.{next_is_among}
@@ -27,7 +29,7 @@ use Rattle.mw_top.specs.Call.{Call, NothingFailed, Took}
 use Rattle.mw_top.specs.Commands.Certify.{IsCertification, IsVerdictReport, certify_plan, verdict_status}
 use Rattle.mw_top.specs.Commands.Generate.{IsGeneration, generate_plan, operations_text}
 use Rattle.mw_top.specs.Commands.Table.{IsAnswer, budget_of, plan_of}
-use Rattle.mw_top.specs.Headline.{AreToCertify, AsksFor, AsksToCertify, Certifies, IsJobOf, IsNoEnd, IsSettled, IsUnknownEnd, IsYesEnd, NoGeneratedJobIsOver, NothingIsOver, after_yes, is_certifying}
+use Rattle.mw_top.specs.Headline.{AreToCertify, AsksToCertify, Certifies, IsJobOf, IsJobTold, IsNoEnd, IsSettled, IsUnknownEnd, IsYesEnd, NothingIsOver, after_yes, is_certifying}
 use Rattle.mw_top.specs.Request.{RequestData, files_of, request_of}
 use Rattle.mw_top.proofs.Ends.{end_accepted}
 use Rattle.mw_top.proofs.Made.{MakesOnly, made_so, makes_of_job}
@@ -217,22 +219,24 @@ end_unknown call end asks =
 once : (a b : Job) → ◌≡◌ {A = Plan Fault Work} (done (works.Certification a)) (done (works.Certification b)) → a ≡ b
 once a b same = cc
 
--- who asks for a command that certifies asks to certify
-abbrev asked : (call : Call) (command : Command) (budget : Budget) → is_certifying command ≡ true
-    → AsksFor call command budget → AsksToCertify call
-asked call command budget is asks = record {
-  request = asks.request;
-  requested = asks.requested;
-  command = rw asks.command_is is;
-}
+-- the job that is told is the one that the work is on
+same_by : (command : Command) → is_certifying command ≡ true → (call : Call) (request : RequestData) (job other : Job)
+    → IsJobTold command call request job → IsJobOf command call request other → other ≡ job
+same_by Certify is call request job other told read =
+    sym (once job other (ends_once certify_plan call.shelf_before (files_of request read.0) told.0
+    (done (works.Certification job)) (done (works.Certification other)) told.1 told.2 tt read.1 tt))
+same_by Generate is call request job other told made = jobs_are_one request.number job other told made
+same_by Compare is call request job other told read = absurd told
+same_by Asm is call request job other told read = absurd told
+same_by Run is call request job other told read = absurd told
+same_by Debug is call request job other told read = absurd told
+same_by Equal is call request job other told read = absurd told
+same_by Replay is call request job other told read = absurd told
 
--- the job of the contents that are told is that of those that were read
 same_job : (call : Call) (job : Job) (budget : Budget) (to : AreToCertify call job budget) (status : Status)
     (report : List ℕ) (on : IsWorkOn to.asks.request.command call to.asks.request status report) → on.job ≡ job
 same_job call job budget to status report on =
-    let read = subst (λ (c : Command). IsJobOf c call to.asks.request on.job) to.asks.command_is on.job_is in
-    sym (once job on.job (ends_once certify_plan call.shelf_before (files_of to.asks.request read.0) to.contents
-    (done (works.Certification job)) (done (works.Certification on.job)) to.told to.accepted tt read.1 tt))
+    same_by to.asks.request.command to.asks.command call to.asks.request job on.job to.told on.job_is
 
 not_over : (job : Job) (budget : Budget) (over : Over) → NothingIsOver job budget → IsUnknown job budget over → ⊥
 not_over job budget (overs.Nodes number prefix word j) none is = none.nodes number prefix word j is.over
@@ -261,7 +265,7 @@ over_by job budget (verdicts.No counter) is status none = absurd cc
 settled_yes : (call : Call) (job : Job) (budget : Budget) → AreToCertify call job budget → IsEnd call Done
     → IsSettled job Done
 settled_yes call job budget to end =
-    let on = work_on call (asked call Certify budget refl to.asks) Done end.0 end.1 in
+    let on = work_on call to.asks Done end.0 end.1 in
     record {
       among = (0, omega arith, refl);
       yes = λ is. subst Certified (same_job call job budget to Done end.0 on)
@@ -272,7 +276,7 @@ settled_yes call job budget to end =
 settled_no : (call : Call) (job : Job) (budget : Budget) → AreToCertify call job budget → IsEnd call Differs
     → IsSettled job Differs
 settled_no call job budget to end =
-    let on = work_on call (asked call Certify budget refl to.asks) Differs end.0 end.1 in
+    let on = work_on call to.asks Differs end.0 end.1 in
     record {
       among = (1, omega arith, refl);
       yes = λ is. absurd cc;
@@ -283,30 +287,42 @@ settled_no call job budget to end =
 never_unknown : (call : Call) (job : Job) (budget : Budget) → AreToCertify call job budget → NothingIsOver job budget
     → IsEnd call Unknown → ⊥
 never_unknown call job budget to none end =
-    let on = work_on call (asked call Certify budget refl to.asks) Unknown end.0 end.1 in
+    let on = work_on call to.asks Unknown end.0 end.1 in
     let here : NothingIsOver on.job (budget_of to.asks.request) =
     subst (λ (j : Job). NothingIsOver j (budget_of to.asks.request)) (sym (same_job call job budget to Unknown end.0 on))
-    (subst (NothingIsOver job) to.asks.budget_is none) in
+    (subst (NothingIsOver job) to.budget_is none) in
     over_by on.job (budget_of to.asks.request) on.answer.verdict on.answer.answers on.answer.status_is here
 
-accepted : (call : Call) (job : Job) (budget : Budget) (to : AreToCertify call job budget)
-    → AreAccepted to.asks.request to.contents
-accepted call job budget to = (
-  works.Certification job,
-  rw to.asks.command_is to.accepted,
-)
+-- contents that are told and accepted
+AreGood : Call → RequestData → Type 0
+AreGood call request = (contents : List (List ℕ)) × AreTold call.shelf_before request.files contents × AreAccepted request contents
+
+good_by : (command : Command) → is_certifying command ≡ true → (call : Call) (request : RequestData) (job : Job)
+    → request.command ≡ command → IsJobTold command call request job → AreGood call request
+unfolding AreGood generate_plan
+good_by Certify is call request job same told = (told.0, told.1, (works.Certification job, rw same told.2))
+good_by Generate is call request job same made = ([], tt, (works.Generation, rw same refl))
+good_by Compare is call request job same told = absurd told
+good_by Asm is call request job same told = absurd told
+good_by Run is call request job same told = absurd told
+good_by Debug is call request job same told = absurd told
+good_by Equal is call request job same told = absurd told
+good_by Replay is call request job same told = absurd told
+
+not_refused : (call : Call) (job : Job) (budget : Budget) → AreToCertify call job budget → (status : Status)
+    → IsEnd call status → (status ≢ Usage) × (status ≢ Refused)
+unfolding AreGood
+not_refused call job budget to status end =
+    let good = good_by to.asks.request.command to.asks.command call to.asks.request job refl to.told in
+    end_accepted call status end to.asks.request good.0 to.asks.requested good.1 good.2
 
 pub end_settled : (call : Call) (status : Status) → IsEnd call status → (job : Job) (budget : Budget)
     → AreToCertify call job budget → NothingIsOver job budget → NothingFailed call → IsSettled job status
 end_settled call Done end job budget to none still = settled_yes call job budget to end
 end_settled call Differs end job budget to none still = settled_no call job budget to end
 end_settled call Unknown end job budget to none still = absurd (never_unknown call job budget to none end)
-end_settled call Usage end job budget to none still =
-    absurd ((end_accepted call Usage end to.asks.request to.contents to.asks.requested to.told
-    (accepted call job budget to)).0 refl)
-end_settled call Refused end job budget to none still =
-    absurd ((end_accepted call Refused end to.asks.request to.contents to.asks.requested to.told
-    (accepted call job budget to)).1 refl)
+end_settled call Usage end job budget to none still = absurd ((not_refused call job budget to Usage end).0 refl)
+end_settled call Refused end job budget to none still = absurd ((not_refused call job budget to Refused end).1 refl)
 end_settled call ReadFault end job budget to none still =
     let file = next_is_among _ _ end.1.file end.1.next.name_is in
     absurd (still.shelf end.1.request end.1.requested end.1.file file end.1.failed)
@@ -316,85 +332,31 @@ end_settled call NoMemory end job budget to none still =
 
 -- ---- a number
 
-no_request : (call : Call) (request : RequestData) → request_of call.words ≡ Some request → request_of call.words ≡ None → ⊥
-no_request call request some none = cc
+-- what is left of the plan of a number is the work on it, since it asks for no file
+its_left : (call : Call) (request other : RequestData) (contents : List (List ℕ)) (left : Plan Fault Work)
+    → request_of call.words ≡ Some request → request.command ≡ Generate → request_of call.words ≡ Some other
+    → after (plan_of other.command) contents ≡ Some left → left ≡ done works.Generation
+its_left call request other contents left requested is requested_too made =
+    let same : other ≡ request = cc (requested, requested_too) in
+    let plan : plan_of other.command ≡ generate_plan = ap (λ (r : RequestData). plan_of r.command) same ∙ ap plan_of is in
+    generation_is contents left (subst (λ (p : Plan Fault Work). after p contents ≡ Some left) plan made)
 
--- the plan of the request is that of a number
-its_plan : (call : Call) (budget : Budget) (asks : AsksFor call Generate budget) (request : RequestData)
-    → request_of call.words ≡ Some request → plan_of request.command ≡ generate_plan
-its_plan call budget asks request requested =
-    let same : request ≡ asks.request = cc (requested, asks.requested) in
-    ap (λ (r : RequestData). plan_of r.command) same ∙ ap plan_of asks.command_is
-
-its_left : (call : Call) (budget : Budget) (asks : AsksFor call Generate budget) (request : RequestData)
-    (contents : List (List ℕ)) (left : Plan Fault Work) → request_of call.words ≡ Some request
-    → after (plan_of request.command) contents ≡ Some left → left ≡ done works.Generation
-its_left call budget asks request contents left requested is =
-    generation_is contents left
-    (subst (λ (p : Plan Fault Work). after p contents ≡ Some left) (its_plan call budget asks request requested) is)
-
-never_unknown_of : (call : Call) (budget : Budget) (asks : AsksFor call Generate budget)
-    → NoGeneratedJobIsOver asks.request.number budget → IsEnd call Unknown → ⊥
-never_unknown_of call budget asks none end =
-    let on = work_on call (asked call Generate budget refl asks) Unknown end.0 end.1 in
-    let made = subst (λ (c : Command). IsJobOf c call asks.request on.job) asks.command_is on.job_is in
-    over_by on.job (budget_of asks.request) on.answer.verdict on.answer.answers on.answer.status_is
-    (subst (NothingIsOver on.job) asks.budget_is (none on.job made))
-
--- no file is asked for, so none is refused, and none can't be read
-abbrev NeedsNoFile : Status → Type 0
-NeedsNoFile Usage = ⊥
-NeedsNoFile Refused = ⊥
-NeedsNoFile ReadFault = ⊥
-NeedsNoFile other = Unit {0}
-
-needs_no_file : (call : Call) (status : Status) → IsEnd call status → (budget : Budget)
-    → AsksFor call Generate budget → NeedsNoFile status
-needs_no_file call Done end budget asks = tt
-needs_no_file call Differs end budget asks = tt
-needs_no_file call Unknown end budget asks = tt
-needs_no_file call WriteFault end budget asks = tt
-needs_no_file call NoMemory end budget asks = tt
-needs_no_file call Usage end budget asks = no_request call asks.request asks.requested end.0
-needs_no_file call Refused end budget asks =
+pub end_without_files : (call : Call) (status : Status) → IsEnd call status → (request : RequestData)
+    → request_of call.words ≡ Some request → request.command ≡ Generate
+    → Contains (Done ∷ Differs ∷ Unknown ∷ WriteFault ∷ NoMemory ∷ []) status
+end_without_files call Done end request requested is = (0, omega arith, refl)
+end_without_files call Differs end request requested is = (1, omega arith, refl)
+end_without_files call Unknown end request requested is = (2, omega arith, refl)
+end_without_files call WriteFault end request requested is = (3, omega arith, refl)
+end_without_files call NoMemory end request requested is = (4, omega arith, refl)
+end_without_files call Usage end request requested is = absurd (cc (requested, end.0))
+end_without_files call Refused end request requested is =
     let refusal = end.1 in
-    let left = its_left call budget asks refusal.request (refusal.contents ++ refusal.refused.last ∷ [])
-    (refused refusal.fault) refusal.requested refusal.refused.left.left_is in
-    cc left
-needs_no_file call ReadFault end budget asks =
+    let left = its_left call request refusal.request (refusal.contents ++ refusal.refused.last ∷ [])
+    (refused refusal.fault) requested is refusal.requested refusal.refused.left.left_is in
+    absurd (cc left)
+end_without_files call ReadFault end request requested is =
     let fault = end.1 in
-    let left = its_left call budget asks fault.request fault.contents (file fault.next.next) fault.requested
+    let left = its_left call request fault.request fault.contents (file fault.next.next) requested is fault.requested
     fault.next.left.left_is in
-    cc left
-
-among : (status : Status) → NeedsNoFile status → Contains (Done ∷ Differs ∷ Unknown ∷ WriteFault ∷ NoMemory ∷ []) status
-among Done needs = (0, omega arith, refl)
-among Differs needs = (1, omega arith, refl)
-among Unknown needs = (2, omega arith, refl)
-among WriteFault needs = (3, omega arith, refl)
-among NoMemory needs = (4, omega arith, refl)
-among Usage needs = absurd needs
-among Refused needs = absurd needs
-among ReadFault needs = absurd needs
-
-among_known : (status : Status) → NeedsNoFile status → status ≢ Unknown
-    → Contains (Done ∷ Differs ∷ WriteFault ∷ NoMemory ∷ []) status
-among_known Done needs known = (0, omega arith, refl)
-among_known Differs needs known = (1, omega arith, refl)
-among_known WriteFault needs known = (2, omega arith, refl)
-among_known NoMemory needs known = (3, omega arith, refl)
-among_known Unknown needs known = absurd (known refl)
-among_known Usage needs known = absurd needs
-among_known Refused needs known = absurd needs
-among_known ReadFault needs known = absurd needs
-
-pub end_without_files : (call : Call) (status : Status) → IsEnd call status → (budget : Budget)
-    → AsksFor call Generate budget → Contains (Done ∷ Differs ∷ Unknown ∷ WriteFault ∷ NoMemory ∷ []) status
-end_without_files call status end budget asks = among status (needs_no_file call status end budget asks)
-
-pub end_known : (call : Call) (status : Status) → IsEnd call status → (budget : Budget)
-    → (asks : AsksFor call Generate budget) → NoGeneratedJobIsOver asks.request.number budget
-    → Contains (Done ∷ Differs ∷ WriteFault ∷ NoMemory ∷ []) status
-end_known call status end budget asks none =
-    among_known status (needs_no_file call status end budget asks)
-    (λ is. never_unknown_of call budget asks none (subst (IsEnd call) is end))
+    absurd (cc left)

@@ -96,20 +96,19 @@ pub record IsUnknownEnd (call : Call) : Type 0 where
   pub unknown : IsUnknown job budget over
   pub report : Took call (unknown_report job over)
 
--- the words ask for a command, within this budget
-pub record AsksFor (call : Call) (command : Command) (budget : Budget) : Type 0 where
-  pub request : RequestData
-  pub requested : request_of call.words ≡ Some request
-  pub command_is : request.command ≡ command
-  pub budget_is : budget ≡ budget_of request
+-- The job of a command that certifies, by what is told: the shelf tells contents of the four files that are accepted as those
+-- of this job; or it is the one that is generated of the number.
+abbrev pub IsJobTold : Command → Call → RequestData → Job → Type 0
+IsJobTold Certify call request job = (contents : List (List ℕ)) × AreTold call.shelf_before request.files contents
+    × (after certify_plan contents ≡ Some (done (Certification job)))
+IsJobTold Generate call request job = IsGenerated request.number job
+IsJobTold other call request job = ⊥
 
--- The words ask to certify four files within this budget, and the shelf tells contents of them that are accepted as those of
--- this job.
+-- the words ask to certify within this budget, and what is told is this job
 pub record AreToCertify (call : Call) (job : Job) (budget : Budget) : Type 0 where
-  pub asks : AsksFor call Certify budget
-  pub contents : List (List ℕ)
-  pub told : AreTold call.shelf_before asks.request.files contents
-  pub accepted : after certify_plan contents ≡ Some (done (Certification job))
+  pub asks : AsksToCertify call
+  pub budget_is : budget ≡ budget_of asks.request
+  pub told : IsJobTold asks.request.command call asks.request job
 
 -- no operation and no boundary of a job is over a budget
 pub record NothingIsOver (job : Job) (budget : Budget) : Type 0 where
@@ -121,7 +120,3 @@ pub record IsSettled (job : Job) (status : Status) : Type 0 where
   pub among : Contains (statuses.Done ∷ statuses.Differs ∷ statuses.NoMemory ∷ []) status
   pub yes : status ≡ statuses.Done → Certified job
   pub no : status ≡ statuses.Differs → ¬ Certified job
-
--- nothing is over a budget, whichever job is generated of a number
-abbrev pub NoGeneratedJobIsOver : ℕ → Budget → Type 0
-NoGeneratedJobIsOver number budget = (job : Job) → IsGenerated number job → NothingIsOver job budget

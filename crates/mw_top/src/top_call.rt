@@ -4,11 +4,11 @@ ghost use Rattle.mw_outside.specs.Views.{ShelfView, SinkView, IsLater, shelf_sho
 ghost use Rattle.mw_fork.specs.declared.budget.Budget.{Budget};
 ghost use Rattle.mw_plan.specs.Shelf.{AreTold};
 ghost use Rattle.mw_rel.specs.Job.{Job};
-ghost use Rattle.mw_top.specs.declared.request.Command.TheVariants.{Generate};
+ghost use Rattle.mw_top.specs.declared.request.Command.{Command};
 ghost use Rattle.mw_top.specs.Answer.{AreAccepted, AreRefused, IsEnd, IsReport, is_worked};
 ghost use Rattle.mw_top.specs.Answer.{IsMemoryEnd, IsReadFaultEnd, IsRefusalEnd, IsUsageEnd, IsWorkEnd, IsWriteFaultEnd};
 ghost use Rattle.mw_top.specs.Call.{Call, NothingFailed, call_of};
-ghost use Rattle.mw_top.specs.Headline.{AreToCertify, AsksFor, AsksToCertify, IsNoEnd, IsSettled, IsUnknownEnd, IsYesEnd, NoGeneratedJobIsOver, NothingIsOver};
+ghost use Rattle.mw_top.specs.Headline.{AreToCertify, AsksToCertify, IsNoEnd, IsSettled, IsUnknownEnd, IsYesEnd, NothingIsOver};
 ghost use Rattle.mw_top.specs.Request.{HasItsFiles, RequestData, data_of, request_of};
 
 use crate::commands::{answer_with, read_files};
@@ -128,15 +128,9 @@ pub fn bench<S: Shelf, K: Sink>(
         → IsSettled job result }
 
     // `generate` reads no file, so none is refused, and none can't be read.
-    ensures without_files { (budget : Budget)
-        → AsksFor (call_of S.Shelf K.Sink words.now shelf.old shelf.new out.old out.new) Generate budget
+    ensures without_files { (request : RequestData) → request_of (map string_bytes words.now) ≡ Some request
+        → request.command ≡ Command.Generate
         → Contains (Status.Done ∷ Status.Differs ∷ Status.Unknown ∷ Status.WriteFault ∷ Status.NoMemory ∷ []) result }
-
-    // Where nothing is over the budget of any job of the number, the answer is yes or no.
-    ensures generated_known { (budget : Budget)
-        → (asks : AsksFor (call_of S.Shelf K.Sink words.now shelf.old shelf.new out.old out.new) Generate budget)
-        → NoGeneratedJobIsOver asks.request.number budget
-        → Contains (Status.Done ∷ Status.Differs ∷ Status.WriteFault ∷ Status.NoMemory ∷ []) result }
 
     // Good words and good files are not refused.
     ensures answer_due { (request : RequestData) (contents : List (List ℕ)) → request_of (map string_bytes words.now) ≡ Some request

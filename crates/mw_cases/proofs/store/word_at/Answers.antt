@@ -1,6 +1,9 @@
-use Rattle.std.proofs.Common.{◌≡◌, ◌/◌, ◌-◌, ◌∙◌, ap, arith}
-use Rattle.mw_cases.specs.Operations.{instruction_of}
+use Rattle.std.proofs.Common.{◌≡◌, ◌≤◌, ◌+◌, ◌/◌, ◌-◌, ◌∙◌, ap, arith, inl, inr, length}
+use Rattle.std.proofs.lemmas.Bool.{cases_lt}
+use Rattle.mw_cases.specs.Board.{first_address}
+use Rattle.mw_cases.specs.Operations.{instruction_of, operation_count}
 use Rattle.mw_cases.proofs.Standing.{operating_is}
+use Rattle.mw_cases.proofs.Values.{instruction_length}
 use Rattle.mw_cases.proofs.store.word_at.Goals as goal
 
 pub returns-then-address-lt-FIRST : goal.returns-then-address-lt-FIRST
@@ -20,4 +23,16 @@ returns c =
           operating_is number i j c.from.result c.operation_word.result c.operations-operations.result.now
           (c.operations-operations.ensures.exact ∙ ap (instruction_of number) at) place j_below
           c.operation_word.ensures.chooses;
+      unused = λ from none.
+          let i = (c.args.address - 16) / 4 in
+          let j = c.from.result in
+          let is : c.args.address ≡ first_address i + j = omega arith in
+          let past : operation_count number i ≤ j =
+          elim (cases_lt j (operation_count number i)) [
+            | inl there ↦ absurd (none i j (omega arith) there is)
+            | inr past ↦ past
+          ] in
+          let few : length (c.operations-operations.result.now) ≤ j =
+          rw (c.operations-operations.ensures.exact, instruction_length number i) past in
+          c.operation_word.ensures.unused few;
     }

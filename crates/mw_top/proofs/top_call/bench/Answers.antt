@@ -1,5 +1,5 @@
 use Rattle.mw_top.proofs.Ends.{end_worked, end_usage, end_accepted, end_refused, end_complete}
-use Rattle.mw_top.proofs.Headlines.{end_known, end_no, end_settled, end_unknown, end_without_files, end_yes}
+use Rattle.mw_top.proofs.Headlines.{end_no, end_settled, end_unknown, end_without_files, end_yes}
 use Rattle.mw_top.proofs.top_call.bench.Goals as goal
 
 pub returns-clause-usage : goal.returns-clause-usage
@@ -25,9 +25,6 @@ returns-clause-settled g c = end_settled _ _ c.run.ensures.end
 
 pub returns-clause-without_files : goal.returns-clause-without_files
 returns-clause-without_files g c = end_without_files _ _ c.run.ensures.end
-
-pub returns-clause-generated_known : goal.returns-clause-generated_known
-returns-clause-generated_known g c = end_known _ _ c.run.ensures.end
 
 pub returns-clause-answer_due : goal.returns-clause-answer_due
 returns-clause-answer_due g c = end_accepted _ _ c.run.ensures.end
