@@ -54,4 +54,6 @@ mod command_tests;
 #[cfg(test)]
 mod compare_tests;
 #[cfg(test)]
+mod pdp8_tests;
+#[cfg(test)]
 mod small;
