@@ -62,3 +62,7 @@ difference_text job (Event n) = codes "event " ++ decimal n
 difference_text job StackPointer = codes "element b.sp"
 difference_text job (Element e) = element_text job e
 difference_text job (Memory a) = codes "memory " ++ hex a
+
+-- the line of a difference that a start of a job shows
+abbrev pub difference_line : Job → Difference → List ℕ
+difference_line job difference = line (codes "difference " ++ difference_text job difference)

@@ -132,3 +132,16 @@ request_of words = unless_refused (fault_of line words) (matches_of line words)
 -- a request has as many files as its command
 abbrev pub HasItsFiles : Request → Type 0
 HasItsFiles request = length request.files.items ≡ file_count (row_of request.command).operands
+
+-- a command with its files, where the line gives no option
+abbrev pub plainly : Command → List (List ℕ) → RequestData
+plainly command files = record {
+  command = command;
+  files = files;
+  number = 0;
+  nodes = 1000000;
+  paths = 4096;
+  steps = 1;
+  cycles = 1000;
+  parts = false;
+}

@@ -3,7 +3,7 @@ ghost use Rattle.std.specs.Prelude.{◌≡◌, ◌++◌, [], OnOk, slice_index_o
 ghost use Rattle.mw_sim.specs.Texts.{line};
 ghost use Rattle.mw_top.specs.Report.{usage_line, value_line, fault_line, cause_text, place_text, reader_text, fault_text, refusal_line};
 ghost use Rattle.mw_top.specs.Differences.{AreOf32Bits};
-ghost use Rattle.mw_top.specs.Report.{element_text, difference_text};
+ghost use Rattle.mw_top.specs.Report.{difference_line, difference_text, element_text};
 ghost use Rattle.mw_base.specs.Numbers.{decimal, hex};
 ghost use Rattle.mw_macro.specs.Described.{description_of};
 ghost use Rattle.mw_rel.specs.Views.{job_of};
@@ -165,7 +165,7 @@ fn append_element(report: &mut Vec<u8>, job: &Job, element: u32) -> Result<(), N
 
 /// Appends a difference that a start of a job shows.
 #[tactic(auto, unfolding(crate::specs::Report::difference_text))]
-pub(crate) fn append_difference(
+fn append_difference(
     alloc: Global,
     report: &mut Vec<u8>,
     job: &Job,
@@ -188,4 +188,19 @@ pub(crate) fn append_difference(
         }
     }
     Ok(())
+}
+
+/// Appends the line of a difference that a start of a job shows.
+pub(crate) fn append_difference_line(
+    alloc: Global,
+    report: &mut Vec<u8>,
+    job: &Job,
+    difference: Difference,
+) -> Result<(), NoMemory>
+    ensures line { OnOk result (report.new.items ≡ report.old.items ++ difference_line (job_of job.now) difference) }
+    ensures numbers { OnOk result (AreOf32Bits difference) }
+{
+    report.extend_from_slice(b"difference ")?;
+    append_difference(alloc, report, job, difference)?;
+    append_line(report, b"")
 }

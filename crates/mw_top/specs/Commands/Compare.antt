@@ -17,7 +17,7 @@ use Rattle.mw_top.specs.declared.fault.Fault.TheVariants.{Text}
 use Rattle.mw_top.specs.declared.status.Status.{Status}
 use Rattle.mw_top.specs.declared.status.Status.TheVariants.{Done, Differs}
 use Rattle.mw_top.specs.Commands.Job.{job_plan}
-use Rattle.mw_top.specs.Report.{difference_text}
+use Rattle.mw_top.specs.Report.{difference_line}
 use Rattle.mw_top.specs.Work.{Comparison}
 
 -- the job of the first four files, and the start of the fifth
@@ -35,7 +35,7 @@ compare_status (compared.Differs step difference) = Differs
 unfoldable pub compare_report : Job → ℕ → Compared → List ℕ
 compare_report job steps compared.Same = line (codes "same " ++ decimal steps)
 compare_report job steps (compared.Differs step difference) =
-    line (codes "differs step " ++ decimal step) ++ line (codes "difference " ++ difference_text job difference)
+    line (codes "differs step " ++ decimal step) ++ difference_line job difference
 
 -- so many steps from the start that the counter gives show this, and that is what status and report say
 pub record IsComparison (steps : ℕ) (comparison : Comparison) (status : Status) (report : List ℕ) : Type 0 where

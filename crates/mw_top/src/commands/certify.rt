@@ -17,7 +17,7 @@ use super::job::read_job;
 use crate::fault::Fault;
 use crate::outcome::Outcome;
 use crate::prefix_text::append_prefix;
-use crate::report::{append_decimal_line, append_difference};
+use crate::report::{append_decimal_line, append_difference_line};
 use crate::status::Status;
 use mw_base::{NoMemory, append_decimal, append_hex};
 use mw_check::{Summary, Verdict, certify};
@@ -253,9 +253,7 @@ fn append_no_lines(
     ensures numbers { OnOk result (AreOf32Bits difference) }
 {
     append_line(report, b"no")?;
-    report.extend_from_slice(b"difference ")?;
-    append_difference(alloc, report, job, difference)?;
-    append_line(report, b"")
+    append_difference_line(alloc, report, job, difference)
 }
 
 /// Appends that a start differs: the difference, and its counter.

@@ -9,7 +9,7 @@ use super::Work;
 use super::job::{Labelled, read_job};
 use crate::fault::Fault;
 use crate::outcome::Outcome;
-use crate::report::{append_decimal_line, append_difference};
+use crate::report::{append_decimal_line, append_difference_line};
 use crate::status::Status;
 use mw_base::NoMemory;
 use mw_check::{Compared, compare};
@@ -89,9 +89,7 @@ fn append_comparison(
         Compared::Same => append_decimal_line(alloc, report, b"same ", steps),
         Compared::Differs { step, difference } => {
             append_decimal_line(alloc, report, b"differs step ", step)?;
-            report.extend_from_slice(b"difference ")?;
-            append_difference(alloc, report, job, difference)?;
-            append_line(report, b"")
+            append_difference_line(alloc, report, job, difference)
         }
     }
 }

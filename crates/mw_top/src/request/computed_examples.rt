@@ -1,51 +1,18 @@
 // Command lines on which the definitions compute.
-ghost use Rattle.std.specs.Prelude.{◌≡◌, [], ◌∷◌, None, Some, codes, false, true};
-ghost use Rattle.mw_top.specs.Request.{request_of};
+ghost use Rattle.std.specs.Prelude.{◌≡◌, [], ◌∷◌, None, Some, codes, true};
+ghost use Rattle.mw_top.specs.Request.{plainly, request_of};
 ghost use Rattle.mw_top.specs.declared.request.Command.TheVariants.{Asm, Compare, Generate, Run};
 
 /// An option may stand anywhere, its number may be joined to it and have zeros in front, and `--` ends the options.
 fn requests()
-    ensures one_cycle { request_of (codes "run" ∷ codes "b" ∷ codes "m" ∷ codes "e" ∷ codes "--cycles" ∷ codes "1" ∷ []) ≡ Some (record {
-      command = Run;
-      files = codes "b" ∷ codes "m" ∷ codes "e" ∷ [];
-      number = 0;
-      nodes = 1000000;
-      paths = 4096;
-      steps = 1;
-      cycles = 1;
-      parts = false;
-    }) }
+    ensures one_cycle { request_of (codes "run" ∷ codes "b" ∷ codes "m" ∷ codes "e" ∷ codes "--cycles" ∷ codes "1" ∷ [])
+        ≡ Some (record (plainly Run (codes "b" ∷ codes "m" ∷ codes "e" ∷ [])) { cycles = 1 }) }
     ensures seven_steps { request_of (codes "--steps=007" ∷ codes "compare" ∷ codes "b" ∷ codes "m" ∷ codes "--parts" ∷ codes "k" ∷ codes "r" ∷ codes "s" ∷ [])
-        ≡ Some (record {
-          command = Compare;
-          files = codes "b" ∷ codes "m" ∷ codes "k" ∷ codes "r" ∷ codes "s" ∷ [];
-          number = 0;
-          nodes = 1000000;
-          paths = 4096;
-          steps = 7;
-          cycles = 1000;
-          parts = true;
-        }) }
-    ensures file_words { request_of (codes "asm" ∷ codes "--" ∷ codes "-b" ∷ codes "" ∷ []) ≡ Some (record {
-      command = Asm;
-      files = codes "-b" ∷ [] ∷ [];
-      number = 0;
-      nodes = 1000000;
-      paths = 4096;
-      steps = 1;
-      cycles = 1000;
-      parts = false;
-    }) }
-    ensures job_number { request_of (codes "generate" ∷ codes "65535" ∷ codes "--paths" ∷ codes "255" ∷ []) ≡ Some (record {
-      command = Generate;
-      files = [];
-      number = 65535;
-      nodes = 1000000;
-      paths = 255;
-      steps = 1;
-      cycles = 1000;
-      parts = false;
-    }) }
+        ≡ Some (record (plainly Compare (codes "b" ∷ codes "m" ∷ codes "k" ∷ codes "r" ∷ codes "s" ∷ [])) { steps = 7; parts = true }) }
+    ensures file_words { request_of (codes "asm" ∷ codes "--" ∷ codes "-b" ∷ codes "" ∷ [])
+        ≡ Some (plainly Asm (codes "-b" ∷ [] ∷ [])) }
+    ensures job_number { request_of (codes "generate" ∷ codes "65535" ∷ codes "--paths" ∷ codes "255" ∷ [])
+        ≡ Some (record (plainly Generate []) { number = 65535; paths = 255 }) }
 {}
 
 /// No words, no such command, another number of files, an unknown option, one of another command, one without its
