@@ -9,6 +9,3 @@ mod size;
 pub use answer::{AluOut, alu};
 pub use edge::{Pins, ShiftOut, shift};
 pub use instruction::{Destination, Function, Source};
-
-#[cfg(test)]
-mod tests;

@@ -41,8 +41,3 @@ pub use sign::Sign;
 pub use symbol::{Symbol, spelled, symbol_of};
 pub use token::{Kind, Token};
 pub use width::{Width, bit, mask};
-
-#[cfg(test)]
-mod line_tests;
-#[cfg(test)]
-mod tests;

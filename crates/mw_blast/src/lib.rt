@@ -15,6 +15,3 @@ pub use blast::Blast;
 pub use fault::BlastFault;
 pub use laws::{over_have_numbers, stays_with_diagrams, stays_with_terms};
 pub use split::Split;
-
-#[cfg(test)]
-mod tests;

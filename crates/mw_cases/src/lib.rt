@@ -18,6 +18,3 @@ pub use generator::{Made, generate};
 pub use laws::{jobs_are_one, operations_are_640, operations_are_few, steps_do_operations};
 pub use operation::{Kind, Operation};
 pub use pdp8_job::{Texts, pdp8};
-
-#[cfg(test)]
-mod tests;

@@ -20,8 +20,3 @@ pub use laws::steps_show_one_thing;
 pub use question::Question;
 pub use question_text::{read_question, texts_ask_questions};
 pub use verdict::{Summary, Verdict};
-
-#[cfg(test)]
-mod computed_questions;
-#[cfg(test)]
-mod tests;

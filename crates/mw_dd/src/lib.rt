@@ -13,6 +13,3 @@ mod variable;
 
 pub use dd::{Dd, DdFault};
 pub use diagrams::Diagrams;
-
-#[cfg(test)]
-mod tests;

@@ -13,6 +13,3 @@ pub use memory::{MemoryShelf, MemorySink};
 pub use read::{MOST_BYTES, ReadRefusal, read_whole, write_all};
 pub use shelf::{Failed, Shelf};
 pub use sink::Sink;
-
-#[cfg(test)]
-mod tests;

@@ -9,6 +9,3 @@ mod law;
 pub use fault::{FileFault, Stop};
 pub use files::Files;
 pub use law::plans_end_once;
-
-#[cfg(test)]
-mod tests;

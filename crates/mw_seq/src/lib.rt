@@ -6,6 +6,3 @@ mod sequencer;
 
 pub use instruction::{AddressFrom, CounterMove, Effect, Instruction, StackMove};
 pub use sequencer::{DEPTH, Seq};
-
-#[cfg(test)]
-mod tests;

@@ -10,6 +10,3 @@ pub use am2901::{Slice, SliceOut};
 pub use am2902::{Look, lookahead};
 pub use board::{sliced, sliced_shift};
 pub use law::lookahead_is_addition;
-
-#[cfg(test)]
-mod tests;

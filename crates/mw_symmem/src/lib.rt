@@ -20,6 +20,3 @@ pub use mw_term::SymEvent;
 pub use side::Side;
 pub use turn::Turn;
 pub use words::Words;
-
-#[cfg(test)]
-mod tests;

@@ -5,18 +5,22 @@
 #[cfg(test)]
 mod cases;
 #[cfg(test)]
+mod computed_questions;
+#[cfg(test)]
 mod counters;
 #[cfg(test)]
 mod descriptions;
 #[cfg(test)]
 mod expressions;
 #[cfg(test)]
+mod generated;
+#[cfg(test)]
 mod machines;
 #[cfg(test)]
 mod microprograms;
 #[cfg(test)]
-mod starts;
+mod questions;
 #[cfg(test)]
-mod terms;
+mod starts;
 #[cfg(test)]
 mod words;

@@ -1,0 +1,26 @@
+//! Tests of the lowest parts: what no row of `mw_rows` shows. They stand apart from the parts, because a crate with tests of
+//! its own is proved a second time with them.
+#![tactic(auto)]
+
+#[cfg(test)]
+mod alus;
+#[cfg(test)]
+mod bits;
+#[cfg(test)]
+mod diagrams;
+#[cfg(test)]
+mod files;
+#[cfg(test)]
+mod lines;
+#[cfg(test)]
+mod memories;
+#[cfg(test)]
+mod plans;
+#[cfg(test)]
+mod sequencers;
+#[cfg(test)]
+mod shared;
+#[cfg(test)]
+mod slices;
+#[cfg(test)]
+mod terms;
