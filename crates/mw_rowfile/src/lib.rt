@@ -1,4 +1,5 @@
-//! Files of rows: their lines, sets and rows, why not all of them were run, and what the calls of rows read and print alike.
+//! Files of rows: their lines, sets and rows, how they are run, why not all of them were, and what the calls of rows read
+//! and print alike.
 #![tactic(auto)]
 
 mod fault;
@@ -6,6 +7,7 @@ mod line;
 pub mod named;
 mod reader;
 mod row;
+mod runner;
 mod spelled;
 pub mod states;
 pub mod texts;
@@ -13,3 +15,4 @@ pub mod texts;
 pub use fault::{Fault, wrong};
 pub use reader::rows_of;
 pub use row::{Change, End, File, Row, RowFiles, Rows, Set, Work, contents, contents_in};
+pub use runner::{Worker, run};

@@ -1,0 +1,222 @@
+// `call start`: the start of a run of the board of the file `b`, with the microprogram of the file `m`, as the file `e` has it.
+// `call until address= limit= slices=`: a run from there up to a control address; with `slices=1` it is made slice by slice.
+// What is printed: `late` where that address didn't come, how many cycles were made and the events, of a run, and the state
+// as an environment; or the line that refuses `e`.
+ghost use Rattle.std.specs.Prelude.{IfOk};
+ghost use Rattle.mw_cycle.specs.Environment.{IsEnvironment};
+ghost use Rattle.mw_cycle.specs.State.{Fits};
+
+use mw_asm::{Assembled, assemble};
+use mw_base::{Event, append_hex};
+use mw_board::Board;
+use mw_cycle::{Clock, Datapath, State, Whole};
+use mw_rowfile::named::{address, bit_of, number_of};
+use mw_rowfile::states::board_of;
+use mw_rowfile::{Fault, File, contents, texts, wrong};
+use mw_sim::{Late, Parts, Start, read_start, run_to_boundary};
+use std::alloc::Global;
+
+/// The most cycles of a row.
+const MOST_CYCLES: u64 = 100_000;
+
+/// A board and its microprogram.
+#[derive(Drop)]
+pub(super) struct Machine {
+    pub board: Board,
+    pub made: Assembled,
+}
+
+/// The board of the file `b` with the microprogram of the file `m`.
+pub(super) fn machine_of(alloc: Global, files: &[File]) -> Result<Machine, Fault> {
+    let board = board_of(alloc, files, "b")?;
+    let text = contents(files, "m")?;
+    if text.len() >= 1 << 20 {
+        return Err(wrong("the microprogram is too long"));
+    }
+    match assemble(alloc, &board, text) {
+        Ok(made) => Ok(Machine { board, made }),
+        Err(_) => Err(wrong("the microprogram is refused")),
+    }
+}
+
+/// Appends a line: these bytes and a number.
+fn push_line(alloc: Global, report: &mut Vec<u8>, front: &[u8], number: u32) -> Result<(), Fault> {
+    report.extend_from_slice(front)?;
+    append_hex(alloc, report, u128::from(number))?;
+    report.push(b'\n')?;
+    Ok(())
+}
+
+fn push_event(alloc: Global, report: &mut Vec<u8>, event: Event) -> Result<(), Fault> {
+    match event {
+        Event::Out(word) => push_line(alloc, report, b"out ", word),
+        Event::Taken(word) => push_line(alloc, report, b"taken ", word),
+    }
+}
+
+/// Appends the line of an element, unless it is 0.
+fn push_element(alloc: Global, report: &mut Vec<u8>, name: &[u8], value: u32) -> Result<(), Fault> {
+    if value != 0 {
+        report.extend_from_slice(b"set b.")?;
+        report.extend_from_slice(name)?;
+        push_line(alloc, report, b" ", value)?;
+    }
+    Ok(())
+}
+
+fn push_memory(alloc: Global, report: &mut Vec<u8>, memory: &[u32]) -> Result<(), Fault> {
+    for (address, word) in memory.iter().enumerate() {
+        if *word != 0 {
+            report.extend_from_slice(b"mem ")?;
+            append_hex(alloc, report, address as u128)?;
+            push_line(alloc, report, b" ", *word)?;
+        }
+    }
+    Ok(())
+}
+
+/// Appends a state as an environment.
+fn push_state(
+    alloc: Global,
+    report: &mut Vec<u8>,
+    board: &Board,
+    state: &State,
+) -> Result<(), Fault>
+    requires { Fits board.now state.now }
+{
+    push_line(alloc, report, b"at ", u32::from(state.at))?;
+    for number in 0..board.element_count() {
+        let name = board.element_name(number).unwrap_or(b"");
+        push_element(alloc, report, name, state.element(board, number))?;
+    }
+    push_element(alloc, report, b"sp", u32::from(state.seq.sp))?;
+    push_memory(alloc, report, &state.memory)
+}
+
+/// Appends how many cycles were made, the events and the state.
+fn push_run(
+    alloc: Global,
+    report: &mut Vec<u8>,
+    board: &Board,
+    state: &State,
+    clock: Clock,
+    events: &[Event],
+) -> Result<(), Fault>
+    requires { Fits board.now state.now }
+{
+    let cycles = clock.cycle;
+    let text = format!(in alloc; "cycles {cycles}\n")?;
+    report.extend_from_slice(text.as_bytes())?;
+    for event in events {
+        push_event(alloc, report, *event)?;
+    }
+    push_state(alloc, report, board, state)
+}
+
+/// What is asked of a run: where it ends, and how many cycles it has at most.
+#[derive(Clone, Copy)]
+struct Asked {
+    address: u16,
+    limit: u32,
+}
+
+/// A run, made by this arithmetic part.
+fn simulated<A: Datapath>(
+    alloc: Global,
+    part: &A,
+    machine: &Machine,
+    start: Start,
+    asked: Asked,
+) -> Result<Vec<u8>, Fault>
+    requires fits { Fits machine.now.board start.state }
+    requires env_in { IsEnvironment machine.now.board start.env }
+{
+    let Start { mut state, env } = start;
+    let Machine { board, made } = machine;
+    let begun = Clock { cycle: 0, taken: 0 };
+    let mut events = Vec::with_capacity(alloc, asked.limit as usize)?;
+    let mut report = Vec::new(alloc);
+    let ended = run_to_boundary(
+        part,
+        board,
+        &made.store,
+        &mut state,
+        &env,
+        begun,
+        &[asked.address],
+        asked.limit,
+        &mut events,
+    );
+    let clock = match ended {
+        Ok(clock) => clock,
+        Err(Late { clock }) => {
+            report.extend_from_slice(b"late\n")?;
+            clock
+        }
+    };
+    push_run(alloc, &mut report, board, &state, clock, &events)?;
+    Ok(report)
+}
+
+/// The start of a run, or the line that refuses the file `e`.
+fn read(alloc: Global, machine: &Machine, files: &[File]) -> Result<Result<Start, Vec<u8>>, Fault>
+    ensures fits { IfOk result (λ read. IfOk read (λ start. Fits machine.now.board start.state)) }
+    ensures env_in { IfOk result (λ read. IfOk read (λ start. IsEnvironment machine.now.board start.env)) }
+{
+    let text = contents(files, "e")?;
+    if text.len() > 1 << 20 {
+        return Err(wrong("the environment is too long"));
+    }
+    match read_start(alloc, &machine.board, &machine.made, text) {
+        Ok(start) => Ok(Ok(start)),
+        Err(refusal) => {
+            let mut report = Vec::new(alloc);
+            texts::push_refusal(alloc, &mut report, refusal)?;
+            Ok(Err(report))
+        }
+    }
+}
+
+/// The start of a run, printed as an environment.
+///
+/// # Errors
+///
+/// Files that aren't what the call reads, and want of memory.
+pub fn start(alloc: Global, files: &[File]) -> Result<Vec<u8>, Fault> {
+    let machine = machine_of(alloc, files)?;
+    match read(alloc, &machine, files)? {
+        Ok(start) => {
+            let mut report = Vec::new(alloc);
+            push_state(alloc, &mut report, &machine.board, &start.state)?;
+            Ok(report)
+        }
+        Err(refused) => Ok(refused),
+    }
+}
+
+/// A number of cycles.
+fn cycles_of(number: u64) -> Result<u32, Fault> {
+    if number > MOST_CYCLES {
+        return Err(wrong("too many cycles"));
+    }
+    Ok(number as u32)
+}
+
+/// A run to the control address `address=`, of `limit=` cycles at most.
+///
+/// # Errors
+///
+/// Words or files that aren't what the call reads, and want of memory.
+pub fn until(alloc: Global, given: &[String], files: &[File]) -> Result<Vec<u8>, Fault> {
+    let asked = Asked {
+        address: address(number_of(given, "address")?)?,
+        limit: cycles_of(number_of(given, "limit")?)?,
+    };
+    let slices = bit_of(given, "slices")?;
+    let machine = machine_of(alloc, files)?;
+    match read(alloc, &machine, files)? {
+        Ok(start) if slices => simulated(alloc, &Parts, &machine, start, asked),
+        Ok(start) => simulated(alloc, &Whole, &machine, start, asked),
+        Err(refused) => Ok(refused),
+    }
+}
