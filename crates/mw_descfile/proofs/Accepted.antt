@@ -1,18 +1,21 @@
 -- The machine of statements is accepted.
-use Rattle.std.proofs.Common.{◌≡◌, ℕ, ◌-◌, ◌≤◌, List, [], ◌∷◌, length, take, Bool, true, false, refl, arith, length-take-le}
+use Rattle.std.proofs.Common.{◌≡◌, ℕ, ◌-◌, ◌≤◌, List, [], ◌∷◌, length, take, Bool, true, false, refl, arith}
+use Rattle.std.proofs.Common.{length-take-le}
 use Rattle.std.specs.Prelude.{Option, Some, None, not, nat_le, if◌then◌else◌}
 use Rattle.std.specs.List.{list_all}
 use Rattle.std.proofs.lemmas.Bool.{and_from}
 use Rattle.std.proofs.lemmas.Bool.Decides.{nat_tests}
 use Rattle.mw_base.specs.declared.cause.Cause.{Cause}
-use Rattle.mw_base.specs.declared.cause.Cause.TheVariants.{TooMany, Twice, ValueTooWide, UnknownElement, WidthsDiffer, TooDeep}
+use Rattle.mw_base.specs.declared.cause.Cause.TheVariants.{TooMany, Twice, ValueTooWide, UnknownElement, WidthsDiffer}
+use Rattle.mw_base.specs.declared.cause.Cause.TheVariants.{TooDeep}
 use Rattle.mw_macro.specs.declared.counts.Counted.TheVariants.{Statements, Reads}
 use Rattle.mw_macro.specs.declared.rules.Fault.{Fault}
 use Rattle.mw_macro.specs.declared.rules.Fault.TheVariants.{NoElement, OtherWidth, TooNested}
 use Rattle.mw_macro.specs.Counts.{total}
 use Rattle.mw_macro.specs.Machine.{IsFormed}
 use Rattle.mw_macro.specs.Right.{IsBetween}
-use Rattle.mw_macro.specs.Rules.{is_within, is_within_limits, are_free, are_short, are_ranges, have_fault, is_free_of, refusal_of}
+use Rattle.mw_macro.specs.Rules.{is_within, is_within_limits, are_free, are_short, are_ranges, have_fault, is_free_of}
+use Rattle.mw_macro.specs.Rules.{refusal_of}
 use Rattle.mw_macro.specs.Statements.{acts_of}
 use Rattle.mw_descfile.specs.Kept.{IsOver, IsStated, closed}
 use Rattle.mw_descfile.specs.Machine.{description}

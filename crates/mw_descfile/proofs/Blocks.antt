@@ -1,6 +1,8 @@
 -- What the lines of a boundary keep, and what it has where it ends.
-use Rattle.std.proofs.Common.{◌≡◌, ℕ, ◌+◌, ◌<◌, ◌≤◌, List, [], ◌∷◌, ◌++◌, length, map, take, drop, get_or, Bool, true, false, refl, sym, ap, ◌∙◌, arith, subst, append_assoc, length-append}
-use Rattle.std.specs.Prelude.{Option, Some, None, IfSome, ok_or, not, nat_le, nat_lt, ◌==◌, is_none, if◌then◌else◌, slice_index, Ok}
+use Rattle.std.proofs.Common.{◌≡◌, ℕ, ◌+◌, ◌<◌, ◌≤◌, List, [], ◌∷◌, ◌++◌, length, map, take, drop, get_or, Bool, true}
+use Rattle.std.proofs.Common.{false, refl, sym, ap, ◌∙◌, arith, subst, append_assoc, length-append}
+use Rattle.std.specs.Prelude.{Option, Some, None, IfSome, ok_or, not, nat_le, nat_lt, ◌==◌, is_none, if◌then◌else◌}
+use Rattle.std.specs.Prelude.{slice_index, Ok}
 use Rattle.std.specs.List.{All, flat_map, list_all, list_any, position}
 use Rattle.std.proofs.lemmas.Bool.{and_from, eqb-true, eq-eqb}
 use Rattle.std.proofs.lemmas.Bool.Decides.{nat_tests}
@@ -8,7 +10,8 @@ use Rattle.std.proofs.lemmas.List.Elements.{All-nil, All-cons, All-head, All-tai
 use Rattle.std.proofs.lemmas.List.{get_or-map, length-map, take-map, take_more}
 use Rattle.std.proofs.lemmas.List.Folds.{list_any-append}
 use Rattle.std.proofs.lemmas.List.Quantifiers.{position-Some}
-use Rattle.mw_base.specs.declared.cause.Cause.TheVariants.{TooMany, Twice, UnknownElement, LeftTwice, LeftUsedOnRight, NoStackPointer}
+use Rattle.mw_base.specs.declared.cause.Cause.TheVariants.{TooMany, Twice, UnknownElement, LeftTwice, LeftUsedOnRight}
+use Rattle.mw_base.specs.declared.cause.Cause.TheVariants.{NoStackPointer}
 use Rattle.mw_base.specs.declared.cursor.Dotted.{Dotted}
 use Rattle.mw_base.specs.declared.cursor.Numeral.{Numeral}
 use Rattle.mw_base.specs.declared.refusal.TextFault.{TextFault}
@@ -34,7 +37,8 @@ use Rattle.mw_rel.specs.Rules.{are_once, is_even, reads_no_left}
 use Rattle.mw_descfile.specs.declared.scope.Scope.{Scope}
 use Rattle.mw_descfile.specs.declared.block.Given.{Given as KeptGiven}
 use Rattle.mw_descfile.specs.declared.uses.Use.{Use}
-use Rattle.mw_descfile.specs.Boundaries.{Given, Block, with_stack_pointer, with_equation, is_left, twice_left, used_left, line_faults, unsolved, solved_unless, closed_block}
+use Rattle.mw_descfile.specs.Boundaries.{Given, Block, with_stack_pointer, with_equation, is_left, twice_left}
+use Rattle.mw_descfile.specs.Boundaries.{used_left, line_faults, unsolved, solved_unless, closed_block}
 use Rattle.mw_descfile.specs.Declarations.{ranged}
 use Rattle.mw_descfile.specs.Expressions.{asked, whole_of, asked_whole}
 use Rattle.mw_descfile.specs.KeptRelation.{IsScope, is_among, IsGiven, lines_in, IsEnded, IsOpen}

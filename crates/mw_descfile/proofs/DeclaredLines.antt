@@ -1,6 +1,8 @@
 -- What each line before the statements keeps.
-use Rattle.std.proofs.Common.{◌≡◌, ℕ, ◌+◌, ◌<◌, ◌≤◌, List, [], ◌∷◌, ◌++◌, length, take, Bool, true, false, refl, sym, arith, subst, cond, append_assoc, append-nil, IfSome, IsSome}
-use Rattle.std.specs.Prelude.{Option, Some, None, nat_le, nat_lt, ◌||◌, is_some, codes, if◌then◌else◌, bytes_eq, slice_index, Ok, Err}
+use Rattle.std.proofs.Common.{◌≡◌, ℕ, ◌+◌, ◌<◌, ◌≤◌, List, [], ◌∷◌, ◌++◌, length, take, Bool, true, false, refl, sym}
+use Rattle.std.proofs.Common.{arith, subst, cond, append_assoc, append-nil, IfSome, IsSome}
+use Rattle.std.specs.Prelude.{Option, Some, None, nat_le, nat_lt, ◌||◌, is_some, codes, if◌then◌else◌, bytes_eq}
+use Rattle.std.specs.Prelude.{slice_index, Ok, Err}
 use Rattle.std.specs.List.{All}
 use Rattle.std.proofs.lemmas.Bool.{or_parts}
 use Rattle.std.proofs.lemmas.Bool.Decides.{nat_tests}
@@ -21,7 +23,8 @@ use Rattle.mw_descfile.specs.declared.declaration.Sizes.{Sizes}
 use Rattle.mw_descfile.specs.declared.element.Element.{Element}
 use Rattle.mw_descfile.specs.declared.element.Kind.{Kind}
 use Rattle.mw_descfile.specs.declared.element.Kind.TheVariants.{Register, Temporary}
-use Rattle.mw_descfile.specs.Declarations.{Elements, Declared, no_elements, with_element, ranged, with_sizes, few, new_width, of_kind, with_more, with_declared}
+use Rattle.mw_descfile.specs.Declarations.{Elements, Declared, no_elements, with_element, ranged, with_sizes, few}
+use Rattle.mw_descfile.specs.Declarations.{new_width, of_kind, with_more, with_declared}
 use Rattle.mw_descfile.specs.Kept.{AreNames, AreElements, IsDeclared, IsOver, IsStated}
 use Rattle.mw_descfile.specs.Stating.{begun, number_in}
 use Rattle.mw_descfile.proofs.Expressions.{length_both}

@@ -22,9 +22,11 @@ use Rattle.mw_descfile.specs.declared.declaration.Declaration.TheVariants.{Eleme
 use Rattle.mw_descfile.specs.declared.declaration.Heading.{Heading}
 use Rattle.mw_descfile.specs.declared.declaration.Heading.TheVariants as headings
 use Rattle.mw_descfile.specs.declared.element.Kind.{Kind}
-use Rattle.mw_descfile.specs.Declarations.{Declared, sizes_of, heading_of, element_of, step_of, declaration_after, declaration_of, with_sizes, with_declared}
+use Rattle.mw_descfile.specs.Declarations.{Declared, sizes_of, heading_of, element_of, step_of, declaration_after}
+use Rattle.mw_descfile.specs.Declarations.{declaration_of, with_sizes, with_declared}
 use Rattle.mw_descfile.specs.Kept.{AreSpelled, IsDeclared, IsKept}
-use Rattle.mw_descfile.specs.Machine.{Known, nothing, declaring, stating, with_declaration, with_tokens, with_any, with_line}
+use Rattle.mw_descfile.specs.Machine.{Known, nothing, declaring, stating, with_declaration, with_tokens, with_any}
+use Rattle.mw_descfile.specs.Machine.{with_line}
 use Rattle.mw_descfile.specs.Stating.{begun, with_stated}
 use Rattle.mw_descfile.proofs.DeclaredLines.{sizes_kept, declared_kept, begun_kept}
 use Rattle.mw_descfile.proofs.StatedLines.{stated_kept}

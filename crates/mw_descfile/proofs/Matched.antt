@@ -5,7 +5,8 @@ use Rattle.std.specs.List.{All}
 use Rattle.std.proofs.lemmas.Bool.{and_parts}
 use Rattle.std.proofs.lemmas.Bool.Decides.{nat_tests}
 use Rattle.std.proofs.lemmas.List.Elements.{All-nil, All-cons, All-append}
-use Rattle.mw_base.specs.declared.cause.Cause.TheVariants.{BadSyntax, TooMany, ValueTooWide, Twice, UnknownElement, NoStackPointer, NoBoundary, ShapesDiffer}
+use Rattle.mw_base.specs.declared.cause.Cause.TheVariants.{BadSyntax, TooMany, ValueTooWide, Twice, UnknownElement}
+use Rattle.mw_base.specs.declared.cause.Cause.TheVariants.{NoStackPointer, NoBoundary, ShapesDiffer}
 use Rattle.mw_base.specs.declared.cursor.Dotted.{Dotted}
 use Rattle.mw_base.specs.declared.cursor.Numeral.{Numeral}
 use Rattle.mw_base.specs.declared.line.Line.{Line}
@@ -29,11 +30,14 @@ use Rattle.mw_rel.specs.Relation.{Boundary, Relation, related}
 use Rattle.mw_descfile.specs.declared.relation_line.Beginning.{Beginning}
 use Rattle.mw_descfile.specs.declared.scope.Scope.{Scope}
 use Rattle.mw_descfile.specs.declared.uses.Use.{Use}
-use Rattle.mw_descfile.specs.Boundaries.{Block, place_token, is_taken, bounded, block_of, with_stack_pointer, with_equation, closed_block, solved_unless, unsolved}
+use Rattle.mw_descfile.specs.Boundaries.{Block, place_token, is_taken, bounded, block_of, with_stack_pointer}
+use Rattle.mw_descfile.specs.Boundaries.{with_equation, closed_block, solved_unless, unsolved}
 use Rattle.mw_descfile.specs.Declarations.{ranged}
 use Rattle.mw_descfile.specs.Expressions.{asked_whole}
-use Rattle.mw_descfile.specs.Relation.{Known, with_told, with_tokens, with_any, with_line, scope_for, finished, relation_of}
-use Rattle.mw_descfile.specs.RelationLines.{beginning_of, dotted_number, Told, sp_line, equation_line, end_line, told_of}
+use Rattle.mw_descfile.specs.Relation.{Known, with_told, with_tokens, with_any, with_line, scope_for, finished}
+use Rattle.mw_descfile.specs.Relation.{relation_of}
+use Rattle.mw_descfile.specs.RelationLines.{beginning_of, dotted_number, Told, sp_line, equation_line, end_line}
+use Rattle.mw_descfile.specs.RelationLines.{told_of}
 use Rattle.mw_descfile.specs.Statements.{allowed}
 use Rattle.mw_descfile.proofs.SaidLines.{allowed_only}
 
@@ -52,7 +56,8 @@ record AreLow (known : Known) : Type 0 where
   boundaries : All EndsLow known.boundaries
   block : IfSome known.block (λ block. IsLow block.sp)
 
-stack_pointer_low : (word : Token) (value : Numeral) (block next : Block) → with_stack_pointer word value block ≡ Ok next → IsLow next.sp
+stack_pointer_low : (word : Token) (value : Numeral) (block next : Block)
+    → with_stack_pointer word value block ≡ Ok next → IsLow next.sp
 unfolding with_stack_pointer IsLow
 stack_pointer_low word value block next is =
     let one = bind_ok (allowed (is_none block.sp) (fault_on word Twice)) _ next is in

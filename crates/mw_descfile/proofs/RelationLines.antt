@@ -1,11 +1,14 @@
 -- What each line of a relation keeps, and that what is known at its end is a relation.
-use Rattle.std.proofs.Common.{◌≡◌, ℕ, ◌<◌, ◌≤◌, List, [], ◌∷◌, ◌++◌, length, map, Bool, true, false, refl, arith, subst, length-append}
+use Rattle.std.proofs.Common.{◌≡◌, ℕ, ◌<◌, ◌≤◌, List, [], ◌∷◌, ◌++◌, length, map, Bool, true, false, refl, arith, subst}
+use Rattle.std.proofs.Common.{length-append}
 use Rattle.std.specs.Prelude.{Option, Some, None, ok_or, not, nat_le, nat_lt, ◌&&◌, ◌||◌, ◌==◌, Ok}
 use Rattle.std.specs.List.{All, list_all, list_any}
 use Rattle.std.proofs.lemmas.Bool.{and_parts, and_from}
 use Rattle.std.proofs.lemmas.Bool.Decides.{nat_tests}
 use Rattle.std.proofs.lemmas.List.Elements.{All-nil, All-cons, All-head, All-tail, All-append}
-use Rattle.mw_base.specs.declared.cause.Cause.TheVariants.{BadSyntax, TooMany, Twice, UnknownName, ValueTooWide, WidthsDiffer, LeftTwice, LeftUsedOnRight, NoBoundary, BadBound}
+use Rattle.mw_base.specs.declared.cause.Cause.TheVariants.{BadSyntax, TooMany, Twice, UnknownName, ValueTooWide}
+use Rattle.mw_base.specs.declared.cause.Cause.TheVariants.{WidthsDiffer, LeftTwice, LeftUsedOnRight, NoBoundary}
+use Rattle.mw_base.specs.declared.cause.Cause.TheVariants.{BadBound}
 use Rattle.mw_base.specs.declared.cursor.Numeral.{Numeral}
 use Rattle.mw_base.specs.declared.line.Line.{Line}
 use Rattle.mw_base.specs.declared.place.Place.{Place}
@@ -28,11 +31,13 @@ use Rattle.mw_descfile.specs.declared.relation_line.BlockWord.TheVariants as wor
 use Rattle.mw_descfile.specs.declared.scope.Scope.{Scope}
 use Rattle.mw_descfile.specs.declared.uses.Use.{Use}
 use Rattle.mw_asm.specs.Labels.{label_named}
-use Rattle.mw_descfile.specs.Boundaries.{Block, place_token, is_taken, bounded, block_of, with_stack_pointer, with_equation, closed_block}
+use Rattle.mw_descfile.specs.Boundaries.{Block, place_token, is_taken, bounded, block_of, with_stack_pointer}
+use Rattle.mw_descfile.specs.Boundaries.{with_equation, closed_block}
 use Rattle.mw_descfile.specs.Expressions.{written_of}
 use Rattle.mw_descfile.specs.KeptRelation.{IsScope, IsGiven, IsEnded, IsOpen, IsKept}
 use Rattle.mw_descfile.specs.Relation.{Known, with_told, with_tokens, with_any, with_line}
-use Rattle.mw_descfile.specs.RelationLines.{beginning_of, uses_of, Told, sp_line, equation_line, end_line, stack_pointer_of, equation_of, end_of, block_word_in, told_after, told_of}
+use Rattle.mw_descfile.specs.RelationLines.{beginning_of, uses_of, Told, sp_line, equation_line, end_line}
+use Rattle.mw_descfile.specs.RelationLines.{stack_pointer_of, equation_of, end_of, block_word_in, told_after, told_of}
 use Rattle.mw_descfile.specs.Statements.{allowed}
 use Rattle.mw_descfile.proofs.Accepted.{rule_kept}
 use Rattle.mw_descfile.proofs.Blocks.{WasWritten, equation_kept, stack_pointer_kept, closed_kept}
@@ -117,7 +122,8 @@ equation_told scope line told is =
     (uses_of line.text scope.names (after 4 line).tokens)) told three.2)
     ((after 4 line).tokens, (line.end, three.1), refl)
 
-stack_pointer_told : (scope : Scope) (line : Cursor) (told : Told) → stack_pointer_of line ≡ Ok told → WasTold line.text scope told
+stack_pointer_told : (scope : Scope) (line : Cursor) (told : Told) → stack_pointer_of line ≡ Ok told
+    → WasTold line.text scope told
 unfolding stack_pointer_of
 stack_pointer_told scope line told is =
     let one = bind_ok (token_at 0 line) _ told is in

@@ -10,7 +10,9 @@ use Rattle.mw_descfile.specs.declared.said.Keyword.{Keyword}
 use Rattle.mw_descfile.specs.declared.said.Keyword.TheVariants as keywords
 use Rattle.mw_descfile.specs.declared.scope.Scope.{Scope}
 use Rattle.mw_descfile.specs.Expressions.{written_of}
-use Rattle.mw_descfile.specs.Statements.{Said, to_assign, to_write, to_put, to_take, to_choose, to_turn, to_end, assign_of, inside, first_tokens, write_of, put_of, take_of, if_of, allowed, alone, alone_of, keyword_in, said_after, said_of}
+use Rattle.mw_descfile.specs.Statements.{Said, to_assign, to_write, to_put, to_take, to_choose, to_turn, to_end}
+use Rattle.mw_descfile.specs.Statements.{assign_of, inside, first_tokens, write_of, put_of, take_of, if_of, allowed}
+use Rattle.mw_descfile.specs.Statements.{alone, alone_of, keyword_in, said_after, said_of}
 use Rattle.mw_descfile.proofs.Expressions.{WasRead}
 
 -- its expressions were read, and `else` and `end` stand where they can

@@ -1,5 +1,6 @@
 -- What the expressions of a relation are over.
-use Rattle.std.proofs.Common.{◌≡◌, ℕ, zero, suc, ◌+◌, ◌<◌, ◌≤◌, List, [], ◌∷◌, ◌++◌, length, map, take, true, refl, ap, arith, length-append, length-take-le}
+use Rattle.std.proofs.Common.{◌≡◌, ℕ, zero, suc, ◌+◌, ◌<◌, ◌≤◌, List, [], ◌∷◌, ◌++◌, length, map, take, true, refl, ap}
+use Rattle.std.proofs.Common.{arith, length-append, length-take-le}
 use Rattle.std.specs.Prelude.{codes, slice_get, slice_index}
 use Rattle.std.specs.Option.{option_to_list}
 use Rattle.std.specs.List.{All}
@@ -8,7 +9,8 @@ use Rattle.std.proofs.lemmas.List.Elements.{All-nil, All-cons, All-append}
 use Rattle.mw_board.specs.declared.flipflop.FlipFlop.{FlipFlop}
 use Rattle.mw_board.specs.declared.parts.BoardParts.{BoardParts}
 use Rattle.mw_board.specs.Depth.{depth_of}
-use Rattle.mw_board.specs.Elements.{Element, register_names, address_register_name, instruction_register_name, names_behind_of, of_width, elements_of, element_count}
+use Rattle.mw_board.specs.Elements.{Element, register_names, address_register_name, instruction_register_name}
+use Rattle.mw_board.specs.Elements.{names_behind_of, of_width, elements_of, element_count}
 use Rattle.mw_board.specs.Valid.{IsBoard}
 use Rattle.mw_board.proofs.Elements.{count_is}
 use Rattle.mw_expr.specs.Grammar.{is_dotted}

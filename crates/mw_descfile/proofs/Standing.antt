@@ -1,5 +1,6 @@
 -- The elements that stand in an expression that was read stand in its tokens.
-use Rattle.std.proofs.Common.{◌≡◌, ℕ, zero, suc, ◌+◌, ◌<◌, ◌≤◌, List, [], ◌∷◌, ◌++◌, length, drop, Bool, true, false, refl, ◌∙◌, sym, ap, arith, append_assoc, append-nil}
+use Rattle.std.proofs.Common.{◌≡◌, ℕ, zero, suc, ◌+◌, ◌<◌, ◌≤◌, List, [], ◌∷◌, ◌++◌, length, drop, Bool, true, false}
+use Rattle.std.proofs.Common.{refl, ◌∙◌, sym, ap, arith, append_assoc, append-nil}
 use Rattle.std.proofs.lemmas.List.{drop_all}
 use Rattle.std.specs.Prelude.{Option, Some, None, ◌||◌, ◌&&◌, ◌==◌, unwrap_or}
 use Rattle.std.proofs.lemmas.Bool.{and_parts}
@@ -11,7 +12,9 @@ use Rattle.mw_base.specs.Symbols.{symbol_of, is_sign}
 use Rattle.mw_expr.specs.Grammar.{Meaning}
 use Rattle.mw_expr.specs.Placed.{Placed, parts_of}
 use Rattle.mw_expr.specs.Plain.{plain, plain_parts, is_small_number, is_small, are_small}
-use Rattle.mw_expr.specs.Syntax.{Begin, BeginParts, by_choice, by_pair, by_complement, by_part, by_bit, by_constant, by_name, by_dotted_name, by_memory, by_group, by_join, by_widening, first_part, next_part}
+use Rattle.mw_expr.specs.Syntax.{Begin, BeginParts, by_choice, by_pair, by_complement, by_part, by_bit, by_constant}
+use Rattle.mw_expr.specs.Syntax.{by_name, by_dotted_name, by_memory, by_group, by_join, by_widening, first_part}
+use Rattle.mw_expr.specs.Syntax.{next_part}
 use Rattle.mw_expr.specs.Tree.{element}
 use Rattle.mw_rel.specs.Lines.{stands_in, stands_in_one}
 use Rattle.mw_descfile.specs.declared.uses.Use.{Use}

@@ -1,5 +1,6 @@
 -- What each line of statements keeps.
-use Rattle.std.proofs.Common.{◌≡◌, ℕ, ◌+◌, ◌-◌, ◌<◌, List, [], ◌∷◌, ◌++◌, length, true, false, refl, arith, subst, IfSome}
+use Rattle.std.proofs.Common.{◌≡◌, ℕ, ◌+◌, ◌-◌, ◌<◌, List, [], ◌∷◌, ◌++◌, length, true, false, refl, arith, subst}
+use Rattle.std.proofs.Common.{IfSome}
 use Rattle.std.specs.Prelude.{Option, Some, None, not, nat_lt, ◌==◌, is_none, option_map, ok_or, slice_index, Ok}
 use Rattle.std.proofs.lemmas.Bool.{or_from}
 use Rattle.std.proofs.lemmas.Bool.Decides.{nat_tests}
@@ -23,8 +24,11 @@ use Rattle.mw_macro.specs.Statements.{Act, assign, write, put, take_in, choose, 
 use Rattle.mw_descfile.specs.declared.element.Element.{Element}
 use Rattle.mw_descfile.specs.Expressions.{asked, whole_of, asked_whole}
 use Rattle.mw_descfile.specs.Kept.{IsOver, IsStated, closed}
-use Rattle.mw_descfile.specs.Statements.{Said, to_assign, to_write, to_put, to_take, to_choose, to_turn, to_end, said_of}
-use Rattle.mw_descfile.specs.Stating.{Over, OpenIf, Stated, number_in, target_of, room, shallow, with_act, with_assign, with_write, with_put, with_take, with_open, with_if, other_list, ended, can_else, blocks_of, closed_if, with_said, with_stated}
+use Rattle.mw_descfile.specs.Statements.{Said, to_assign, to_write, to_put, to_take, to_choose, to_turn, to_end}
+use Rattle.mw_descfile.specs.Statements.{said_of}
+use Rattle.mw_descfile.specs.Stating.{Over, OpenIf, Stated, number_in, target_of, room, shallow, with_act, with_assign}
+use Rattle.mw_descfile.specs.Stating.{with_write, with_put, with_take, with_open, with_if, other_list, ended, can_else}
+use Rattle.mw_descfile.specs.Stating.{blocks_of, closed_if, with_said, with_stated}
 use Rattle.mw_descfile.proofs.Closed.{more_free, more_total}
 use Rattle.mw_descfile.proofs.Expressions.{WasRead, asked_same, whole_has, no_fault, asked_has}
 use Rattle.mw_descfile.proofs.SaidLines.{allowed_only, WasSaid, was_said}

@@ -1,7 +1,9 @@
 -- What the lines of a boundary say, line by line.
-use Rattle.std.specs.Prelude.{ℕ, List, [], ◌∷◌, ◌++◌, length, map, slice_index, Bool, ◌&&◌, not, nat_le, nat_lt, ◌==◌, is_none, if◌then◌else◌, Option, Some, None, ok_or, Result, Ok, Err}
+use Rattle.std.specs.Prelude.{ℕ, List, [], ◌∷◌, ◌++◌, length, map, slice_index, Bool, ◌&&◌, not, nat_le, nat_lt, ◌==◌}
+use Rattle.std.specs.Prelude.{is_none, if◌then◌else◌, Option, Some, None, ok_or, Result, Ok, Err}
 use Rattle.std.specs.List.{flat_map, list_any}
-use Rattle.mw_base.specs.declared.cause.Cause.TheVariants.{TooMany, Twice, UnknownElement, LeftTwice, LeftUsedOnRight, NoStackPointer, BadBound}
+use Rattle.mw_base.specs.declared.cause.Cause.TheVariants.{TooMany, Twice, UnknownElement, LeftTwice, LeftUsedOnRight}
+use Rattle.mw_base.specs.declared.cause.Cause.TheVariants.{NoStackPointer, BadBound}
 use Rattle.mw_base.specs.declared.cursor.Dotted.{Dotted}
 use Rattle.mw_base.specs.declared.cursor.Numeral.{Numeral}
 use Rattle.mw_base.specs.declared.place.Place.{Place}

@@ -1,5 +1,6 @@
 -- What is so of everything that is known of a machine's text, so that a machine is made of it.
-use Rattle.std.specs.Prelude.{◌≡◌, ℕ, ◌+◌, ◌-◌, ◌<◌, ◌≤◌, IsSome, IfSome, List, [], ◌∷◌, ◌++◌, length, take, slice_index, All, true, false}
+use Rattle.std.specs.Prelude.{◌≡◌, ℕ, ◌+◌, ◌-◌, ◌<◌, ◌≤◌, IsSome, IfSome, List, [], ◌∷◌, ◌++◌, length, take}
+use Rattle.std.specs.Prelude.{slice_index, All, true, false}
 use Rattle.std.specs.List.{list_all}
 use Rattle.mw_base.specs.declared.token.Token.{Token}
 use Rattle.mw_base.specs.Names.{is_spelled_as_name}

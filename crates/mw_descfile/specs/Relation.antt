@@ -1,5 +1,6 @@
 -- The relation of a text.
-use Rattle.std.specs.Prelude.{ℕ, List, [], ◌∷◌, ◌++◌, codes, length, map, take, nat_lt, if◌then◌else◌, Option, Some, None, Result, Ok, Err}
+use Rattle.std.specs.Prelude.{ℕ, List, [], ◌∷◌, ◌++◌, codes, length, map, take, nat_lt, if◌then◌else◌, Option, Some}
+use Rattle.std.specs.Prelude.{None, Result, Ok, Err}
 use Rattle.mw_base.specs.declared.cause.Cause.TheVariants.{BadSyntax, NoBoundary, ShapesDiffer}
 use Rattle.mw_base.specs.declared.line.Line.{Line}
 use Rattle.mw_base.specs.declared.refusal.TextFault.{TextFault}

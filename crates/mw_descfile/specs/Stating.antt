@@ -1,5 +1,6 @@
 -- What the statements of a machine say, line by line.
-use Rattle.std.specs.Prelude.{ℕ, ◌+◌, ◌-◌, List, [], ◌∷◌, ◌++◌, codes, length, slice_index, Bool, true, false, is_none, nat_lt, if◌then◌else◌, Option, Some, None, option_map, ok_or, Result, Ok, Err}
+use Rattle.std.specs.Prelude.{ℕ, ◌+◌, ◌-◌, List, [], ◌∷◌, ◌++◌, codes, length, slice_index, Bool, true, false, is_none}
+use Rattle.std.specs.Prelude.{nat_lt, if◌then◌else◌, Option, Some, None, option_map, ok_or, Result, Ok, Err}
 use Rattle.mw_base.specs.declared.cause.Cause.TheVariants.{BadSyntax, TooDeep, TooMany, UnknownElement}
 use Rattle.mw_base.specs.declared.line.Line.{Line}
 use Rattle.mw_base.specs.declared.refusal.TextFault.{TextFault}
@@ -19,7 +20,8 @@ use Rattle.mw_descfile.specs.declared.said.Blocks.{Blocks}
 use Rattle.mw_descfile.specs.declared.scope.Scope.{Scope}
 use Rattle.mw_descfile.specs.Declarations.{Declared}
 use Rattle.mw_descfile.specs.Expressions.{Whole, asked, whole_of, asked_whole}
-use Rattle.mw_descfile.specs.Statements.{Said, to_assign, to_write, to_put, to_take, to_choose, to_turn, to_end, said_of}
+use Rattle.mw_descfile.specs.Statements.{Said, to_assign, to_write, to_put, to_take, to_choose, to_turn, to_end}
+use Rattle.mw_descfile.specs.Statements.{said_of}
 
 -- what the statements are over: what names stand for as targets, how many registers there are, how many registers and
 -- temporaries together, and the elements of expressions, of which the last is the request

@@ -6,7 +6,9 @@ ghost use Rattle.mw_base.specs.Reading.{Gives};
 ghost use Rattle.mw_expr.specs.Text.{IsShape};
 ghost use Rattle.mw_expr.specs.Written.{written};
 ghost use Rattle.mw_rel.specs.Seen.{boundary_of, boundaries_of, lines_of};
-ghost use Rattle.mw_descfile.specs.Boundaries.{Given as SeenGiven, place_token, is_taken, bounded, block_of, with_stack_pointer, with_equation, is_left, twice_left, used_left, line_faults, unsolved, closed_block};
+ghost use Rattle.mw_descfile.specs.Boundaries.{Given as SeenGiven, place_token, is_taken, bounded, block_of};
+ghost use Rattle.mw_descfile.specs.Boundaries.{with_stack_pointer, with_equation, is_left, twice_left, used_left};
+ghost use Rattle.mw_descfile.specs.Boundaries.{line_faults, unsolved, closed_block};
 ghost use Rattle.mw_descfile.specs.RelationViews.{given_seen, block_seen};
 ghost use Rattle.mw_descfile.specs.Statements.{allowed};
 

@@ -2,7 +2,8 @@
 ghost use Rattle.std.specs.Prelude.{◌≡◌, ◌<◌, OnOk, IfOk, length};
 ghost use Rattle.mw_base.specs.Named.{names_seen};
 ghost use Rattle.mw_base.specs.Reading.{Gives};
-ghost use Rattle.mw_descfile.specs.Declarations.{no_elements, with_element, ranged, with_sizes, few, new_width, of_kind, with_more, with_declared};
+ghost use Rattle.mw_descfile.specs.Declarations.{no_elements, with_element, ranged, with_sizes, few, new_width};
+ghost use Rattle.mw_descfile.specs.Declarations.{of_kind, with_more, with_declared};
 ghost use Rattle.mw_descfile.specs.Views.{elements_seen, declared_seen};
 
 use crate::declaration::Sizes;

@@ -4,7 +4,8 @@ ghost use Rattle.mw_base.specs.Reading.{Gives};
 ghost use Rattle.mw_base.specs.Steps.{steps};
 ghost use Rattle.mw_macro.specs.Described.{description_of};
 ghost use Rattle.mw_macro.specs.Machine.{described};
-ghost use Rattle.mw_descfile.specs.Machine.{nothing, with_declaration, with_tokens, with_any, with_line, description, finished, machine_of};
+ghost use Rattle.mw_descfile.specs.Machine.{nothing, with_declaration, with_tokens, with_any, with_line, description};
+ghost use Rattle.mw_descfile.specs.Machine.{finished, machine_of};
 ghost use Rattle.mw_descfile.specs.Views.{declared_seen, stated_seen, known_seen};
 ghost use Rattle.mw_descfile.specs.Kept.{IsDeclared, IsKept, AreSpelled};
 

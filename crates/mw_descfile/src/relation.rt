@@ -1,5 +1,6 @@
 // The relation of a text.
-ghost use Rattle.std.specs.Prelude.{◌≡◌, ◌<◌, ◌≤◌, ◌^◌, [], None, ◌++◌, codes, IfOk, OnOk, length, map, nat_lt, slice_get, take, true};
+ghost use Rattle.std.specs.Prelude.{◌≡◌, ◌<◌, ◌≤◌, ◌^◌, [], None, ◌++◌, codes, IfOk, OnOk, length, map, nat_lt};
+ghost use Rattle.std.specs.Prelude.{slice_get, take, true};
 ghost use Rattle.std.specs.Option.{option_to_list};
 ghost use Rattle.mw_base.specs.Reading.{Gives};
 ghost use Rattle.mw_base.specs.Steps.{steps};
@@ -10,7 +11,8 @@ ghost use Rattle.mw_rel.specs.Job.{AreForEachOther, memories_agree, shape_of};
 ghost use Rattle.mw_rel.specs.Seen.{boundaries_of};
 ghost use Rattle.mw_rel.specs.Views.{relation_of as relation_seen};
 ghost use Rattle.mw_descfile.specs.KeptRelation.{IsScope, IsKept};
-ghost use Rattle.mw_descfile.specs.Relation.{names_of, scope_for, with_told, with_tokens, with_line, relation_with, finished, relation_of};
+ghost use Rattle.mw_descfile.specs.Relation.{names_of, scope_for, with_told, with_tokens, with_line, relation_with};
+ghost use Rattle.mw_descfile.specs.Relation.{finished, relation_of};
 ghost use Rattle.mw_descfile.specs.RelationViews.{told_seen, block_seen, known_seen};
 
 use crate::block::{Block, check};
@@ -320,8 +322,10 @@ pub fn read_relation(
     text: &[u8],
 ) -> Result<Relation, Refusal>
     requires { length text.now < 2 ^ 32 }
-    ensures gives { Gives relation_seen result (relation_of board.now made.now.labels (description_of machine.now) text.now) }
-    ensures made { IfOk result (λ relation. AreForEachOther board.now (description_of machine.now) (relation_seen relation)) }
+    ensures gives { Gives relation_seen result
+        (relation_of board.now made.now.labels (description_of machine.now) text.now) }
+    ensures made { IfOk result
+        (λ relation. AreForEachOther board.now (description_of machine.now) (relation_seen relation)) }
     ensures agree { OnOk result (memories_agree board.now (description_of machine.now) ≡ true) }
 {
     relation_in(alloc, board, made, machine, text)

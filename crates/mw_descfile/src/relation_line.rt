@@ -1,7 +1,8 @@
 // What a line of a relation says.
 ghost use Rattle.std.specs.Prelude.{◌≡◌};
 ghost use Rattle.mw_base.specs.Reading.{Gives};
-ghost use Rattle.mw_descfile.specs.RelationLines.{beginning_of, stack_pointer_of, equation_of, end_of, block_word_of, block_word_in, told_of};
+ghost use Rattle.mw_descfile.specs.RelationLines.{beginning_of, stack_pointer_of, equation_of, end_of, block_word_of};
+ghost use Rattle.mw_descfile.specs.RelationLines.{block_word_in, told_of};
 ghost use Rattle.mw_descfile.specs.RelationViews.{told_seen};
 
 use crate::declaration::word_first;

@@ -2,7 +2,9 @@
 ghost use Rattle.std.specs.Prelude.{◌≡◌, ◌<◌, ◌≤◌, ◌^◌, length, slice_get};
 ghost use Rattle.mw_base.specs.Reading.{Gives};
 ghost use Rattle.mw_descfile.specs.Views.{said_seen};
-ghost use Rattle.mw_descfile.specs.Statements.{assign_of, open_after, before_close, inside, fault_before, first_tokens, write_of, put_of, take_of, if_of, alone, alone_of, keyword_of, keyword_in, said_of};
+ghost use Rattle.mw_descfile.specs.Statements.{assign_of, open_after, before_close, inside, fault_before, first_tokens};
+ghost use Rattle.mw_descfile.specs.Statements.{write_of, put_of, take_of, if_of, alone, alone_of, keyword_of};
+ghost use Rattle.mw_descfile.specs.Statements.{keyword_in, said_of};
 
 use crate::scope::Scope;
 use mw_base::{Cursor, Refusal, Refused, Sign, Symbol, TextFault, Token, symbol_of};

@@ -9,7 +9,9 @@ ghost use Rattle.mw_macro.specs.Statements.{act_of};
 ghost use Rattle.mw_descfile.specs.Kept.{IsDeclared, IsStated};
 ghost use Rattle.mw_descfile.specs.Machine.{description, machine_unless};
 ghost use Rattle.mw_macro.specs.Described.{description_of};
-ghost use Rattle.mw_descfile.specs.Stating.{scope_of, begun, can_else, can_end, blocks_of, target_of, room, shallow, with_act, with_assign, with_write, with_put, with_take, with_open, with_if, other_list, closed_if, ended, with_said, with_stated};
+ghost use Rattle.mw_descfile.specs.Stating.{scope_of, begun, can_else, can_end, blocks_of, target_of, room, shallow};
+ghost use Rattle.mw_descfile.specs.Stating.{with_act, with_assign, with_write, with_put, with_take, with_open, with_if};
+ghost use Rattle.mw_descfile.specs.Stating.{other_list, closed_if, ended, with_said, with_stated};
 ghost use Rattle.mw_descfile.specs.Views.{declared_seen, said_seen, over_seen, stated_seen, whole_seen};
 
 use crate::declared::{Declared, Elements};

@@ -16,14 +16,16 @@ use Rattle.mw_descfile.proofs.relation.read_relation.Goals as goal
 made_for : (board : BoardParts) (labels : List Label) (machine : Description) (text : List ℕ)
     (result : Result Kept (Refused TextFault)) → Gives relation_seen result (relation_of board labels machine text)
     → IfOk result (λ relation. AreForEachOther board machine (relation_seen relation))
-made_for board labels machine text (Ok relation) is = (matched board labels machine text (relation_seen relation) is).made
+made_for board labels machine text (Ok relation) is =
+    (matched board labels machine text (relation_seen relation) is).made
 made_for board labels machine text (Err refusal) is = tt
 
 -- and their memories agree
 agrees : (board : BoardParts) (labels : List Label) (machine : Description) (text : List ℕ)
     (result : Result Kept (Refused TextFault)) → Gives relation_seen result (relation_of board labels machine text)
     → OnOk result (memories_agree board machine ≡ true)
-agrees board labels machine text (Ok relation) is = (matched board labels machine text (relation_seen relation) is).agree
+agrees board labels machine text (Ok relation) is =
+    (matched board labels machine text (relation_seen relation) is).agree
 agrees board labels machine text (Err refusal) is = tt
 
 pub returns-clause-made : goal.returns-clause-made
