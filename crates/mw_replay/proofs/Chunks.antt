@@ -1,5 +1,6 @@
 -- The lines of a list, sixteen values to each, give the list.
-use Rattle.std.proofs.Common.{◌≡◌, ℕ, zero, suc, ◌+◌, ◌*◌, ◌<◌, ◌≤◌, ◌^◌, List, [], ◌∷◌, ◌++◌, take, drop, length, true, Result, append_assoc, length-append, refl, sym, ap, ◌∙◌, subst, arith}
+use Rattle.std.proofs.Common.{◌≡◌, ℕ, zero, suc, ◌+◌, ◌*◌, ◌<◌, ◌≤◌, ◌^◌, List, [], ◌∷◌, ◌++◌, take, drop, length, true}
+use Rattle.std.proofs.Common.{Result, append_assoc, length-append, refl, sym, ap, ◌∙◌, subst, arith}
 use Rattle.std.specs.Prelude.{All}
 use Rattle.std.specs.List.{flat_map, list_all, range_with_len}
 use Rattle.std.proofs.Math.Seq.{take-add}
@@ -69,7 +70,8 @@ values_go P step text keyword xs rest make plain short few one next from (suc co
       values_short chunk (values_within (2 ^ 32) xs from few),
     ) in
     let later = values_go P step text keyword xs rest make plain short few one next (from + 1) count (omega arith) in
-    subst (λ text_of. Goes P step text text_of (make (take (16 * from) xs))) (sym (append_assoc (line bytes) others rest))
+    subst (λ text_of. Goes P step text text_of (make (take (16 * from) xs)))
+    (sym (append_assoc (line bytes) others rest))
     (line_goes P step text bytes (others ++ rest) (make (take (16 * from) xs)) (make (take (16 * (from + 1)) xs))
     (both_plain keyword (flat_map value_text chunk) plain (values_plain chunk)) size
     (λ number start at.

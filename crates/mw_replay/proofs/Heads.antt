@@ -1,5 +1,6 @@
 -- The line of a counter's boundary, as it is printed, is read.
-use Rattle.std.proofs.Common.{◌≡◌, ◌≢◌, ℕ, zero, suc, ◌+◌, ◌<◌, ◌≤◌, ◌^◌, List, [], ◌∷◌, ◌++◌, codes, drop, length, slice_get, Bool, true, false, cond, ◌==◌, Some, Ok, refl, sym, ap, ◌∙◌, subst, arith}
+use Rattle.std.proofs.Common.{◌≡◌, ◌≢◌, ℕ, zero, suc, ◌+◌, ◌<◌, ◌≤◌, ◌^◌, List, [], ◌∷◌, ◌++◌, codes, drop, length}
+use Rattle.std.proofs.Common.{slice_get, Bool, true, false, cond, ◌==◌, Some, Ok, refl, sym, ap, ◌∙◌, subst, arith}
 use Rattle.std.specs.Prelude.{nat_lt}
 use Rattle.std.specs.List.{list_all, position_from}
 use Rattle.std.proofs.lemmas.Bool.{eq-eqb, eqb-true, lt-ltb}
@@ -27,7 +28,8 @@ use Rattle.mw_rel.proofs.Relations.{accepted_are_solved}
 use Rattle.mw_sim.specs.Given.{Given, given_by}
 use Rattle.mw_sim.specs.Start.{blank_lines, first_word, from_first}
 use Rattle.mw_replay.specs.Counter.{Counter}
-use Rattle.mw_replay.specs.CounterText.{behind_difference, behind_no, boundary_place, counter_in, counter_of, counter_with, number_at, number_of, settables_of}
+use Rattle.mw_replay.specs.CounterText.{behind_difference, behind_no, boundary_place, counter_in, counter_of}
+use Rattle.mw_replay.specs.CounterText.{counter_with, number_at, number_of, settables_of}
 use Rattle.mw_replay.proofs.Lines.{is_plain, line_with}
 use Rattle.mw_replay.proofs.Sets.{hex_plain}
 use Rattle.mw_replay.proofs.Spelled.{hex_short}

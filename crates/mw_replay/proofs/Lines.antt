@@ -1,5 +1,7 @@
 -- Lines as they are printed, read one after another.
-use Rattle.std.proofs.Common.{◌≡◌, ℕ, suc, ◌+◌, ◌-◌, ◌≤◌, List, [], ◌∷◌, ◌++◌, take, drop, length, Bool, true, false, cond, not, ◌==◌, Result, Ok, append_assoc, length-append, refl, sym, ap, ap₂, ◌∙◌, subst, arith}
+use Rattle.std.proofs.Common.{◌≡◌, ℕ, suc, ◌+◌, ◌-◌, ◌≤◌, List, [], ◌∷◌, ◌++◌, take, drop, length, Bool, true, false}
+use Rattle.std.proofs.Common.{cond, not, ◌==◌, Result, Ok, append_assoc, length-append, refl, sym, ap, ap₂, ◌∙◌, subst}
+use Rattle.std.proofs.Common.{arith}
 use Rattle.std.specs.Prelude.{◌&&◌, nat_eq, nat_le}
 use Rattle.std.specs.List.{list_all, ends_with}
 use Rattle.std.specs.Cmp.Lexicographic.{pointwise}

@@ -1,5 +1,6 @@
 -- The names of the elements of both sides: each is spelled as one, and none stands twice on one side.
-use Rattle.std.proofs.Common.{◌≡◌, ◌≢◌, ℕ, zero, suc, ◌+◌, ◌<◌, List, [], ◌∷◌, ◌++◌, map, length, slice_get, Bool, true, false, not, Some, Result, Ok, Err, length-append, refl, sym, ◌∙◌, subst, arith}
+use Rattle.std.proofs.Common.{◌≡◌, ◌≢◌, ℕ, zero, suc, ◌+◌, ◌<◌, List, [], ◌∷◌, ◌++◌, map, length, slice_get, Bool, true}
+use Rattle.std.proofs.Common.{false, not, Some, Result, Ok, Err, length-append, refl, sym, ◌∙◌, subst, arith}
 use Rattle.std.specs.Prelude.{◌&&◌, ◌||◌}
 use Rattle.std.specs.List.{list_all, list_any}
 use Rattle.std.specs.Str.{bytes_eq}
@@ -13,11 +14,15 @@ use Rattle.mw_base.specs.Names.{is_name}
 use Rattle.mw_board.specs.declared.field.NamedField.{NamedField}
 use Rattle.mw_board.specs.declared.flipflop.FlipFlop.{FlipFlop}
 use Rattle.mw_board.specs.declared.parts.BoardParts.{BoardParts}
-use Rattle.mw_board.specs.Check.{at_flipflop, at_key, check_of, fields_check, flipflop_check, flipflops_check, flipflops_from, in_load, list_check, lists_check, map_check, number_16, placed, points_check, sizes_check}
+use Rattle.mw_board.specs.Check.{at_flipflop, at_key, check_of, fields_check, flipflop_check, flipflops_check}
+use Rattle.mw_board.specs.Check.{flipflops_from, in_load, list_check, lists_check, map_check, number_16, placed}
+use Rattle.mw_board.specs.Check.{points_check, sizes_check}
 use Rattle.mw_board.specs.Depth.{depth_of}
-use Rattle.mw_board.specs.Elements.{element_count, element_name, is_reserved, names_before, names_behind, names_behind_of}
+use Rattle.mw_board.specs.Elements.{element_count, element_name, is_reserved, names_before, names_behind}
+use Rattle.mw_board.specs.Elements.{names_behind_of}
 use Rattle.mw_board.specs.Keys.{control_key, flipflop_key, name_key}
-use Rattle.mw_board.specs.Rules.{Verdict, all_of, ask, control_rule, flipflop_name_rule, flipflops_rule, is_flipflop_name, load_rule}
+use Rattle.mw_board.specs.Rules.{Verdict, all_of, ask, control_rule, flipflop_name_rule, flipflops_rule}
+use Rattle.mw_board.specs.Rules.{is_flipflop_name, load_rule}
 use Rattle.mw_board.proofs.Elements.{count_is, name_is}
 use Rattle.mw_macro.specs.Rules.{are_free, is_reserved as is_keyword}
 
@@ -173,7 +178,8 @@ new_of width fields count earlier i f is =
     let driven = at_flipflop control_key i (control_rule fields f.control) in
     let loads = list_check (in_load i) fields f.control (load_rule width count) f.load in
     new_name earlier f.name
-    (at_place name_key (number_16 i) 0 (flipflop_name_rule earlier f.name) (first_kept named (driven ∷ loads ∷ []) is).0)
+    (at_place name_key (number_16 i) 0 (flipflop_name_rule earlier f.name)
+    (first_kept named (driven ∷ loads ∷ []) is).0)
 
 flips_parts : (width : ℕ) (fields : List NamedField) (count : ℕ) (earlier : List FlipFlop) (i : ℕ) (f : FlipFlop)
     (rest : List FlipFlop) → flipflops_from width fields count earlier i (f ∷ rest) ≡ Ok tt
@@ -219,7 +225,8 @@ flips_once width fields count earlier i (f ∷ rest) is zero (suc b) name before
     (sym (some_same f.name name first)) (same_bytes name) in
     cc
 flips_once width fields count earlier i (f ∷ rest) is (suc a) (suc b) name before first second =
-    flips_once width fields count (earlier ++ f ∷ []) (i + 1) rest (flips_parts width fields count earlier i f rest is).1 a b name
+    flips_once width fields count (earlier ++ f ∷ []) (i + 1) rest
+    (flips_parts width fields count earlier i f rest is).1 a b name
     (omega arith) first second
 
 -- ---- a board
@@ -269,7 +276,8 @@ pub board_spelled : (board : BoardParts) → check_of board ≡ Ok tt → Each i
 unfolding depth_of board_names is_name
 board_spelled board is =
     let new = flips_new board.width board.fields (length board.flipflop) [] 0 board.flipflop (flips_kept board is) in
-    each_both is_name names_before (names_of board.flipflop ++ names_behind_of board) (all_each is_name names_before refl)
+    each_both is_name names_before (names_of board.flipflop ++ names_behind_of board)
+    (all_each is_name names_before refl)
     (each_both is_name (names_of board.flipflop) (names_behind_of board) (λ i name at. (new i name at).spelled)
     (all_each is_name (names_behind_of board) refl))
 

@@ -1,5 +1,7 @@
 -- Each element of both sides as lines may set it: it is found by its name.
-use Rattle.std.proofs.Common.{◌≡◌, ◌≢◌, ℕ, zero, suc, ◌+◌, ◌-◌, ◌<◌, ◌≤◌, ◌^◌, List, [], map, length, slice_get, slice_index, slice_index_or, Bool, true, false, cond, ◌==◌, Option, Some, option_map, Ok, refl, sym, ap, ◌∙◌, subst, inl, inr, arith}
+use Rattle.std.proofs.Common.{◌≡◌, ◌≢◌, ℕ, zero, suc, ◌+◌, ◌-◌, ◌<◌, ◌≤◌, ◌^◌, List, [], map, length, slice_get}
+use Rattle.std.proofs.Common.{slice_index, slice_index_or, Bool, true, false, cond, ◌==◌, Option, Some, option_map, Ok}
+use Rattle.std.proofs.Common.{refl, sym, ap, ◌∙◌, subst, inl, inr, arith}
 use Rattle.std.specs.Prelude.{◌&&◌, nat_le, unwrap_or}
 use Rattle.std.specs.List.{position_from, range_with_len}
 use Rattle.std.specs.Str.{bytes_eq}
@@ -24,7 +26,8 @@ use Rattle.mw_sim.specs.declared.given.Owner.TheVariants.{Board, Machine}
 use Rattle.mw_sim.specs.declared.given.Settable.{Settable}
 use Rattle.mw_sim.specs.Given.{is_free, number_named, owner_text}
 use Rattle.mw_replay.specs.CounterText.{name_of, owner_of, settable, settables_of}
-use Rattle.mw_replay.proofs.Names.{Once, all_each, board_count, board_name, board_names, board_once, board_spelled, free_once, other_bytes, same_bytes}
+use Rattle.mw_replay.proofs.Names.{Once, all_each, board_count, board_name, board_names, board_once, board_spelled}
+use Rattle.mw_replay.proofs.Names.{free_once, other_bytes, same_bytes}
 use Rattle.mw_replay.proofs.Sets.{IsSettable}
 use Rattle.mw_replay.proofs.Settables.{bound_is, bound_most, numbers_at, width_most}
 use Rattle.mw_replay.proofs.Starts.{there}
@@ -41,7 +44,8 @@ board_named : (job : Job) (e : ℕ) → e < element_count job.board
     → slice_get (board_names job.board) e ≡ Some (name_of job e)
 board_named job e below =
     let names = board_names job.board in
-    let at : slice_get names e ≡ Some (slice_index_or names e []) = there names e [] (omega (arith, board_count job.board)) in
+    let at : slice_get names e ≡ Some (slice_index_or names e []) =
+    there names e [] (omega (arith, board_count job.board)) in
     let name : name_of job e ≡ unwrap_or (element_name job.board e) [] =
     rw (lt-ltb e (element_count job.board) below) refl in
     let same : name_of job e ≡ slice_index_or names e [] =

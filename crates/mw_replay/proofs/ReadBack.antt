@@ -1,5 +1,7 @@
 -- The text of a counter is read back.
-use Rattle.std.proofs.Common.{◌≡◌, ℕ, ◌+◌, ◌*◌, ◌<◌, ◌≤◌, ◌^◌, List, [], ◌∷◌, ◌++◌, codes, map, take, drop, replicate, length, slice_index, Bool, true, false, Ok, lit<, lit≤, append_assoc, append-nil, ◌==◌, refl, sym, ap, ◌∙◌, subst, arith}
+use Rattle.std.proofs.Common.{◌≡◌, ℕ, ◌+◌, ◌*◌, ◌<◌, ◌≤◌, ◌^◌, List, [], ◌∷◌, ◌++◌, codes, map, take, drop, replicate}
+use Rattle.std.proofs.Common.{length, slice_index, Bool, true, false, Ok, lit<, lit≤, append_assoc, append-nil, ◌==◌}
+use Rattle.std.proofs.Common.{refl, sym, ap, ◌∙◌, subst, arith}
 use Rattle.std.specs.Prelude.{All}
 use Rattle.std.specs.List.{flat_map, range_with_len}
 use Rattle.std.proofs.Math.Pow.{pow_mono}
@@ -29,11 +31,16 @@ use Rattle.mw_rel.proofs.Standing.{board_address}
 use Rattle.mw_sim.specs.Given.{Given, nothing_given, trimmed, with_line}
 use Rattle.mw_sim.specs.Start.{environment_with}
 use Rattle.mw_replay.specs.Counter.{Counter, IsCounter}
-use Rattle.mw_replay.specs.CounterPrinted.{AreShort, MayFollow, counter_text, in_short, line_count, memory_lines, no_lines, series_line, series_lines, set_line, set_lines, shortened, values_at, word_line}
+use Rattle.mw_replay.specs.CounterPrinted.{AreShort, MayFollow, counter_text, in_short, line_count, memory_lines}
+use Rattle.mw_replay.specs.CounterPrinted.{no_lines, series_line, series_lines, set_line, set_lines, shortened}
+use Rattle.mw_replay.specs.CounterPrinted.{values_at, word_line}
 use Rattle.mw_replay.specs.CounterText.{counter_in, counter_of, counter_with, settables_of}
 use Rattle.mw_replay.proofs.Chunks.{values_go, values_some, values_within}
 use Rattle.mw_replay.proofs.Fillings.{filled, made_by_number}
-use Rattle.mw_replay.proofs.Heads.{behind_first, behind_second, difference_bytes, difference_has, difference_line, difference_plain, difference_word, head_bytes, head_has, head_line, head_plain, head_says, head_short, head_tokens, head_word, no_has, no_line, not_difference, not_no, number_is, text_says}
+use Rattle.mw_replay.proofs.Heads.{behind_first, behind_second, difference_bytes, difference_has, difference_line}
+use Rattle.mw_replay.proofs.Heads.{difference_plain, difference_word, head_bytes, head_has, head_line, head_plain}
+use Rattle.mw_replay.proofs.Heads.{head_says, head_short, head_tokens, head_word, no_has, no_line, not_difference}
+use Rattle.mw_replay.proofs.Heads.{not_no, number_is, text_says}
 use Rattle.mw_replay.proofs.Lines.{Goes, end_goes, first_read}
 use Rattle.mw_replay.proofs.Owned.{is_settable}
 use Rattle.mw_replay.proofs.SeriesLines.{inputs_gives, line_gives, noise_gives}
@@ -152,7 +159,8 @@ line_go P job boundary text rest xs memory written inputs noise values set below
     next 0 (line_count (length xs)) (omega arith)
 
 inputs_go : (P : Given → Type 0) (job : Job) (boundary : Boundary) (text rest xs memory : List ℕ) (written : List Bool)
-    (interrupts noise values : List ℕ) (set : List Bool) → job.board.width ≤ 32 → All (λ v. v < 2 ^ job.board.width) xs → length xs ≤ 65536
+    (interrupts noise values : List ℕ) (set : List Bool) → job.board.width ≤ 32
+    → All (λ v. v < 2 ^ job.board.width) xs → length xs ≤ 65536
     → Goes P (with_line (settables_of job boundary) job.board.width text) text rest
     (given_with memory written xs interrupts noise values set)
     → Goes P (with_line (settables_of job boundary) job.board.width text) text
@@ -226,7 +234,8 @@ memory_go P job boundary text rest memory values set is image next =
     made_by_number memory 0 (slice_index memory) (λ i.
     let place : 0 + i ≡ i = omega arith in
     ap (slice_index memory) place) in
-    subst (λ count. Goes P step text (memory_lines memory ++ rest) (make (replicate count 0) (replicate count false))) size
+    subst
+    (λ count. Goes P step text (memory_lines memory ++ rest) (make (replicate count 0) (replicate count false))) size
     (filled P step text (λ address. word_line address (slice_index memory address)) (slice_index memory) make
     (length memory)
     (λ address inside.
@@ -240,7 +249,8 @@ sets_go : (P : Given → Type 0) (job : Job) (boundary : Boundary) (text rest : 
     (memory : List ℕ) (written : List Bool) → IsJob job → check_of job.board ≡ Ok tt → IsBegin job boundary begin
     → ((set : List Bool) → Goes P (with_line (settables_of job boundary) job.board.width text) text rest
     (given_with memory written [] [] [] (all_values job boundary begin.values) set))
-    → Goes P (with_line (settables_of job boundary) job.board.width text) text (set_lines job boundary begin.values ++ rest)
+    → Goes P (with_line (settables_of job boundary) job.board.width text) text
+    (set_lines job boundary begin.values ++ rest)
     (given_with memory written [] [] [] (replicate (length job.relation.shape.widths) 0)
     (replicate (length job.relation.shape.widths) false))
 sets_go P job boundary text rest begin memory written is checked starts next =
@@ -387,7 +397,8 @@ reads_back_in_report job counter labels difference is checked counts short follo
     let second_word = difference_word text difference (10 ∷ rest) 2 3 second in
     text_says job labels text lines (line ∷ head ∷ made.others) (head ∷ made.others) (in_short counter)
     (ap (λ text. lines_from 1 0 (lines_of text)) whole
-    ∙ first_read 1 0 (codes "no") after (token 1 0 0 Name 2 ∷ []) (line ∷ head ∷ made.others) refl (lit≤ tt) (no_has 1 0)
+    ∙ first_read 1 0 (codes "no") after (token 1 0 0 Name 2 ∷ []) (line ∷ head ∷ made.others) refl
+    (lit≤ tt) (no_has 1 0)
     (first_read 2 3 middle rest (token 2 3 0 Name 10 ∷ found.0) (head ∷ made.others)
     (difference_plain difference follows.plain) follows.short (difference_has 2 3 difference found.0 found.1) made.are))
     (behind_first text 1 0 2 3 difference found.0 (head ∷ made.others) first_word)

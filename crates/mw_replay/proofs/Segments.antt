@@ -1,5 +1,6 @@
 -- The segment of a replay: where it ends, and what is compared there.
-use Rattle.std.proofs.Common.{◌≡◌, ℕ, zero, suc, ◌+◌, ◌<◌, ◌≤◌, List, [], ◌∷◌, drop, length, Option, Some, None, option_map, Bool, false, slice_index_or, refl, sym, ap, ap₂, ◌∙◌, subst, arith}
+use Rattle.std.proofs.Common.{◌≡◌, ℕ, zero, suc, ◌+◌, ◌<◌, ◌≤◌, List, [], ◌∷◌, drop, length, Option, Some, None}
+use Rattle.std.proofs.Common.{option_map, Bool, false, slice_index_or, refl, sym, ap, ap₂, ◌∙◌, subst, arith}
 use Rattle.std.specs.Option.{option_to_list}
 use Rattle.std.proofs.lemmas.List.{length-append}
 use Rattle.mw_base.specs.declared.event.Event.{Event}
@@ -56,7 +57,8 @@ events_few board store env start zero = omega arith
 events_few board store env start (suc n) =
     let run = run_of board store env start n in
     let event = (nets_of board store run.state (given_at env run.clock)).event in
-    omega (arith, events_few board store env start n, length-append run.events (option_to_list event), one_at_most event)
+    omega
+    (arith, events_few board store env start n, length-append run.events (option_to_list event), one_at_most event)
 
 -- no more inputs are taken than there are events
 inputs_few : (events : List Event) → inputs_in events ≤ length events

@@ -1,5 +1,7 @@
 -- What the lines of an environment's lists say, as they are printed.
-use Rattle.std.proofs.Common.{◌≡◌, ℕ, ◌+◌, ◌<◌, ◌≤◌, ◌^◌, List, [], ◌∷◌, ◌++◌, codes, map, drop, length, true, cond, Result, Ok, Err, append_assoc, append-nil, length-append, zero-add, refl, sym, ap, ◌∙◌, subst, arith}
+use Rattle.std.proofs.Common.{◌≡◌, ℕ, ◌+◌, ◌<◌, ◌≤◌, ◌^◌, List, [], ◌∷◌, ◌++◌, codes, map, drop, length, true, cond}
+use Rattle.std.proofs.Common.{Result, Ok, Err, append_assoc, append-nil, length-append, zero-add, refl, sym, ap, ◌∙◌}
+use Rattle.std.proofs.Common.{subst, arith}
 use Rattle.std.specs.Prelude.{All, nat_lt}
 use Rattle.std.specs.List.{flat_map}
 use Rattle.std.proofs.lemmas.Bool.{lt-ltb}
@@ -119,7 +121,8 @@ keyword_at text keyword values rest number start at =
 
 pub inputs_gives : (elements : List Settable) (width : ℕ) (text rest values : List ℕ)
     (number start : ℕ) (given : Given)
-    → 0 < length values → drop start text ≡ series_bytes (codes "inputs") values ++ rest → All (λ value. value < 2 ^ 128) values
+    → 0 < length values → drop start text ≡ series_bytes (codes "inputs") values ++ rest
+    → All (λ value. value < 2 ^ 128) values
     → All (λ value. value < 2 ^ width) values → length given.inputs + length values ≤ 65536
     → Gives (with_line elements width text) number start (series_bytes (codes "inputs") values) given
     (record given { inputs = given.inputs ++ values })
@@ -141,7 +144,8 @@ inputs_gives elements width text rest (v ∷ vs) number start given some at few 
 
 pub line_gives : (elements : List Settable) (width : ℕ) (text rest values : List ℕ)
     (number start : ℕ) (given : Given)
-    → 0 < length values → drop start text ≡ series_bytes (codes "line") values ++ rest → All (λ value. value < 2 ^ 128) values
+    → 0 < length values → drop start text ≡ series_bytes (codes "line") values ++ rest
+    → All (λ value. value < 2 ^ 128) values
     → All (λ value. value < 2) values → length given.interrupts + length values ≤ 65536
     → Gives (with_line elements width text) number start (series_bytes (codes "line") values) given
     (record given { interrupts = given.interrupts ++ values })
@@ -163,7 +167,8 @@ line_gives elements width text rest (v ∷ vs) number start given some at few be
 
 pub noise_gives : (elements : List Settable) (width : ℕ) (text rest values : List ℕ)
     (number start : ℕ) (given : Given)
-    → 0 < length values → drop start text ≡ series_bytes (codes "noise") values ++ rest → All (λ value. value < 2 ^ 128) values
+    → 0 < length values → drop start text ≡ series_bytes (codes "noise") values ++ rest
+    → All (λ value. value < 2 ^ 128) values
     → All (λ value. value < 2 ^ 14) values → length given.noise + length values ≤ 65536
     → Gives (with_line elements width text) number start (series_bytes (codes "noise") values) given
     (record given { noise = given.noise ++ values })

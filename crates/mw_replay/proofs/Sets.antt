@@ -1,5 +1,7 @@
 -- The lines of elements and of words of the memory, as they are printed, give their values.
-use Rattle.std.proofs.Common.{◌≡◌, ℕ, ◌<◌, ◌≤◌, ◌^◌, List, [], ◌∷◌, ◌++◌, codes, length, slice_index, slice_get, Bool, true, false, cond, ◌==◌, Some, lit≤, append_assoc, length-append, refl, sym, ap, ap₂, ◌∙◌, subst, arith}
+use Rattle.std.proofs.Common.{◌≡◌, ℕ, ◌<◌, ◌≤◌, ◌^◌, List, [], ◌∷◌, ◌++◌, codes, length, slice_index, slice_get, Bool}
+use Rattle.std.proofs.Common.{true, false, cond, ◌==◌, Some, lit≤, append_assoc, length-append, refl, sym, ap, ap₂, ◌∙◌}
+use Rattle.std.proofs.Common.{subst, arith}
 use Rattle.std.specs.List.{list_all}
 use Rattle.std.proofs.Math.Pow.{pow_mono}
 use Rattle.std.proofs.lemmas.Bool.{and_parts}
@@ -128,7 +130,8 @@ one_set P job elements width text value e memory written inputs interrupts noise
     flagged next true test =
     let none : value ≡ 0 = grind (arith, nat_tests) in
     subst (λ v. Goes P (with_line elements width text) text rest
-    (given_with memory written inputs interrupts noise (before ++ v ∷ after) (flags ++ false ∷ later))) none (next false)
+    (given_with memory written inputs interrupts noise (before ++ v ∷ after) (flags ++ false ∷ later))) none
+    (next false)
 one_set P job elements width text value e memory written inputs interrupts noise before after flags later rest is size
     flagged next false test =
     let owner = owner_of job e in

@@ -1,5 +1,7 @@
 -- The elements of both sides, and the values of the free ones.
-use Rattle.std.proofs.Common.{◌≡◌, ℕ, zero, suc, ◌+◌, ◌-◌, ◌<◌, ◌≤◌, ◌^◌, List, [], ◌∷◌, ◌++◌, length, map, Option, Some, None, option_map, slice_get, slice_index, Bool, true, false, cond, lit≤, refl, sym, ap, ◌∙◌, subst, inl, inr, arith}
+use Rattle.std.proofs.Common.{◌≡◌, ℕ, zero, suc, ◌+◌, ◌-◌, ◌<◌, ◌≤◌, ◌^◌, List, [], ◌∷◌, ◌++◌, length, map, Option}
+use Rattle.std.proofs.Common.{Some, None, option_map, slice_get, slice_index, Bool, true, false, cond, lit≤, refl, sym}
+use Rattle.std.proofs.Common.{ap, ◌∙◌, subst, inl, inr, arith}
 use Rattle.std.specs.Prelude.{filter, unwrap_or}
 use Rattle.std.proofs.Math.Pow.{pow_mono}
 use Rattle.std.proofs.lemmas.Bool.{cases_lt}
@@ -141,7 +143,8 @@ image_of : (job : Job) (memory : List ℕ) → IsJob job → length memory ≡ 2
     → ((a : ℕ) → slice_index memory a < 2 ^ job.board.width) → IsImage job.relation.shape memory
 unfolding shape_of
 image_of job memory is size each =
-    let word : job.board.width ≡ job.relation.shape.word = sym (ap (λ s. s.word) is.matched.parts.shape ∙ is.matched.word) in
+    let word : job.board.width ≡ job.relation.shape.word =
+    sym (ap (λ s. s.word) is.matched.parts.shape ∙ is.matched.word) in
     record {
       size = size ∙ ap (λ n. 2 ^ n) (sym (board_address job is));
       words = λ a. subst (λ w. slice_index memory a < 2 ^ w) word (each a);
@@ -164,7 +167,8 @@ is_counter job n given values env is below in_range same outside =
     } in
     record {
       there = below;
-      begin = subst (λ (vs : List ℕ). IsBegin job (numbered job n) (record { values = vs; memory = given.memory; env = env }))
+      begin = subst
+          (λ (vs : List ℕ). IsBegin job (numbered job n) (record { values = vs; memory = given.memory; env = env }))
           (sym same) chosen;
       env = outside;
     }

@@ -1,5 +1,6 @@
 -- The start that a counter gives.
-use Rattle.std.proofs.Common.{◌≡◌, ℕ, zero, suc, ◌<◌, ◌≤◌, List, [], ◌∷◌, length, map, Some, slice_get, slice_index, slice_index_or, true, refl, sym, ap, ◌∙◌, subst, inl, inr, arith}
+use Rattle.std.proofs.Common.{◌≡◌, ℕ, zero, suc, ◌<◌, ◌≤◌, List, [], ◌∷◌, length, map, Some, slice_get, slice_index}
+use Rattle.std.proofs.Common.{slice_index_or, true, refl, sym, ap, ◌∙◌, subst, inl, inr, arith}
 use Rattle.std.proofs.lemmas.Bool.{cases_lt}
 use Rattle.mw_cycle.specs.Environment.{Environment, IsEnvironment}
 use Rattle.mw_rel.specs.Begin.{free_elements, free_values}
@@ -61,7 +62,8 @@ one_value job boundary p q is one other same e free = elim (cases_lt e (length j
       let place = free_before (is_free boundary) e in
       let at : slice_index (free_elements job boundary) place ≡ e = place_is (is_free boundary) n e free inside in
       subst (λ k. slice_index (values_of job.board p) k ≡ slice_index (values_of job.board q) k) at
-      (made_same (slice_index (values_of job.board p)) (slice_index (values_of job.board q)) (free_elements job boundary)
+      (made_same (slice_index (values_of job.board p)) (slice_index (values_of job.board q))
+      (free_elements job boundary)
       place same (place_within (is_free boundary) e n free inside)))
   | inr past ↦ past_end (values_of job.board p) e (omega (arith, values_count job boundary p is one))
       ∙ sym (past_end (values_of job.board q) e (omega (arith, values_count job boundary q is other)))

@@ -1,5 +1,7 @@
 -- What the lines of a counter say, as they are printed.
-use Rattle.std.proofs.Common.{◌≡◌, ℕ, ◌+◌, ◌-◌, ◌<◌, ◌^◌, List, [], ◌∷◌, ◌++◌, codes, take, drop, length, true, false, Some, Ok, slice_get, slice_index_or, slice_set, append_assoc, append-nil, refl, sym, ap, ◌∙◌, subst, arith}
+use Rattle.std.proofs.Common.{◌≡◌, ℕ, ◌+◌, ◌-◌, ◌<◌, ◌^◌, List, [], ◌∷◌, ◌++◌, codes, take, drop, length, true, false}
+use Rattle.std.proofs.Common.{Some, Ok, slice_get, slice_index_or, slice_set, append_assoc, append-nil, refl, sym, ap}
+use Rattle.std.proofs.Common.{◌∙◌, subst, arith}
 use Rattle.std.proofs.Math.Seq.{take-append_seam}
 use Rattle.std.proofs.lemmas.Bool.{lt-ltb}
 use Rattle.std.proofs.lemmas.List.{drop-drop}
@@ -15,7 +17,8 @@ use Rattle.mw_base.specs.Steps.{steps}
 use Rattle.mw_base.specs.Symbols.{spelled, symbol_of}
 use Rattle.mw_base.specs.Tokens.{slice, tokens_from}
 use Rattle.mw_sim.specs.declared.given.Settable.{Settable}
-use Rattle.mw_sim.specs.Given.{Given, bound_of, is_free, number_named, with_line, with_more_words, with_set, with_value, with_word, with_words}
+use Rattle.mw_sim.specs.Given.{Given, bound_of, is_free, number_named, with_line, with_more_words, with_set, with_value}
+use Rattle.mw_sim.specs.Given.{with_word, with_words}
 use Rattle.mw_sim.specs.Lines.{memory_of, numbers_of, set_of, statement_of, with_number}
 use Rattle.mw_replay.proofs.Lines.{Gives, line_with}
 use Rattle.mw_replay.proofs.Tokens.{Has, has_blank, has_name, has_number, has_point, token}

@@ -85,7 +85,8 @@ reaches job start n zero d (DiffersAt.here one difference differs) same = record
 reaches job start n (suc k) d (DiffersAt.here one difference differs) same = absurd (omega arith)
 reaches job start n zero d (DiffersAt.later one run boundary step difference begins none segment there differs) same =
     never_first job (start_after job start run boundary) step d differs (omega arith)
-reaches job start n (suc k) d (DiffersAt.later one run boundary step difference begins none segment there differs) same =
+reaches job start n (suc k) d
+    (DiffersAt.later one run boundary step difference begins none segment there differs) same =
     let next = start_after job start run boundary in
     let follows : Follows job start next = record {
       run = run;
@@ -105,7 +106,8 @@ steps_differ job start k d is begins = (
       (there.here, there.reached, there.shows)),
   (λ there.
       after_steps job start there.0 k 1 d is begins there.1
-      (DiffersAt.here there.0 d (record { begins = reached_is_start job start there.0 k is begins there.1; shows = there.2 }))),
+      (DiffersAt.here there.0 d
+      (record { begins = reached_is_start job start there.0 k is begins there.1; shows = there.2 }))),
 )
 
 -- ---- the steps before
@@ -130,7 +132,8 @@ differs_behind : (job : Job) (start next : Start) (n : ℕ) (d : Difference) →
     → Follows job start next → DiffersAt job start n d → (m : ℕ) × (n ≡ m + 1) × DiffersAt job next m d
 differs_behind job start next n d none follows (DiffersAt.here one difference differs) =
     shows_none (difference_of job start) d none differs.shows
-differs_behind job start next n d none follows (DiffersAt.later one run boundary step difference begins still segment there
+differs_behind job start next n d none follows
+    (DiffersAt.later one run boundary step difference begins still segment there
     differs) =
     let other : Follows job start (start_after job start run boundary) = record {
       run = run;

@@ -1,5 +1,6 @@
 -- Lists without the zeros at their ends.
-use Rattle.std.proofs.Common.{◌≡◌, ◌≢◌, ℕ, zero, suc, ◌<◌, List, [], ◌∷◌, map, slice_index, slice_index_or, Bool, true, false, ◌==◌, lit<, refl, ap, ◌∙◌, subst, sym, arith}
+use Rattle.std.proofs.Common.{◌≡◌, ◌≢◌, ℕ, zero, suc, ◌<◌, List, [], ◌∷◌, map, slice_index, slice_index_or, Bool, true}
+use Rattle.std.proofs.Common.{false, ◌==◌, lit<, refl, ap, ◌∙◌, subst, sym, arith}
 use Rattle.std.specs.Prelude.{All, length}
 use Rattle.std.proofs.Math.Seq.{take-length}
 use Rattle.std.proofs.lemmas.Bool.{eqb-true}

@@ -1,5 +1,6 @@
 -- Zeros at the ends of an environment's lists change no difference.
-use Rattle.std.proofs.Common.{◌≡◌, ℕ, zero, suc, ◌+◌, List, [], ◌∷◌, slice_index, slice_index_or, Bool, false, cond, Option, Some, None, option_map, find, refl, ap, ap₂, ◌∙◌}
+use Rattle.std.proofs.Common.{◌≡◌, ℕ, zero, suc, ◌+◌, List, [], ◌∷◌, slice_index, slice_index_or, Bool, false, cond}
+use Rattle.std.proofs.Common.{Option, Some, None, option_map, find, refl, ap, ap₂, ◌∙◌}
 use Rattle.mw_board.specs.declared.parts.BoardParts.{BoardParts}
 use Rattle.std.specs.Prelude.{◌++◌, ◌==◌, if◌then◌else◌}
 use Rattle.std.specs.Option.{option_to_list}
@@ -66,7 +67,8 @@ segments_same board store one other start addresses limit same =
     let run = λ (n : ℕ). runs_same board store one other start n same in
     let at = λ (env : Environment) (n : ℕ). is_named addresses (run_of board store env start n).state.at in
     ap (option_map (run_of board store one start))
-    (found_same (at one) (at other) (λ n. ap (λ (r : BoardRun). is_named addresses r.state.at) (run n)) (numbers 1 limit))
+    (found_same (at one) (at other)
+    (λ n. ap (λ (r : BoardRun). is_named addresses r.state.at) (run n)) (numbers 1 limit))
     ∙ made_same (run_of board store one start) (run_of board store other start) run
     (find (at other) (numbers 1 limit))
 

@@ -1,5 +1,6 @@
 -- The text of a counter, as reports print it, and what is left of a counter in it.
-use Rattle.std.specs.Prelude.{◌≡◌, ℕ, true, not, ◌&&◌, Ok, ◌+◌, ◌*◌, ◌/◌, ◌≤◌, List, [], ◌++◌, codes, length, take, drop, map, slice_index, if◌then◌else◌, ◌==◌}
+use Rattle.std.specs.Prelude.{◌≡◌, ℕ, true, not, ◌&&◌, Ok, ◌+◌, ◌*◌, ◌/◌, ◌≤◌, List, [], ◌++◌, codes, length, take}
+use Rattle.std.specs.Prelude.{drop, map, slice_index, if◌then◌else◌, ◌==◌}
 use Rattle.std.specs.List.{flat_map, list_all, range_with_len}
 use Rattle.mw_base.specs.declared.token.Token.{Token}
 use Rattle.mw_base.specs.Numbers.{hex}
@@ -108,8 +109,8 @@ pub record AreShort (env : Environment) : Type 0 where
   pub noise : length env.noise ≤ 65536
   pub inputs : length env.inputs ≤ 65536
 
--- bytes that may stand behind the word of a line `difference ..`: they have tokens wherever they stand, end no line, and
--- the line isn't too long
+-- bytes that may stand behind the word of a line `difference ..`: they have tokens wherever they stand, end no line,
+-- and the line isn't too long
 pub record MayFollow (bytes : List ℕ) : Type 0 where
   pub plain : list_all (λ c. not (c == 10) && not (c == 13)) bytes ≡ true
   pub tokens : (number start at : ℕ) → (found : List Token) × (tokens_from number start at 0 bytes ≡ Ok found)

@@ -1,5 +1,6 @@
 -- The counter that a START or COUNTER file gives.
-use Rattle.std.specs.Prelude.{ℕ, ◌-◌, ◌^◌, List, [], ◌∷◌, codes, length, map, slice_index, slice_index_or, Bool, is_ok, if◌then◌else◌, nat_lt, ◌==◌, ok_or, unwrap_or, Option, Result, Ok, Err}
+use Rattle.std.specs.Prelude.{ℕ, ◌-◌, ◌^◌, List, [], ◌∷◌, codes, length, map, slice_index, slice_index_or, Bool, is_ok}
+use Rattle.std.specs.Prelude.{if◌then◌else◌, nat_lt, ◌==◌, ok_or, unwrap_or, Option, Result, Ok, Err}
 use Rattle.std.specs.List.{position}
 use Rattle.mw_base.specs.declared.cause.Cause.TheVariants.{BadSyntax, ValueTooWide}
 use Rattle.mw_base.specs.declared.line.Line.{Line}

@@ -1,5 +1,6 @@
 // Laws of counters and replays.
-ghost use Rattle.mw_replay.specs.Laws.{StartsAreOne, CountersGiveStarts, StepsDiffer, NoneDiffersBefore, ZerosGiveNothing, ZerosShowNothing, NothingIsCut};
+ghost use Rattle.mw_replay.specs.Laws.{StartsAreOne, CountersGiveStarts, StepsDiffer, NoneDiffersBefore};
+ghost use Rattle.mw_replay.specs.Laws.{ZerosGiveNothing, ZerosShowNothing, NothingIsCut};
 
 /// The law of one start: a counter gives one start at most, since its pair is the one in relation with its values and
 /// its memory.

@@ -1,5 +1,6 @@
 // The text of a counter.
-ghost use Rattle.std.specs.Prelude.{◌≡◌, ℕ, ◌+◌, ◌*◌, ◌<◌, ◌≤◌, ◌++◌, List, IfOk, OnOk, Ok, codes, length, map, slice_index, true};
+ghost use Rattle.std.specs.Prelude.{◌≡◌, ℕ, ◌+◌, ◌*◌, ◌<◌, ◌≤◌, ◌++◌, List, IfOk, OnOk, Ok, codes, length, map};
+ghost use Rattle.std.specs.Prelude.{slice_index, true};
 ghost use Rattle.std.specs.List.{flat_map};
 ghost use Rattle.mw_base.specs.Words.{num};
 ghost use Rattle.mw_rel.specs.Begin.{free_elements};
@@ -10,7 +11,9 @@ ghost use Rattle.mw_sim.specs.Given.{owner_text, trimmed};
 ghost use Rattle.mw_replay.specs.Counter.{IsCounter};
 ghost use Rattle.mw_replay.specs.CounterText.{counter_of, owner_of};
 ghost use Rattle.mw_asm.specs.declared.assembled.Label.{Label};
-ghost use Rattle.mw_replay.specs.CounterPrinted.{AreShort, MayFollow, in_short, no_lines, shortened, boundary_line, set_line, set_lines, word_line, memory_lines, value_text, series_line, line_count, values_at, series_lines, environment_lines, counter_text};
+ghost use Rattle.mw_replay.specs.CounterPrinted.{AreShort, MayFollow, in_short, no_lines, shortened, boundary_line};
+ghost use Rattle.mw_replay.specs.CounterPrinted.{set_line, set_lines, word_line, memory_lines, value_text, series_line};
+ghost use Rattle.mw_replay.specs.CounterPrinted.{line_count, values_at, series_lines, environment_lines, counter_text};
 
 use crate::counter::Counter;
 use crate::elements::{name_of, owner_of};
@@ -69,7 +72,8 @@ fn append_free(
     requires few { length (job_of job.now).relation.shape.widths ≤ 170 }
     requires before { before ≡ free_before (is_free (numbered (job_of job.now) boundary)) number }
     requires each { is_free (numbered (job_of job.now) boundary) number ≡ true → before < length values.now }
-    ensures after { IfOk result (λ after. after ≡ free_before (is_free (numbered (job_of job.now) boundary)) (number + 1)) }
+    ensures after { IfOk result
+        (λ after. after ≡ free_before (is_free (numbered (job_of job.now) boundary)) (number + 1)) }
     ensures exact { OnOk result (text.new.items ≡ text.old.items ++ set_line (job_of job.now) number
         (free_value (is_free (numbered (job_of job.now) boundary)) values.now number)) }
 {
@@ -249,9 +253,9 @@ fn counter_text(alloc: Global, job: &Job, counter: &Counter) -> Result<Vec<u8>, 
 
 /// The text of a counter of a job: the line `boundary`, with its control address; then, of what isn't 0, `set` for the
 /// elements that are free there, by number, `mem` for each word of the memory, by address, and the lists `inputs`,
-/// `line` and `noise` without the zeros at their ends, sixteen values to a line. Where none of these has more than 65,536
-/// values then, it is read back, whatever the labels, as the counter without these zeros; also behind the lines `no` and
-/// `difference ..`, where what stands on the second has tokens and its line at most 4,096 bytes.
+/// `line` and `noise` without the zeros at their ends, sixteen values to a line. Where none of these has more than
+/// 65,536 values then, it is read back, whatever the labels, as the counter without these zeros; also behind the lines
+/// `no` and `difference ..`, where what stands on the second has tokens and its line at most 4,096 bytes.
 ///
 /// # Errors
 ///

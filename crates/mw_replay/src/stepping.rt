@@ -1,5 +1,6 @@
 // Replays: segment after segment from a start, each beside one described step.
-ghost use Rattle.std.specs.Prelude.{◌≡◌, ◌+◌, ◌<◌, ◌≤◌, ◌^◌, [], IfOk, IfSome, Some, None, length, slice_index, vec_capacity, vec_len};
+ghost use Rattle.std.specs.Prelude.{◌≡◌, ◌+◌, ◌<◌, ◌≤◌, ◌^◌, [], IfOk, IfSome, Some, None, length, slice_index};
+ghost use Rattle.std.specs.Prelude.{vec_capacity, vec_len};
 ghost use Rattle.mw_cycle.specs.declared.environment.Clock.{Clock as ClockOf};
 ghost use Rattle.mw_cycle.specs.Environment.{IsEnvironment, at_start, rest_at};
 ghost use Rattle.mw_cycle.specs.State as boards;
@@ -265,7 +266,8 @@ impl Replay {
     /// Memory ran out.
     pub fn start(alloc: Global, job: &Job, counter: &Counter) -> Result<Replay, NoMemory>
         requires counts { IsCounter (job_of job.now) counter.now }
-        ensures start { IfOk result (λ replay. IsStartOf (job_of job.now) counter.now (next_start (job_of job.now) replay)) }
+        ensures start { IfOk result
+            (λ replay. IsStartOf (job_of job.now) counter.now (next_start (job_of job.now) replay)) }
         ensures clock { IfOk result (λ replay. replay.clock ≡ at_start) }
         ensures stands { IfOk result (λ replay. IsReplay (job_of job.now) replay) }
     {

@@ -6,7 +6,8 @@ ghost use Rattle.mw_rel.specs.Views.{job_of};
 ghost use Rattle.mw_sim.specs.Given.{IsGiven};
 ghost use Rattle.mw_sim.specs.Views.{given_seen};
 ghost use Rattle.mw_replay.specs.Counter.{IsCounter};
-ghost use Rattle.mw_replay.specs.CounterText.{settables_of, begins_with, behind_no, behind_difference, boundary_place, token_of, number_of, counter_with, counter_in, counter_of};
+ghost use Rattle.mw_replay.specs.CounterText.{settables_of, begins_with, behind_no, behind_difference, boundary_place};
+ghost use Rattle.mw_replay.specs.CounterText.{token_of, number_of, counter_with, counter_in, counter_of};
 
 use crate::counter::Counter;
 use crate::elements::{free_values, settables_of};

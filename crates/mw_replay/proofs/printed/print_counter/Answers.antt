@@ -15,5 +15,6 @@ pub returns-clause-in_report : goal.returns-clause-in_report
 returns-clause-in_report c = λ labels difference follows short.
     let job = job_of c.args.job.now in
     ap (λ (text : List ℕ). counter_of job labels (no_lines difference ++ text)) c.in_ok-text.ensures
-    ∙ reads_back_in_report job c.args.counter.now labels difference c.shape.ensures.valid c.parts.ensures.kept c.requires
+    ∙ reads_back_in_report job c.args.counter.now labels difference c.shape.ensures.valid
+    c.parts.ensures.kept c.requires
     short follows

@@ -30,7 +30,8 @@ returns-in_default-number_at-clause-late g c none =
     let board = ap (λ (p : Pair). p.board) c.run_step.ensures.pair in
     let new = c.run_segment-ended.new.pair in
     let events = c.run_segment-ended.new.events.items in
-    let ended = ended_at job replay c.run_step.new.pair.board c.boundary.result.now.bound new.board events c.in-Some.clock
+    let ended =
+    ended_at job replay c.run_step.new.pair.board c.boundary.result.now.bound new.board events c.in-Some.clock
     board (ap (λ (b : Boundary). b.bound) c.boundary.ensures) c.in-Some.ensures.reached in
     nowhere_at job replay new.board events c.in-Some.clock ended
     (ap (number_at job) (sym c.address_of.ensures) ∙ sym c.number_at.ensures.exact ∙ c.in_default-number_at.is)
