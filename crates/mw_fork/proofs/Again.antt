@@ -103,7 +103,8 @@ run_again job f boundary given budget stage kept begun last way cycles late run 
 -- ---- what is found
 
 -- a start that differs, of the case given last
-pub found_differs : (job : Job) (f : Fork) (boundary : ℕ) (kept : List Kept) (way : Way) (elements : List ℕ) (space : Space)
+pub found_differs : (job : Job) (f : Fork) (boundary : ℕ) (kept : List Kept) (way : Way)
+    (elements : List ℕ) (space : Space)
     (numbers : Numbers) (begin : Begin) (last : List Decided) → HasMetAgain job f boundary kept way → f.at ≡ At last
     → IsFound job boundary elements (met_of way) space numbers
     → ((elements : List ℕ) → IsGround job boundary (ground_in space elements)
@@ -120,7 +121,8 @@ found_differs job f boundary kept way elements space numbers begin last again he
     })
 
 -- it is the least
-pub found_least : (job : Job) (f : Fork) (boundary : ℕ) (kept : List Kept) (way : Way) (elements : List ℕ) (space : Space)
+pub found_least : (job : Job) (f : Fork) (boundary : ℕ) (kept : List Kept) (way : Way)
+    (elements : List ℕ) (space : Space)
     (numbers : Numbers) (begin : Begin) (last : List Decided) → HasMetAgain job f boundary kept way → f.at ≡ At last
     → IsFound job boundary elements (met_of way) space numbers
     → IsAssigned job boundary (list_of_space space) (given_by numbers) begin → IsLeast job f.boundary last begin
@@ -144,7 +146,8 @@ none_again job f boundary kept way last again here none =
     (subst (NoneDiffersOf job boundary) (again.met last here) none)
 
 -- the path operations of its comparisons are within the budget
-pub within_again : (job : Job) (f : Fork) (boundary : ℕ) (kept : List Kept) (way : Way) (last : List Decided) (nodes : ℕ)
+pub within_again : (job : Job) (f : Fork) (boundary : ℕ) (kept : List Kept) (way : Way)
+    (last : List Decided) (nodes : ℕ)
     → HasMetAgain job f boundary kept way → f.at ≡ At last → f.budget.nodes ≡ nodes
     → ComparisonsAreWithin job boundary nodes (met_of way) → ComparisonsAreWithin job f.boundary f.budget.nodes last
 within_again job f boundary kept way last nodes again here budget within =

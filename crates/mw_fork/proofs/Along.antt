@@ -51,7 +51,8 @@ behind_words job number registers begun come =
     behind_cycle job registers come.asked come (along_cycles job registers ((numbered job number).bound - begun))
 
 -- it asks for a bit
-pub asks_in_cycle : (job : Job) (number : ℕ) (way : Way) (old : Run) (space : Space) (board : Symbolic) (kind : DecidedKind)
+pub asks_in_cycle : (job : Job) (number : ℕ) (way : Way) (old : Run) (space : Space) (board : Symbolic)
+    (kind : DecidedKind)
     (term : ℕ) → board.place.cycle ≡ old.board.place.cycle → space.memory.board ≡ old.space.memory.board
     → StopsAt job.board job.store old.space.memory.board old.board board (list_of_space old.space) (list_of_space space)
     kind term → ComesTo job number (met_of way) (left_in_cycle job number old.space old.registers.items old.board)
@@ -96,8 +97,10 @@ left_of_next job number space registers o further before =
     (sym before)
 
 -- so the list comes to the next one, where there is one
-pub comes_to_next : (job : Job) (number count : ℕ) (bits : List Decided) (space : Space) (registers : List ℕ) (o : Symbolic)
-    → o.reading ≡ None → count ≡ (numbered job number).bound - o.place.cycle → o.place.cycle < (numbered job number).bound
+pub comes_to_next : (job : Job) (number count : ℕ) (bits : List Decided) (space : Space)
+    (registers : List ℕ) (o : Symbolic)
+    → o.reading ≡ None → count ≡ (numbered job number).bound - o.place.cycle
+    → o.place.cycle < (numbered job number).bound
     → ComesTo job number bits (left_of_cycles job space registers o count)
     → ComesTo job number bits (left_in_cycle job number space registers o)
 comes_to_next job number count bits space registers o before is some comes = λ further.
@@ -116,7 +119,8 @@ left_at_none job number bits space registers o none comes = λ further.
     else left_of_cycles job space registers o ((numbered job number).bound - o.place.cycle) further) none
 
 -- behind one that ended at a boundary
-pub left_at_boundary : (job : Job) (number : ℕ) (bits : List Decided) (space : Space) (registers : List ℕ) (o : Symbolic)
+pub left_at_boundary : (job : Job) (number : ℕ) (bits : List Decided) (space : Space)
+    (registers : List ℕ) (o : Symbolic)
     → is_named (addresses_of job) o.place.at ≡ true
     → ComesTo job number bits (left_behind_cycle job number space registers o)
     → ComesTo job number bits (left_of_step job space registers o)
@@ -131,5 +135,6 @@ pub left_at_end : (job : Job) (number : ℕ) (bits : List Decided) (space : Spac
     → ComesTo job number bits (left_of_cycles job space registers o ((numbered job number).bound - o.place.cycle))
     → case_words job number bits ≡ whole (compared_in (list_of_space space) [])
 left_at_end job number bits space registers o none comes =
-    comes_here job number bits (left_of_cycles job space registers o ((numbered job number).bound - o.place.cycle)) comes
+    comes_here job number bits
+    (left_of_cycles job space registers o ((numbered job number).bound - o.place.cycle)) comes
     ∙ ap (λ (n : ℕ). left_of_cycles job space registers o n []) none

@@ -49,9 +49,10 @@ behind_come job standing come = behind_step job standing come.asked come.to
 
 -- ---- where it begins
 
--- What is left of the step where the segment has ended is that step from its first statement, where the request is the line
--- of the first cycle and nothing was written on its side.
-pub left_at_start : (job : Job) (number : ℕ) (bits : List Decided) (space : Space) (registers : List ℕ) (board : Symbolic)
+-- What is left of the step where the segment has ended is that step from its first statement, where the request is the
+-- line of the first cycle and nothing was written on its side.
+pub left_at_start : (job : Job) (number : ℕ) (bits : List Decided) (space : Space)
+    (registers : List ℕ) (board : Symbolic)
     (request : ℕ) (begun : Underway) → ComesTo job number bits (left_of_step job space registers board)
     → space.memory.machine ≡ [] → term_of space.words (Line 0) ≡ Some request
     → begun ≡ begun_words job.machine registers request space.memory.machine (list_of_space space)
@@ -63,13 +64,15 @@ left_at_start job number bits space registers board request begun listed unwritt
     let standing = standing_on space board in
     listed further
     ∙ ap (λ (o : Option ℕ). behind_come job standing (step_words d registers (unwrap_or o 0) [] further list)) line
-    ∙ ap (λ (writes : List Held). behind_come job standing (step_words d registers request writes further list)) (sym unwritten)
+    ∙ ap (λ (writes : List Held). behind_come job standing (step_words d registers request writes further list))
+    (sym unwritten)
     ∙ ap (λ (u : Underway). behind_come job standing (said_from d u further)) (sym is)
 
 -- ---- what a step asks for
 
 -- Where the step that is left behind a segment asks for a bit along those that were given, the word list asks for it.
-pub asks_for : (job : Job) (number : ℕ) (g : Ground) (segment all : List Decided) (bits : List Bool) (standing : Standing)
+pub asks_for : (job : Job) (number : ℕ) (g : Ground) (segment all : List Decided) (bits : List Bool)
+    (standing : Standing)
     (begun : Underway) (o : Stepping) (term : ℕ) → all ≡ segment ++ map (decided Branch) bits
     → ComesTo job number segment (left_behind_segment job standing begun)
     → AsksAlong (said_from job.machine begun) job.machine bits g.table g.words g.memory o term
@@ -100,18 +103,22 @@ along_none d t words m o left further =
 -- a turn that is the last leaves a step along the same bits
 along_last : (said : List Bool → Come) (d : Description) (bits : List Bool) (told tnew : Table) (wold wnew : List Word)
     (mold mnew : Memory) (old new : Stepping) → IsAlong said d bits told wold mold old
-    → Walks d.shape (underway_of d told wold mold old) (underway_in tnew wnew mnew new.parts) (left_in d old) (left_in d new)
+    → Walks d.shape (underway_of d told wold mold old) (underway_in tnew wnew mnew new.parts)
+    (left_in d old) (left_in d new)
     None → new.request ≡ None → IsAlong said d bits tnew wnew mnew new
 along_last said d bits told tnew wold wnew mold mnew old new along walks begun further =
     along further ∙ walks further
-    ∙ ap (λ (request : Option ℕ). acts_words d.shape (left_in d new) further (underway_by d tnew wnew mnew new.parts request))
+    ∙ ap (λ (request : Option ℕ).
+    acts_words d.shape (left_in d new) further (underway_by d tnew wnew mnew new.parts request))
     (sym begun)
 
 -- so does each turn behind which it waits for no bit
-pub along_turn : (said : List Bool → Come) (d : Description) (bits : List Bool) (told tnew : Table) (wold wnew : List Word)
+pub along_turn : (said : List Bool → Come) (d : Description) (bits : List Bool) (told tnew : Table)
+    (wold wnew : List Word)
     (mold mnew : Memory) (old new : Stepping) (turn : Turn) → IsSaid d tnew wnew mnew new turn
     → IsAlong said d bits told wold mold old
-    → Walks d.shape (underway_of d told wold mold old) (underway_in tnew wnew mnew new.parts) (left_in d old) (left_in d new)
+    → Walks d.shape (underway_of d told wold mold old) (underway_in tnew wnew mnew new.parts)
+    (left_in d old) (left_in d new)
     (asked_by turn) → new.request ≡ None → is_asked new.pending ≡ false → IsAlong said d bits tnew wnew mnew new
 along_turn said d bits told tnew wold wnew mold mnew old new (Ask kind term) asks along walks begun idle =
     let waits = asks.asked in absurd cc

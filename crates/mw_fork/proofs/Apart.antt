@@ -29,7 +29,8 @@ use Rattle.mw_term.specs.WordList.{Ended, WordList, number_of, plain, with_word}
 use Rattle.mw_fork.specs.declared.elements.Space.{Space}
 use Rattle.mw_fork.specs.declared.stop.Stop.{Stop}
 use Rattle.mw_fork.specs.declared.stop.Stop.TheVariants as stops
-use Rattle.mw_fork.specs.Comparing.{AreOneOn, AreTwoAt, FailsFirst, HaveCompared, IsComparedKind, IsComparedOver, StopsComparing, word_on}
+use Rattle.mw_fork.specs.Comparing.{AreOneOn, AreTwoAt, FailsFirst, HaveCompared, IsComparedKind, IsComparedOver}
+use Rattle.mw_fork.specs.Comparing.{StopsComparing, word_on}
 use Rattle.mw_fork.specs.Comparing.IsComparedOver.{at_comparison, in_list}
 use Rattle.mw_fork.specs.Listed.{list_of_space}
 use Rattle.mw_fork.proofs.GoingOn.{front_itself}
@@ -54,7 +55,8 @@ pub compared_goes : (told tnew : Table) (wold wnew : List Word) (m : Memory) (a 
     → GoesOn IsComparedKind told tnew wold wnew m m
 compared_goes told tnew wold wnew m a b term is workspace =
     goes_by_growth IsComparedKind told tnew wold wnew m (term ∷ [])
-    (grows_one told tnew wold wnew (Eq a b) term is.words is.extends is.keeps is.table is.of (no_variable a b)) workspace
+    (grows_one told tnew wold wnew (Eq a b) term is.words is.extends is.keeps is.table is.of (no_variable a b))
+    workspace
 
 -- it has one bit
 pub compared_wide : (told tnew : Table) (a b term : ℕ) → IsTermOf told tnew (Eq a b) term → IsOfWidth tnew 1 term
@@ -87,7 +89,8 @@ pub one_on : (told tnew : Table) (a b term : ℕ) (path : Function) → IsTermOf
 one_on told tnew a b term path is keeps a_there b_there none given on =
     let one = one_there (path given) (bit tnew term 0 given) (none given) on in
     keeps.values given a a_there
-    ∙ eqb-true (term_value told given a) (term_value told given b) (sym (compared_bit told tnew a b term given is) ∙ one)
+    ∙ eqb-true (term_value told given a) (term_value told given b)
+    (sym (compared_bit told tnew a b term given is) ∙ one)
     ∙ sym (keeps.values given b b_there)
 
 -- under an assignment on the path under which it is 0, they have two
@@ -133,7 +136,8 @@ word_is map path subject term t words m same =
     ap (λ (entries : List ℕ). path_zero path (bit (table_of t.ops entries) term 0)) (sym same)
 
 -- it can't fail, and isn't over the budget
-pub compared_none : (nodes : ℕ) (old new : Space) (path : Function) (subject : Subject) (a b term : ℕ) (so_far : Compared)
+pub compared_none : (nodes : ℕ) (old new : Space) (path : Function) (subject : Subject)
+    (a b term : ℕ) (so_far : Compared)
     → new.memory ≡ old.memory → IsCompared old.terms new.terms old.words new.words a b term
     → Agree (made (path_zero path (bit new.terms term 0))) never
     → HasAtMostCofactors (path_zero path (bit new.terms term 0)) nodes
@@ -149,12 +153,14 @@ compared_none nodes old new path subject a b term so_far kept is none within hav
       list = refl;
       none = All-push (λ (c : Comparison). Agree (made (word_on map path c)) never) so_far.comparisons c have.none
           (subst (λ (w : Triple). Agree (made w) never) (sym word) none);
-      within = All-push (λ (c : Comparison). HasAtMostCofactors (word_on map path c) nodes) so_far.comparisons c have.within
+      within =
+          All-push (λ (c : Comparison). HasAtMostCofactors (word_on map path c) nodes) so_far.comparisons c have.within
           (subst (λ (w : Triple). HasAtMostCofactors w nodes) (sym word) within);
     })
 
 -- it is the first that can fail
-pub compared_found : (nodes : ℕ) (old new : Space) (path : Function) (subject : Subject) (a b term : ℕ) (so_far : Compared)
+pub compared_found : (nodes : ℕ) (old new : Space) (path : Function) (subject : Subject)
+    (a b term : ℕ) (so_far : Compared)
     (numbers : Numbers) → new.memory ≡ old.memory → IsCompared old.terms new.terms old.words new.words a b term
     → IsFirst (made (path_zero path (bit new.terms term 0))) numbers
     → HaveCompared old.terms.map nodes old path so_far
@@ -242,7 +248,8 @@ stops_at nodes new map path subject term so_far faults.NoMemory stop word j same
     let other = told.none refl in
     absurd cc
 
-pub compared_over : (nodes : ℕ) (old new : Space) (path : Function) (subject : Subject) (a b term : ℕ) (so_far : Compared)
+pub compared_over : (nodes : ℕ) (old new : Space) (path : Function) (subject : Subject)
+    (a b term : ℕ) (so_far : Compared)
     (fault : BlastFault) (stop : Stop) (word j : ℕ) → new.memory ≡ old.memory
     → IsCompared old.terms new.terms old.words new.words a b term
     → IsFailingCause new.terms path term nodes fault → IsStopOf new.words fault stop → stop ≡ stops.Over word j

@@ -1,5 +1,5 @@
--- The start that an assignment gives: the values of the variables of free elements, an image that the base reads fit, and an
--- environment with the values of its variables.
+-- The start that an assignment gives: the values of the variables of free elements, an image that the base reads fit,
+-- and an environment with the values of its variables.
 use Rattle.std.proofs.Common.{◌≡◌, ℕ, ◌<◌, ◌^◌, List, length, map, slice_index, ap, sym, subst, ◌∙◌, arith, refl}
 use Rattle.std.specs.Prelude.{true, Option, Some, None}
 use Rattle.std.proofs.lemmas.Nat.{pow_pos}
@@ -79,7 +79,8 @@ free_are job number g given ground =
     ap (value_or_zero g.table given) (own_found g.words own.0 (slice_index g.elements e) (Element e) ground.own own.1))
 
 -- the start that they choose is one of the assignment
-pub start_begun : (job : Job) (number : ℕ) (space : Space) (elements : List ℕ) (given : Given) (begin : Begin) → IsJob job
+pub start_begun : (job : Job) (number : ℕ) (space : Space) (elements : List ℕ) (given : Given) (begin : Begin)
+    → IsJob job
     → IsGround job number (ground_in space elements)
     → begin.values ≡ map (own_value space.terms space.words given) (free_elements job (numbered job number))
     → IsImage space.memory begin.memory → FitImage space.terms given space.memory.reads begin.memory
@@ -93,7 +94,8 @@ start_begun job number space elements given begin is ground values image fit ent
     let same : map (term_at g.table given elements) (free_elements job (numbered job number)) ≡ begin.values =
     sym (values ∙ free_are job number g given ground) in (
       one.0,
-      subst (λ vs. IsChosen job number (record { values = vs; memory = begin.memory; env = begin.env }) one.0) same one.1,
+      subst
+          (λ vs. IsChosen job number (record { values = vs; memory = begin.memory; env = begin.env }) one.0) same one.1,
       one.2,
     )
 

@@ -1,5 +1,6 @@
 -- The terms of all elements at a boundary.
-use Rattle.std.proofs.Common.{◌≡◌, inl, inr, ℕ, zero, suc, ◌+◌, ◌-◌, ◌<◌, ◌≤◌, List, [], ◌∷◌, ◌++◌, length, slice_index, ap, sym, subst, ◌∙◌, arith, refl}
+use Rattle.std.proofs.Common.{◌≡◌, inl, inr, ℕ, zero, suc, ◌+◌, ◌-◌, ◌<◌, ◌≤◌, List, [], ◌∷◌, ◌++◌, length, slice_index}
+use Rattle.std.proofs.Common.{ap, sym, subst, ◌∙◌, arith, refl}
 use Rattle.std.specs.Prelude.{None, Some, slice_get, slice_set, unwrap_or, IsSome, Option}
 use Rattle.std.proofs.lemmas.Option.{same_Some}
 use Rattle.std.proofs.lemmas.Bool.{cases_lt}
@@ -142,7 +143,8 @@ elements_first job told tnew words m own n space later of below all count wide n
 
 -- ---- a right side
 
-no_input : (words : List Word) → HaveKinds IsStartKind words → (k place term : ℕ) → ¬ IsVariable words place term (Input k)
+no_input : (words : List Word) → HaveKinds IsStartKind words → (k place term : ℕ)
+    → ¬ IsVariable words place term (Input k)
 no_input words kinds k place term is = kinds place term (Input k) is
 
 no_event : (t : Table) (width : ℕ) (i : ℕ) (e : SymEvent) → slice_get [] i ≡ Some e → ⊥
@@ -153,7 +155,8 @@ unfolding shape_of
 machine_word job is = ap (λ (s : Shape). s.word) is.matched.parts.shape
 
 -- terms of the elements' widths are like those of a step
-pub stands : (job : Job) (t : Table) (words : List Word) (m : Memory) (own : List ℕ) → IsJob job → AreElements job t words m own
+pub stands : (job : Job) (t : Table) (words : List Word) (m : Memory) (own : List ℕ) → IsJob job
+    → AreElements job t words m own
     → Stands job.relation.shape t words m (parts_of own [] 0)
 stands job t words m own is are = record {
   workspace = are.space.workspace;
@@ -174,7 +177,8 @@ pub ready : (job : Job) (t : Table) (words : List Word) (m : Memory) (own : List
 ready job t words m own line is are line_of few =
     let stand = stands job t words m own is are in
     let same = stands_shape job.relation.shape t words m (parts_of own [] 0) stand in
-    let wide = widths_are_by_rule job.relation.shape line.right (slice_index job.relation.shape.widths line.left) line_of.right in
+    let wide =
+    widths_are_by_rule job.relation.shape line.right (slice_index job.relation.shape.widths line.left) line_of.right in
     record {
       workspace = are.space.workspace;
       each = stands_terms job.relation.shape t words m (parts_of own [] 0) stand;
@@ -192,7 +196,8 @@ made_kinds words more kinds bases place term kind is = elim (among words more pl
   | inr h ↦ (let base = bases h.0 term kind h.1 in subst IsStartKind (sym base.1) tt)
 ]
 
-pub own_later : (job : Job) (told tnew : Table) (wold wnew : List Word) (mold mnew : Memory) (own : List ℕ) (side : Side)
+pub own_later : (job : Job) (told tnew : Table) (wold wnew : List Word) (mold mnew : Memory)
+    (own : List ℕ) (side : Side)
     (tree : Tree) (term : ℕ) → AreElements job told wold mold own
     → IsMade told tnew wold wnew mold mnew own side tree term → length mold.reads + reads tree ≤ 64
     → AreElements job tnew wnew mnew own
@@ -218,7 +223,8 @@ set_each P (y ∷ rest) (suc n) x (suc i) inside own each =
     set_each (λ j z. P (suc j) z) rest n x i (omega (arith, inside)) own
     (λ j within. each (suc j) (omega (arith, within)))
 
-pub wide_set : (job : Job) (told tnew : Table) (wold wnew : List Word) (mold mnew : Memory) (own terms : List ℕ) (side : Side)
+pub wide_set : (job : Job) (told tnew : Table) (wold wnew : List Word) (mold mnew : Memory)
+    (own terms : List ℕ) (side : Side)
     (line : Line) (term : ℕ) → IsJob job → AreElements job told wold mold own → IsLineOf job.relation.shape line
     → IsMade told tnew wold wnew mold mnew own side line.right term → AreWide told job.relation.shape.widths terms
     → AreWide tnew job.relation.shape.widths (slice_set terms line.left term)
@@ -233,7 +239,8 @@ wide_set job told tnew wold wnew mold mnew own terms side line term is are line_
       each = λ i inside.
           set_each (λ j z. IsOfWidth tnew (slice_index s.widths j) z) terms line.left term i
           (omega (arith, inside, wide.count)) (record { there = made.means.there; width_is = bits })
-          (λ j within. width_later told tnew _ _ made.runs.goes.later (wide.each j (omega (arith, within, wide.count))));
+          (λ j within.
+          width_later told tnew _ _ made.runs.goes.later (wide.each j (omega (arith, within, wide.count))));
     }
 
 -- other terms of the same widths

@@ -60,7 +60,8 @@ pub within_with : (job : Job) (nodes : ℕ) (old way next : Way) (before run ask
     → StaysWithin job nodes old next before count
 within_with job nodes old way next before run asked count turn kind term asks made cycle stays turns settles within =
     λ number elements from on below are.
-    let at = asks_then job old way before run asked count turn kind term asks made cycle stays turns number elements from on
+    let at =
+    asks_then job old way before run asked count turn kind term asks made cycle stays turns number elements from on
     below in
     settles number elements from at.0 at.1 (within number elements from on below are)
 
@@ -72,6 +73,7 @@ pub within_made : (job : Job) (nodes : ℕ) (old way next : Way) (before run : R
     → (0 < n → is_named (addresses_of job) run.board.place.at ≡ false)
     → StaysWithin job nodes way next run run.board.place.cycle → MadeWithin job nodes old way before bound
     → MadeWithin job nodes old next before bound
-within_made job nodes old way next before run bound n has made below none cycles within = λ number elements from on same are.
+within_made job nodes old way next before run bound n has made below none cycles within =
+    λ number elements from on same are.
     let at = on_made job old way before run bound n has made below none number elements from on same in
     cycles number elements from at.0 at.1 (within number elements from on same are)

@@ -1,5 +1,6 @@
 -- From the comparison of both sides of a case to what its starts show.
-use Rattle.std.proofs.Common.{◌≡◌, ◌≢◌, ℕ, ◌<◌, ◌≤◌, ◌^◌, List, [], append-nil, length, Bool, true, false, Option, Some, None, refl, ap, sym, subst, ◌∙◌, arith}
+use Rattle.std.proofs.Common.{◌≡◌, ◌≢◌, ℕ, ◌<◌, ◌≤◌, ◌^◌, List, [], append-nil, length, Bool, true, false, Option, Some}
+use Rattle.std.proofs.Common.{None, refl, ap, sym, subst, ◌∙◌, arith}
 use Rattle.std.specs.Prelude.{All, if◌then◌else◌, slice_index, slice_index_or}
 use Rattle.std.specs.Option.{unwrap_or}
 use Rattle.std.proofs.lemmas.Grind.{same_number_lists}
@@ -24,7 +25,8 @@ use Rattle.mw_symmach.specs.Turns.{Stepping}
 use Rattle.mw_rel.specs.Case.{IsCase, IsFeasiblePrefix, IsStartAt, case_of, cycles_of, is_late}
 use Rattle.mw_rel.specs.CaseWords.{CaseWords, case_words, sides_of, whole, with_comparisons}
 use Rattle.mw_rel.specs.Certified.{board_run, boundary_at}
-use Rattle.mw_rel.specs.ComparisonWords.{Compared, Sides, all_compared, are_alike, compared_in, comparison_words, is_unlike}
+use Rattle.mw_rel.specs.ComparisonWords.{Compared, Sides, all_compared, are_alike, compared_in, comparison_words}
+use Rattle.mw_rel.specs.ComparisonWords.{is_unlike}
 use Rattle.mw_rel.specs.declared.difference.Difference.TheVariants.{Late}
 use Rattle.mw_rel.specs.Differs.{difference_of, first_step, segment_of, shown_at, shown_by}
 use Rattle.mw_rel.specs.Free.{no_boundary, numbered}
@@ -101,7 +103,8 @@ come_first : (job : Job) (number : ℕ) (elements : List ℕ) (bits : List Decid
     → IsStartOf job number (ground_in space elements) given start → path given ≡ true
     → ComeTo job space given start cycles board step
 come_first job number elements bits cycles space path board step given start valid is one on =
-    come_to job number (ground_in space elements) bits is.segment cycles space path board step given start valid refl refl
+    come_to job number (ground_in space elements) bits is.segment cycles space path board step given
+    start valid refl refl
     is.ended is.of_segment one on
 
 -- the same after a comparison
@@ -145,18 +148,21 @@ memories_same : (job : Job) (number : ℕ) (elements : List ℕ) (bits : List De
     → length (board_run job start cycles).state.memory ≡ 2 ^ new.memory.address
     → length (first_step job start).state.memory ≡ 2 ^ new.memory.address
     → (board_run job start cycles).state.memory ≡ (first_step job start).state.memory
-memories_same job number elements bits cycles old new path board step start valid is goes own starts of_case at size other =
+memories_same job number elements bits cycles old new path board step start valid is goes own starts of_case
+    at size other =
     let ground = ground_compared job number old new elements valid is.stands goes own in
     let t = new.terms in
     let image = start.pair.board.memory in
     same_number_lists (board_run job start cycles).state.memory (first_step job start).state.memory (size ∙ sym other)
     (λ a below.
     let less : a < 2 ^ new.memory.address = omega (arith, below, size) in
-    let one = reached_at job number (ground_in new elements) at.place at.probe a valid ground at.is at.wide less start starts in
+    let one =
+    reached_at job number (ground_in new elements) at.place at.probe a valid ground at.is at.wide less start starts in
     let given = one.0 in
     let before = start_compared job number old new elements given start valid is.stands goes own one.1 in
     let on = on_path job number elements bits cycles old path board step given start is before of_case in
-    let come = come_compared job number elements bits cycles old new path board step given start valid is goes own one.1 on in
+    let come =
+    come_compared job number elements bits cycles old new path board step given start valid is goes own one.1 on in
     ap (λ xs. slice_index xs a) come.board_memory
     ∙ ap (slice_index (held_by t given new.memory Board image)) (sym one.2)
     ∙ at.one given image on come.image come.fit
@@ -177,12 +183,14 @@ none_differs job number elements bits cycles old new path board step reached val
     let given = at.0 in
     let before = start_compared job number old new elements given start valid is.stands goes own at.1 in
     let on = on_path job number elements bits cycles old path board step given start is before of_case in
-    let come = come_compared job number elements bits cycles old new path board step given start valid is goes own at.1 on in
+    let come =
+    come_compared job number elements bits cycles old new path board step given start valid is goes own at.1 on in
     let wide = wide_compared job.relation.shape.widths (terms_at_end job board step) old new goes
     (wide_at_end job number (ground_in old elements) bits cycles old path board step valid is.ended) in
     let begins = starts.begins in
     let inputs : AreInputs job.machine start.env.inputs = λ i. rw valid.matched.word (begins.env.inputs i) in
-    let fits = step_fits job.machine start.pair.machine (slice_index_or start.env.line 0 false) start.env.inputs 0 valid.machine
+    let fits =
+    step_fits job.machine start.pair.machine (slice_index_or start.env.line 0 false) start.env.inputs 0 valid.machine
     begins.related.machine_fits inputs in
     let address : job.board.address ≡ new.memory.address = sym ground.space.address in
     nothing_shown job number new given start cycles board step reached valid starts wide formed there come (record {
@@ -191,7 +199,8 @@ none_differs job number elements bits cycles old new path board step reached val
       sp = sp;
       lines = λ i line here. one.hold i line here given on start.pair.board.memory come.image come.fit;
     })
-    (memories_same job number elements bits cycles old new path board step start valid is goes own starts of_case one.memory
+    (memories_same job number elements bits cycles old new path board step start valid is goes own
+    starts of_case one.memory
     (come.fits.size ∙ ap (λ n. 2 ^ n) address) (fits.size ∙ ap (λ n. 2 ^ n) (valid.matched.address ∙ address)))
 
 -- ---- something differs
@@ -203,19 +212,23 @@ pub apart_differs : (job : Job) (number : ℕ) (elements : List ℕ) (bits : Lis
     → boundary_at job board.place.at ≡ Some reached → path given ≡ true
     → AreApart job.relation.shape new given (terms_at_end job board step) reached.lines board.events step.parts.events
     → IsStartOf job number (ground_in new elements) given start → difference_of job start ≢ None
-apart_differs job number elements bits cycles old new path board step reached given start valid is goes own formed there on two
+apart_differs job number elements bits cycles old new path board step reached given start valid is goes
+    own formed there on two
     one none =
-    let come = come_compared job number elements bits cycles old new path board step given start valid is goes own one on in
+    let come =
+    come_compared job number elements bits cycles old new path board step given start valid is goes own one on in
     let wide = wide_compared job.relation.shape.widths (terms_at_end job board step) old new goes
     (wide_at_end job number (ground_in old elements) bits cycles old path board step valid is.ended) in
-    let even = even_where_nothing job number new given start cycles board step reached valid one.starts wide formed there come
+    let even =
+    even_where_nothing job number new given start cycles board step reached valid one.starts wide formed there come
     none in
     by even.0 even.1 come two
   where
     by : AreEven job new given start board step reached
         → (board_run job start cycles).state.memory ≡ (first_step job start).state.memory
         → ComeTo job new given start cycles board step
-        → AreApart job.relation.shape new given (terms_at_end job board step) reached.lines board.events step.parts.events → ⊥
+        → AreApart job.relation.shape new given (terms_at_end job board step) reached.lines board.events
+        step.parts.events → ⊥
     by even memory come (AreApart.put_out n a b put other) = other (even.put n a b put)
     by even memory come (AreApart.at_line i line at fails) =
         fails start.pair.board.memory come.image come.fit (even.lines i line at)
@@ -227,14 +240,17 @@ apart_differs job number elements bits cycles old new path board step reached gi
 pub unlike_differs : (job : Job) (number : ℕ) (elements : List ℕ) (bits : List Decided) (cycles : ℕ) (space : Space)
     (path : Function) (board : Symbolic) (step : Stepping) (reached : Boundary) (given : Given) (start : Start)
     → IsJob job → IsEnded job number elements bits cycles space path board step
-    → All (IsLineOf job.relation.shape) reached.lines → boundary_at job board.place.at ≡ Some reached → path given ≡ true
+    → All (IsLineOf job.relation.shape) reached.lines
+    → boundary_at job board.place.at ≡ Some reached → path given ≡ true
     → (are_alike board.events step.parts.events ≡ true → board.place.sp ≡ reached.sp → ⊥)
     → IsStartOf job number (ground_in space elements) given start → difference_of job start ≢ None
-unlike_differs job number elements bits cycles space path board step reached given start valid is formed there on unlike one
+unlike_differs job number elements bits cycles space path board step reached given start valid is
+    formed there on unlike one
     none =
     let come = come_first job number elements bits cycles space path board step given start valid is one on in
     let wide = wide_at_end job number (ground_in space elements) bits cycles space path board step valid is.ended in
-    let even = even_where_nothing job number space given start cycles board step reached valid one.starts wide formed there come
+    let even =
+    even_where_nothing job number space given start cycles board step reached valid one.starts wide formed there come
     none in
     unlike even.0.alike even.0.sp
 
@@ -265,16 +281,19 @@ pub words_compared : (job : Job) (standing : Standing) (u : Underway) (reached :
     ≡ (if test then compared_in u.list [] else all_compared job.relation.shape reached (sides_of job standing u) u.list)
 words_compared job standing u reached test there is =
     ap (λ (o : Option Boundary). unwrap_or
-    (comparison_words job.relation.shape (unwrap_or o no_boundary) (sides_of job standing u) u.list) (compared_in u.list []))
+    (comparison_words job.relation.shape (unwrap_or o no_boundary) (sides_of job standing u) u.list)
+    (compared_in u.list []))
     there
     ∙ ap (λ (o : Option Compared). unwrap_or o (compared_in u.list []))
     (by_test job reached (sides_of job standing u) u.list test is)
     ∙ chosen test
   where
     chosen : (b : Bool)
-        → unwrap_or (if b then None else Some (all_compared job.relation.shape reached (sides_of job standing u) u.list))
+        → unwrap_or
+        (if b then None else Some (all_compared job.relation.shape reached (sides_of job standing u) u.list))
         (compared_in u.list [])
-        ≡ (if b then compared_in u.list [] else all_compared job.relation.shape reached (sides_of job standing u) u.list)
+        ≡ (if b then compared_in u.list []
+        else all_compared job.relation.shape reached (sides_of job standing u) u.list)
     chosen true = refl
     chosen false = refl
 
@@ -286,18 +305,22 @@ path_there path false is = is
 
 -- the first comparison that fails
 pub found_apart : (job : Job) (number : ℕ) (elements : List ℕ) (bits : List Decided) (cycles : ℕ) (old new : Space)
-    (path : Function) (board : Symbolic) (step : Stepping) (reached : Boundary) (compared : Compared) (numbers : Numbers)
+    (path : Function) (board : Symbolic) (step : Stepping) (reached : Boundary)
+    (compared : Compared) (numbers : Numbers)
     → IsJob job → IsEnded job number elements bits cycles old path board step → GoesComparing old new
     → HaveOwnKinds new.words → All (IsLineOf job.relation.shape) reached.lines
     → boundary_at job board.place.at ≡ Some reached → case_words job number bits ≡ whole compared
     → FailsFirst old.terms.map new path compared numbers
     → AreApart job.relation.shape new (given_by numbers) (terms_at_end job board step) reached.lines board.events
     step.parts.events → IsFound job number elements bits new numbers
-found_apart job number elements bits cycles old new path board step reached compared numbers valid is goes own formed there words
+found_apart job number elements bits cycles old new path board step reached compared numbers valid is goes
+    own formed there words
     fails two =
-    let by = sought_by job number bits old.terms.map new path compared numbers is.stands.space.map words is.written fails in
+    let by =
+    sought_by job number bits old.terms.map new path compared numbers is.stands.space.map words is.written fails in
     let given = given_by numbers in
-    let on = path_there (path given) (bit (table_in old.terms.map fails.at.list) fails.at.term 0 given) fails.first.holds in
+    let on =
+    path_there (path given) (bit (table_in old.terms.map fails.at.list) fails.at.term 0 given) fails.first.holds in
     record {
       stands = ground_compared job number old new elements valid is.stands goes own;
       sought = by.sought;
@@ -306,7 +329,8 @@ found_apart job number elements bits cycles old new path board step reached comp
       of_case = λ start one.
           is.whole given start (start_compared job number old new elements given start valid is.stands goes own one) on;
       differs = λ start one.
-          apart_differs job number elements bits cycles old new path board step reached given start valid is goes own formed
+          apart_differs job number elements bits cycles old new path board step reached given start
+          valid is goes own formed
           there on two one;
     }
 
@@ -355,7 +379,8 @@ lines_at job at reached valid found =
     let below = slice_get_within job.relation.boundaries there.0 reached there.1 in
     let same : numbered job there.0 ≡ reached =
     get_or_from_slice_get job.relation.boundaries there.0 reached no_boundary there.1 in (
-      subst (λ (b : Boundary). All (IsLineOf job.relation.shape) b.lines) same (solved_at job there.0 valid below).lines,
+      subst (λ (b : Boundary). All (IsLineOf job.relation.shape) b.lines) same
+          (solved_at job there.0 valid below).lines,
       subst (λ (b : Boundary). reads_of b.lines ≤ 64) same
           (valid.matched.relation.formed.boundaries there.0 no_boundary below).reads,
     )

@@ -1,5 +1,6 @@
 -- Which values of the next bit a run may choose, and what it keeps of its choice.
-use Rattle.std.proofs.Common.{◌≡◌, inl, inr, ℕ, zero, suc, ◌+◌, ◌<◌, ◌≤◌, List, [], ◌∷◌, ◌++◌, length, take, drop, append_assoc, append-nil, add-one, length-append, ap, sym, subst, ◌∙◌, arith, refl}
+use Rattle.std.proofs.Common.{◌≡◌, inl, inr, ℕ, zero, suc, ◌+◌, ◌<◌, ◌≤◌, List, [], ◌∷◌, ◌++◌, length, take, drop}
+use Rattle.std.proofs.Common.{append_assoc, append-nil, add-one, length-append, ap, sym, subst, ◌∙◌, arith, refl}
 use Rattle.std.specs.Prelude.{Bool, true, false, ◌==◌, if◌then◌else◌, cond, Some, slice_get}
 use Rattle.std.proofs.lemmas.Bool.{cases_lt}
 use Rattle.std.proofs.lemmas.Bool.Decides.{nat_tests}
@@ -146,7 +147,8 @@ choice job number g bits path low high kind term feasible starts cases asked by_
     let at_low = path_by job number g bits path low kind term false cases asked by_low in
     let at_high = path_by job number g bits path high kind term true cases asked by_high in
     record {
-      zero = λ is. feasible_there job number g _ low (told.zero_somewhere is).0 starts at_low (told.zero_somewhere is).1;
+      zero =
+          λ is. feasible_there job number g _ low (told.zero_somewhere is).0 starts at_low (told.zero_somewhere is).1;
       one = λ is. feasible_there job number g _ high (told.one_somewhere is).0 starts at_high (told.one_somewhere is).1;
       no_zero = λ is. nowhere job number g _ low starts at_low (told.zero_nowhere is);
       no_one = λ is. nowhere job number g _ high starts at_high (told.one_nowhere is);
@@ -171,7 +173,8 @@ kept_one job number before [] k are is =
 kept_one job number before (x ∷ xs) k are is = (
   are.0,
   kept_one job number (before ++ x.bit ∷ []) xs k are.1
-      (subst (λ (bits : List Decided). IsKept job number bits k) (sym (append_assoc before (x.bit ∷ []) (bits_of xs))) is),
+      (subst (λ (bits : List Decided). IsKept job number bits k)
+      (sym (append_assoc before (x.bit ∷ []) (bits_of xs))) is),
 )
 
 -- it is 1 only where 0 isn't feasible
@@ -187,7 +190,8 @@ least_one job number before [] k are is =
 least_one job number before (x ∷ xs) k are is = (
   are.0,
   least_one job number (before ++ x.bit ∷ []) xs k are.1
-      (subst (λ (bits : List Decided). IsLeast job number bits k) (sym (append_assoc before (x.bit ∷ []) (bits_of xs))) is),
+      (subst (λ (bits : List Decided). IsLeast job number bits k)
+      (sym (append_assoc before (x.bit ∷ []) (bits_of xs))) is),
 )
 
 -- the bits up to one that is kept are feasible
@@ -197,7 +201,8 @@ kept_at : (job : Job) (number : ℕ) (before : List Decided) (xs : List Kept) (n
 kept_at job number before [] n k are at = absurd cc
 kept_at job number before (x ∷ xs) zero k are at =
     subst (λ (y : Kept). IsFeasiblePrefix job number ((before ++ []) ++ y.bit ∷ [])) (same_Some x k at)
-    (subst (λ (bits : List Decided). IsFeasiblePrefix job number (bits ++ x.bit ∷ [])) (sym (append-nil before)) are.0.feasible)
+    (subst (λ (bits : List Decided). IsFeasiblePrefix job number (bits ++ x.bit ∷ []))
+    (sym (append-nil before)) are.0.feasible)
 kept_at job number before (x ∷ xs) (suc n) k are at =
     subst (λ (bits : List Decided). IsFeasiblePrefix job number (bits ++ k.bit ∷ []))
     (append_assoc before (x.bit ∷ []) (bits_of (take n xs)))
@@ -251,7 +256,8 @@ pub record HasChosen (job : Job) (number : ℕ) (from : List Kept) (old : Way) (
   pub met : met_of (way_of kept (old.met + 1)) ≡ met_of old ++ decided kind value ∷ []
 
 -- behind all that are kept
-chosen_first : (job : Job) (number : ℕ) (from : List Kept) (old : Way) (kind : DecidedKind) (feasible : Feasible) (k : Kept)
+chosen_first : (job : Job) (number : ℕ) (from : List Kept) (old : Way) (kind : DecidedKind)
+    (feasible : Feasible) (k : Kept)
     → IsFeasiblePrefix job number [] → IsChoice job number (met_of old) kind feasible → IsWayFrom job number from old
     → old.met ≡ length old.kept → slice_get (old.kept ++ first_bit kind feasible ∷ []) old.met ≡ Some k
     → HasChosen job number from old (old.kept ++ first_bit kind feasible ∷ []) kind k.bit.value
@@ -278,12 +284,14 @@ chosen_first job number from old kind feasible k none is bits all at =
         met = inr (omega (arith, all, length-append old.kept (first ∷ [])));
       };
       met = met_next old kept k at
-          ∙ ap (λ (xs : List Kept). bits_of xs ++ k.bit ∷ []) (take-append-le old.met old.kept (first ∷ []) (omega (arith, all)))
+          ∙ ap (λ (xs : List Kept). bits_of xs ++ k.bit ∷ [])
+          (take-append-le old.met old.kept (first ∷ []) (omega (arith, all)))
           ∙ ap (λ (x : Kept). met_of old ++ decided x.bit.kind k.bit.value ∷ []) (sym same);
     }
 
 -- among those that are kept
-chosen_kept : (job : Job) (number : ℕ) (from : List Kept) (old : Way) (kind : DecidedKind) (feasible : Feasible) (k : Kept)
+chosen_kept : (job : Job) (number : ℕ) (from : List Kept) (old : Way) (kind : DecidedKind)
+    (feasible : Feasible) (k : Kept)
     → IsChoice job number (met_of old) kind feasible → IsWayFrom job number from old
     → old.met < length old.kept → slice_get old.kept old.met ≡ Some k
     → HasChosen job number from old old.kept kind k.bit.value
@@ -361,7 +369,8 @@ pub has_decided : (job : Job) (number : ℕ) (g : Ground) (from : List Kept) (ol
     → new ≡ way_of (kept_with old kind feasible) (old.met + 1)
     → HasDecided job number g from old new path (function_of nodes (cond k.bit.value split.one split.zero)) kind term
     k.bit.value
-has_decided job number g from old new nodes path budget split kind term feasible k starts table wide on asked asks is told
+has_decided job number g from old new nodes path budget split kind term feasible k starts table wide
+    on asked asks is told
     within at same =
     let next = function_of nodes (cond k.bit.value split.one split.zero) in
     let low = function_of nodes split.zero in
@@ -369,7 +378,8 @@ has_decided job number g from old new nodes path budget split kind term feasible
     let by_low = (splits_are_by g.table term path low table wide).1 is.zero.exact in
     let by_high = (splits_are_by g.table term path high table wide).0 is.one.exact in
     let by = by_value g.table nodes term path split k.bit.value by_low by_high in
-    let free = choice job number g (met_of old) path low high kind term feasible starts on.cases asked by_low by_high told in
+    let free =
+    choice job number g (met_of old) path low high kind term feasible starts on.cases asked by_low by_high told in
     let more = chosen job number from old kind feasible k (none_feasible job number g starts) free on.bits within at in
     let met : met_of new ≡ met_of old ++ decided kind k.bit.value ∷ [] = ap met_of same ∙ more.met in
     record {

@@ -1,5 +1,6 @@
 -- All comparisons of a case, one after another.
-use Rattle.std.proofs.Common.{◌≡◌, ℕ, ◌<◌, List, ◌∷◌, ◌++◌, append_assoc, length, slice_index, ap, ap₂, sym, subst, ◌∙◌, arith}
+use Rattle.std.proofs.Common.{◌≡◌, ℕ, ◌<◌, List, ◌∷◌, ◌++◌, append_assoc, length, slice_index, ap, ap₂, sym, subst, ◌∙◌}
+use Rattle.std.proofs.Common.{arith}
 use Rattle.std.specs.Prelude.{All, IfSome, Option, None, Some, slice_get, true, false}
 use Rattle.std.proofs.lemmas.List.Elements.{All-weaker}
 use Rattle.std.proofs.lemmas.Option.{get_or_from_slice_get, slice_get_within}
@@ -23,7 +24,9 @@ use Rattle.mw_symmach.specs.Expressions.{AreTerms}
 use Rattle.mw_symmach.specs.Steps.{event_term}
 use Rattle.mw_symmach.proofs.Making.{values_same}
 use Rattle.mw_fork.specs.Boundaries.{AreWide}
-use Rattle.mw_fork.specs.Comparing.{AreApart, AreEventsOf, AreOne, AreOneAtProbe, AreOneOn, ArePutOut, AreSidesOn, AreTwoAt, FailsAt, FailsFirst, GoesComparing, HaveCompared, HoldsAt, IsComparedKind, IsComparedOver, StopsComparing, compared_all, word_on}
+use Rattle.mw_fork.specs.Comparing.{AreApart, AreEventsOf, AreOne, AreOneAtProbe, AreOneOn, ArePutOut, AreSidesOn}
+use Rattle.mw_fork.specs.Comparing.{AreTwoAt, FailsAt, FailsFirst, GoesComparing, HaveCompared, HoldsAt, IsComparedKind}
+use Rattle.mw_fork.specs.Comparing.{IsComparedOver, StopsComparing, compared_all, word_on}
 use Rattle.mw_fork.specs.Comparing.IsComparedOver.{at_comparison, in_list}
 use Rattle.mw_fork.specs.declared.elements.Space.{Space}
 use Rattle.mw_fork.proofs.Differing.{terms_there}
@@ -52,7 +55,8 @@ have_as map nodes space path other c agree have = record {
       (λ x few. at_most_same _ _ nodes (word_as map path other x agree) few) c.comparisons have.within;
 }
 
-pub fails_as : (map : List ℕ) (space : Space) (path other : Function) (c : Compared) (numbers : Numbers) → Agree path other
+pub fails_as : (map : List ℕ) (space : Space) (path other : Function) (c : Compared) (numbers : Numbers)
+    → Agree path other
     → FailsFirst map space path c numbers → FailsFirst map space other c numbers
 fails_as map space path other c numbers agree fails =
     let same = made_same _ _ (word_as map path other fails.at agree) in
@@ -106,7 +110,8 @@ fails_on map space path c all numbers goes fails = record {
   first = fails.first;
 }
 
-pub stops_on : (map : List ℕ) (nodes : ℕ) (space : Space) (path : Function) (c all : Compared) (word j : ℕ) → GoesOnAs c all
+pub stops_on : (map : List ℕ) (nodes : ℕ) (space : Space) (path : Function) (c all : Compared) (word j : ℕ)
+    → GoesOnAs c all
     → StopsComparing map nodes space path c word j → StopsComparing map nodes space path all word j
 stops_on map nodes space path c all word j goes stops = record {
   before = stops.before;
@@ -140,7 +145,8 @@ goes_comparing_then a b c first second = record {
   writes = writes_then a.memory b.memory c.memory first.writes second.writes;
 }
 
-pub wide_compared : (widths elements : List ℕ) (old new : Space) → GoesComparing old new → AreWide old.terms widths elements
+pub wide_compared : (widths elements : List ℕ) (old new : Space) → GoesComparing old new
+    → AreWide old.terms widths elements
     → AreWide new.terms widths elements
 wide_compared widths elements old new goes wide = record {
   count = wide.count;
@@ -177,7 +183,8 @@ holds_later s old new elements given line workspace terms inside goes holds imag
     let reads = goes.goes.reads in
     later.keeps.values given (slice_index elements line.left) (terms line.left inside)
     ∙ holds image (image_before old.memory new.memory image reads is)
-    (images_fit_before old.terms new.terms old.words old.memory new.memory given image later workspace.memory reads fits)
+    (images_fit_before old.terms new.terms old.words old.memory new.memory given image later
+    workspace.memory reads fits)
     ∙ sym (ap₂ (λ (vs held : List ℕ). value s vs held line.right)
     (values_same old.terms new.terms given elements later.keeps terms)
     (held_by_stays old.terms new.terms old.words old.memory new.memory Machine given image later.keeps workspace.memory
@@ -187,7 +194,8 @@ holds_later s old new elements given line workspace terms inside goes holds imag
 
 pub put_apart : (s : Shape) (space : Space) (elements : List ℕ) (lines : List Line) (board machine : List SymEvent)
     (numbers : Numbers)
-    → (number : ℕ) × (a : ℕ) × (b : ℕ) × ArePutOut board machine number a b × AreTwoAt space.terms (given_by numbers) a b
+    → (number : ℕ) × (a : ℕ) × (b : ℕ) × ArePutOut board machine number a b
+    × AreTwoAt space.terms (given_by numbers) a b
     → AreApart s space (given_by numbers) elements lines board machine
 put_apart s space elements lines board machine numbers at = AreApart.put_out at.0 at.1 at.2 at.3 at.4
 
@@ -257,7 +265,8 @@ probe_as space path other agree one = record {
 
 -- all of them show nothing
 pub one_all : (s : Shape) (old first second last : Space) (path next then : Function) (elements : List ℕ)
-    (lines : List Line) (word : ℕ) (board machine : List SymEvent) → GoesComparing old first → GoesComparing first second
+    (lines : List Line) (word : ℕ) (board machine : List SymEvent) → GoesComparing old first
+    → GoesComparing first second
     → GoesComparing second last → Agree next path → Agree then path → AreWide old.terms s.widths elements
     → All (IsLineOf s) lines → AreEventsOf old.terms word board → AreEventsOf old.terms word machine
     → ((number a b : ℕ) → ArePutOut board machine number a b → AreOneOn first.terms path a b)
@@ -274,7 +283,8 @@ one_all s old first second last path next then elements lines word board machine
           (events_compared old first word machine goes of_machine) put;
       hold = λ i line at given on.
           let inside = line_inside s lines i line formed at in
-          holds_later s second last elements given line more.goes.workspace (terms_there second.terms s.widths elements later)
+          holds_later s second last elements given line more.goes.workspace
+          (terms_there second.terms s.widths elements later)
           (omega (arith, inside, wide.count)) rest (holds i line at given (agree given ∙ on));
       memory = probe_as last then path other memory;
     }

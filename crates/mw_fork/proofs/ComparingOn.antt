@@ -13,7 +13,8 @@ use Rattle.mw_fork.specs.declared.elements.Space.{Space}
 use Rattle.mw_fork.specs.declared.paths.Paths.{Paths}
 use Rattle.mw_fork.specs.declared.stop.Stop.{Stop}
 use Rattle.mw_fork.specs.declared.stop.Stop.TheVariants as stops
-use Rattle.mw_fork.specs.Comparing.{FailsFirst, GoesComparing, HaveCompared, IsComparedKind, IsComparedOver, StopsComparing, word_on}
+use Rattle.mw_fork.specs.Comparing.{FailsFirst, GoesComparing, HaveCompared, IsComparedKind, IsComparedOver}
+use Rattle.mw_fork.specs.Comparing.{StopsComparing, word_on}
 use Rattle.mw_fork.specs.Comparing.IsComparedOver.{at_comparison, in_list}
 use Rattle.mw_fork.specs.Listed.{list_of_space}
 use Rattle.mw_fork.specs.OnWay.{HavePaths}
@@ -31,7 +32,8 @@ comparing_then a b c first second = record {
 }
 
 -- the paths are right for the terms still
-pub comparing_paths : (old new : Space) (paths : Paths) → GoesComparing old new → HavePaths old paths → HavePaths new paths
+pub comparing_paths : (old new : Space) (paths : Paths) → GoesComparing old new → HavePaths old paths
+    → HavePaths new paths
 comparing_paths old new paths goes have = record {
   there = have.there;
   of = stays_with_terms old.terms new.terms paths.dds paths.blast goes.goes.later.extends have.of;
@@ -56,7 +58,8 @@ never_agrees : (map : List ℕ) (path other : Function) (comparisons : List Comp
 never_agrees map path other comparisons agree none =
     All-weaker (λ (c : Comparison). Agree (made (word_on map path c)) never)
     (λ (c : Comparison). Agree (made (word_on map other c)) never)
-    (λ c never_so given. sym (made_same _ _ (word_agrees map path other c agree) given) ∙ never_so given) comparisons none
+    (λ c never_so given. sym (made_same _ _ (word_agrees map path other c agree) given) ∙ never_so given) comparisons
+    none
 
 pub compared_agrees : (map : List ℕ) (nodes : ℕ) (space : Space) (path other : Function) (so_far : Compared)
     → Agree path other → HaveCompared map nodes space path so_far → HaveCompared map nodes space other so_far
@@ -133,7 +136,8 @@ stops_further map nodes space path compared all word j on stopped = record {
   before = stopped.before;
   after = stopped.after ++ on.more;
   at = stopped.at;
-  are = behind_one all.comparisons compared.comparisons stopped.before stopped.after on.more stopped.at on.comparisons_are
+  are =
+      behind_one all.comparisons compared.comparisons stopped.before stopped.after on.more stopped.at on.comparisons_are
       stopped.are;
   list = stopped.list;
   table = stopped.table;

@@ -1,5 +1,6 @@
 -- Where a start whose sides have ended differs: what is so of the terms of both sides.
-use Rattle.std.proofs.Common.{◌≡◌, inl, inr, ℕ, suc, ◌+◌, ◌-◌, ◌<◌, List, [], ◌∷◌, length, length-append, length-take-le, map, take, true, false, Some, None, refl, ap, ap₂, sym, subst, ◌∙◌, arith}
+use Rattle.std.proofs.Common.{◌≡◌, inl, inr, ℕ, suc, ◌+◌, ◌-◌, ◌<◌, List, [], ◌∷◌, length, length-append}
+use Rattle.std.proofs.Common.{length-take-le, map, take, true, false, Some, None, refl, ap, ap₂, sym, subst, ◌∙◌, arith}
 use Rattle.std.specs.Prelude.{All, option_map, slice_get, slice_index, slice_index_or}
 use Rattle.std.proofs.lemmas.Bool.{cases_lt}
 use Rattle.std.proofs.lemmas.List.{get_or-map, get_or-take, length-map}
@@ -130,7 +131,8 @@ wide_at_end job number g bits cycles space path board step valid ended =
             let at : slice_index (terms_at_end job board step) i ≡ term i =
             front_at own registers i (omega (arith, front, inside)) ∙ mapped_at term 0 k i inside
             ∙ ap term (omega arith) in
-            subst (λ w. IsOfWidth t w (slice_index (terms_at_end job board step) i)) (sym (board_wide job i valid inside))
+            subst (λ w. IsOfWidth t w (slice_index (terms_at_end job board step) i))
+            (sym (board_wide job i valid inside))
             (rw at (law ended.of_board.parts i inside))
         | inr past ↦
             let n = i - k in
@@ -142,10 +144,12 @@ wide_at_end job number g bits cycles space path board step valid ended =
             let wide = stands.each n (omega (arith, inside, most)) in
             let here : IsOfWidth t (slice_index job.machine.shape.widths n)
             (slice_index (terms_at_end job board step) (length own + n)) = rw at wide in
-            let there : IsOfWidth t (slice_index widths (k + n)) (slice_index (terms_at_end job board step) (length own + n)) =
+            let there : IsOfWidth t (slice_index widths (k + n))
+            (slice_index (terms_at_end job board step) (length own + n)) =
             rw (register_width job valid n inside) here in
             subst (λ x. IsOfWidth t (slice_index widths x) (slice_index (terms_at_end job board step) i)) number_is
-            (subst (λ x. IsOfWidth t (slice_index widths (k + n)) (slice_index (terms_at_end job board step) x)) place there)
+            (subst
+            (λ x. IsOfWidth t (slice_index widths (k + n)) (slice_index (terms_at_end job board step) x)) place there)
       ];
     }
 
@@ -158,7 +162,8 @@ terms_there t widths terms wide i below = (wide.each i (omega (arith, wide.count
 -- a line holds where its left element's term has the value of its right side
 line_as : (job : Job) (space : Space) (given : Given) (start : Start) (cycles : ℕ) (board : Symbolic) (step : Stepping)
     (line : Line) → ComeTo job space given start cycles board step → line.left < length (terms_at_end job board step)
-    → (slice_index (values_of job.board (pair_of (board_run job start cycles).state (first_step job start).state)) line.left
+    → (slice_index
+    (values_of job.board (pair_of (board_run job start cycles).state (first_step job start).state)) line.left
     ≡ term_value space.terms given (slice_index (terms_at_end job board step) line.left))
     × (value job.relation.shape
     (values_of job.board (pair_of (board_run job start cycles).state (first_step job start).state))
@@ -168,7 +173,8 @@ line_as job space given start cycles board step line come inside = (
   ap (λ xs. slice_index xs line.left) come.values
       ∙ get_or-map (λ term. term_value space.terms given term) (terms_at_end job board step) line.left 0 0 inside,
   ap (λ xs. value job.relation.shape xs (first_step job start).state.memory line.right) come.values
-      ∙ ap (λ words. value job.relation.shape (values_at space.terms given (terms_at_end job board step)) words line.right)
+      ∙ ap
+      (λ words. value job.relation.shape (values_at space.terms given (terms_at_end job board step)) words line.right)
       come.step_memory,
 )
 
@@ -184,7 +190,8 @@ pub record AreEven (job : Job) (space : Space) (given : Given) (start : Start) (
       ≡ right_of job.relation.shape space (terms_at_end job board step) given start.pair.board.memory line
 
 -- so it is where the memories are equal too
-pub nothing_shown : (job : Job) (number : ℕ) (space : Space) (given : Given) (start : Start) (cycles : ℕ) (board : Symbolic)
+pub nothing_shown : (job : Job) (number : ℕ) (space : Space) (given : Given) (start : Start)
+    (cycles : ℕ) (board : Symbolic)
     (step : Stepping) (reached : Boundary) → IsJob job → IsStartAt job number start
     → AreWide space.terms job.relation.shape.widths (terms_at_end job board step)
     → All (IsLineOf job.relation.shape) reached.lines → boundary_at job board.place.at ≡ Some reached
@@ -202,7 +209,8 @@ nothing_shown job number space given start cycles board step reached valid start
       there = ap (boundary_at job) come.at ∙ there;
       related = record {
         board_fits = come.fits;
-        machine_fits = step_fits job.machine start.pair.machine (slice_index_or start.env.line 0 false) start.env.inputs 0
+        machine_fits =
+            step_fits job.machine start.pair.machine (slice_index_or start.env.line 0 false) start.env.inputs 0
             valid.machine begins.related.machine_fits inputs;
         at = come.at ∙ is_at job board.place.at reached there;
         sp = come.sp ∙ even.sp;

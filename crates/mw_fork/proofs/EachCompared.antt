@@ -1,11 +1,13 @@
--- What each comparison of a case's list is: whether two terms are equal, in a list that is the beginning of the whole one.
+-- What each comparison of a case's list is: whether two terms are equal, in a list that is the beginning of the whole
+-- one.
 use Rattle.std.proofs.Common.{◌≡◌, ℕ, zero, suc, ◌+◌, List, [], ◌∷◌, length, arith, refl}
 use Rattle.std.specs.Prelude.{All, Some, slice_get, slice_index}
 use Rattle.std.proofs.lemmas.List.Elements.{All-append}
 use Rattle.mw_expr.specs.declared.shape.Shape.{Shape}
 use Rattle.mw_macro.specs.ExpressionWords.{expression_words}
 use Rattle.mw_macro.proofs.Numbered.{numbered_expression}
-use Rattle.mw_rel.specs.ComparisonWords.{Compared, Comparison, Sides, Subject, all_compared, compared_in, event, line, memory, with_comparison, with_events, with_line, with_lines, with_memory}
+use Rattle.mw_rel.specs.ComparisonWords.{Compared, Comparison, Sides, Subject, all_compared, compared_in, event, line}
+use Rattle.mw_rel.specs.ComparisonWords.{memory, with_comparison, with_events, with_line, with_lines, with_memory}
 use Rattle.mw_rel.specs.Lines.{Line}
 use Rattle.mw_rel.specs.Relation.{Boundary}
 use Rattle.mw_term.specs.declared.event.SymEvent.{SymEvent}
@@ -66,7 +68,8 @@ compared_more subject a b so_far are =
     let more = with_comparison subject a b so_far in
     let has = numbered_word (Eq a b) so_far.list refl are.numbered in
     let on = compared_on so_far more.list (front_word (Eq a b) so_far.list) has are in
-    let last : IsComparedIn more.list (record { subject = subject; term = length so_far.list.ops; list = more.list }) = record {
+    let last : IsComparedIn more.list (record { subject = subject; term = length so_far.list.ops; list = more.list }) =
+    record {
       front = front_itself more.list;
       numbered = has;
       a = a;
@@ -91,7 +94,8 @@ compared_line : (s : Shape) (sides : Sides) (l : Line) (so_far : Compared) → A
     → AreCompared (with_line s sides l so_far)
 compared_line s sides l so_far are =
     let right = expression_words s sides.elements sides.machine_writes l.right so_far.list in
-    compared_more (line l.left) (slice_index sides.elements l.left) right.term (compared_in right.list so_far.comparisons)
+    compared_more (line l.left) (slice_index sides.elements l.left) right.term
+    (compared_in right.list so_far.comparisons)
     (compared_on so_far right.list (front_expression s sides.elements sides.machine_writes l.right so_far.list)
     (numbered_expression s sides.elements sides.machine_writes l.right so_far.list are.numbered) are)
 

@@ -1,5 +1,6 @@
 -- Events, compared pair by pair.
-use Rattle.std.proofs.Common.{◌≡◌, inl, inr, add-one, ap, drop, drop-cons, get_or, subst, sym, ◌∙◌, refl, ℕ, zero, suc, ◌+◌, ◌<◌, ◌≤◌, List, [], ◌∷◌, length, arith, Bool, true, false}
+use Rattle.std.proofs.Common.{◌≡◌, inl, inr, add-one, ap, drop, drop-cons, get_or, subst, sym, ◌∙◌, refl, ℕ, zero, suc}
+use Rattle.std.proofs.Common.{◌+◌, ◌<◌, ◌≤◌, List, [], ◌∷◌, length, arith, Bool, true, false}
 use Rattle.std.specs.Prelude.{None, Option, Some, is_some, slice_get, ◌↔◌}
 use Rattle.std.proofs.Math.Bool.{beq, not}
 use Rattle.std.proofs.lemmas.Bool.{cases_lt}
@@ -177,7 +178,8 @@ inside_events (x ∷ rest) (suc i) e at = omega (arith, inside_events rest i e a
 pub out_inside : (board machine : List SymEvent) (k a b : ℕ) → ArePutOut board machine k a b → k < length board
 out_inside board machine k a b out = inside_events board k (Out a) out.by_board
 
-pub events_done : (board machine : List SymEvent) (k : ℕ) (c : Compared) → length board ≤ k → length board ≡ length machine
+pub events_done : (board machine : List SymEvent) (k : ℕ) (c : Compared) → length board ≤ k
+    → length board ≡ length machine
     → with_events k (drop k board) (drop k machine) c ≡ c
 events_done board machine k c all count =
     ap (λ xs. with_events k xs (drop k machine) c) (drop_all k board all)

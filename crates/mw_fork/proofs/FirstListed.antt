@@ -1,5 +1,6 @@
 -- A run that stands at a boundary has the whole word list of its case before it.
-use Rattle.std.proofs.Common.{◌≡◌, ℕ, ◌+◌, ◌<◌, ◌≤◌, List, [], drop, length, length-drop, length-take-le, take, slice_index, ap, arith, refl, subst, sym, ◌∙◌}
+use Rattle.std.proofs.Common.{◌≡◌, ℕ, ◌+◌, ◌<◌, ◌≤◌, List, [], drop, length, length-drop, length-take-le, take}
+use Rattle.std.proofs.Common.{slice_index, ap, arith, refl, subst, sym, ◌∙◌}
 use Rattle.std.proofs.lemmas.Grind.{same_number_lists}
 use Rattle.std.proofs.lemmas.List.{get_or-drop, get_or-take}
 use Rattle.mw_board.specs.declared.parts.BoardParts.{BoardParts}
@@ -41,11 +42,13 @@ parts_from board terms = record {
   pc = refl;
   r = refl;
   stack = λ k inside.
-      get_or-take (depth_of board) (drop (pc_number board + 2) terms) k 0 inside ∙ get_or-drop (pc_number board + 2) terms k 0;
+      get_or-take (depth_of board) (drop (pc_number board + 2) terms) k 0 inside
+      ∙ get_or-drop (pc_number board + 2) terms k 0;
 }
 
 -- an element of a new board has its term among these parts
-part_same : (board : BoardParts) (terms : List ℕ) (o : Symbolic) (e : Element) → IsNew board (take (element_count board) terms) o
+part_same : (board : BoardParts) (terms : List ℕ) (o : Symbolic) (e : Element)
+    → IsNew board (take (element_count board) terms) o
     → IsElement board e → term_of_part (parts_with board terms) e ≡ term_of_part o.place.parts e
 part_same board terms o e new is =
     let p = parts_with board terms in
@@ -102,7 +105,8 @@ parts_first board t terms o enough are new =
 
 same_standings : (a b : Standing) → a.at ≡ b.at → a.sp ≡ b.sp → a.parts ≡ b.parts → a.writes ≡ b.writes
     → a.events ≡ b.events → a.cycle ≡ b.cycle → a.taken ≡ b.taken → a ≡ b
-same_standings a b at sp parts writes events cycle taken = ap made (rw (at, sp, parts, writes, events, cycle, taken) refl)
+same_standings a b at sp parts writes events cycle taken =
+    ap made (rw (at, sp, parts, writes, events, cycle, taken) refl)
   where
     made : ℕ × ℕ × Parts × List Held × List SymEvent × ℕ × ℕ → Standing
     made all = record {
@@ -115,8 +119,10 @@ same_standings a b at sp parts writes events cycle taken = ap made (rw (at, sp, 
       taken = all.6;
     }
 
-standing_first : (board : BoardParts) (boundary : Boundary) (t : Table) (terms : List ℕ) (o : Symbolic) (writes : List Held)
-    → element_count board ≤ length terms → AreParts board t o.place.parts → IsNew board (take (element_count board) terms) o
+standing_first : (board : BoardParts) (boundary : Boundary) (t : Table) (terms : List ℕ) (o : Symbolic)
+    (writes : List Held)
+    → element_count board ≤ length terms → AreParts board t o.place.parts
+    → IsNew board (take (element_count board) terms) o
     → o.place.at ≡ boundary.address → o.place.sp ≡ boundary.sp → writes ≡ []
     → standing_at board boundary terms ≡ standing_in o writes
 standing_first board boundary t terms o writes enough are new at sp none =
@@ -136,7 +142,8 @@ unfolding words_along
 first_listed job number space elements registers o enough are new at sp none own listed further =
     let boundary = numbered job number in
     let l = list_of_space space in
-    let standing = standing_first job.board boundary space.terms elements o space.memory.board enough are new at sp none in
+    let standing =
+    standing_first job.board boundary space.terms elements o space.memory.board enough are new at sp none in
     ap (λ (start : AllEnded). along_cycles job (registers_in job.board start.terms) boundary.bound
     (standing_at job.board boundary start.terms) further start.list) listed
     ∙ ap (λ s. along_cycles job (registers_of job elements) boundary.bound s further l) standing

@@ -1,5 +1,6 @@
 -- Values of the free elements: as the terms of a run have them, and as an assignment gives them.
-use Rattle.std.proofs.Common.{◌≡◌, inl, inr, ℕ, zero, suc, ◌+◌, ◌%◌, ◌<◌, ◌^◌, List, length, map, add-one, ap, sym, ◌∙◌, subst, arith}
+use Rattle.std.proofs.Common.{◌≡◌, inl, inr, ℕ, zero, suc, ◌+◌, ◌%◌, ◌<◌, ◌^◌, List, length, map, add-one, ap, sym, ◌∙◌}
+use Rattle.std.proofs.Common.{subst, arith}
 use Rattle.std.specs.Prelude.{Bool, true, filter, Option, Some, None, slice_get, slice_index}
 use Rattle.std.proofs.Math.Nat.{mod-eq_of_lt}
 use Rattle.std.proofs.lemmas.List.{get_or-map, length-map}
@@ -58,7 +59,8 @@ terms_begin job boundary t given terms memory env table wide image =
     let widths = job.relation.shape.widths in
     let n = length widths in
     let f : ℕ → ℕ = term_at t given terms in
-    let size : length (map f (free_elements job boundary)) ≡ free_before p n = length-map (free_elements job boundary) f in
+    let size : length (map f (free_elements job boundary)) ≡ free_before p n =
+    length-map (free_elements job boundary) f in
     begin_if job boundary (begin_of job boundary t given terms memory env)
     (record {
       count = size;

@@ -1,13 +1,16 @@
 -- What is compared goes on: the comparisons so far stay the first ones, and the list so far stays the beginning.
-use Rattle.std.proofs.Common.{◌≡◌, ℕ, ◌+◌, ◌-◌, List, [], ◌∷◌, ◌++◌, length, append-nil, append_assoc, ap, sym, ◌∙◌, refl}
+use Rattle.std.proofs.Common.{◌≡◌, ℕ, ◌+◌, ◌-◌, List, [], ◌∷◌, ◌++◌, length, append-nil, append_assoc, ap, sym, ◌∙◌}
+use Rattle.std.proofs.Common.{refl}
 use Rattle.std.specs.Prelude.{Bool, true, false, ◌==◌, if◌then◌else◌}
 use Rattle.mw_expr.specs.declared.expr.Pair2.{Pair2}
 use Rattle.mw_expr.specs.declared.expr.Pair2.TheVariants as sign
 use Rattle.mw_expr.specs.declared.shape.Shape.{Shape}
-use Rattle.mw_expr.specs.Tree.{Tree, element, constant, complement, pair, choice, part, join, widened, memory, Trees, none, more}
+use Rattle.mw_expr.specs.Tree.{Tree, element, constant, complement, pair, choice, part, join, widened, memory, Trees}
+use Rattle.mw_expr.specs.Tree.{none, more}
 use Rattle.mw_expr.specs.Values.{bits}
 use Rattle.mw_macro.specs.ExpressionWords.{beside_words, expression_words, join_words, sign_words, words_of_parts}
-use Rattle.mw_rel.specs.ComparisonWords.{Compared, Comparison, Sides, Subject, all_compared, compared_in, event, with_comparison, with_events, with_line, with_lines, with_memory}
+use Rattle.mw_rel.specs.ComparisonWords.{Compared, Comparison, Sides, Subject, all_compared, compared_in, event}
+use Rattle.mw_rel.specs.ComparisonWords.{with_comparison, with_events, with_line, with_lines, with_memory}
 use Rattle.mw_rel.specs.Lines.{Line}
 use Rattle.mw_rel.specs.Relation.{Boundary}
 use Rattle.mw_term.specs.declared.event.SymEvent.{SymEvent}
@@ -18,7 +21,9 @@ use Rattle.mw_term.specs.declared.op.Op.{Op}
 use Rattle.mw_term.specs.declared.op.Op.TheVariants.{And, Con, Eq, Ite, Join, Lt, Not, Or, Part, Sum, Var, Xor}
 use Rattle.mw_term.specs.declared.word.Word.{Word}
 use Rattle.mw_term.specs.MemoryRead.{Held}
-use Rattle.mw_term.specs.WordList.{WordList, ended, memory_read_words, over_reads, over_write, over_writes, plain, variable, with_constant, with_part, with_same, with_sum, with_variable, with_word, with_zeros_above}
+use Rattle.mw_term.specs.WordList.{WordList, ended, memory_read_words, over_reads, over_write, over_writes, plain}
+use Rattle.mw_term.specs.WordList.{variable, with_constant, with_part, with_same, with_sum, with_variable, with_word}
+use Rattle.mw_term.specs.WordList.{with_zeros_above}
 use Rattle.mw_fork.specs.Comparing.{IsFrontOf}
 
 -- ---- lists

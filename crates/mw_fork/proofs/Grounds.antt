@@ -32,7 +32,8 @@ use Rattle.mw_rel.proofs.Elements.{board_value, pair_words, register_value, widt
 use Rattle.mw_rel.proofs.Standing.{board_address, dropped_at}
 use Rattle.mw_fork.specs.Begins.{IsChosen}
 use Rattle.mw_fork.specs.Starts.{Ground, HaveAll, HaveFree, HaveStarts, IsGround, IsStartOf, registers_of}
-use Rattle.mw_fork.proofs.FreeValues.{begin_of, completed_free, element_inside, element_no_base, element_value, outside_no_base, terms_begin, with_values}
+use Rattle.mw_fork.proofs.FreeValues.{begin_of, completed_free, element_inside, element_no_base, element_value}
+use Rattle.mw_fork.proofs.FreeValues.{outside_no_base, terms_begin, with_values}
 use Rattle.mw_fork.proofs.Runs.{registers_count}
 
 -- ---- memories
@@ -95,14 +96,15 @@ registers_are job number g given pair is ground related all =
 
 elements_are : (job : Job) (number : ℕ) (g : Ground) (given : Given) (pair : Pair) (n : ℕ) → IsJob job
     → HaveAll job g given pair → n < element_count job.board
-    → element job.board pair.board n ≡ term_value g.table given (slice_index (take (element_count job.board) g.elements) n)
+    → element job.board pair.board n
+    ≡ term_value g.table given (slice_index (take (element_count job.board) g.elements) n)
 elements_are job number g given pair n is all below =
     let inside : n < length job.relation.shape.widths = omega (arith, widths_count job is, below) in
     sym (board_value job.board pair.board pair.machine.registers n below) ∙ all n inside
     ∙ ap (λ term. term_value g.table given term) (sym (get_or-take (element_count job.board) g.elements n 0 below))
 
--- A start is that of an assignment under which its free elements have the values of their terms, its memory fits the base
--- reads, and its environment has the values of the variables.
+-- A start is that of an assignment under which its free elements have the values of their terms, its memory fits the
+-- base reads, and its environment has the values of the variables.
 start_of : (job : Job) (number : ℕ) (g : Ground) (given : Given) (start : Start) → IsJob job → IsGround job number g
     → IsStartAt job number start → HaveFree job number g given start.pair
     → FitImage g.table given g.memory.reads start.pair.board.memory
@@ -162,7 +164,8 @@ start_there : (job : Job) (number : ℕ) (g : Ground) → IsJob job → IsGround
 start_there job number g is ground given =
     let work = ground.space.workspace in
     let image = images_are_there g.table g.words g.memory given work.table work.memory in
-    let env = environments_are_there job.board g.table g.words ground.cycles given work.table ground.own ground.variables in
+    let env =
+    environments_are_there job.board g.table g.words ground.cycles given work.table ground.own ground.variables in
     let one = start_with job number g is ground given image.0 env.0 image.1 image.2 env.1 in
     (one.0, one.2)
 
@@ -173,8 +176,8 @@ abbrev pub HasElements : Job → Ground → Given → Start → Type 0
 HasElements job g given start = (place term n : ℕ) → IsVariable g.words place term (Element n)
     → given (place + 1) ≡ with_values g.words (values_of job.board start.pair) (place + 1)
 
--- From such an assignment comes one of the start, which differs from it in the variables of base reads, lines, noise and
--- inputs alone.
+-- From such an assignment comes one of the start, which differs from it in the variables of base reads, lines, noise
+-- and inputs alone.
 pub reached_from : (job : Job) (number : ℕ) (g : Ground) → IsJob job → IsGround job number g → (start : Start)
     → IsStartAt job number start → (first : Given) → HasElements job g first start
     → (given : Given) × IsStartOf job number g given start
@@ -185,9 +188,11 @@ reached_from job number g is ground start starts first has =
     let image = image_of_pair job number g (numbered job number) start.pair ground related in
     let values = values_of job.board start.pair in
     let words = pair_words job start.pair is (record { board = related.board_fits; machine = related.machine_fits }) in
-    let second = environments_are_reached job.board g.table g.words ground.cycles first start.env work.table work.of ground.own
+    let second =
+    environments_are_reached job.board g.table g.words ground.cycles first start.env work.table work.of ground.own
     ground.variables starts.begins.env in
-    let third = images_are_reached g.table g.words g.memory start.pair.board.memory second.0 work.table work.memory image in
+    let third =
+    images_are_reached g.table g.words g.memory start.pair.board.memory second.0 work.table work.memory image in
     let outside = environments_stay job.board g.table g.words second.0 third.0 start.env work.table work.of
     (λ n at. third.2 n (outside_no_base g.words n at)) second.1 in
     let free : HaveFree job number g third.0 start.pair = λ n below at.
@@ -205,7 +210,8 @@ reached_from job number g is ground start starts first has =
 start_reached : (job : Job) (number : ℕ) (g : Ground) → IsJob job → IsGround job number g
     → (start : Start) → IsStartAt job number start → (given : Given) × IsStartOf job number g given start
 start_reached job number g is ground start starts =
-    let reached = reached_from job number g is ground start starts (with_values g.words (values_of job.board start.pair))
+    let reached =
+    reached_from job number g is ground start starts (with_values g.words (values_of job.board start.pair))
     (λ place term n at. refl) in
     (reached.0, reached.1)
 

@@ -1,5 +1,6 @@
 -- What is known of starts stays as a run goes on.
-use Rattle.std.proofs.Common.{◌≡◌, ℕ, ◌+◌, ◌<◌, List, length, length-drop, slice_index, ap, sym, subst, ◌∙◌, arith, refl}
+use Rattle.std.proofs.Common.{◌≡◌, ℕ, ◌+◌, ◌<◌, List, length, length-drop, slice_index, ap, sym, subst, ◌∙◌, arith}
+use Rattle.std.proofs.Common.{refl}
 use Rattle.std.specs.Prelude.{true}
 use Rattle.mw_board.specs.Elements.{element_count}
 use Rattle.mw_cycle.specs.declared.decided.Decided.{Decided}
@@ -52,7 +53,8 @@ start_before job number old new given start is ground goes one =
     (course_of start) ground.space.workspace goes.later goes.words goes.reads in
     let origin = origin_of job number old.elements in
     let same : origin_of job number new.elements ≡ origin = ap (origin_of job number) goes.elements in
-    let board = subst (λ b. IsOneOf job.board new.table new.words new.memory b given (course_of start)) same one.board in
+    let board =
+    subst (λ b. IsOneOf job.board new.table new.words new.memory b given (course_of start)) same one.board in
     let registers = subst (λ xs. start.pair.machine.registers ≡ values_at new.table given (registers_of job xs))
     goes.elements one.registers in
     record {
@@ -144,7 +146,8 @@ on_path_narrower job number g path next Holds narrower holds given start one tru
     holds given start one (narrower given true_there)
 
 cases_later : (job : Job) (number : ℕ) (old new : Ground) (bits : List Decided) (path : Function) → IsJob job
-    → IsGround job number old → GoesTo old new → IsCasePath job number old bits path → IsCasePath job number new bits path
+    → IsGround job number old → GoesTo old new → IsCasePath job number old bits path
+    → IsCasePath job number new bits path
 cases_later job number old new bits path is ground goes cases = record {
   first = λ given start one.
       cases.first given start (start_before job number old new given start is ground goes one);

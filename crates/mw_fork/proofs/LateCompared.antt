@@ -1,4 +1,5 @@
--- What is found of a late case, of which nothing is compared, and each start on the path differs; and of one with a step.
+-- What is found of a late case, of which nothing is compared, and each start on the path differs; and of one with a
+-- step.
 use Rattle.std.proofs.Common.{◌≡◌, ℕ, List, [], Bool, true, Option, None, Some, subst, ◌∙◌}
 use Rattle.std.specs.Prelude.{IfErr, IfOk, IfSome, Result}
 use Rattle.std.proofs.lemmas.Result.{IfErr-weaker, IfOk-weaker}
@@ -26,7 +27,8 @@ ends_late : (job : Job) (number : ℕ) (elements : List ℕ) (from : List Kept) 
     → HasMetCase job number elements from cycles late way run step
     → (late ≡ true) × (case_words job number (met_of way) ≡ whole (compared_in (list_of_space run.space) []))
 ends_late job number elements from cycles late way run step none met =
-    subst (EndsBy job number (ground_in run.space elements) (met_of way) cycles late run (path_in run.paths)) none met.ends
+    subst
+    (EndsBy job number (ground_in run.space elements) (met_of way) cycles late run (path_in run.paths)) none met.ends
 
 -- where the path is true nowhere, no start differs
 pub late_none : (job : Job) (number : ℕ) (elements : List ℕ) (from : List Kept) (cycles : ℕ) (late : Bool) (way : Way)
@@ -42,7 +44,8 @@ pub late_found : (job : Job) (number : ℕ) (elements : List ℕ) (from : List K
     → IsFound job number elements (met_of way) run.space numbers
 late_found job number elements from cycles late way run step numbers valid none met first =
     let ends = ends_late job number elements from cycles late way run step none met in
-    found_on_path job number elements (met_of way) run.space (path_in run.paths) numbers met.on.stands met.on.written met.whole
+    found_on_path job number elements (met_of way) run.space
+    (path_in run.paths) numbers met.on.stands met.on.written met.whole
     ends.1 first
     (λ start one on.
     late_differs job number start valid one.starts ((met.ended _ start one on).late_is ∙ ends.0))
@@ -56,7 +59,8 @@ OfEach job run step Says =
     → HasMetCase job number elements from cycles late way run (Some step) → Says number elements way
 
 -- what is said of each case that has come to this
-abbrev pub OfEachSo : Job → (cycles : ℕ) → (late : Bool) → Run → Option Stepping → (Says : ℕ → List ℕ → Way → Type 0) → Type 0
+abbrev pub OfEachSo : Job → (cycles : ℕ) → (late : Bool) → Run → Option Stepping
+    → (Says : ℕ → List ℕ → Way → Type 0) → Type 0
 OfEachSo job cycles late run step Says =
     (number : ℕ) (elements : List ℕ) (from : List Kept) (way : Way)
     → HasMetCase job number elements from cycles late way run step → Says number elements way

@@ -13,7 +13,8 @@ use Rattle.mw_fork.specs.declared.run.Run.{Run}
 use Rattle.mw_fork.specs.declared.stop.Stop.{Stop}
 use Rattle.mw_fork.specs.declared.stop.Stop.TheVariants.{Over}
 use Rattle.mw_fork.specs.declared.way.Kept.{Kept}
-use Rattle.mw_fork.specs.Forks.{At, Before, EndsEach, Fork, IsForkOf, IsNextCase, IsToCome, KeepsFor, LeadNowhere, LeadOn, LeadsToNext, NoneIsToCome, fork_of}
+use Rattle.mw_fork.specs.Forks.{At, Before, EndsEach, Fork, IsForkOf, IsNextCase, IsToCome, KeepsFor, LeadNowhere}
+use Rattle.mw_fork.specs.Forks.{LeadOn, LeadsToNext, NoneIsToCome, fork_of}
 use Rattle.mw_fork.specs.KeptBits.{AreKept}
 use Rattle.mw_fork.specs.OnWay.{HasMetCase}
 use Rattle.mw_fork.specs.Stops.{StopsBy}
@@ -25,7 +26,8 @@ use Rattle.mw_fork.proofs.Tracing.{case_met, ends_met}
 
 pub lead_first : (stage : Stage) (old : List Kept) → stage ≡ stages.Before → LeadOn stage old old
 lead_first stages.Before old is = λ job number valid there keeps.
-    subst (LeadsToNext job number Before) (sym keeps) (leads_to_first job number valid (some_case job number valid there))
+    subst (LeadsToNext job number Before) (sym keeps)
+    (leads_to_first job number valid (some_case job number valid there))
 lead_first stages.At old is = absurd cc
 lead_first stages.Behind old is = absurd cc
 
@@ -79,7 +81,8 @@ has_stopped job f boundary given budget stage kept from way stop number prefix w
 pub ends_so : (job : Job) (number : ℕ) (bits same_bits : List Decided) (cycles same_cycles : ℕ) (late same_late : Bool)
     → same_bits ≡ bits → same_cycles ≡ cycles → same_late ≡ late → EndsEach job number bits cycles late
     → EndsEach job number same_bits same_cycles same_late
-ends_so job number bits same_bits cycles same_cycles late same_late bits_are cycles_are late_is ends = λ start starts case.
+ends_so job number bits same_bits cycles same_cycles late same_late bits_are cycles_are late_is ends =
+    λ start starts case.
     let end = ends start starts (case ∙ bits_are) in
     (end.0 ∙ sym cycles_are, end.1 ∙ sym late_is)
 
@@ -94,7 +97,8 @@ pub record HasGiven (job : Job) (f : Fork) (way : Way) (cycles : ℕ) (late : Bo
 pub has_given : (job : Job) (f : Fork) (boundary given : ℕ) (budget : Budget) (stage : Stage) (kept from : List Kept)
     (way : Way) (cycles : ℕ) (late : Bool) (run : Run) (step : Option Stepping) → IsJob job
     → fork_of boundary budget given stage kept ≡ f → IsForkOf job f → LeadOn stage kept from
-    → (AreKept job boundary [] from → (elements : List ℕ) × HasMetCase job boundary elements from cycles late way run step)
+    → (AreKept job boundary [] from
+    → (elements : List ℕ) × HasMetCase job boundary elements from cycles late way run step)
     → (AreKept job boundary [] from → AreWithin job boundary budget.nodes (met_of way)) → HasGiven job f way cycles late
 has_given job f boundary given budget stage kept from way cycles late run step valid is of lead traced within =
     let before = subst (IsForkOf job) (sym is) of in

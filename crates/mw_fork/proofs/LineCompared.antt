@@ -1,5 +1,6 @@
 -- A line's left element, compared with its right side.
-use Rattle.std.proofs.Common.{◌≡◌, ap, ap₂, get_or, subst, sym, ◌∙◌, refl, ℕ, ◌+◌, ◌<◌, ◌^◌, List, [], ◌∷◌, length, map, arith, suc}
+use Rattle.std.proofs.Common.{◌≡◌, ap, ap₂, get_or, subst, sym, ◌∙◌, refl, ℕ, ◌+◌, ◌<◌, ◌^◌, List, [], ◌∷◌, length, map}
+use Rattle.std.proofs.Common.{arith, suc}
 use Rattle.std.specs.Prelude.{IfOk, IfSome, IsSome, None, OnOk, Option, Some, Result, Ok, Err, slice_index, true}
 use Rattle.std.proofs.lemmas.Grind.{get_or_default_zero}
 use Rattle.std.proofs.lemmas.Option.{same_Some}
@@ -27,7 +28,8 @@ use Rattle.mw_term.specs.WordList.{Ended, WordList, ended}
 use Rattle.mw_fork.specs.declared.elements.Space.{Space}
 use Rattle.mw_fork.specs.declared.stop.Stop.{Stop}
 use Rattle.mw_fork.specs.Boundaries.{AreWide}
-use Rattle.mw_fork.specs.Comparing.{AreOneOn, AreSidesOn, AreTwoAt, FailsAt, GoesComparing, HoldsAt, IsComparedKind, right_of}
+use Rattle.mw_fork.specs.Comparing.{AreOneOn, AreSidesOn, AreTwoAt, FailsAt, GoesComparing, HoldsAt, IsComparedKind}
+use Rattle.mw_fork.specs.Comparing.{right_of}
 use Rattle.mw_fork.specs.Listed.{list_of_space}
 use Rattle.mw_fork.proofs.ComparingOn.{Leads, compared_in_next, comparing_then}
 
@@ -76,7 +78,8 @@ pub record HasMadeRight (s : Shape) (old new : Space) (elements : List ℕ) (l :
   pub wide : AreWide old.terms s.widths elements
   pub made : IsMade old.terms new.terms old.words new.words old.memory new.memory elements Machine l.right right
   pub listed : ended right (list_of_space new)
-      ≡ expression_words (shape_over old.terms elements old.memory) elements old.memory.machine l.right (list_of_space old)
+      ≡ expression_words (shape_over old.terms elements old.memory) elements old.memory.machine
+      l.right (list_of_space old)
 
 pub base_goes : (old new : Space) (n : ℕ)
     → Runs old.terms new.terms old.words new.words old.memory new.memory n → GoesComparing old new
@@ -87,7 +90,8 @@ base_goes old new n runs = record {
 }
 
 -- the term of the left element
-pub left_at : (s : Shape) (t : Table) (elements : List ℕ) (l : Line) (a : ℕ) → IsLineOf s l → AreWide t s.widths elements
+pub left_at : (s : Shape) (t : Table) (elements : List ℕ) (l : Line) (a : ℕ) → IsLineOf s l
+    → AreWide t s.widths elements
     → a ≡ get_or elements l.left a → a ≡ slice_index elements l.left
 left_at s t elements l a line_of wide is =
     is ∙ get_or_default_zero elements l.left a (omega (arith, line_of.left, wide.count))
@@ -114,7 +118,8 @@ abbrev line_behind : Line → Compared → (elements : List ℕ) → Ended → C
 line_behind l so_far elements right =
     with_comparison (line l.left) (slice_index elements l.left) right.term (compared_in right.list so_far.comparisons)
 
-pub line_leads : (s : Shape) (nodes : ℕ) (old new : Space) (path : Function) (elements : List ℕ) (l : Line) (a right : ℕ)
+pub line_leads : (s : Shape) (nodes : ℕ) (old new : Space) (path : Function) (elements : List ℕ)
+    (l : Line) (a right : ℕ)
     → HasMadeRight s old new elements l right → a ≡ slice_index elements l.left
     → Leads nodes old new path a right (λ on. AreSidesOn elements old on) (λ on so_far. with_line s on l so_far)
 line_leads s nodes old new path elements l a right has at = λ on so_far fit have. (
@@ -124,12 +129,14 @@ line_leads s nodes old new path elements l a right has at = λ on so_far fit hav
   ap (λ es. line_behind l so_far es (expression_words s es on.machine_writes l.right so_far.list)) fit.elements_are
       ∙ ap (λ (ws : List Held). line_behind l so_far elements (expression_words s elements ws l.right so_far.list))
       fit.writes.machine
-      ∙ ap (λ (all : WordList). line_behind l so_far elements (expression_words s elements old.memory.machine l.right all))
+      ∙ ap
+      (λ (all : WordList). line_behind l so_far elements (expression_words s elements old.memory.machine l.right all))
       have.list
       ∙ ap (line_behind l so_far elements)
       (ap (λ (sh : Shape). expression_words sh elements old.memory.machine l.right (list_of_space old)) (sym has.shape)
       ∙ sym has.listed)
-      ∙ ap (λ (x : ℕ). with_comparison (line l.left) x right (compared_in (list_of_space new) so_far.comparisons)) (sym at),
+      ∙ ap (λ (x : ℕ). with_comparison (line l.left) x right (compared_in (list_of_space new) so_far.comparisons))
+      (sym at),
 )
 
 -- ---- what it stands for

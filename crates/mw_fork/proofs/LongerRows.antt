@@ -1,5 +1,6 @@
 -- An operation that is over a budget in a table is over it in one with more terms.
-use Rattle.std.proofs.Common.{◌≡◌, ℕ, zero, suc, ◌+◌, ◌<◌, List, [], ◌∷◌, ◌++◌, length, length-append, take, ap, sym, subst, ◌∙◌, arith, refl}
+use Rattle.std.proofs.Common.{◌≡◌, ℕ, zero, suc, ◌+◌, ◌<◌, List, [], ◌∷◌, ◌++◌, length, length-append, take, ap, sym}
+use Rattle.std.proofs.Common.{subst, ◌∙◌, arith, refl}
 use Rattle.std.proofs.Common as lists
 use Rattle.std.specs.Prelude.{Bool, true, false, ◌==◌, nat_lt, if◌then◌else◌, slice_index, slice_index_or}
 use Rattle.std.proofs.lemmas.List.{get_or_append_left, take-append-le, take_all}
@@ -7,13 +8,17 @@ use Rattle.mw_base.specs.Words.{bit_of}
 use Rattle.mw_term.specs.Assigned.{Given}
 use Rattle.mw_term.specs.Cofactors.{Agree, AreSame, HasMoreCofactors}
 use Rattle.mw_term.specs.declared.op.Op.{Op}
-use Rattle.mw_term.specs.declared.op.Op.TheVariants.{And, Con, Cout, Eq, Ite, Join, Lt, Not, Or, Ovf, Part, Sum, Tab, Var, Xor}
+use Rattle.mw_term.specs.declared.op.Op.TheVariants.{And, Con, Cout, Eq, Ite, Join, Lt, Not, Or, Ovf, Part, Sum, Tab}
+use Rattle.mw_term.specs.declared.op.Op.TheVariants.{Var, Xor}
 use Rattle.mw_term.specs.Functions.{Function, Triple, always, ite, made, never}
-use Rattle.mw_term.specs.Rows.{bit, carry_into, carry_row, choices, difference, equal_before, index_row, inverse, less_before, next_carry, next_equal, next_less, operations, row, row_bits, sameness, sum_row, xor_row}
+use Rattle.mw_term.specs.Rows.{bit, carry_into, carry_row, choices, difference, equal_before, index_row, inverse}
+use Rattle.mw_term.specs.Rows.{less_before, next_carry, next_equal, next_less, operations, row, row_bits, sameness}
+use Rattle.mw_term.specs.Rows.{sum_row, xor_row}
 use Rattle.mw_term.specs.Table.{Extends, Fits, IsTable, Table, term_width, widths_of}
 use Rattle.mw_term.specs.Values.{Keeps, values_of}
 use Rattle.mw_term.specs.WordList.{WordList, table_in}
-use Rattle.mw_term.proofs.Tables.{terms_have_ops, values_append, values_begin, values_count, widths_append, widths_begin, widths_count}
+use Rattle.mw_term.proofs.Tables.{terms_have_ops, values_append, values_begin, values_count, widths_append}
+use Rattle.mw_term.proofs.Tables.{widths_begin, widths_count}
 use Rattle.mw_dd.proofs.Cofactors.{more-same}
 use Rattle.mw_blast.specs.Causes.{IsOneOver, IsOver}
 use Rattle.mw_symmem.proofs.Growth.{op_stays}
@@ -44,8 +49,13 @@ beside (t ∷ ts) (u ∷ us) more others first second = (first.0, beside ts us m
 over_next : (t u : Triple) (ts us : List Triple) (budget k : ℕ) (x : Triple) → AreSame t u → k < length (t ∷ ts)
     → slice_index_or (t ∷ ts) k x ≡ x → HasMoreCofactors x budget → (IsOneOver ts budget → IsOneOver us budget)
     → IsOneOver (u ∷ us) budget
-over_next t u ts us budget zero x same inside is more rest =
-    (zero, u, omega arith, refl, more-same t u budget same (subst (λ (y : Triple). HasMoreCofactors y budget) (sym is) more))
+over_next t u ts us budget zero x same inside is more rest = (
+  zero,
+  u,
+  omega arith,
+  refl,
+  more-same t u budget same (subst (λ (y : Triple). HasMoreCofactors y budget) (sym is) more),
+)
 over_next t u ts us budget (suc k) x same inside is more rest =
     let found = rest (k, x, omega (arith, inside), is, more) in
     (suc found.0, found.1, omega (arith, found.2), found.3, found.4)
@@ -176,7 +186,8 @@ index_row_same index index2 t zero fs gs is are = tt
 index_row_same index index2 t (suc bits) fs gs is are =
     let halves = choices_same (index t) (index2 t) fs gs (is t) are in
     beside (choices (index t) fs) (choices (index2 t) gs) _ _ halves
-    (index_row_same index index2 (t + 1) bits (lists.map made (choices (index t) fs)) (lists.map made (choices (index2 t) gs)) is
+    (index_row_same index index2 (t + 1) bits (lists.map made (choices (index t) fs))
+    (lists.map made (choices (index2 t) gs)) is
     (all_made_same (choices (index t) fs) (choices (index2 t) gs) halves))
 
 all_agree : (fs : List Function) → AreAllAgreed fs fs
@@ -234,13 +245,15 @@ operations_same told tnew (Sum a b c) j map_is keeps fits =
     let at_b = kept_by told tnew b keeps fits.0.1 in
     let at_c = kept_by told tnew c keeps fits.1.0 in
     sum_row_same (bit told a j) (bit tnew a j) (bit told b j) (bit tnew b j) _ _ (at_a.bits j) (at_b.bits j)
-    (into_same (bit told a) (bit tnew a) (bit told b) (bit tnew b) (bit told c 0) (bit tnew c 0) j at_a.bits at_b.bits (at_c.bits 0))
+    (into_same (bit told a) (bit tnew a) (bit told b) (bit tnew b) (bit told c 0)
+    (bit tnew c 0) j at_a.bits at_b.bits (at_c.bits 0))
 operations_same told tnew (Cout a b c) j map_is keeps fits =
     let at_a = kept_by told tnew a keeps fits.0.0 in
     let at_b = kept_by told tnew b keeps fits.0.1 in
     let at_c = kept_by told tnew c keeps fits.1.0 in
     carry_row_same (bit told a j) (bit tnew a j) (bit told b j) (bit tnew b j) _ _ (at_a.bits j) (at_b.bits j)
-    (into_same (bit told a) (bit tnew a) (bit told b) (bit tnew b) (bit told c 0) (bit tnew c 0) j at_a.bits at_b.bits (at_c.bits 0))
+    (into_same (bit told a) (bit tnew a) (bit told b) (bit tnew b) (bit told c 0)
+    (bit tnew c 0) j at_a.bits at_b.bits (at_c.bits 0))
 operations_same told tnew (Ovf a b c) j map_is keeps fits =
     let at_a = kept_by told tnew a keeps fits.0.0 in
     let at_b = kept_by told tnew b keeps fits.0.1 in
@@ -253,10 +266,12 @@ operations_same told tnew (Ovf a b c) j map_is keeps fits =
     let next2 = next_carry (bit tnew a j) (bit tnew b j) into2 in
     rw at_a.width
     (beside (carry_row (bit told a j) (bit told b j) into) (carry_row (bit tnew a j) (bit tnew b j) into2) _ _
-    (carry_row_same (bit told a j) (bit tnew a j) (bit told b j) (bit tnew b j) into into2 (at_a.bits j) (at_b.bits j) carries)
+    (carry_row_same (bit told a j) (bit tnew a j) (bit told b j) (bit tnew b j) into into2 (at_a.bits j)
+    (at_b.bits j) carries)
     (nothing_or (j + 1 == term_width told a) (xor_row into (made next)) (xor_row into2 (made next2))
     (xor_row_same into into2 (made next) (made next2) carries (made_same next next2
-    (carry_same (bit told a j) (bit tnew a j) (bit told b j) (bit tnew b j) into into2 (at_a.bits j) (at_b.bits j) carries)))))
+    (carry_same (bit told a j) (bit tnew a j) (bit told b j) (bit tnew b j) into into2 (at_a.bits j)
+    (at_b.bits j) carries)))))
 operations_same told tnew (Eq a b) j map_is keeps fits =
     let at_a = kept_by told tnew a keeps fits.0 in
     let at_b = kept_by told tnew b keeps fits.1 in (
@@ -339,16 +354,19 @@ over_longer told tnew term j budget table extends keeps over =
 
 -- ---- over a list that goes on
 
-front_extends : (map : List ℕ) (front all : WordList) → IsFrontOf front all → Extends (table_in map front) (table_in map all)
+front_extends : (map : List ℕ) (front all : WordList) → IsFrontOf front all
+    → Extends (table_in map front) (table_in map all)
 front_extends map front all is =
     let n = length front.ops in
     record {
       map = refl;
       more = omega (arith, ap length is.ops_are, length-append front.ops is.ops);
-      ops = ap (take n) is.ops_are ∙ take-append-le n front.ops is.ops (omega arith) ∙ take_all n front.ops (omega arith);
+      ops =
+          ap (take n) is.ops_are ∙ take-append-le n front.ops is.ops (omega arith) ∙ take_all n front.ops (omega arith);
     }
 
-front_keeps : (map : List ℕ) (front all : WordList) → IsFrontOf front all → Keeps (table_in map front) (table_in map all)
+front_keeps : (map : List ℕ) (front all : WordList) → IsFrontOf front all
+    → Keeps (table_in map front) (table_in map all)
 front_keeps map front all is =
     let ws = widths_of front.ops in
     let wider = widths_begin ws is.ops in

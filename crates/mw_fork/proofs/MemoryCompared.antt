@@ -9,7 +9,8 @@ use Rattle.mw_symmem.specs.Listed.{Lists, list_in}
 use Rattle.mw_symmem.specs.Memory.{AddsRead, IsMemory, IsOfWidth, IsRead, Memory, with_read, writes_of}
 use Rattle.mw_symmem.specs.Words.{AreOf, IsVariable}
 use Rattle.mw_symmem.specs.Workspace.{IsWorkspace}
-use Rattle.mw_symmem.proofs.Later.{goes_by_read, goes_by_variable, reads_stay, width_later, writes_by_read, writes_itself}
+use Rattle.mw_symmem.proofs.Later.{goes_by_read, goes_by_variable, reads_stay, width_later, writes_by_read}
+use Rattle.mw_symmem.proofs.Later.{writes_itself}
 use Rattle.mw_symmem.proofs.Lists.{behind, pushed_there}
 use Rattle.mw_term.specs.declared.kinds.WordKind.TheVariants.{Base, Probe}
 use Rattle.mw_term.specs.declared.op.Op.TheVariants.{Var}
@@ -21,7 +22,8 @@ use Rattle.mw_term.specs.Values.{IsTermOf, Keeps, term_value}
 use Rattle.mw_term.specs.WordList.{Ended, WordList, ended, memory_read_words, variable, with_variable}
 use Rattle.mw_fork.specs.declared.elements.Space.{Space}
 use Rattle.mw_fork.specs.declared.stop.Stop.{Stop}
-use Rattle.mw_fork.specs.Comparing.{AreOneAtProbe, AreOneOn, AreTwoAt, AreTwoInMemory, AreWritesOn, GoesComparing, IsComparedKind}
+use Rattle.mw_fork.specs.Comparing.{AreOneAtProbe, AreOneOn, AreTwoAt, AreTwoInMemory, AreWritesOn, GoesComparing}
+use Rattle.mw_fork.specs.Comparing.{IsComparedKind}
 use Rattle.mw_fork.specs.Listed.{list_of_space}
 use Rattle.mw_fork.proofs.ComparingOn.{Leads, compared_in_next, comparing_then}
 
@@ -54,9 +56,11 @@ pub probe_made : (old new : Space) (width number probe : ℕ) → new.memory ≡
     → IsTable new.terms → HasProbe old new width probe
 unfolding op_width
 probe_made old new width number probe kept workspace words made listed of extends keeps table = record {
-  goes = subst (λ (m : Memory). GoesComparing old (record { terms = new.terms; words = new.words; memory = m })) (sym kept)
+  goes =
+      subst (λ (m : Memory). GoesComparing old (record { terms = new.terms; words = new.words; memory = m })) (sym kept)
       (record {
-        goes = goes_by_variable IsComparedKind old.terms new.terms old.words new.words old.memory probe Probe words extends
+        goes =
+            goes_by_variable IsComparedKind old.terms new.terms old.words new.words old.memory probe Probe words extends
             keeps table of tt not_base workspace;
         writes = writes_itself old.memory;
       });
@@ -78,7 +82,8 @@ pub read_goes : {E : Type 0} (r : Result ℕ E) (old new : Space) (side : Side) 
     → OnOk r (GoesComparing old new)
 read_goes (Err e) old new side probe adds reads is_memory of extends keeps table = tt
 read_goes (Ok term) old new side probe adds reads is_memory of extends keeps table = record {
-  goes = goes_by_read IsComparedKind old.terms new.terms old.words new.words old.memory new.memory side probe reads.0 term
+  goes =
+      goes_by_read IsComparedKind old.terms new.terms old.words new.words old.memory new.memory side probe reads.0 term
       (λ n. tt) adds reads.1 is_memory of extends keeps table;
   writes = writes_by_read old.memory new.memory probe reads.0 reads.1;
 }
@@ -121,7 +126,8 @@ memory_leads s nodes s0 s1 s2 s3 path width probe board machine address word has
       memory probe,
       compared_in (list_of_space s3) so_far.comparisons,
       compared_in_next s0.terms.map nodes s0 s3 path so_far have,
-      memory_is s on so_far (list_of_space s0) (list_of_space s1) (list_of_space s2) (list_of_space s3) probe board machine
+      memory_is s on so_far (list_of_space s0) (list_of_space s1) (list_of_space s2)
+          (list_of_space s3) probe board machine
           have.list
           (ap (λ (w : ℕ). with_variable Probe w (list_of_space s0)) address ∙ sym has.listed)
           (ap (λ (w : ℕ). memory_read_words w probe on.board_writes (list_of_space s1)) word_1
@@ -163,7 +169,8 @@ held_at_probe s0 s1 s2 s3 new width probe board machine has first second last =
       is = subst (λ ws. IsVariable ws has.place probe Probe) (sym all.goes.words)
           (behind s1.words all.goes.more has.place (variable probe Probe) has.is);
       by_board = read_later s2 new sides.Board probe board first.goes.goes.workspace on probe_2 first.there first.means;
-      by_machine = read_later s3 new sides.Machine probe machine second.goes.goes.workspace last probe_3 second.there second.means;
+      by_machine = read_later s3 new sides.Machine probe machine second.goes.goes.workspace last probe_3
+          second.there second.means;
     }
 
 -- the probe is as wide as an address of the memory
@@ -176,7 +183,8 @@ probe_wide s0 s1 new width probe address has goes =
 
 -- where these have one value on the path
 pub one_at_probe : (s0 s1 s2 s3 new : Space) (path : Function) (width probe board machine : ℕ)
-    (r : Result (Option Numbers) Stop) → width ≡ s0.memory.address → HasProbe s0 s1 width probe → HasRead s1 s2 sides.Board probe board
+    (r : Result (Option Numbers) Stop) → width ≡ s0.memory.address → HasProbe s0 s1 width probe
+    → HasRead s1 s2 sides.Board probe board
     → HasRead s2 s3 sides.Machine probe machine → OnOk r (GoesComparing s3 new)
     → IfOk r (λ o. o ≡ None → AreOneOn new.terms path board machine)
     → IfOk r (λ o. o ≡ None → AreOneAtProbe new path)
@@ -206,5 +214,6 @@ two_in_memory s0 s1 s2 s3 new width probe board machine (Ok (Some numbers)) has 
     record {
       address = term_value new.terms (given_by numbers) probe;
       two = λ image is fits same.
-          two (are.by_board (given_by numbers) image is fits ∙ same ∙ sym (are.by_machine (given_by numbers) image is fits));
+          two (are.by_board (given_by numbers) image is fits ∙ same
+          ∙ sym (are.by_machine (given_by numbers) image is fits));
     }

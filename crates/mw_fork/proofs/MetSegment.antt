@@ -17,7 +17,8 @@ use Rattle.mw_fork.specs.declared.way.Kept.{Kept}
 use Rattle.mw_fork.specs.declared.stop.Stop.{Stop}
 use Rattle.mw_fork.specs.CasePaths.{HasNoBoundary}
 use Rattle.mw_fork.specs.Ends.{IsBoardOf}
-use Rattle.mw_fork.specs.OnWay.{Cycles, CyclesStop, HasFinished, HasMetAll, HasMetSegment, IsOnRun, IsRunOf, SegmentStops, ground_in, path_in}
+use Rattle.mw_fork.specs.OnWay.{Cycles, CyclesStop, HasFinished, HasMetAll, HasMetSegment, IsOnRun, IsRunOf}
+use Rattle.mw_fork.specs.OnWay.{SegmentStops, ground_in, path_in}
 use Rattle.mw_fork.specs.Starts.{IsStartOf, course_of}
 use Rattle.mw_fork.specs.Ways.{Way, met_of}
 use Rattle.mw_fork.proofs.Along.{comes_to_next, left_at_boundary, left_at_end, left_at_none}
@@ -25,7 +26,8 @@ use Rattle.mw_fork.proofs.Grounds.{boundary_is}
 use Rattle.mw_rel.proofs.Cases.{segments_end}
 
 -- the board of each start on the path is at the board's control address
-at_address : (job : Job) (number count : ℕ) (elements : List ℕ) (from : List Kept) (way : Way) (run : Run) (given : Given)
+at_address : (job : Job) (number count : ℕ) (elements : List ℕ) (from : List Kept) (way : Way)
+    (run : Run) (given : Given)
     (start : Start) → IsOnRun job number elements from way run count
     → IsStartOf job number (ground_in run.space elements) given start → path_in run.paths given ≡ true
     → at_cycle job start run.board.place.cycle ≡ run.board.place.at
@@ -67,7 +69,8 @@ next_of_segment job number n elements from way run made none below on finished =
   registers = on.registers;
   listed = λ idle count.
       let registers = run.registers.items in
-      comes_to_next job number ((numbered job number).bound - run.board.place.cycle) (met_of way) run.space registers run.board
+      comes_to_next job number ((numbered job number).bound - run.board.place.cycle)
+      (met_of way) run.space registers run.board
       finished.before refl (omega (arith, made, below))
       (left_at_none job number (met_of way) run.space registers run.board none finished.left);
 }
@@ -82,7 +85,8 @@ bits_are_all job number n elements way run given start made met is holds =
     (met given (course_of start) is.board holds)
 
 -- the board is in the run of each start on the path
-of_board : (job : Job) (number count : ℕ) (elements : List ℕ) (from : List Kept) (way : Way) (run : Run) → IsRunOf job run
+of_board : (job : Job) (number count : ℕ) (elements : List ℕ) (from : List Kept) (way : Way) (run : Run)
+    → IsRunOf job run
     → IsOnRun job number elements from way run count
     → IsBoardOf job number (ground_in run.space elements) run.space (path_in run.paths) run.board
 of_board job number count elements from way run under on =
@@ -165,7 +169,8 @@ pub on_made : (job : Job) (old way : Way) (before run : Run) (bound n : ℕ) →
     → run.board.place.cycle ≡ n → n < bound → (0 < n → is_named (addresses_of job) run.board.place.at ≡ false)
     → (number : ℕ) (elements : List ℕ) (from : List Kept) → IsOnRun job number elements from old before 0
     → bound ≡ (numbered job number).bound
-    → IsOnRun job number elements from way run run.board.place.cycle × (run.board.place.cycle < (numbered job number).bound)
+    → IsOnRun job number elements from way run run.board.place.cycle
+    × (run.board.place.cycle < (numbered job number).bound)
 on_made job old way before run bound n has made below none number elements from on same =
     let so_far = has number elements from on same in (
       elim (cases_lt 0 n) [
@@ -200,7 +205,8 @@ pub has_made_more : (job : Job) (old way next : Way) (before run after : Run) (b
     → (0 < n → is_named (addresses_of job) run.board.place.at ≡ false) → Cycles job way next run after
     → HasMade job old next before after bound (n + 1)
 has_made_more job old way next before run after bound n has made below none cycles number elements from on same =
-    let both = cycle_made job old way next before run after bound n has made below none cycles number elements from on same in (
+    let both =
+    cycle_made job old way next before run after bound n has made below none cycles number elements from on same in (
       λ first. absurd (omega (arith, first)),
       λ m more.
           let one : n ≡ m = omega (arith, more) in
@@ -215,9 +221,11 @@ pub has_reached : (job : Job) (old way next : Way) (before run after : Run) (bou
     → is_named (addresses_of job) after.board.place.at ≡ true
     → (number : ℕ) (elements : List ℕ) (from : List Kept) → IsOnRun job number elements from old before 0
     → bound ≡ (numbered job number).bound → HasMetSegment job number elements from (n + 1) false next after
-has_reached job old way next before run after bound n has made below none cycles under more named number elements from on
+has_reached job old way next before run after bound n has made below none cycles under more named
+    number elements from on
     same =
-    let both = cycle_made job old way next before run after bound n has made below none cycles number elements from on same in
+    let both =
+    cycle_made job old way next before run after bound n has made below none cycles number elements from on same in
     reached job number n elements from next after under more named (omega (arith, below, same)) both.0 both.1
 
 -- all, and none of them ended at a boundary
@@ -231,7 +239,8 @@ ends_late job old way before run bound n has under made all some none number ele
     let one : m + 1 ≡ bound = omega (arith, some) in
     let last = (has number elements from on same).1 m (all ∙ sym one) in
     subst (λ (k : ℕ). HasMetSegment job number elements from k true way run) one
-    (late job number m elements from way run under (made ∙ all ∙ sym one) (none (omega (arith, all, some))) (one ∙ same) last.0
+    (late job number m elements from way run under (made ∙ all ∙ sym one)
+    (none (omega (arith, all, some))) (one ∙ same) last.0
     last.1)
 
 -- a cycle that stops

@@ -12,9 +12,11 @@ use Rattle.mw_symboard.specs.Along.{CyclesAreNumbered}
 use Rattle.mw_term.specs.declared.kinds.WordKind.TheVariants.{Line}
 use Rattle.mw_term.specs.Numbered.{IsNumbered}
 use Rattle.mw_term.specs.WordList.{WordList, term_of}
-use Rattle.mw_rel.specs.CaseWords.{CaseWords, along_cycles, along_step, behind_cycle, behind_step, registers_in, sides_of, standing_at, with_comparisons, words_along}
+use Rattle.mw_rel.specs.CaseWords.{CaseWords, along_cycles, along_step, behind_cycle, behind_step, registers_in}
+use Rattle.mw_rel.specs.CaseWords.{sides_of, standing_at, with_comparisons, words_along}
 use Rattle.mw_rel.specs.Certified.{boundary_at}
-use Rattle.mw_rel.specs.ComparisonWords.{Compared, ComparisonsAreNumbered, all_compared, compared_in, comparison_words, is_unlike}
+use Rattle.mw_rel.specs.ComparisonWords.{Compared, ComparisonsAreNumbered, all_compared, compared_in, comparison_words}
+use Rattle.mw_rel.specs.ComparisonWords.{is_unlike}
 use Rattle.mw_rel.specs.Free.{no_boundary, numbered}
 use Rattle.mw_rel.specs.Job.{Job}
 use Rattle.mw_rel.specs.Start.{addresses_of}
@@ -62,7 +64,8 @@ numbered_along_step laws job registers s bits l has =
 
 -- what is so of each list along further cycles
 abbrev StaysNumbered : (further : Standing → List Bool → WordList → CaseWords) → Type 0
-StaysNumbered further = (s : Standing) (bits : List Bool) (l : WordList) → IsNumbered l → IsNumberedCase (further s bits l)
+StaysNumbered further =
+    (s : Standing) (bits : List Bool) (l : WordList) → IsNumbered l → IsNumberedCase (further s bits l)
 
 numbered_step_or_more : AreNumbered → (job : Job) (registers : List ℕ) (named : Bool) (come : cycles.Come)
     (further : Standing → List Bool → WordList → CaseWords) → IsNumbered come.list → StaysNumbered further
@@ -79,7 +82,8 @@ numbered_behind_cycle laws job registers (Some term) come further has each = non
 numbered_behind_cycle laws job registers None come further has each =
     numbered_step_or_more laws job registers (is_named (addresses_of job) come.to.at) come further has each
 
-numbered_along : AreNumbered → (job : Job) (registers : List ℕ) (count : ℕ) → StaysNumbered (along_cycles job registers count)
+numbered_along : AreNumbered → (job : Job) (registers : List ℕ) (count : ℕ)
+    → StaysNumbered (along_cycles job registers count)
 numbered_along laws job registers zero s bits l has = none_compared l has
 numbered_along laws job registers (suc count) s bits l has =
     let come = cycle_words job.board job.store s bits l in
@@ -87,14 +91,17 @@ numbered_along laws job registers (suc count) s bits l has =
     (laws.cycles job.board job.store s bits l has) (numbered_along laws job registers count)
 
 -- the list of a case, and those of its comparisons
-pub numbered_whole : AreNumbered → (job : Job) (number : ℕ) (bits : List Bool) → IsNumberedCase (words_along job number bits)
+pub numbered_whole : AreNumbered → (job : Job) (number : ℕ) (bits : List Bool)
+    → IsNumberedCase (words_along job number bits)
 unfolding words_along
 numbered_whole laws job number bits =
     let boundary = numbered job number in
     let start = start_words job.relation.shape boundary in
-    numbered_along laws job (registers_in job.board start.terms) boundary.bound (standing_at job.board boundary start.terms)
+    numbered_along laws job (registers_in job.board start.terms) boundary.bound
+    (standing_at job.board boundary start.terms)
     bits start.list (laws.starts job.relation.shape boundary)
 
 -- the list of a case
-pub numbered_case : AreNumbered → (job : Job) (number : ℕ) (bits : List Bool) → IsNumbered (words_along job number bits).list
+pub numbered_case : AreNumbered → (job : Job) (number : ℕ) (bits : List Bool)
+    → IsNumbered (words_along job number bits).list
 numbered_case laws job number bits = (numbered_whole laws job number bits).numbered

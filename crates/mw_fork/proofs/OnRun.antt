@@ -40,7 +40,8 @@ use Rattle.mw_fork.specs.declared.run.Run.{Run}
 use Rattle.mw_fork.specs.declared.way.Kept.{Kept}
 use Rattle.mw_fork.specs.declared.stop.Stop.{Stop}
 use Rattle.mw_fork.specs.Listed.{ComesTo, left_in_cycle, list_of_space}
-use Rattle.mw_fork.specs.OnWay.{CyclesStop, HasDecided, HasFinished, HasMetAll, IsOnRun, IsTurnedOnRun, Settles, SettlesNot, Turns, ground_in, path_in}
+use Rattle.mw_fork.specs.OnWay.{CyclesStop, HasDecided, HasFinished, HasMetAll, IsOnRun, IsTurnedOnRun, Settles}
+use Rattle.mw_fork.specs.OnWay.{SettlesNot, Turns, ground_in, path_in}
 use Rattle.mw_fork.specs.Runs.{IsTurned}
 use Rattle.mw_fork.specs.Starts.{course_of, origin_of}
 use Rattle.mw_fork.specs.Ways.{Way, met_of}
@@ -68,7 +69,8 @@ path_begins job number space elements board path valid are new at sp none agree 
 -- the variables of all finished cycles are there after a turn
 variables_after : (job : Job) (old new : Space) (before after : Symbolic) (turn : Turn)
     → IsSymbolic job.board job.store old.terms old.words old.memory before
-    → GoesOn (IsCycleKind before.place.cycle before.place.taken) old.terms new.terms old.words new.words old.memory new.memory
+    → GoesOn (IsCycleKind before.place.cycle before.place.taken) old.terms new.terms old.words new.words
+    old.memory new.memory
     → IsTurn job.board job.store new.terms new.words old.memory new.memory before after turn
     → (turn ≡ Finished → length before.place.decided ≡ bits_before (microword_of job.board job.store before.place) + 12)
     → ((n : ℕ) → n < before.place.cycle → HasVariables old.terms old.words n)
@@ -100,14 +102,17 @@ goes_no_further job t words mold mnew old new Finished is idle same = absurd (om
 turned_on : (job : Job) (number : ℕ) (elements : List ℕ) (from : List Kept) (way : Way) (old : Run) (space : Space)
     (board : Symbolic) (turn : Turn)
     → IsTurn job.board job.store space.terms space.words old.space.memory space.memory old.board board turn
-    → ListsTurn job.board job.store old.space.memory space.memory old.board board (list_of_space old.space) (list_of_space space)
+    → ListsTurn job.board job.store old.space.memory space.memory old.board board (list_of_space old.space)
+    (list_of_space space)
     turn → ComesTo job number (met_of way) (left_in_cycle job number old.space old.registers.items old.board)
     → IsOnRun job number elements from way (record old { space = space; board = board }) old.board.place.cycle
     → ((kind : DecidedKind) (term : ℕ) → turn ≡ Ask kind term
-    → IsNextBit job.board job.store space.terms space.words space.memory (origin_of job number elements) board (met_of way)
+    → IsNextBit job.board job.store space.terms space.words space.memory
+    (origin_of job number elements) board (met_of way)
     (path_in old.paths) kind term)
     → (turn ≡ Finished → HasMetAll job number elements way (record old { space = space; board = board }))
-    → IsTurnedOnRun job number elements from way (record old { space = space; board = board }) old.board.place.cycle turn
+    → IsTurnedOnRun job number elements from way
+    (record old { space = space; board = board }) old.board.place.cycle turn
 turned_on job number elements from way old space board (Ask kind term) is lists comes on asks all = (
   on,
   asks kind term refl,
@@ -127,17 +132,21 @@ turned_on job number elements from way old space board Finished is lists comes o
 pub on_turn : (job : Job) (number : ℕ) (elements : List ℕ) (from : List Kept) (way : Way) (old : Run) (space : Space)
     (board : Symbolic) (turn : Turn) → IsJob job → IsWorkspace old.space.terms old.space.words old.space.memory
     → IsSymbolic job.board job.store old.space.terms old.space.words old.space.memory old.board → old.board.asked ≡ None
-    → GoesOn (IsCycleKind old.board.place.cycle old.board.place.taken) old.space.terms space.terms old.space.words space.words
+    → GoesOn (IsCycleKind old.board.place.cycle old.board.place.taken) old.space.terms space.terms
+    old.space.words space.words
     old.space.memory space.memory
     → IsTurn job.board job.store space.terms space.words old.space.memory space.memory old.board board turn
-    → ListsTurn job.board job.store old.space.memory space.memory old.board board (list_of_space old.space) (list_of_space space)
+    → ListsTurn job.board job.store old.space.memory space.memory old.board board (list_of_space old.space)
+    (list_of_space space)
     turn → IsSymbolic job.board job.store space.terms space.words space.memory board
     → (turn ≡ Finished
     → length old.board.place.decided ≡ bits_before (microword_of job.board job.store old.board.place) + 12)
     → space.memory.machine ≡ old.space.memory.machine → HaveOwnKinds space.words
     → IsOnRun job number elements from way old old.board.place.cycle
-    → IsTurnedOnRun job number elements from way (record old { space = space; board = board }) old.board.place.cycle turn
-on_turn job number elements from way old space board turn valid workspace symbolic idle goes is lists after all machine own on =
+    → IsTurnedOnRun job number elements from way
+    (record old { space = space; board = board }) old.board.place.cycle turn
+on_turn job number elements from way old space board turn valid workspace symbolic idle goes is lists after
+    all machine own on =
     let before = ground_in old.space elements in
     let now = ground_in space elements in
     let count = old.board.place.cycle in
@@ -145,7 +154,8 @@ on_turn job number elements from way old space board turn valid workspace symbol
     let variables = variables_after job old.space space old.board board turn symbolic goes is all on.variables in
     let there = cycles_are_there job.board job.store space.terms space.words space.memory board after variables in
     let law = paths_go_on job.board job.store old.space.terms space.terms old.space.words space.words old.space.memory
-    space.memory old.board board turn (origin_of job number elements) (met_of way) (path_in old.paths) workspace symbolic
+    space.memory old.board board turn (origin_of job number elements) (met_of way)
+    (path_in old.paths) workspace symbolic
     goes is on.in_run in
     turned_on job number elements from way old space board turn is lists (on.listed idle refl) (record {
       on = way_later job number before now from way (path_in old.paths) there.0 valid to there.1 on.on;
@@ -156,7 +166,8 @@ on_turn job number elements from way old space board turn valid workspace symbol
       unwritten = machine ∙ on.unwritten;
       registers = on.registers;
       listed = λ waits same.
-          absurd (goes_no_further job space.terms space.words old.space.memory space.memory old.board board turn is waits same);
+          absurd (goes_no_further job space.terms space.words old.space.memory space.memory old.board board
+          turn is waits same);
     }) law.1 law.2
 
 -- ---- decided bits
@@ -184,7 +195,8 @@ pub on_decided : (job : Job) (number : ℕ) (elements : List ℕ) (from : List K
     (paths : Paths) (board : Symbolic) (kind : DecidedKind) (term : ℕ) (value : Bool)
     → board ≡ decided_so run.board kind value
     → IsTurnedOnRun job number elements from old run run.board.place.cycle (Ask kind term)
-    → HasDecided job number (ground_in run.space elements) from old new (path_in run.paths) (path_in paths) kind term value
+    → HasDecided job number (ground_in run.space elements) from old new (path_in run.paths)
+    (path_in paths) kind term value
     → IsOnRun job number elements from new (record run { paths = paths; board = board }) run.board.place.cycle
 on_decided job number elements from old new run paths board kind term value same turned has =
     let s = run.space in
@@ -196,7 +208,8 @@ on_decided job number elements from old new run paths board kind term value same
     let cycle : board.place.cycle ≡ run.board.place.cycle = ap (λ (o : Symbolic). o.place.cycle) same in
     record {
       on = has.on;
-      in_run = subst (λ (o : Symbolic). IsPath job.board job.store s.terms s.words s.memory b o (met_of new) next) (sym same)
+      in_run =
+          subst (λ (o : Symbolic). IsPath job.board job.store s.terms s.words s.memory b o (met_of new) next) (sym same)
           (subst (λ (bits : List Decided). IsPath job.board job.store s.terms s.words s.memory b given_bit bits next)
           (sym has.met) along);
       passed = on_path_narrower job number (ground_in s elements) (path_in run.paths) next
@@ -206,8 +219,10 @@ on_decided job number elements from old new run paths board kind term value same
       unwritten = turned.0.unwritten;
       registers = turned.0.registers;
       listed = λ waits count.
-          subst (λ (o : Symbolic). ComesTo job number (met_of new) (left_in_cycle job number s run.registers.items o)) (sym same)
-          (subst (λ (bits : List Decided). ComesTo job number bits (left_in_cycle job number s run.registers.items given_bit))
+          subst (λ (o : Symbolic). ComesTo job number (met_of new) (left_in_cycle job number s run.registers.items o))
+          (sym same)
+          (subst
+          (λ (bits : List Decided). ComesTo job number bits (left_in_cycle job number s run.registers.items given_bit))
           (sym has.met) (turned.2.on value));
     }
 
@@ -227,7 +242,8 @@ asked_at job at t words m o registers turn kind term asks turned =
     (subst (λ (next : Turn). IsTurned job at t words m o registers next) asks turned).1
 
 -- what it asks for then
-pub asks_then : (job : Job) (old way : Way) (before run asked : Run) (count : ℕ) (turn : Turn) (kind : DecidedKind) (term : ℕ)
+pub asks_then : (job : Job) (old way : Way) (before run asked : Run) (count : ℕ) (turn : Turn)
+    (kind : DecidedKind) (term : ℕ)
     → turn ≡ Ask kind term → run.board.place.cycle ≡ count → asked.board.place.cycle ≡ count
     → StaysOnRun job old way before run count → Turns job run asked turn
     → (number : ℕ) (elements : List ℕ) (from : List Kept) → IsOnRun job number elements from old before count
@@ -235,7 +251,8 @@ pub asks_then : (job : Job) (old way : Way) (before run asked : Run) (count : �
     → IsTurnedOnRun job number elements from way asked asked.board.place.cycle (Ask kind term)
     × (asked.board.place.cycle < (numbered job number).bound)
 asks_then job old way before run asked count turn kind term asks made cycle stays turns number elements from on below =
-    let so_far = subst (λ (n : ℕ). IsOnRun job number elements from way run n) (sym made) (stays number elements from on below) in
+    let so_far =
+    subst (λ (n : ℕ). IsOnRun job number elements from way run n) (sym made) (stays number elements from on below) in
     let at = subst (λ (t : Turn). IsTurnedOnRun job number elements from way asked run.board.place.cycle t) asks
     (turns number elements from way so_far) in (
       subst (λ (n : ℕ). IsTurnedOnRun job number elements from way asked n (Ask kind term)) (made ∙ sym cycle) at,
@@ -249,19 +266,22 @@ pub stays_with : (job : Job) (old way next : Way) (before run asked after : Run)
     → Settles job way next asked after kind term → StaysOnRun job old next before after count
 stays_with job old way next before run asked after count turn kind term asks made cycle stays turns settles =
     λ number elements from on below.
-    let at = asks_then job old way before run asked count turn kind term asks made cycle stays turns number elements from on
+    let at =
+    asks_then job old way before run asked count turn kind term asks made cycle stays turns number elements from on
     below in
     subst (λ (n : ℕ). IsOnRun job number elements from next after n) cycle (settles number elements from at.0 at.1)
 
 -- no bit more
-pub stops_with : (job : Job) (nodes : ℕ) (old way next : Way) (before run asked : Run) (turn : Turn) (kind : DecidedKind)
+pub stops_with : (job : Job) (nodes : ℕ) (old way next : Way) (before run asked : Run) (turn : Turn)
+    (kind : DecidedKind)
     (term : ℕ) (stop : Stop) → turn ≡ Ask kind term → run.board.place.cycle ≡ before.board.place.cycle
     → asked.board.place.cycle ≡ before.board.place.cycle → StaysOnRun job old way before run before.board.place.cycle
     → Turns job run asked turn → SettlesNot job nodes way next asked kind term stop
     → CyclesStop job nodes old next before stop
 stops_with job nodes old way next before run asked turn kind term stop asks made cycle stays turns settles =
     λ number elements from on below.
-    let at = asks_then job old way before run asked before.board.place.cycle turn kind term asks made cycle stays turns number
+    let at =
+    asks_then job old way before run asked before.board.place.cycle turn kind term asks made cycle stays turns number
     elements from on below in
     settles number elements from at.0 at.1
 
@@ -272,7 +292,8 @@ pub stays_finished : (job : Job) (old way : Way) (before run after : Run) (count
     → count < (numbered job number).bound
     → IsOnRun job number elements from way after count × HasFinished job number elements way after
 stays_finished job old way before run after count turn done made stays turns number elements from on below =
-    let so_far = subst (λ (n : ℕ). IsOnRun job number elements from way run n) (sym made) (stays number elements from on below) in
+    let so_far =
+    subst (λ (n : ℕ). IsOnRun job number elements from way run n) (sym made) (stays number elements from on below) in
     subst (λ (n : ℕ). IsOnRun job number elements from way after n × HasFinished job number elements way after) made
     (subst (λ (t : Turn). IsTurnedOnRun job number elements from way after run.board.place.cycle t) done
     (turns number elements from way so_far))

@@ -34,7 +34,8 @@ use Rattle.mw_symboard.proofs.Runs.{runs_stay}
 use Rattle.mw_symmach.specs.Along.{BitsGoAlong, TurnsAlong, TurnsGoAlong}
 use Rattle.mw_symmach.specs.Expressions.{values_at}
 use Rattle.mw_symmach.specs.Steps.{IsOfStep, Parts, Stands, now_of}
-use Rattle.mw_symmach.specs.Turns.{Asks, HasTerms, IsDecided, IsSeen, IsStart, IsSaid, IsStepping, IsTurn, Scene, Stepping, bits_to_come, end_of, given_so, is_asked, left_in}
+use Rattle.mw_symmach.specs.Turns.{Asks, HasTerms, IsDecided, IsSeen, IsStart, IsSaid, IsStepping, IsTurn, Scene}
+use Rattle.mw_symmach.specs.Turns.{Stepping, bits_to_come, end_of, given_so, is_asked, left_in}
 use Rattle.mw_symmach.specs.Walks.{Walks, asked_by, chosen, underway_in, underway_of}
 use Rattle.mw_symmach.proofs.Acting.{found}
 use Rattle.mw_symmach.proofs.InStep.{bits_are_of_the_step, turns_are_of_the_step}
@@ -49,7 +50,8 @@ use Rattle.mw_fork.specs.declared.way.Kept.{Kept}
 use Rattle.mw_fork.specs.CasePaths.{EndsSo}
 use Rattle.mw_fork.specs.Ends.{IsBoardOf}
 use Rattle.mw_fork.specs.Listed.{AsksFor, ComesTo, left_behind_segment, list_of_space, standing_on}
-use Rattle.mw_fork.specs.OnWay.{HasDecided, HasMetCase, HasMetSegment, IsOnStep, IsTurnedOnStep, ground_in, path_in, scene_of}
+use Rattle.mw_fork.specs.OnWay.{HasDecided, HasMetCase, HasMetSegment, IsOnStep, IsTurnedOnStep, ground_in, path_in}
+use Rattle.mw_fork.specs.OnWay.{scene_of}
 use Rattle.mw_fork.specs.Starts.{GoesTo, Ground, IsGround, IsStartOf, course_of, registers_of}
 use Rattle.mw_fork.specs.Steps.{said_from}
 use Rattle.mw_fork.specs.Ways.{Way, met_of}
@@ -111,8 +113,8 @@ starts_so job number g given start registers request one unwritten same line =
 
 -- ---- a step that begins
 
--- In each scene in which a step begins, with the values of the registers' terms and the request's, it is that of the machine
--- from there.
+-- In each scene in which a step begins, with the values of the registers' terms and the request's, it is that of the
+-- machine from there.
 abbrev pub Begins : Job → Table → Memory → (registers : List ℕ) → (request : ℕ) → Stepping → Type 0
 Begins job t m registers request o =
     (given : Given) (x : Scene) (state : MachineState) (bit : Bool) → IsStart t m given registers request x state bit
@@ -140,7 +142,8 @@ begun_behind job number cycles elements from way run request o step left begun l
   of_board = met.of_board;
   begun = underway_of job.machine run.space.terms run.space.words run.space.memory o;
   listed = left_at_start job number (met_of way) run.space run.registers.items run.board request
-      (underway_of job.machine run.space.terms run.space.words run.space.memory o) (met.listed refl) met.unwritten line begun;
+      (underway_of job.machine run.space.terms run.space.words run.space.memory o)
+      (met.listed refl) met.unwritten line begun;
   along = λ idle. along_none job.machine run.space.terms run.space.words run.space.memory o left;
 }
 
@@ -203,7 +206,8 @@ stands_begun : (job : Job) (t : Table) (words : List Word) (m : Memory) (o : Ste
 stands_begun job t words m o begun stepping = subst (HasTerms job.machine t words m o.parts) begun stepping.terms
 
 -- a board that stays where it is while other calls go on
-board_later : (job : Job) (number : ℕ) (sold snew : Space) (elements : List ℕ) (path : Function) (board : Symbolic) → IsJob job
+board_later : (job : Job) (number : ℕ) (sold snew : Space) (elements : List ℕ) (path : Function) (board : Symbolic)
+    → IsJob job
     → IsGround job number (ground_in sold elements) → GoesTo (ground_in sold elements) (ground_in snew elements)
     → snew.memory.board ≡ sold.memory.board → IsBoardOf job number (ground_in sold elements) sold path board
     → IsBoardOf job number (ground_in snew elements) snew path board
@@ -212,7 +216,8 @@ board_later job number sold snew elements path board is ground to writes of =
     ground.space.workspace to.later writes of.parts of.events in
     record {
       with_start = λ given start one at.
-          let before = start_before job number (ground_in sold elements) (ground_in snew elements) given start is ground to one in
+          let before =
+          start_before job number (ground_in sold elements) (ground_in snew elements) given start is ground to one in
           let with = of.with_start given start before at in
           record { so_far = with.so_far; in_run = stay.2 given (course_of start) with.so_far with.in_run };
       parts = stay.0;
@@ -234,14 +239,17 @@ pub turns : (job : Job) (number cycles : ℕ) (elements : List ℕ) (from : List
     (board : Symbolic) (way : Way) (sold snew : Space) (paths : Paths) (old new : Stepping) (turn : Turn) → IsJob job
     → IsTurn job.machine sold.terms snew.terms snew.words sold.memory snew.memory old new turn
     → GoesOn IsOfStep sold.terms snew.terms sold.words snew.words sold.memory snew.memory
-    → snew.memory.board ≡ sold.memory.board → IsStepping job.machine snew.terms snew.words snew.memory new → HaveOwnKinds snew.words
+    → snew.memory.board ≡ sold.memory.board → IsStepping job.machine snew.terms snew.words snew.memory new
+    → HaveOwnKinds snew.words
     → TurnsGoAlong
     → Walks job.machine.shape (underway_of job.machine sold.terms sold.words sold.memory old)
-    (underway_in snew.terms snew.words snew.memory new.parts) (left_in job.machine old) (left_in job.machine new) (asked_by turn)
+    (underway_in snew.terms snew.words snew.memory new.parts) (left_in job.machine old)
+    (left_in job.machine new) (asked_by turn)
     → (turn ≡ Finished → left_in job.machine new ≡ nothing) → new.request ≡ None → is_asked old.pending ≡ false
     → IsOnStep job number elements from cycles segment board way sold paths old
     → IsTurnedOnStep job number elements from cycles segment board way snew paths new turn
-turns job number cycles elements from segment board way sold snew paths old new turn is turned goes writes stepping own law walks
+turns job number cycles elements from segment board way sold snew paths old new turn is turned goes writes
+    stepping own law walks
     done begun idle on =
     let before = ground_in sold elements in
     let now = ground_in snew elements in
@@ -258,7 +266,8 @@ turns job number cycles elements from segment board way sold snew paths old new 
     (on.in_step given start (start_before job number before now given start is ground to one) at) in
     said_on job number cycles elements from segment board way snew paths new turn (record {
       on = way_later job number before now from way (path_in paths) ground.cycles is to variables on.on;
-      ended = on_path_later job number before now (path_in paths) (EndsSo job cycles false segment) is ground to on.ended;
+      ended =
+          on_path_later job number before now (path_in paths) (EndsSo job cycles false segment) is ground to on.ended;
       so_far = on.so_far;
       met = on.met;
       in_step = λ given start one at. (says given start one at).0;
@@ -266,7 +275,8 @@ turns job number cycles elements from segment board way sold snew paths old new 
       begun = on.begun;
       listed = subst (λ (held : List Held). ComesTo job number segment
           (left_behind_segment job (standing_in board held) on.begun)) (sym writes) on.listed;
-      along = along_turn (said_from job.machine on.begun) job.machine on.so_far sold.terms snew.terms sold.words snew.words
+      along =
+          along_turn (said_from job.machine on.begun) job.machine on.so_far sold.terms snew.terms sold.words snew.words
           sold.memory snew.memory old new turn turned.says (on.along idle) walks begun;
     }) turned.says
     (law (said_from job.machine on.begun) job.machine on.so_far sold.terms snew.terms sold.words snew.words sold.memory
@@ -284,7 +294,8 @@ whole job number cycles elements from segment board way space paths o turn is tu
     subst (IsTurnedOnStep job number elements from cycles segment board way space paths o) is turned
 
 -- a run that was on its way through a step is so still
-abbrev pub StaysOnStep : Job → (wold : Way) → (sold : Space) → (pold : Paths) → (old : Stepping) → (wnew : Way) → (snew : Space)
+abbrev pub StaysOnStep : Job → (wold : Way) → (sold : Space) → (pold : Paths) → (old : Stepping)
+    → (wnew : Way) → (snew : Space)
     → (pnew : Paths) → (new : Stepping) → Type 0
 StaysOnStep job wold sold pold old wnew snew pnew new =
     (number cycles : ℕ) (elements : List ℕ) (from : List Kept) (segment : List Decided) (board : Symbolic)
@@ -300,11 +311,14 @@ TurnsOnStep job sold old snew new turn =
 
 -- a turn that asks for a bit, of a run that was on its way from the step's first statement
 pub asks_on : (job : Job) (number cycles : ℕ) (elements : List ℕ) (from : List Kept) (segment : List Decided)
-    (board : Symbolic) (wold way : Way) (sold before space : Space) (pold paths : Paths) (old o asked : Stepping) (turn : Turn) (kind : DecidedKind) (term : ℕ)
+    (board : Symbolic) (wold way : Way) (sold before space : Space) (pold paths : Paths) (old o asked : Stepping)
+    (turn : Turn) (kind : DecidedKind) (term : ℕ)
     → turn ≡ Ask kind term → StaysOnStep job wold sold pold old way before paths o
-    → TurnsOnStep job before o space asked turn → IsOnStep job number elements from cycles segment board wold sold pold old
+    → TurnsOnStep job before o space asked turn
+    → IsOnStep job number elements from cycles segment board wold sold pold old
     → IsTurnedOnStep job number elements from cycles segment board way space paths asked (Ask kind term)
-asks_on job number cycles elements from segment board wold way sold before space pold paths old o asked turn kind term is stays turns
+asks_on job number cycles elements from segment board wold way sold before space pold paths old o asked turn
+    kind term is stays turns
     on =
     subst (IsTurnedOnStep job number elements from cycles segment board way space paths asked) is
     (turns number cycles elements from segment board way paths (stays number cycles elements from segment board on))
@@ -332,19 +346,22 @@ pub asks_where : (job : Job) (number cycles : ℕ) (elements : List ℕ) (from :
     → AsksFor job number (met_of way) (ground_in space elements) term
 asks_where job number cycles elements from segment board way space paths o kind term turned =
     let on = turned.0 in
-    asks_for job number (ground_in space elements) segment (met_of way) on.so_far (standing_on space board) on.begun o term on.met on.listed
+    asks_for job number (ground_in space elements) segment (met_of way) on.so_far
+    (standing_on space board) on.begun o term on.met on.listed
     turned.2
 
 -- A bit that the step asked for was decided, and given to it.
 pub takes : (job : Job) (number cycles : ℕ) (elements : List ℕ) (from : List Kept) (segment : List Decided)
-    (board : Symbolic) (wold wnew : Way) (space : Space) (pold pnew : Paths) (old new : Stepping) (kind : DecidedKind) (term : ℕ) (value : Bool)
+    (board : Symbolic) (wold wnew : Way) (space : Space) (pold pnew : Paths) (old new : Stepping) (kind : DecidedKind)
+    (term : ℕ) (value : Bool)
     → Asks job.machine space.terms space.words space.memory old kind term
     → IsDecided job.machine space.terms space.words space.memory old new value
     → BitsGoAlong → new ≡ given_so old value → left_in job.machine new ≡ chosen value (left_in job.machine old)
     → HasDecided job number (ground_in space elements) from wold wnew (path_in pold) (path_in pnew) kind term value
     → IsTurnedOnStep job number elements from cycles segment board wold space pold old (Ask kind term)
     → IsOnStep job number elements from cycles segment board wnew space pnew new
-takes job number cycles elements from segment board wold wnew space pold pnew old new kind term value asks decided_so law new_is
+takes job number cycles elements from segment board wold wnew space pold pnew old new kind term value asks
+    decided_so law new_is
     left has turned =
     let on = turned.0 in
     let g = ground_in space elements in
@@ -363,11 +380,13 @@ takes job number cycles elements from segment board wold wnew space pold pnew ol
           (ap (λ all. slice_get all (length on.so_far)) within.bits
           ∙ bit_behind on.so_far (bits_to_come job.machine space.terms given space.memory (scene_of start) old)
           ∙ next ∙ ap Some by.1);
-      of_board = board_narrower job number g space (path_in pold) (path_in pnew) board (λ given at. (has.by.so given at).0)
+      of_board =
+          board_narrower job number g space (path_in pold) (path_in pnew) board (λ given at. (has.by.so given at).0)
           on.of_board;
       begun = on.begun;
       listed = on.listed;
-      along = λ idle. law (said_from job.machine on.begun) job.machine on.so_far space.terms space.words space.memory old new term
+      along = λ idle.
+          law (said_from job.machine on.begun) job.machine on.so_far space.terms space.words space.memory old new term
           value turned.2 new_is left;
     }
 

@@ -1,5 +1,6 @@
 -- The order of cases, and which of them kept bits lead to.
-use Rattle.std.proofs.Common.{◌≡◌, ◌≢◌, ◌⊎◌, inl, inr, ℕ, zero, suc, ◌<◌, List, [], ◌∷◌, ◌++◌, drop, length, take, Bool, true, false, refl, sym, ap, ap₂, ◌∙◌, subst, arith, append_assoc, append-nil}
+use Rattle.std.proofs.Common.{◌≡◌, ◌≢◌, ◌⊎◌, inl, inr, ℕ, zero, suc, ◌<◌, List, [], ◌∷◌, ◌++◌, drop, length, take, Bool}
+use Rattle.std.proofs.Common.{true, false, refl, sym, ap, ap₂, ◌∙◌, subst, arith, append_assoc, append-nil}
 use Rattle.std.specs.Prelude.{Option, Some, None, if◌then◌else◌}
 use Rattle.std.proofs.lemmas.Bool.{cases_lt}
 use Rattle.std.proofs.lemmas.List.{map-append, take-append-drop, take_all}
@@ -82,7 +83,8 @@ feasible_next job number before d rest f =
     feasible_front job number (before ++ d ∷ []) rest (feasible_moved job number before d rest f)
 
 -- so is a case, and each front of one
-feasible_case : (job : Job) (number : ℕ) (bits : List Decided) → IsCase job number bits → IsFeasiblePrefix job number bits
+feasible_case : (job : Job) (number : ℕ) (bits : List Decided) → IsCase job number bits
+    → IsFeasiblePrefix job number bits
 feasible_case job number bits is =
     record { start = is.start; starts = is.starts; rest = []; bits_are = is.bits_are ∙ sym (append-nil bits) }
 
@@ -256,8 +258,8 @@ turned_comes job number front k behind are can =
 not_both : (d : Decided) (kind : DecidedKind) → d ≡ decided kind true → d.value ≡ false → ⊥
 not_both d kind one low = let both : true ≡ false = sym (ap (λ (x : Decided). x.value) one) ∙ low in absurd cc
 
--- Nothing that is feasible comes between bits, of which one is turned and none behind it can be, and the turned bits with
--- the least ones behind them.
+-- Nothing that is feasible comes between bits, of which one is turned and none behind it can be, and the turned bits
+-- with the least ones behind them.
 none_between : (job : Job) (number : ℕ) (front : List Kept) (k : Kept) (behind more : List Kept)
     (before rest : List Decided) → AreKept job number before (front ++ k ∷ behind)
     → turned_last behind ≡ None → AreLeast job number (before ++ bits_of (front ++ turned k ∷ [])) more
@@ -404,7 +406,8 @@ none_at_turned : (job : Job) (number : ℕ) (kept now : List Kept) (way : Way) (
     → IsBefore (bits_of kept) other → ¬ IsBefore other (met_of way)
 none_at_turned job number kept now way other are turns bits case come before =
     let t = turned_at kept now turns in
-    none_between job number t.front t.bit t.behind bits.more [] other (subst (AreKept job number []) t.kept_is are) t.none
+    none_between job number t.front t.bit t.behind bits.more [] other
+    (subst (AreKept job number []) t.kept_is are) t.none
     (subst (λ (xs : List Kept). AreLeast job number (bits_of xs) bits.more) t.now_is bits.least)
     (feasible_case job number other case)
     (subst (λ (xs : List Kept). IsBefore (bits_of xs) other) t.kept_is come)

@@ -40,7 +40,8 @@ use Rattle.mw_fork.proofs.WordPaths.{at_most_same, made_same, path_word_same}
 
 -- a path word on the run's path is that of the list
 pub compared_same : (job : Job) (number : ℕ) (bits : List Decided) (path : Function) (c : Comparison)
-    → Agree path (path_of job number bits) → AreSame (word_on job.board.map_entries path c) (comparison_word job number bits c)
+    → Agree path (path_of job number bits)
+    → AreSame (word_on job.board.map_entries path c) (comparison_word job number bits c)
 compared_same job number bits path c written =
     path_word_same path (path_of job number bits) (bit (table_in job.board.map_entries c.list) c.term 0) false written
 
@@ -85,17 +86,21 @@ over_by : (job : Job) (number nodes : ℕ) (bits : List Decided) (space : Space)
     → AreNodesOver job number nodes bits (number_or_last c.list.words term) j
 over_by job number nodes bits space path c term j law is among list same table written feasible (in_list over) =
     let map = job.board.map_entries in
-    let here : IsOver (table_in map c.list) term j nodes = subst (λ (t : Table). IsOver t term j nodes) (sym same) over in
+    let here : IsOver (table_in map c.list) term j nodes =
+    subst (λ (t : Table). IsOver t term j nodes) (sym same) over in
     over_at job number nodes bits c.list term j is.front (law map c.list term j nodes is.numbered here) feasible
-    (over_front map c.list (case_words job number bits).list term j nodes (subst IsTable (sym same) table) is.front here)
-over_by job number nodes bits space path c term j law is among list same table written feasible (at_comparison its low more) =
+    (over_front map c.list (case_words job number bits).list term j nodes
+    (subst IsTable (sym same) table) is.front here)
+over_by job number nodes bits space path c term j law is among list same table written feasible
+    (at_comparison its low more) =
     let some = is.numbered.numbered c.term _ is.its refl in
     subst (λ (x : ℕ). AreNodesOver job number nodes bits (number_or_last c.list.words x) j) its
     (subst (λ (x : ℕ). AreNodesOver job number nodes bits (number_or_last c.list.words c.term) x) (sym low)
     (comparison_over job number nodes bits path c is.front some among written feasible more))
 
 -- where the comparison stops, an operation of the case's list is over the budget
-pub over_compared : (job : Job) (number nodes : ℕ) (bits : List Decided) (map : List ℕ) (space : Space) (path : Function)
+pub over_compared : (job : Job) (number nodes : ℕ) (bits : List Decided) (map : List ℕ)
+    (space : Space) (path : Function)
     (compared : Compared) (word j : ℕ) → OverHaveNumbers → AreNumbered → map ≡ job.board.map_entries
     → case_words job number bits ≡ whole compared → Agree path (path_of job number bits)
     → IsFeasiblePrefix job number bits → StopsComparing map nodes space path compared word j
@@ -114,19 +119,23 @@ over_compared job number nodes bits map space path compared word j law laws entr
     let named : word ≡ number_or_last c.list.words stops.term =
     stops.named ∙ ap (λ (l : WordList). number_or_last l.words stops.term) (sym stops.list) in
     subst (λ (x : ℕ). AreNodesOver job number nodes bits x j) (sym named)
-    (over_by job number nodes bits space path c stops.term j law is among stops.list table stops.table written feasible over)
+    (over_by job number nodes bits space path c stops.term j law is among stops.list table stops.table
+    written feasible over)
 
 -- so it is whatever it stops by
-pub stops_comparing : (job : Job) (number nodes : ℕ) (bits : List Decided) (map : List ℕ) (space : Space) (path : Function)
+pub stops_comparing : (job : Job) (number nodes : ℕ) (bits : List Decided) (map : List ℕ)
+    (space : Space) (path : Function)
     (compared : Compared) (stop : Stop) → OverHaveNumbers → AreNumbered → map ≡ job.board.map_entries
     → case_words job number bits ≡ whole compared → Agree path (path_of job number bits)
     → IsFeasiblePrefix job number bits
     → ((word j : ℕ) → stop ≡ Over word j → StopsComparing map nodes space path compared word j)
     → ComparisonStops job number nodes bits stop
-stops_comparing job number nodes bits map space path compared (Over word j) law laws entries words written feasible stops =
+stops_comparing job number nodes bits map space path compared
+    (Over word j) law laws entries words written feasible stops =
     over_compared job number nodes bits map space path compared word j law laws entries words written feasible
     (stops word j refl)
-stops_comparing job number nodes bits map space path compared NoMemory law laws entries words written feasible stops = tt
+stops_comparing job number nodes bits map space path compared NoMemory law laws entries words written feasible stops =
+    tt
 
 -- ---- within a budget
 
@@ -139,7 +148,8 @@ within_all job number nodes bits map space path compared entries words written h
     let here : Contains compared.comparisons c =
     subst (λ (w : CaseWords). Contains w.comparisons c) words among in
     let few : HasAtMostCofactors (word_on map path c) nodes =
-    All-contains (λ (x : Comparison). HasAtMostCofactors (word_on map path x) nodes) compared.comparisons c have.within here in
+    All-contains (λ (x : Comparison). HasAtMostCofactors (word_on map path x) nodes) compared.comparisons
+    c have.within here in
     at_most_same _ _ nodes (compared_same job number bits path c written)
     (subst (λ (m : List ℕ). HasAtMostCofactors (word_on m path c) nodes) entries few)
 
@@ -165,7 +175,8 @@ never_fails job number bits path c written none given =
     sym (made_same _ _ (compared_same job number bits path c written) given) ∙ none given
 
 pub sought_by : (job : Job) (number : ℕ) (bits : List Decided) (map : List ℕ) (space : Space) (path : Function)
-    (compared : Compared) (numbers : Numbers) → map ≡ job.board.map_entries → case_words job number bits ≡ whole compared
+    (compared : Compared) (numbers : Numbers) → map ≡ job.board.map_entries
+    → case_words job number bits ≡ whole compared
     → Agree path (path_of job number bits) → FailsFirst map space path compared numbers
     → IsSoughtBy job number bits space numbers
 sought_by job number bits map space path compared numbers entries words written fails =
@@ -176,14 +187,16 @@ sought_by job number bits map space path compared numbers entries words written 
           (λ i d inside. never_fails job number bits path (slice_index_or fails.before i d) written
           (subst (λ (m : List ℕ). Agree (made (word_on m path (slice_index_or fails.before i d))) never) entries
           (fails.none i d inside)))
-          (subst (λ (m : List ℕ). Agree (made (word_on m path c)) (made (comparison_word job number bits c))) (sym entries)
+          (subst
+          (λ (m : List ℕ). Agree (made (word_on m path c)) (made (comparison_word job number bits c))) (sym entries)
           (made_same _ _ (compared_same job number bits path c written)))
           (sym fails.list);
       first = fails.first;
     }
 
 -- where nothing is compared, the first on the path is looked for
-pub sought_on_path : (job : Job) (number : ℕ) (bits : List Decided) (space : Space) (path : Function) (numbers : Numbers)
+pub sought_on_path : (job : Job) (number : ℕ) (bits : List Decided) (space : Space)
+    (path : Function) (numbers : Numbers)
     → (case_words job number bits).comparisons ≡ [] → (case_words job number bits).list ≡ list_of_space space
     → Agree path (path_of job number bits) → IsFirst path numbers → IsSoughtBy job number bits space numbers
 sought_on_path job number bits space path numbers none list written first = record {

@@ -1,7 +1,9 @@
 -- What is over a budget of nodes, said of the word list of the bits that a run has met.
-use Rattle.std.proofs.Common.{◌≡◌, inl, inr, ℕ, zero, suc, ◌+◌, ◌<◌, List, [], ◌∷◌, length, append-nil, ap, sym, subst, ◌∙◌, arith, refl}
+use Rattle.std.proofs.Common.{◌≡◌, inl, inr, ℕ, zero, suc, ◌+◌, ◌<◌, List, [], ◌∷◌, length, append-nil, ap, sym, subst}
+use Rattle.std.proofs.Common.{◌∙◌, arith, refl}
 use Rattle.std.specs.Option.{unwrap_or}
-use Rattle.std.specs.Prelude.{Bool, true, false, IsSome, Option, Some, None, option_map, ◌==◌, if◌then◌else◌, slice_get, slice_index_or}
+use Rattle.std.specs.Prelude.{Bool, true, false, IsSome, Option, Some, None, option_map, ◌==◌, if◌then◌else◌, slice_get}
+use Rattle.std.specs.Prelude.{slice_index_or}
 use Rattle.std.proofs.lemmas.Bool.{eqb-true}
 use Rattle.std.proofs.lemmas.Option.{same_Some}
 use Rattle.mw_cycle.specs.declared.decided.Decided.{Decided}
@@ -130,7 +132,8 @@ over_at job number nodes bits front term j is some feasible over = record {
 
 -- one of the term table's row
 row_over : (job : Job) (number nodes : ℕ) (bits : List Decided) (g : Ground) (term named j : ℕ) → OverHaveNumbers
-    → IsNumbered (case_words job number bits).list → g.table.map ≡ job.board.map_entries → AsksFor job number bits g term
+    → IsNumbered (case_words job number bits).list → g.table.map ≡ job.board.map_entries
+    → AsksFor job number bits g term
     → IsFeasiblePrefix job number bits → IsOver g.table named j nodes → IsOverAt job number nodes bits g named j
 row_over job number nodes bits g term named j law numbered map asks feasible over =
     let l = list_in g.table g.words g.memory in
@@ -142,7 +145,8 @@ row_over job number nodes bits g term named j law numbered map asks feasible ove
     (subst (λ (t : Table). IsOver t named j nodes) (sym table) over)
 
 -- that of a path word for one value of the bit
-value_over : (job : Job) (number nodes : ℕ) (bits : List Decided) (g : Ground) (path : Function) (term : ℕ) (value : Bool)
+value_over : (job : Job) (number nodes : ℕ) (bits : List Decided) (g : Ground) (path : Function)
+    (term : ℕ) (value : Bool)
     → g.table.map ≡ job.board.map_entries → AsksFor job number bits g term → Agree path (path_of job number bits)
     → IsFeasiblePrefix job number bits → HasMoreCofactors (path_word path (bit g.table term 0) value) nodes
     → IsOverAt job number nodes bits g term 0
@@ -174,7 +178,8 @@ path_over : (job : Job) (number nodes : ℕ) (bits : List Decided) (g : Ground) 
 path_over job number nodes bits g path term map asks written feasible over =
     at over.0 over.1 over.2 over.3 over.4 where
       at : (k : ℕ) (u : Triple) → k < 2
-          → slice_index_or (path_word path (bit g.table term 0) false ∷ path_word path (bit g.table term 0) true ∷ []) k u ≡ u
+          → slice_index_or
+          (path_word path (bit g.table term 0) false ∷ path_word path (bit g.table term 0) true ∷ []) k u ≡ u
           → HasMoreCofactors u nodes → IsOverAt job number nodes bits g term 0
       at zero u inside is more =
           value_over job number nodes bits g path term false map asks written feasible

@@ -1,5 +1,6 @@
 -- The elements' own terms at a boundary.
-use Rattle.std.proofs.Common.{◌≡◌, inl, inr, ℕ, ◌+◌, ◌<◌, ◌≤◌, List, [], ◌∷◌, ◌++◌, length, drop, drop-cons, slice_index, append-nil, append_assoc, add-one, ap, sym, subst, ◌∙◌, arith}
+use Rattle.std.proofs.Common.{◌≡◌, inl, inr, ℕ, ◌+◌, ◌<◌, ◌≤◌, List, [], ◌∷◌, ◌++◌, length, drop, drop-cons}
+use Rattle.std.proofs.Common.{slice_index, append-nil, append_assoc, add-one, ap, sym, subst, ◌∙◌, arith}
 use Rattle.std.specs.Prelude.{Bool, false}
 use Rattle.std.proofs.lemmas.Bool.{cases_lt}
 use Rattle.std.proofs.lemmas.List.{drop_all}
@@ -89,7 +90,8 @@ with_own_step boundary widths number free width term own old new inside tested w
     let rest = drop (number + 1) widths in
     let left : drop number widths ≡ slice_index widths number ∷ rest = rw add-one (drop-cons widths number 0 inside) in
     let own_is : own_words boundary number (slice_index widths number) old ≡ ended term new =
-    ap (λ w. own_words boundary number w old) (sym wide) ∙ ap (λ f. own_word f number width old) (sym tested) ∙ sym made in
+    ap (λ w. own_words boundary number w old) (sym wide)
+    ∙ ap (λ f. own_word f number width old) (sym tested) ∙ sym made in
     ap (λ ws. with_own boundary number ws (all_ended own old)) left
     ∙ ap (with_next boundary number rest own) own_is
     ∙ next_is_own boundary number term rest own new

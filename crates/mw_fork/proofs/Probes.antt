@@ -1,5 +1,5 @@
--- For each start and each address there is an assignment whose probe is that address; and the ground of a run stays while both
--- sides are compared.
+-- For each start and each address there is an assignment whose probe is that address; and the ground of a run stays
+-- while both sides are compared.
 use Rattle.std.proofs.Common.{◌≡◌, ◌⊎◌, inl, inr, ℕ, ◌+◌, ◌<◌, ◌%◌, ◌^◌, List, ◌++◌, ap, sym, subst, ◌∙◌, arith, refl}
 use Rattle.std.specs.Prelude.{◌==◌, if◌then◌else◌, Option, None, Some}
 use Rattle.std.proofs.Math.Nat.{mod-eq_of_lt}
@@ -86,7 +86,8 @@ reached_at job number g place probe address is ground at wide less start starts 
     let values = with_values g.words (values_of job.board start.pair) in
     let reached = reached_from job number g is ground start starts (with_number (place + 1) address values)
     (λ other term n element.
-    other_number (place + 1) address values (other + 1) (probe_no_element g.words place other probe term n at element)) in
+    other_number (place + 1) address values (other + 1)
+    (probe_no_element g.words place other probe term n at element)) in
     let has : reached.0 (place + 1) ≡ address =
     reached.2 (place + 1) (probe_inside g.words place probe at) (probe_no_base g.words place probe at)
     ∙ own_number (place + 1) address values in (
@@ -115,7 +116,8 @@ found_or_none (Some term) = inr (term, refl)
 inputs_compared : (board : BoardParts) (told tnew : Table) (wold wnew more : List Word) → IsLater told tnew
     → wnew ≡ wold ++ more → HaveKinds IsComparedKind more → AreInputs board told wold → AreInputs board tnew wnew
 inputs_compared board told tnew wold wnew more later words kinds inputs n term is =
-    let there : term_of (wold ++ more) (Input n) ≡ Some term = ap (λ (ws : List Word). term_of ws (Input n)) (sym words) ∙ is in
+    let there : term_of (wold ++ more) (Input n) ≡ Some term =
+    ap (λ (ws : List Word). term_of ws (Input n)) (sym words) ∙ is in
     elim (found_or_none (term_of wold (Input n))) [
       | inl none ↦
           let no : term_of (wold ++ more) (Input n) ≡ None =
@@ -162,7 +164,8 @@ ground_compared job number old new elements is ground compared own =
 -- a start over what there is after a comparison was one before
 pub start_compared : (job : Job) (number : ℕ) (old new : Space) (elements : List ℕ) (given : Given) (start : Start)
     → IsJob job → IsGround job number (ground_in old elements) → GoesComparing old new → HaveOwnKinds new.words
-    → IsStartOf job number (ground_in new elements) given start → IsStartOf job number (ground_in old elements) given start
+    → IsStartOf job number (ground_in new elements) given start
+    → IsStartOf job number (ground_in old elements) given start
 start_compared job number old new elements given start is ground compared own one =
     start_before job number (ground_in old elements) (ground_in new elements) given start is ground
     (goes_compared old new elements compared own) one

@@ -1,5 +1,6 @@
 -- The terms that lines put in the place of elements' own terms.
-use Rattle.std.proofs.Common.{◌≡◌, inl, inr, ℕ, zero, suc, ◌+◌, ◌<◌, List, [], ◌∷◌, add-one, drop, drop-cons, get_or, length, Bool, true, false, ◌||◌, ◌==◌, refl, ap, sym, subst, ◌∙◌, arith}
+use Rattle.std.proofs.Common.{◌≡◌, inl, inr, ℕ, zero, suc, ◌+◌, ◌<◌, List, [], ◌∷◌, add-one, drop, drop-cons, get_or}
+use Rattle.std.proofs.Common.{length, Bool, true, false, ◌||◌, ◌==◌, refl, ap, sym, subst, ◌∙◌, arith}
 use Rattle.std.specs.Prelude.{Some, option_map, slice_get, slice_index}
 use Rattle.std.specs.List.{list_any}
 use Rattle.std.proofs.lemmas.Bool.{cases_lt, eqb-true, eq-eqb}
@@ -36,7 +37,8 @@ behind_one first rest e is = record { place = suc is.place; line = is.line; at =
 first_or : (first : Line) (rest : List Line) (e : ℕ) (here : Bool) → (first.left == e) ≡ here
     → (here || list_any (λ line. line.left == e) rest) ≡ true
     → (list_any (λ line. line.left == e) rest ≡ true → IsLeftOf rest e) → IsLeftOf (first ∷ rest) e
-first_or first rest e true is there later = record { place = 0; line = first; at = refl; left = eqb-true first.left e is }
+first_or first rest e true is there later =
+    record { place = 0; line = first; at = refl; left = eqb-true first.left e is }
 first_or first rest e false is there later = behind_one first rest e (later there)
 
 pub left_of : (lines : List Line) (e : ℕ) → list_any (λ line. line.left == e) lines ≡ true → IsLeftOf lines e
@@ -61,7 +63,8 @@ not_left (first ∷ rest) (suc j) line e at none same = not_left rest j line e a
 -- ---- line after line
 
 -- before the first line
-pub related_first : (lines : List Line) (t : Table) (words : List Word) (m : Memory) (own : List ℕ) → IsWorkspace t words m
+pub related_first : (lines : List Line) (t : Table) (words : List Word) (m : Memory) (own : List ℕ)
+    → IsWorkspace t words m
     → AreRelated lines 0 t t words words m m own own
 related_first lines t words m own workspace = record {
   reads = 0;
@@ -153,7 +156,8 @@ pub related_step : (job : Job) (lines : List Line) (k : ℕ) (next : Line) (t0 t
     → AreRelated lines (k + 1) t0 t2 w0 w2 m0 m2 own new
 related_step job lines k next t0 t1 t2 w0 w1 w2 m0 m1 m2 own old new elements line_of wide at is are =
     related_more lines k next t0 t1 t2 w0 w1 w2 m0 m1 m2 own old new
-    (λ i inside. (elements.wide.each i (omega (arith, inside, elements.wide.count))).there) elements.space.workspace.memory at
+    (λ i inside. (elements.wide.each i (omega (arith, inside, elements.wide.count))).there)
+    elements.space.workspace.memory at
     (omega (arith, line_of.left, wide.count)) is are
 
 -- a line that the code keeps, at its place

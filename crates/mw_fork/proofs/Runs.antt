@@ -1,5 +1,6 @@
 -- A run from a boundary, on terms.
-use Rattle.std.proofs.Common.{◌≡◌, inl, inr, ℕ, ◌+◌, ◌<◌, ◌≤◌, ◌^◌, List, [], ◌∷◌, ◌++◌, drop, take, length, length-drop, slice_index, ap, sym, subst, ◌∙◌, arith, refl}
+use Rattle.std.proofs.Common.{◌≡◌, inl, inr, ℕ, ◌+◌, ◌<◌, ◌≤◌, ◌^◌, List, [], ◌∷◌, ◌++◌, drop, take, length}
+use Rattle.std.proofs.Common.{length-drop, slice_index, ap, sym, subst, ◌∙◌, arith, refl}
 use Rattle.std.specs.Prelude.{Bool, if◌then◌else◌, Option, Some, None}
 use Rattle.std.proofs.lemmas.Bool.{cases_lt}
 use Rattle.std.proofs.lemmas.List.{get_or-take}
@@ -18,7 +19,8 @@ use Rattle.mw_symboard.specs.declared.reading.Reading.{Reading}
 use Rattle.mw_symboard.specs.Cycle.{bits_before}
 use Rattle.mw_symboard.specs.Kinds.{AreInputs, IsCycleKind}
 use Rattle.mw_symboard.specs.Seen.{Place, microword_of}
-use Rattle.mw_symboard.specs.Turns.{AreNoLater, Asks, HasRead, IsSymbolic, IsTurn, Symbolic, decided_so, reads_by, reads_to_come}
+use Rattle.mw_symboard.specs.Turns.{AreNoLater, Asks, HasRead, IsSymbolic, IsTurn, Symbolic, decided_so, reads_by}
+use Rattle.mw_symboard.specs.Turns.{reads_to_come}
 use Rattle.mw_board.specs.declared.parts.BoardParts.{BoardParts}
 use Rattle.mw_board.specs.Depth.{depth_of}
 use Rattle.mw_board.specs.Elements.{element_count}
@@ -81,12 +83,14 @@ pub probe_kept : (K : WordKind → Type 0) (told tnew : Table) (wold wnew : List
     → GoesOn K told tnew wold wnew mold mnew → (K Probe → ⊥) → term_of wnew Probe ≡ term_of wold Probe
 probe_kept K told tnew wold wnew mold mnew goes never =
     ap (λ (ws : List Word). term_of ws Probe) goes.words
-    ∙ none_behind wold goes.more Probe (absent goes.more Probe (λ place term is. never (goes.kinds place term Probe is)))
+    ∙ none_behind wold goes.more Probe
+    (absent goes.more Probe (λ place term is. never (goes.kinds place term Probe is)))
 
 -- and there is none later, where there was none
 pub fresh_later : (K : WordKind → Type 0) (told tnew : Table) (wold wnew : List Word) (mold mnew : Memory)
     → GoesOn K told tnew wold wnew mold mnew → (K Probe → ⊥) → term_of wold Probe ≡ None → term_of wnew Probe ≡ None
-fresh_later K told tnew wold wnew mold mnew goes never none = probe_kept K told tnew wold wnew mold mnew goes never ∙ none
+fresh_later K told tnew wold wnew mold mnew goes never none =
+    probe_kept K told tnew wold wnew mold mnew goes never ∙ none
 
 -- a cycle makes none
 no_probe_in : (cycle taken : ℕ) → IsCycleKind cycle taken Probe → ⊥
@@ -127,7 +131,8 @@ turned job told tnew wold wnew mold mnew old new registers (Ask kind term) under
         symbolic = symbolic;
         taken = omega (arith, cycle, taken, under.taken);
         reads = omega (arith, none, reads, under.reads, cycle);
-        fresh = fresh_later K told tnew wold wnew mold mnew goes (no_probe_in old.place.cycle old.place.taken) under.fresh;
+        fresh =
+            fresh_later K told tnew wold wnew mold mnew goes (no_probe_in old.place.cycle old.place.taken) under.fresh;
         line = λ some. line_read job tnew wnew mnew new is.3.begun.0 is.3.begun.1 symbolic before;
         count = under.count;
         wide = λ i inside. width_later told tnew _ _ goes.later (under.wide i inside);
@@ -144,7 +149,8 @@ turned job told tnew wold wnew mold mnew old new registers Finished under goes i
         symbolic = symbolic;
         taken = omega (arith, is.2, is.3, under.taken);
         reads = omega (arith, few, reads, under.reads, is.2);
-        fresh = fresh_later K told tnew wold wnew mold mnew goes (no_probe_in old.place.cycle old.place.taken) under.fresh;
+        fresh =
+            fresh_later K told tnew wold wnew mold mnew goes (no_probe_in old.place.cycle old.place.taken) under.fresh;
         line = λ some. line_later K told tnew wold wnew mold mnew goes (under.line (omega (arith, enough)));
         count = under.count;
         wide = λ i inside. width_later told tnew _ _ goes.later (under.wide i inside);
@@ -188,16 +194,19 @@ registers_wide : (job : Job) (t : Table) (terms : List ℕ) → IsJob job → Ar
 registers_wide job t terms is wide i below =
     let k = element_count job.board in
     let each = wide.each (k + i) (omega (arith, widths_count job is, below)) in
-    subst (λ w. IsOfWidth t w (slice_index (drop k terms) i)) (register_width job is i below) (rw (dropped_at k terms i) each)
+    subst (λ w. IsOfWidth t w (slice_index (drop k terms) i)) (register_width job is i below)
+    (rw (dropped_at k terms i) each)
 
 pub registers_count : (job : Job) (t : Table) (terms : List ℕ) → IsJob job → AreWide t job.relation.shape.widths terms
     → length (drop (element_count job.board) terms) ≡ job.machine.registers
 registers_count job t terms is wide =
     omega (arith, length-drop (element_count job.board) terms, wide.count, widths_count job is)
 
-pub start_inputs : (parts : BoardParts) (t : Table) (words : List Word) → HaveKinds IsStartKind words → AreInputs parts t words
+pub start_inputs : (parts : BoardParts) (t : Table) (words : List Word) → HaveKinds IsStartKind words
+    → AreInputs parts t words
 start_inputs parts t words kinds n term is =
-    let none : term_of words (Input n) ≡ None = absent words (Input n) (λ place other at. kinds place other (Input n) at) in
+    let none : term_of words (Input n) ≡ None =
+    absent words (Input n) (λ place other at. kinds place other (Input n) at) in
     absurd cc
 
 pub start_no_later : (words : List Word) → HaveKinds IsStartKind words → AreNoLater 0 words
@@ -206,7 +215,8 @@ start_no_later words kinds n from = (
   absent words (Noise n) (λ place other at. kinds place other (Noise n) at),
 )
 
-pub address_at : (job : Job) (n : ℕ) → IsJob job → n < length job.relation.boundaries → (numbered job n).address < 2 ^ 12
+pub address_at : (job : Job) (n : ℕ) → IsJob job → n < length job.relation.boundaries
+    → (numbered job n).address < 2 ^ 12
 address_at job n is below = (is.matched.relation.formed.boundaries n no_boundary below).address
 
 pub pointer_at : (job : Job) (n : ℕ) → IsJob job → n < length job.relation.boundaries

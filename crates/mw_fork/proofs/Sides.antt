@@ -1,5 +1,6 @@
 -- Both sides of a case where they have ended: what the start's run and step come to has the values of their terms.
-use Rattle.std.proofs.Common.{◌≡◌, ℕ, zero, suc, ◌+◌, ◌<◌, List, [], ◌∷◌, ◌++◌, length, map, take, append_assoc, Bool, true, false, Some, None, refl, ap, ap₂, sym, subst, ◌∙◌, arith}
+use Rattle.std.proofs.Common.{◌≡◌, ℕ, zero, suc, ◌+◌, ◌<◌, List, [], ◌∷◌, ◌++◌, length, map, take, append_assoc, Bool}
+use Rattle.std.proofs.Common.{true, false, Some, None, refl, ap, ap₂, sym, subst, ◌∙◌, arith}
 use Rattle.std.specs.Prelude.{slice_index, if◌then◌else◌}
 use Rattle.std.proofs.lemmas.List.{map-append, take-map, take_more}
 use Rattle.mw_base.specs.declared.event.Event.{Event}
@@ -48,8 +49,8 @@ use Rattle.mw_fork.specs.Starts.{Ground, IsStartOf, course_of}
 abbrev pub terms_at_end : Job → Symbolic → Stepping → List ℕ
 terms_at_end job board step = terms_with job.board board.place.parts (take job.machine.registers step.parts.values)
 
--- Under an assignment, a start's run of so many cycles is its segment, and this and its step have the values of the terms
--- of both sides.
+-- Under an assignment, a start's run of so many cycles is its segment, and this and its step have the values of the
+-- terms of both sides.
 pub record ComeTo (job : Job) (space : Space) (given : Given) (start : Start) (cycles : ℕ) (board : Symbolic)
     (step : Stepping) : Type 0 where
   pub segment : segment_of job start ≡ Some (board_run job start cycles)
@@ -70,10 +71,12 @@ pub record ComeTo (job : Job) (space : Space) (given : Given) (start : Start) (c
 -- ---- values
 
 -- an event has one value on both sides
-one_event : (t : Table) (given : Given) (es : List SymEvent) → map (boards.event_of t given) es ≡ map (event_of t given) es
+one_event : (t : Table) (given : Given) (es : List SymEvent)
+    → map (boards.event_of t given) es ≡ map (event_of t given) es
 one_event t given [] = refl
 one_event t given (Out term ∷ es) = ap (λ (xs : List Event). event_of t given (Out term) ∷ xs) (one_event t given es)
-one_event t given (Taken term ∷ es) = ap (λ (xs : List Event). event_of t given (Taken term) ∷ xs) (one_event t given es)
+one_event t given (Taken term ∷ es) =
+    ap (λ (xs : List Event). event_of t given (Taken term) ∷ xs) (one_event t given es)
 
 -- two functions that are equal at some numbers
 same_mapped : (t : Table) (given : Given) (f g : ℕ → ℕ) (from count : ℕ)
@@ -89,7 +92,8 @@ values_are : (board : BoardParts) (t : Table) (given : Given) (s : BoardState) (
     (terms : List ℕ) → ((n : ℕ) → n < element_count board
     → element board s n ≡ term_value t given (term_of_part parts (element_of board n)))
     → registers ≡ values_at t given terms
-    → map (element board s) (numbers 0 (element_count board)) ++ registers ≡ values_at t given (terms_with board parts terms)
+    → map (element board s) (numbers 0 (element_count board)) ++ registers
+    ≡ values_at t given (terms_with board parts terms)
 values_are board t given s parts registers terms each same =
     let own = map (λ n. term_of_part parts (element_of board n)) (numbers 0 (element_count board)) in
     ap₂ (λ (xs ys : List ℕ). xs ++ ys)
@@ -168,7 +172,8 @@ come_later job number g bits old new path given start cycles board step ended_so
           ∙ sym (events_same old.terms new.terms given step.parts.events keeps (λ i e at. (stands.event i e at).there));
       values = come.values ∙ sym (values_same old.terms new.terms given (terms_at_end job board step) keeps terms);
       board_memory = come.board_memory
-          ∙ sym (held_by_stays old.terms new.terms old.words old.memory new.memory Board given start.pair.board.memory keeps
+          ∙ sym
+          (held_by_stays old.terms new.terms old.words old.memory new.memory Board given start.pair.board.memory keeps
           stands.workspace.memory goes.writes);
       step_memory = come.step_memory
           ∙ sym (held_by_stays old.terms new.terms old.words old.memory new.memory Machine given start.pair.board.memory

@@ -1,5 +1,6 @@
 -- The comparison of both sides of a case that isn't late: whether they are unlike, and what it says of the case.
-use Rattle.std.proofs.Common.{◌≡◌, ℕ, List, [], Bool, true, false, not, ◌&&◌, ◌||◌, ◌==◌, Option, Some, None, refl, ap, ap₂, sym, subst, ◌∙◌, arith}
+use Rattle.std.proofs.Common.{◌≡◌, ℕ, List, [], Bool, true, false, not, ◌&&◌, ◌||◌, ◌==◌, Option, Some, None, refl, ap}
+use Rattle.std.proofs.Common.{ap₂, sym, subst, ◌∙◌, arith}
 use Rattle.std.specs.Prelude.{All, IfSome, if◌then◌else◌}
 use Rattle.std.proofs.lemmas.Bool.{eq-eqb, eqb-true}
 use Rattle.mw_cycle.specs.declared.decided.Decided.{Decided}
@@ -19,13 +20,15 @@ use Rattle.mw_rel.specs.Job.{Job, IsJob}
 use Rattle.mw_rel.specs.Lines.{Line}
 use Rattle.mw_rel.specs.Relation.{Boundary}
 use Rattle.mw_rel.specs.Rules.{IsLineOf}
-use Rattle.mw_fork.specs.Comparing.{AreApart, AreSidesOn, FailsFirst, GoesComparing, HaveCompared, StopsComparing, compared_all}
+use Rattle.mw_fork.specs.Comparing.{AreApart, AreSidesOn, FailsFirst, GoesComparing, HaveCompared, StopsComparing}
+use Rattle.mw_fork.specs.Comparing.{compared_all}
 use Rattle.mw_fork.specs.declared.elements.Space.{Space}
 use Rattle.mw_fork.specs.declared.stop.Stop.{Stop}
 use Rattle.mw_fork.specs.declared.stop.Stop.TheVariants.{Over}
 use Rattle.mw_fork.specs.Failing.{ComparisonStops, ComparisonsAreWithin, IsFound}
 use Rattle.mw_fork.specs.Listed.{list_of_space, standing_on}
-use Rattle.mw_fork.proofs.CaseCompared.{IsEnded, found_apart, found_on_path, prefix_of_case, unlike_differs, words_compared}
+use Rattle.mw_fork.proofs.CaseCompared.{IsEnded, found_apart, found_on_path, prefix_of_case, unlike_differs}
+use Rattle.mw_fork.proofs.CaseCompared.{words_compared}
 use Rattle.mw_fork.proofs.Numbered.{AreNumbered}
 use Rattle.mw_fork.proofs.OverCompared.{stops_comparing, within_all, within_none}
 use Rattle.mw_fork.proofs.Sides.{terms_at_end}
@@ -42,11 +45,13 @@ test_is true sp = refl
 test_is false sp = refl
 
 -- the test that is made is that of the words
-pub unlike_as : (job : Job) (space : Space) (board : Symbolic) (step : Stepping) (reached : Boundary) (alike : Bool) (sp : ℕ)
+pub unlike_as : (job : Job) (space : Space) (board : Symbolic) (step : Stepping) (reached : Boundary)
+    (alike : Bool) (sp : ℕ)
     (test : Bool) → alike ≡ are_alike board.events step.parts.events → sp ≡ board.place.sp
     → (not alike || not (sp == reached.sp)) ≡ test → is_unlike reached (ends_of job space board step) ≡ test
 unlike_as job space board step reached alike sp test one other is =
-    ap₂ (λ (a : Bool) (n : ℕ). not (a && (n == reached.sp))) (sym one) (sym other) ∙ test_is alike (sp == reached.sp) ∙ is
+    ap₂ (λ (a : Bool) (n : ℕ). not (a && (n == reached.sp))) (sym one) (sym other)
+    ∙ test_is alike (sp == reached.sp) ∙ is
 
 both_hold : (a b : Bool) → not (a && b) ≡ false → (a ≡ true) × (b ≡ true)
 both_hold true true is = (refl, refl)
@@ -87,7 +92,8 @@ words_at_end job number elements bits cycles space path board step reached test 
 
 -- ---- where they are unlike
 
-pub unlike_within : (job : Job) (number nodes : ℕ) (elements : List ℕ) (bits : List Decided) (cycles : ℕ) (space : Space)
+pub unlike_within : (job : Job) (number nodes : ℕ) (elements : List ℕ) (bits : List Decided)
+    (cycles : ℕ) (space : Space)
     (path : Function) (board : Symbolic) (step : Stepping) (reached : Boundary)
     → IsEnded job number elements bits cycles space path board step → boundary_at job board.place.at ≡ Some reached
     → is_unlike reached (ends_of job space board step) ≡ true → ComparisonsAreWithin job number nodes bits
@@ -104,7 +110,8 @@ unlike_found job number elements bits cycles space path board step reached numbe
     found_on_path job number elements bits space path numbers is.stands is.written is.whole
     (words_at_end job number elements bits cycles space path board step reached true is there unlike) first
     (λ start one on.
-    unlike_differs job number elements bits cycles space path board step reached (given_by numbers) start valid is formed there
+    unlike_differs job number elements bits cycles space path board step reached
+    (given_by numbers) start valid is formed there
     on (not_alike job space board step reached unlike) one)
 
 -- ---- where all is compared
@@ -138,7 +145,8 @@ same_ends P t u l k b c m n terms lines board machine holds =
     (subst (λ x. P u k x m) board (subst (λ x. P u x b m) lines (subst (λ x. P x l b m) terms holds)))
 
 -- where nothing was found, all are within the budget
-pub alike_within : (job : Job) (number nodes : ℕ) (elements : List ℕ) (bits : List Decided) (cycles : ℕ) (old new : Space)
+pub alike_within : (job : Job) (number nodes : ℕ) (elements : List ℕ) (bits : List Decided)
+    (cycles : ℕ) (old new : Space)
     (path : Function) (board : Symbolic) (step : Stepping) (reached : Boundary)
     → IsEnded job number elements bits cycles old path board step → boundary_at job board.place.at ≡ Some reached
     → is_unlike reached (ends_of job old board step) ≡ false
@@ -152,7 +160,8 @@ alike_within job number nodes elements bits cycles old new path board step reach
     (have (ends_of job old board step) (compared_in (list_of_space old) []) (sides_on job old board step) first)
 
 -- what was found is the first that is sought
-pub alike_found : (job : Job) (number nodes : ℕ) (elements : List ℕ) (bits : List Decided) (cycles : ℕ) (old new : Space)
+pub alike_found : (job : Job) (number nodes : ℕ) (elements : List ℕ) (bits : List Decided)
+    (cycles : ℕ) (old new : Space)
     (path : Function) (board : Symbolic) (step : Stepping) (reached : Boundary) (numbers : Numbers) → IsJob job
     → IsEnded job number elements bits cycles old path board step → GoesComparing old new → HaveOwnKinds new.words
     → All (IsLineOf job.relation.shape) reached.lines → boundary_at job board.place.at ≡ Some reached
@@ -162,7 +171,8 @@ pub alike_found : (job : Job) (number nodes : ℕ) (elements : List ℕ) (bits :
     → AreApart job.relation.shape new (given_by numbers) (terms_at_end job board step) reached.lines board.events
     step.parts.events
     → IsFound job number elements bits new numbers
-alike_found job number nodes elements bits cycles old new path board step reached numbers valid is goes own formed there alike
+alike_found job number nodes elements bits cycles old new path board step reached numbers valid is goes
+    own formed there alike
     fails two =
     found_apart job number elements bits cycles old new path board step reached _ numbers valid is goes own formed there
     (words_at_end job number elements bits cycles old path board step reached false is there alike)
@@ -176,12 +186,15 @@ some_both P Q R None each one other = one
 some_both P Q R (Some x) each one other = each x one other
 
 -- where the comparison stops, an operation of the case is over the budget
-pub alike_stops : (job : Job) (number nodes : ℕ) (elements : List ℕ) (bits : List Decided) (cycles : ℕ) (old new : Space)
-    (path : Function) (board : Symbolic) (step : Stepping) (reached : Boundary) (stop : Stop) → OverHaveNumbers → AreNumbered
+pub alike_stops : (job : Job) (number nodes : ℕ) (elements : List ℕ) (bits : List Decided)
+    (cycles : ℕ) (old new : Space)
+    (path : Function) (board : Symbolic) (step : Stepping) (reached : Boundary) (stop : Stop)
+    → OverHaveNumbers → AreNumbered
     → IsEnded job number elements bits cycles old path board step → boundary_at job board.place.at ≡ Some reached
     → is_unlike reached (ends_of job old board step) ≡ false
     → ((word j : ℕ) → stop ≡ Over word j
-    → OfAll job nodes old path (λ all. StopsComparing old.terms.map nodes new path all word j) (terms_at_end job board step)
+    → OfAll job nodes old path (λ all. StopsComparing old.terms.map nodes new path all word j)
+    (terms_at_end job board step)
     reached.lines board.events step.parts.events)
     → ComparisonStops job number nodes bits stop
 alike_stops job number nodes elements bits cycles old new path board step reached stop law laws is there alike stops =

@@ -15,7 +15,8 @@ within t budget none us are = let few : length us ≤ 0 = none us are in omega a
 
 -- by a bit that is 0
 pub split_zero : (nodes : List Node) (path bit constant : ℕ) (P b : Function) (budget : ℕ) → TerminalCasesHaveNone
-    → StandsFor nodes path P → IsDd nodes constant → Agree (function_of nodes constant) (λ given. false) → bit ≡ constant
+    → StandsFor nodes path P → IsDd nodes constant
+    → Agree (function_of nodes constant) (λ given. false) → bit ≡ constant
     → StandsFor nodes bit b → IsSplit nodes P b budget (record { zero = path; one = constant })
 split_zero nodes path bit constant P b budget law there here is same stands =
     let none : Agree b (λ given. false) = λ given.

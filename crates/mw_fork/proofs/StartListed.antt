@@ -27,12 +27,14 @@ use Rattle.mw_fork.proofs.Related.{lines_rest}
 -- a line whose right side is over the elements' own terms, where nothing is written
 pub line_listed : (job : Job) (told tnew : Table) (wold wnew : List Word) (mold mnew : Memory) (own terms : List ℕ)
     (line : Line) (term : ℕ) → IsJob job → AreElements job told wold mold own → mold.machine ≡ []
-    → ListsOver (expression_words (shape_over told own mold) own mold.machine line.right) told tnew wold wnew mold mnew term
+    → ListsOver (expression_words (shape_over told own mold) own mold.machine line.right) told tnew
+    wold wnew mold mnew term
     → line_words job.relation.shape own line (all_ended terms (list_in told wold mold))
     ≡ all_ended (slice_set terms line.left term) (list_in tnew wnew mnew)
 line_listed job told tnew wold wnew mold mnew own terms line term is are none made =
     let l = list_in told wold mold in
-    let same = stands_shape job.relation.shape told wold mold (parts_of own [] 0) (stands job told wold mold own is are) in
+    let same =
+    stands_shape job.relation.shape told wold mold (parts_of own [] 0) (stands job told wold mold own is are) in
     let right = made ∙ ap (λ s. expression_words s own mold.machine line.right l) same
     ∙ ap (λ (writes : List Held). expression_words job.relation.shape own writes line.right l) none in
     ap (λ (e : Ended). all_ended (slice_set terms line.left e.term) e.list) (sym right)

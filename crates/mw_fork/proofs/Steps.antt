@@ -1,5 +1,6 @@
 -- The described step of a run.
-use Rattle.std.proofs.Common.{◌≡◌, inl, inr, ℕ, ◌+◌, ◌-◌, ◌<◌, ◌≤◌, List, [], ◌∷◌, ◌++◌, length, ap, sym, subst, ◌∙◌, arith, refl, length-append}
+use Rattle.std.proofs.Common.{◌≡◌, inl, inr, ℕ, ◌+◌, ◌-◌, ◌<◌, ◌≤◌, List, [], ◌∷◌, ◌++◌, length, ap, sym, subst, ◌∙◌}
+use Rattle.std.proofs.Common.{arith, refl, length-append}
 use Rattle.std.proofs.lemmas.Option.{same_Some}
 use Rattle.std.specs.Prelude.{Bool, true, false, Option, Some, None, if◌then◌else◌, slice_get}
 use Rattle.mw_expr.specs.declared.shape.Shape.{Shape}
@@ -7,7 +8,8 @@ use Rattle.mw_macro.specs.declared.counts.Counted.TheVariants.{Reads, Statements
 use Rattle.mw_macro.specs.Counts.{count, total}
 use Rattle.mw_macro.specs.Machine.{Description}
 use Rattle.mw_macro.specs.Statements.{Act, assign, write, put, take_in, choose, Acts, nothing, next}
-use Rattle.mw_macro.specs.StepWords.{Come, Underway, act_words, acts_words, condition_words, going, then_behind, then_by, with_list}
+use Rattle.mw_macro.specs.StepWords.{Come, Underway, act_words, acts_words, condition_words, going, then_behind}
+use Rattle.mw_macro.specs.StepWords.{then_by, with_list}
 use Rattle.mw_term.specs.declared.kinds.DecidedKind.{DecidedKind}
 use Rattle.mw_term.specs.declared.kinds.WordKind.{WordKind}
 use Rattle.mw_term.specs.declared.kinds.WordKind.TheVariants.{Base, Input, Probe}
@@ -23,7 +25,8 @@ use Rattle.mw_symmem.proofs.Lists.{missing}
 use Rattle.mw_symboard.specs.Turns.{Symbolic}
 use Rattle.mw_symmach.specs.Along.{BitsGoAlong, TurnsAlong, TurnsGoAlong}
 use Rattle.mw_symmach.specs.Steps.{IsOfStep}
-use Rattle.mw_symmach.specs.Turns.{Asks, IsDecided, IsSaid, IsStepping, IsTurn, Stepping, Waits, given_so, left_in, reads_to_come}
+use Rattle.mw_symmach.specs.Turns.{Asks, IsDecided, IsSaid, IsStepping, IsTurn, Stepping, Waits, given_so, left_in}
+use Rattle.mw_symmach.specs.Turns.{reads_to_come}
 use Rattle.mw_symmach.specs.Walks.{Walks, asked_by, chosen, underway_in, underway_of}
 use Rattle.mw_symmach.proofs.Acting.{found}
 use Rattle.mw_rel.specs.Job.{Job, IsJob}
@@ -34,8 +37,8 @@ use Rattle.mw_fork.proofs.Runs.{fresh_later}
 
 -- ---- how many bits there are
 
--- What was made of so many statements along some bits: where they are done, each used one bit at most; where they stop, there were
--- fewer bits than statements.
+-- What was made of so many statements along some bits: where they are done, each used one bit at most; where they stop,
+-- there were fewer bits than statements.
 record Uses (bits : List Bool) (n : ℕ) (c : Come) : Type 0 where
   done : c.asked ≡ None → length bits ≤ length c.bits + n
   stops : (term : ℕ) → c.asked ≡ Some term → length bits < n
@@ -71,7 +74,8 @@ uses_then bits m n c behind first rest = by c.asked refl
         record { done = λ none. absurd cc; stops = λ other at. omega (arith, few) }
 
 mutual
-  uses_act : (s : Shape) (act : Act) (bits : List Bool) (u : Underway) → Uses bits (count Statements act) (act_words s act bits u)
+  uses_act : (s : Shape) (act : Act) (bits : List Bool) (u : Underway)
+      → Uses bits (count Statements act) (act_words s act bits u)
   uses_act s (assign target e) bits u = uses_one bits _
   uses_act s (write address e) bits u = uses_one bits _
   uses_act s (put e) bits u = uses_one bits _
@@ -90,7 +94,8 @@ mutual
       (uses_act s act bits u) (λ more v. uses_acts s rest more v)
 
 -- where a step asks for a bit, there were fewer bits than statements
-pub stops_early : (d : Description) (from : Underway) (n : ℕ) (t : Table) (words : List Word) (m : Memory) (o : Stepping)
+pub stops_early : (d : Description) (from : Underway) (n : ℕ) (t : Table) (words : List Word)
+    (m : Memory) (o : Stepping)
     (term : ℕ) → HasStopped d from n t words m o term → n < total Statements d.acts
 stops_early d from n t words m o term at =
     let few = (uses_acts d.shape d.acts at.bits from).stops term (ap (λ c. c.asked) at.asks.stops) in
@@ -113,7 +118,8 @@ only words kind place term own is = by (term_of words kind) refl
         answer ∙ ap (λ (w : Word). Some w.term) (sym (same_Some (variable term kind) (variable other kind) one))
 
 -- a step waits behind the cycles of a run
-pub waits_behind : (job : Job) (t : Table) (words : List Word) (m : Memory) (o : Symbolic) (registers : List ℕ) (request : ℕ)
+pub waits_behind : (job : Job) (t : Table) (words : List Word) (m : Memory) (o : Symbolic)
+    (registers : List ℕ) (request : ℕ)
     → IsJob job → IsUnder job t words m o registers → HaveOwnKinds words → IsOfWidth t 1 request
     → Waits job.machine t words m registers request
 waits_behind job t words m o registers request is under own line = record {
@@ -160,10 +166,12 @@ said d from n bits t words m o (Ask kind term) size along says =
 said d from n bits t words m o Finished size along says = record { bits = bits; count_is = size; done = along }
 
 -- a turn
-pub turned : (d : Description) (from : Underway) (n : ℕ) (told tnew : Table) (wold wnew : List Word) (mold mnew : Memory)
+pub turned : (d : Description) (from : Underway) (n : ℕ) (told tnew : Table) (wold wnew : List Word)
+    (mold mnew : Memory)
     (old new : Stepping) (turn : Turn) → TurnsGoAlong → HasCome d from n told wold mold old
     → IsTurn d told tnew wnew mold mnew old new turn
-    → Walks d.shape (underway_of d told wold mold old) (underway_in tnew wnew mnew new.parts) (left_in d old) (left_in d new)
+    → Walks d.shape (underway_of d told wold mold old) (underway_in tnew wnew mnew new.parts)
+    (left_in d old) (left_in d new)
     (asked_by turn) → (turn ≡ Finished → left_in d new ≡ nothing) → new.request ≡ None
     → IsStepTurned d from n tnew wnew mnew new turn
 turned d from n told tnew wold wnew mold mnew old new turn law come is walks done begun =
@@ -178,9 +186,11 @@ no_probe_in kind = elim kind [
 ]
 
 -- it is a step still
-pub underway_later : (d : Description) (told tnew : Table) (wold wnew : List Word) (mold mnew : Memory) (old new : Stepping)
+pub underway_later : (d : Description) (told tnew : Table) (wold wnew : List Word) (mold mnew : Memory)
+    (old new : Stepping)
     → IsUnderway d told wold mold old → GoesOn IsOfStep told tnew wold wnew mold mnew
-    → length mnew.reads + reads_to_come d new ≤ length mold.reads + reads_to_come d old → IsStepping d tnew wnew mnew new
+    → length mnew.reads + reads_to_come d new ≤ length mold.reads + reads_to_come d old
+    → IsStepping d tnew wnew mnew new
     → IsUnderway d tnew wnew mnew new
 underway_later d told tnew wold wnew mold mnew old new under goes few stepping = record {
   workspace = goes.workspace;
@@ -190,7 +200,8 @@ underway_later d told tnew wold wnew mold mnew old new under goes few stepping =
 }
 
 -- with a bit that was given
-pub decided_underway : (d : Description) (t : Table) (words : List Word) (m : Memory) (old new : Stepping) (value : Bool)
+pub decided_underway : (d : Description) (t : Table) (words : List Word) (m : Memory)
+    (old new : Stepping) (value : Bool)
     → IsUnderway d t words m old → IsDecided d t words m old new value → IsUnderway d t words m new
 decided_underway d t words m old new value under decided = record {
   workspace = under.workspace;
@@ -200,7 +211,8 @@ decided_underway d t words m old new value under decided = record {
 }
 
 -- with a bit that was given it has come along one bit more
-pub goes_on : (d : Description) (from : Underway) (n : ℕ) (t : Table) (words : List Word) (m : Memory) (old new : Stepping)
+pub goes_on : (d : Description) (from : Underway) (n : ℕ) (t : Table) (words : List Word) (m : Memory)
+    (old new : Stepping)
     (term : ℕ) (value : Bool) → BitsGoAlong → HasStopped d from n t words m old term → new ≡ given_so old value
     → left_in d new ≡ chosen value (left_in d old) → HasCome d from (n + 1) t words m new
 goes_on d from n t words m old new term value law at is left = record {

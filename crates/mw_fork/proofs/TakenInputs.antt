@@ -1,5 +1,6 @@
 -- The inputs that both sides of a case take: the events of each have those of one list, one after another.
-use Rattle.std.proofs.Common.{◌≡◌, ℕ, zero, suc, ◌+◌, List, [], ◌∷◌, ◌++◌, Bool, true, false, Some, None, slice_index, refl, ap, append-nil, sym, subst, ◌∙◌, arith}
+use Rattle.std.proofs.Common.{◌≡◌, ℕ, zero, suc, ◌+◌, List, [], ◌∷◌, ◌++◌, Bool, true, false, Some, None, slice_index}
+use Rattle.std.proofs.Common.{refl, ap, append-nil, sym, subst, ◌∙◌, arith}
 use Rattle.std.specs.Prelude.{if◌then◌else◌, ◌==◌}
 use Rattle.std.specs.Option.{option_to_list}
 use Rattle.mw_base.specs.declared.event.Event.{Event}
@@ -94,7 +95,8 @@ taken_in (Out u ∷ rest) v = taken_in rest v
 taken_in (Taken u ∷ rest) v = omega (arith, taken_in rest v)
 
 mutual
-  act_takes : (s : Shape) (inputs : List ℕ) (act : Act) (x : Now) → Takes inputs x → Takes inputs (after s inputs 0 act x)
+  act_takes : (s : Shape) (inputs : List ℕ) (act : Act) (x : Now) → Takes inputs x
+      → Takes inputs (after s inputs 0 act x)
   act_takes s inputs (assign target e) x is = record { take = is.take; count = is.count }
   act_takes s inputs (write address e) x is = record { take = is.take; count = is.count }
   act_takes s inputs (put e) x is =

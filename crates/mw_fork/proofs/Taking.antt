@@ -1,5 +1,6 @@
 -- An assignment's values of the variables of a list.
-use Rattle.std.proofs.Common.{◌≡◌, inl, inr, ℕ, zero, suc, ◌+◌, ◌<◌, List, [], ◌∷◌, ◌++◌, drop, length, length-take-le, map, take, take-append-drop, refl, ap, sym, subst, ◌∙◌, arith}
+use Rattle.std.proofs.Common.{◌≡◌, inl, inr, ℕ, zero, suc, ◌+◌, ◌<◌, List, [], ◌∷◌, ◌++◌, drop, length, length-take-le}
+use Rattle.std.proofs.Common.{map, take, take-append-drop, refl, ap, sym, subst, ◌∙◌, arith}
 use Rattle.std.specs.Prelude.{if◌then◌else◌, Bool, true, false, filter, Option, Some, None, slice_get, slice_index_or}
 use Rattle.std.proofs.lemmas.Bool.{cases_lt}
 use Rattle.std.proofs.lemmas.List.{map-append, take_more}
@@ -62,7 +63,8 @@ free_step p f n values so_far =
 free_by : (p : ℕ → Bool) (f g : ℕ → ℕ) (from : ℕ) (rest : List ℕ) (b : Bool) → p from ≡ b
     → (p from ≡ true → f from ≡ g from) → map f (filter p rest) ≡ map g (filter p rest)
     → map f (filter p (from ∷ rest)) ≡ map g (filter p (from ∷ rest))
-free_by p f g from rest true is same others = rw is (ap (λ x. x ∷ map f (filter p rest)) (same is) ∙ ap (λ xs. g from ∷ xs) others)
+free_by p f g from rest true is same others =
+    rw is (ap (λ x. x ∷ map f (filter p rest)) (same is) ∙ ap (λ xs. g from ∷ xs) others)
 free_by p f g from rest false is same others = rw is others
 
 -- functions that agree on the free elements have the same values of them

@@ -119,14 +119,16 @@ met_so job number elements from reached bound cycles late way run some is met =
 
 -- the segment of a run that has met no bit before it, by how the segment ended
 pub segment_met : (job : Job) (number : ℕ) (elements : List ℕ) (before : Way) (first : Run) (reached : Option ℕ)
-    (bound cycles : ℕ) (late : Bool) (way : Way) (run : Run) → IsJob job → IsFirst job number elements first → IsIdle first.board 0
+    (bound cycles : ℕ) (late : Bool) (way : Way) (run : Run) → IsJob job → IsFirst job number elements first
+    → IsIdle first.board 0
     → met_of before ≡ [] → bound ≡ (numbered job number).bound → is_some reached ≡ not late
     → cycles ≡ unwrap_or reached bound
     → ((number : ℕ) (elements : List ℕ) (from : List Kept) → IsOnRun job number elements from before first 0
     → bound ≡ (numbered job number).bound
     → HasMetSegment job number elements from (unwrap_or reached bound) (is_none reached) way run)
     → AreKept job number [] before.kept → HasMetSegment job number elements before.kept cycles late way run
-segment_met job number elements before first reached bound cycles late way run valid is idle none bound_is some so goes are =
+segment_met job number elements before first reached bound cycles late way run valid is idle none
+    bound_is some so goes are =
     met_so job number elements before.kept reached bound cycles late way run some so
     (goes number elements before.kept (on_run_first job number elements before first valid is idle none are) bound_is)
 

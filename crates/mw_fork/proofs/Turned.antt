@@ -32,7 +32,8 @@ pub turned_there : (xs : List Kept) (k : Kept) → 0 < length xs → slice_get x
     → turned_last xs ≡ Some (slice_set xs (length xs - 1) (turned k))
 turned_there xs k some at can = last_turned (length xs - 1) xs k (omega arith) at can
 
-pub dropped_there : (xs : List Kept) (k : Kept) → 0 < length xs → slice_get xs (length xs - 1) ≡ Some k → k.other ≡ false
+pub dropped_there : (xs : List Kept) (k : Kept) → 0 < length xs
+    → slice_get xs (length xs - 1) ≡ Some k → k.other ≡ false
     → turned_last xs ≡ turned_last (take (length xs - 1) xs)
 dropped_there xs k some at can = last_dropped (length xs - 1) xs k (omega arith) at can
 

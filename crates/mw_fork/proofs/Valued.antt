@@ -1,5 +1,6 @@
 -- The values of the elements' terms at a boundary, and what there is for a run to begin with.
-use Rattle.std.proofs.Common.{◌≡◌, inl, inr, ℕ, ◌<◌, List, [], length, map, Bool, true, false, not, ◌==◌, refl, ap, sym, subst, ◌∙◌, arith}
+use Rattle.std.proofs.Common.{◌≡◌, inl, inr, ℕ, ◌<◌, List, [], length, map, Bool, true, false, not, ◌==◌, refl, ap, sym}
+use Rattle.std.proofs.Common.{subst, ◌∙◌, arith}
 use Rattle.std.specs.Prelude.{All, Some, slice_get, slice_index}
 use Rattle.std.specs.List.{list_any}
 use Rattle.std.proofs.lemmas.Bool.{cases_lt}
@@ -94,7 +95,8 @@ right_holds : (job : Job) (number count : ℕ) (t0 t1 : Table) (w0 w1 : List Wor
     → FitImage t1 given m1.reads pair.board.memory → HaveFree job number (ground_of t1 w1 m1 terms) given pair
     → HasRight (numbered job number).lines t0 t1 m0 m1 own terms n
     → slice_index (values_of job.board pair) n ≡ term_value t1 given (slice_index terms n)
-right_holds job number count t0 t1 w0 w1 m0 m1 own terms given pair n is below are none all related image fits free right =
+right_holds job number count t0 t1 w0 w1 m0 m1 own terms given pair n is below are none all related
+    image fits free right =
     let s = job.relation.shape in
     let lines = (numbered job number).lines in
     let line = right.line in
@@ -103,7 +105,8 @@ right_holds job number count t0 t1 w0 w1 m0 m1 own terms given pair n is below a
     let held = held_by t0 given m0 Machine pair.board.memory in
     let holds = line_at (Holds job pair) lines right.place line related.lines right.at in
     let agree = own_values job number count t0 t1 w0 w1 m0 m1 own terms given pair is are all related free in
-    let over = rights_read_free_elements job number line xs ys pair.machine.memory is below right.place right.at agree in
+    let over =
+    rights_read_free_elements job number line xs ys pair.machine.memory is below right.place right.at agree in
     let memory : pair.machine.memory ≡ held =
     sym related.memory ∙ sym (held_first t0 given pair.board.memory m0.machine none) in
     let shape = stands_shape s t0 w0 m0 (parts_of own [] 0) (stands job t0 w0 m0 own is are) in
@@ -120,7 +123,8 @@ have_values : (job : Job) (number count : ℕ) (t0 t1 : Table) (w0 w1 : List Wor
     → m0.machine ≡ [] → count ≡ length (numbered job number).lines
     → AreRelated (numbered job number).lines count t0 t1 w0 w1 m0 m1 own terms
     → HaveValues job number (ground_of t1 w1 m1 terms)
-have_values job number count t0 t1 w0 w1 m0 m1 own terms is below are none counted all given pair related image fits free n
+have_values job number count t0 t1 w0 w1 m0 m1 own terms is below are none counted all given pair
+    related image fits free n
     inside =
     by (is_free (numbered job number) n) refl
   where
@@ -132,7 +136,8 @@ have_values job number count t0 t1 w0 w1 m0 m1 own terms is below are none count
         let there = left_of lines n (is_so (list_any (λ line. line.left == n) lines) apart) in
         let place = slice_get_within lines there.place there.line there.at in
         let right = all.left there.place there.line (omega (arith, place, counted)) there.at in
-        right_holds job number count t0 t1 w0 w1 m0 m1 own terms given pair n is below are none all related image fits free
+        right_holds job number count t0 t1 w0 w1 m0 m1 own terms given pair n is below are none all
+        related image fits free
         (subst (λ e. HasRight lines t0 t1 m0 m1 own terms e) there.left right)
 
 -- ---- what a run begins with
@@ -143,34 +148,38 @@ ground_first : (job : Job) (number count : ℕ) (t0 t1 : Table) (w0 w1 : List Wo
     → count ≡ length (numbered job number).lines
     → AreRelated (numbered job number).lines count t0 t1 w0 w1 m0 m1 own terms → AreElements job t1 w1 m1 own
     → AreWide t1 job.relation.shape.widths terms → HaveOwnKinds w1 → IsGround job number (ground_of t1 w1 m1 terms)
-ground_first job number count t0 t1 w0 w1 m0 m1 own terms is below are variables none counted all later wide kinds = record {
-  there = below;
-  space = later.space;
-  wide = wide;
-  free = λ n inside passes.
-      let lines = (numbered job number).lines in
-      let kept = all.free n (is_not (list_any (λ line. line.left == n) lines) passes) in
-      subst (λ x. (place : ℕ) × IsVariable w1 place x (Element n)) (sym kept)
-      (own_behind (numbered job number) (length job.relation.shape.widths) w0 w1 all.runs.goes.more own all.runs.goes.words
-      variables n inside passes);
-  values = have_values job number count t0 t1 w0 w1 m0 m1 own terms is below are none counted all;
-  cycles = 0;
-  variables = record {
-    each = λ n before. absurd (omega (arith, before));
-    none = start_no_later w1 later.kinds;
-    inputs = start_inputs job.board t1 w1 later.kinds;
-  };
-  own = kinds;
-}
+ground_first job number count t0 t1 w0 w1 m0 m1 own terms is below are variables none counted all later wide kinds =
+    record {
+      there = below;
+      space = later.space;
+      wide = wide;
+      free = λ n inside passes.
+          let lines = (numbered job number).lines in
+          let kept = all.free n (is_not (list_any (λ line. line.left == n) lines) passes) in
+          subst (λ x. (place : ℕ) × IsVariable w1 place x (Element n)) (sym kept)
+          (own_behind (numbered job number) (length job.relation.shape.widths) w0 w1 all.runs.goes.more
+          own all.runs.goes.words
+          variables n inside passes);
+      values = have_values job number count t0 t1 w0 w1 m0 m1 own terms is below are none counted all;
+      cycles = 0;
+      variables = record {
+        each = λ n before. absurd (omega (arith, before));
+        none = start_no_later w1 later.kinds;
+        inputs = start_inputs job.board t1 w1 later.kinds;
+      };
+      own = kinds;
+    }
 
 -- the same, of lines and own terms that were seen otherwise
-pub ground_begun : (job : Job) (number count : ℕ) (lines : List Line) (t0 t1 : Table) (w0 w1 : List Word) (m0 m1 : Memory)
+pub ground_begun : (job : Job) (number count : ℕ) (lines : List Line) (t0 t1 : Table)
+    (w0 w1 : List Word) (m0 m1 : Memory)
     (own seen terms : List ℕ) → IsJob job → number < length job.relation.boundaries → AreElements job t0 w0 m0 own
     → AreOwn (numbered job number) (length job.relation.shape.widths) w0 own → m0.machine ≡ [] → seen ≡ own
     → lines ≡ (numbered job number).lines → count ≡ length lines
     → AreRelated lines count t0 t1 w0 w1 m0 m1 seen terms → AreElements job t1 w1 m1 seen
     → AreWide t1 job.relation.shape.widths terms → HaveOwnKinds w1 → IsGround job number (ground_of t1 w1 m1 terms)
-ground_begun job number count lines t0 t1 w0 w1 m0 m1 own seen terms is below are variables none same here counted all later
+ground_begun job number count lines t0 t1 w0 w1 m0 m1 own seen terms is below are variables none same
+    here counted all later
     wide kinds =
     ground_first job number count t0 t1 w0 w1 m0 m1 seen terms is below
     (subst (λ xs. AreElements job t0 w0 m0 xs) (sym same) are)

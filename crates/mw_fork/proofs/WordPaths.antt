@@ -35,7 +35,8 @@ path_behind_more job number before (x ∷ bits) d path =
 
 -- the path of one bit more is the path before it, narrowed by it
 pub path_more : (job : Job) (number : ℕ) (bits : List Decided) (d : Decided)
-    → path_of job number (bits ++ d ∷ []) ≡ made (path_word (path_of job number bits) (next_bit job number bits) d.value)
+    → path_of job number (bits ++ d ∷ [])
+    ≡ made (path_word (path_of job number bits) (next_bit job number bits) d.value)
 unfolding path_of
 path_more job number bits d = path_behind_more job number [] bits d always
 
@@ -84,7 +85,8 @@ word_same job number bits g path term value map asks written =
 -- ---- a bit that was decided
 
 -- the path narrowed by it is that of the list
-pub written_next : (job : Job) (number : ℕ) (bits : List Decided) (g : Ground) (path next : Function) (kind : DecidedKind)
+pub written_next : (job : Job) (number : ℕ) (bits : List Decided) (g : Ground) (path next : Function)
+    (kind : DecidedKind)
     (term : ℕ) (value : Bool) → g.table.map ≡ job.board.map_entries → AsksFor job number bits g term
     → Agree path (path_of job number bits) → Agree next (made (path_word path (bit g.table term 0) value))
     → Agree next (path_of job number (bits ++ decided kind value ∷ []))

@@ -1,5 +1,6 @@
 -- The start that an assignment gives, and starts that differ.
-use Rattle.std.specs.Prelude.{◌≡◌, ◌≢◌, ℕ, ◌<◌, ◌-◌, List, length, map, false, Option, Some, None, slice_index, slice_index_or}
+use Rattle.std.specs.Prelude.{◌≡◌, ◌≢◌, ℕ, ◌<◌, ◌-◌, List, length, map, false, Option, Some, None, slice_index}
+use Rattle.std.specs.Prelude.{slice_index_or}
 use Rattle.mw_base.specs.Words.{num}
 use Rattle.mw_cycle.specs.declared.decided.Decided.{Decided}
 use Rattle.mw_cycle.specs.Environment.{Environment}
@@ -39,17 +40,19 @@ pub record IsTrimmed (env : Environment) : Type 0 where
   pub noise : HasNoZeroAtEnd env.noise
   pub inputs : HasNoZeroAtEnd env.inputs
 
--- What an assignment gives by a list: the free elements, lines, noise and inputs have the values of their variables, and
--- the memory that of the oldest base read at an address, and 0 elsewhere.
+-- What an assignment gives by a list: the free elements, lines, noise and inputs have the values of their variables,
+-- and the memory that of the oldest base read at an address, and 0 elsewhere.
 pub record IsAssigned (job : Job) (number : ℕ) (l : WordList) (given : Given) (begin : Begin) : Type 0 where
   pub values : begin.values
-      ≡ map (λ e. kind_value (table_in job.board.map_entries l) l given (Element e)) (free_elements job (numbered job number))
+      ≡ map (λ e. kind_value (table_in job.board.map_entries l) l given (Element e))
+      (free_elements job (numbered job number))
   pub memory : (address : ℕ)
       → slice_index begin.memory address ≡ base_word (table_in job.board.map_entries l) given l.reads address
   pub line : (n : ℕ)
       → num (slice_index_or begin.env.line n false) ≡ kind_value (table_in job.board.map_entries l) l given (Line n)
   pub noise : (n : ℕ) → slice_index begin.env.noise n ≡ kind_value (table_in job.board.map_entries l) l given (Noise n)
-  pub inputs : (n : ℕ) → slice_index begin.env.inputs n ≡ kind_value (table_in job.board.map_entries l) l given (Input n)
+  pub inputs : (n : ℕ)
+      → slice_index begin.env.inputs n ≡ kind_value (table_in job.board.map_entries l) l given (Input n)
   pub trimmed : IsTrimmed begin.env
 
 -- a start of the boundary that a choice gives

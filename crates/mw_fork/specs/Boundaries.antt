@@ -19,7 +19,8 @@ pub record IsSpace (job : Job) (t : Table) (words : List Word) (m : Memory) : Ty
 abbrev pub IsElementBelow : (number : ℕ) → WordKind → Type 0
 IsElementBelow number kind = (n : ℕ) × (n < number) × (kind ≡ Element n)
 
--- the variables that there are before the first cycle: those of free elements, and of what right sides read of the memory
+-- the variables that there are before the first cycle: those of free elements, and of what right sides read of the
+-- memory
 abbrev pub IsStartKind : WordKind → Type 0
 IsStartKind (Element n) = Unit {0}
 IsStartKind (Base n) = Unit {0}

@@ -42,7 +42,8 @@ pub record HaveCompared (map : List ℕ) (nodes : ℕ) (space : Space) (path : F
   pub within : All (λ c. HasAtMostCofactors (word_on map path c) nodes) so_far.comparisons
 
 -- The last that was made can fail, and none before it; and these are the first numbers under which it does.
-pub record FailsFirst (map : List ℕ) (space : Space) (path : Function) (compared : Compared) (numbers : Numbers) : Type 0 where
+pub record FailsFirst (map : List ℕ) (space : Space) (path : Function) (compared : Compared)
+    (numbers : Numbers) : Type 0 where
   pub before : List Comparison
   pub after : List Comparison
   pub at : Comparison
@@ -51,8 +52,8 @@ pub record FailsFirst (map : List ℕ) (space : Space) (path : Function) (compar
   pub list : at.list ≡ list_of_space space
   pub first : IsFirst (made (word_on map path at)) numbers
 
--- An operation is over the budget at a comparison: of a term of the list, at a bit of it; or, at bit 0, of the comparison's
--- path word, which stands at its term.
+-- An operation is over the budget at a comparison: of a term of the list, at a bit of it; or, at bit 0, of the
+-- comparison's path word, which stands at its term.
 pub data IsComparedOver (map : List ℕ) (nodes : ℕ) (space : Space) (path : Function) (c : Comparison) (term j : ℕ)
     : Type 0 where
   in_list : IsOver space.terms term j nodes → IsComparedOver map nodes space path c term j
@@ -81,9 +82,10 @@ pub record IsFrontOf (front all : WordList) : Type 0 where
   pub ops_are : all.ops ≡ front.ops ++ ops
   pub words_are : all.words ≡ front.words ++ words
 
--- Why the comparison stops: at a comparison such an operation is over, of the word with this number, or of a constant and
--- then behind the last word; and the list up to the comparison is the beginning of that of the whole.
-pub record StopsComparing (map : List ℕ) (nodes : ℕ) (space : Space) (path : Function) (compared : Compared) (word j : ℕ)
+-- Why the comparison stops: at a comparison such an operation is over, of the word with this number, or of a constant
+-- and then behind the last word; and the list up to the comparison is the beginning of that of the whole.
+pub record StopsComparing (map : List ℕ) (nodes : ℕ) (space : Space) (path : Function)
+    (compared : Compared) (word j : ℕ)
     : Type 0 where
   pub before : List Comparison
   pub after : List Comparison
@@ -131,7 +133,8 @@ pub record ArePutOut (board machine : List SymEvent) (number a b : ℕ) : Type 0
 -- the value of a line's right side, over the terms of elements and the machine's memory
 abbrev pub right_of : Shape → Space → (elements : List ℕ) → Given → (image : List ℕ) → Line → ℕ
 right_of s space elements given image line =
-    value s (values_at space.terms given elements) (held_by space.terms given space.memory sides.Machine image) line.right
+    value s (values_at space.terms given elements)
+    (held_by space.terms given space.memory sides.Machine image) line.right
 
 -- a line's left element has that value, over each image that the base reads fit
 abbrev pub HoldsAt : Shape → Space → (elements : List ℕ) → Given → Line → Type 0
@@ -154,8 +157,8 @@ abbrev pub machine_holds : Space → Given → (image : List ℕ) → (address :
 machine_holds space given image address =
     slice_index (held_by space.terms given space.memory sides.Machine image) address
 
--- A probe is there, an address of the memory's width; on the path the memories hold one word there, over each image that the
--- base reads fit.
+-- A probe is there, an address of the memory's width; on the path the memories hold one word there, over each image
+-- that the base reads fit.
 pub record AreOneAtProbe (space : Space) (path : Function) : Type 0 where
   pub place : ℕ
   pub probe : ℕ

@@ -25,14 +25,16 @@ pub record IsWithStart (job : Job) (space : Space) (given : Given) (start : Star
   pub in_run : IsInRun job.board job.store space.terms space.memory given (course_of start) board so_far
 
 -- A board on terms is in the run of each start on a path, and its elements and events have terms of their widths.
-pub record IsBoardOf (job : Job) (number : ℕ) (g : Ground) (space : Space) (path : Function) (board : Symbolic) : Type 0 where
+pub record IsBoardOf (job : Job) (number : ℕ) (g : Ground) (space : Space) (path : Function)
+    (board : Symbolic) : Type 0 where
   pub with_start : (given : Given) (start : Start) → IsStartOf job number g given start → path given ≡ true
       → IsWithStart job space given start board
   pub parts : AreParts job.board space.terms board.place.parts
   pub events : AreEvents job.board space.terms board.events
 
 -- A step on terms has ended: its terms have, for each start on a path, the values of what the start's step comes to.
-pub record IsStepOf (job : Job) (number : ℕ) (g : Ground) (space : Space) (path : Function) (step : Stepping) : Type 0 where
+pub record IsStepOf (job : Job) (number : ℕ) (g : Ground) (space : Space) (path : Function)
+    (step : Stepping) : Type 0 where
   pub ends : (given : Given) (start : Start) → IsStartOf job number g given start → path given ≡ true
       → step_of job.machine start.pair.machine (slice_index_or start.env.line 0 false) start.env.inputs 0
       ≡ ended job.machine (now_of space.terms given space.memory start.pair.board.memory step.parts)
@@ -46,7 +48,8 @@ pub record HaveEnded (job : Job) (number : ℕ) (g : Ground) (bits : List Decide
   pub made : board.place.cycle ≡ cycles
   pub of_step : IsStepOf job number g space path step
   pub listed : case_words job number bits
-      ≡ whole (with_comparisons job (standing_on space board) (underway_in space.terms space.words space.memory step.parts))
+      ≡ whole
+      (with_comparisons job (standing_on space board) (underway_in space.terms space.words space.memory step.parts))
 
 -- A case is late, and has no words behind its cycles; or it isn't, and both sides have ended.
 abbrev pub EndsBy : Job → (number : ℕ) → Ground → (bits : List Decided) → (cycles : ℕ) → (late : Bool) → Run

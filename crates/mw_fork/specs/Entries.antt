@@ -1,5 +1,6 @@
 -- What an environment has for its lines, noise and inputs.
-use Rattle.std.specs.Prelude.{◌≡◌, ◌≢◌, ℕ, ◌<◌, ◌-◌, List, Bool, true, false, if◌then◌else◌, length, slice_index, slice_index_or}
+use Rattle.std.specs.Prelude.{◌≡◌, ◌≢◌, ℕ, ◌<◌, ◌-◌, List, Bool, true, false, if◌then◌else◌, length, slice_index}
+use Rattle.std.specs.Prelude.{slice_index_or}
 use Rattle.mw_base.specs.Words.{num}
 use Rattle.mw_cycle.specs.Environment.{Environment}
 use Rattle.mw_term.specs.declared.kinds.WordKind.{WordKind}

@@ -32,9 +32,10 @@ ComparisonsAreWithin job number nodes bits =
     (c : Comparison) → Contains (case_words job number bits).comparisons c
     → HasAtMostCofactors (comparison_word job number bits c) nodes
 
--- Numbers are the first of those that are sought in a case, in the list of what there is; and each start that they stand
--- for has this case and differs.
-pub record IsFound (job : Job) (number : ℕ) (elements : List ℕ) (bits : List Decided) (space : Space) (numbers : Numbers)
+-- Numbers are the first of those that are sought in a case, in the list of what there is; and each start that they
+-- stand for has this case and differs.
+pub record IsFound (job : Job) (number : ℕ) (elements : List ℕ) (bits : List Decided)
+    (space : Space) (numbers : Numbers)
     : Type 0 where
   pub stands : IsGround job number (ground_in space elements)
   pub sought : Function

@@ -44,8 +44,8 @@ abbrev pub EndsEach : Job → (number : ℕ) → (bits : List Decided) → (cycl
 EndsEach job number bits cycles late = (start : Start) → IsStartAt job number start → case_of job start ≡ bits
     → (cycles_of job start ≡ cycles) × (is_late job start ≡ late)
 
--- Kept bits lead to the next case: there is one, and it is that of each run that began with them and has met all bits of a
--- case. None that is to come stands before the bits of such a run.
+-- Kept bits lead to the next case: there is one, and it is that of each run that began with them and has met all bits
+-- of a case. None that is to come stands before the bits of such a run.
 pub record LeadsToNext (job : Job) (number : ℕ) (at : Standing) (kept : List Kept) : Type 0 where
   pub are_kept : AreKept job number [] kept
   pub some : OneIsToCome job number at

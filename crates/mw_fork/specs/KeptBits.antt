@@ -7,8 +7,8 @@ use Rattle.mw_rel.specs.Job.{Job}
 use Rattle.mw_fork.specs.declared.way.Kept.{Kept}
 use Rattle.mw_fork.specs.Ways.{Way, bits_of}
 
--- A bit that is kept behind others: all are feasible; and it can be turned exactly where it is 0 and 1 is feasible there
--- too.
+-- A bit that is kept behind others: all are feasible; and it can be turned exactly where it is 0 and 1 is feasible
+-- there too.
 pub record IsKept (job : Job) (number : ℕ) (before : List Decided) (k : Kept) : Type 0 where
   pub feasible : IsFeasiblePrefix job number (before ++ k.bit ∷ [])
   pub zero : k.other ≡ true → k.bit.value ≡ false

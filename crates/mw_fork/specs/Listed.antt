@@ -7,7 +7,8 @@ use Rattle.mw_symboard.specs.Along.{standing_in, words_left}
 use Rattle.mw_symboard.specs.Turns.{Symbolic}
 use Rattle.mw_symmem.specs.Listed.{list_in}
 use Rattle.mw_cycle.specs.BoardTerms.{Standing}
-use Rattle.mw_rel.specs.CaseWords.{CaseWords, along_cycles, along_step, behind_cycle, behind_step, bit_values, case_words, stopped, words_along}
+use Rattle.mw_rel.specs.CaseWords.{CaseWords, along_cycles, along_step, behind_cycle, behind_step, bit_values}
+use Rattle.mw_rel.specs.CaseWords.{case_words, stopped, words_along}
 use Rattle.mw_rel.specs.Free.{numbered}
 use Rattle.mw_rel.specs.Job.{Job}
 use Rattle.mw_rel.specs.Start.{addresses_of}

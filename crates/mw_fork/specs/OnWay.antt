@@ -31,7 +31,8 @@ use Rattle.mw_fork.specs.declared.way.Kept.{Kept}
 use Rattle.mw_fork.specs.CasePaths.{HasCase, HasNoBoundary, HasSegment, IsCasePath, IsNextOfCase}
 use Rattle.mw_fork.specs.Ends.{EndsBy, IsBoardOf, IsStepOf}
 use Rattle.mw_fork.specs.KeptBits.{IsWayFrom}
-use Rattle.mw_fork.specs.Listed.{AsksFor, ComesTo, left_behind_cycle, left_behind_segment, left_in_cycle, left_of_cycles, left_of_step}
+use Rattle.mw_fork.specs.Listed.{AsksFor, ComesTo, left_behind_cycle, left_behind_segment, left_in_cycle}
+use Rattle.mw_fork.specs.Listed.{left_of_cycles, left_of_step}
 use Rattle.mw_fork.specs.Listed.{list_of_space, standing_on}
 use Rattle.mw_fork.specs.Paths.{ArePaths}
 use Rattle.mw_fork.specs.Runs.{IsUnder}
@@ -75,8 +76,8 @@ pub record HasDecided (job : Job) (number : ℕ) (g : Ground) (from : List Kept)
 
 -- ---- through the cycles of the board
 
--- The board is in the run of each start on the path, and no boundary has come after the first so many cycles. Where it is
--- in the next one, and waits for no bit, what is left of that and of those behind it is left of the word list.
+-- The board is in the run of each start on the path, and no boundary has come after the first so many cycles. Where it
+-- is in the next one, and waits for no bit, what is left of that and of those behind it is left of the word list.
 pub record IsOnRun (job : Job) (number : ℕ) (elements : List ℕ) (from : List Kept) (way : Way) (run : Run) (count : ℕ)
     : Type 0 where
   pub on : IsOnWay job number (ground_in run.space elements) from way (path_in run.paths)
@@ -89,7 +90,8 @@ pub record IsOnRun (job : Job) (number : ℕ) (elements : List ℕ) (from : List
   pub listed : run.board.asked ≡ None → run.board.place.cycle ≡ count
       → ComesTo job number (met_of way) (left_in_cycle job number run.space run.registers.items run.board)
 
--- it asks for a bit where the word list asks for it, and with either value what is left of its cycle is left of the list
+-- it asks for a bit where the word list asks for it, and with either value what is left of its cycle is left of the
+-- list
 pub record AsksInCycle (job : Job) (number : ℕ) (way : Way) (run : Run) (kind : DecidedKind) (term : ℕ) : Type 0 where
   pub here : AsksFor job number (met_of way) (ground_in run.space []) term
   pub on : (value : Bool) → ComesTo job number (met_of way ++ decided kind value ∷ [])
@@ -98,18 +100,19 @@ pub record AsksInCycle (job : Job) (number : ℕ) (way : Way) (run : Run) (kind 
 -- the bits that it has met are all those of its finished cycles
 abbrev pub HasMetAll : Job → (number : ℕ) → (elements : List ℕ) → Way → Run → Type 0
 HasMetAll job number elements way run =
-    AreAll job.board job.store run.space.terms run.space.words run.space.memory (origin_of job number elements) run.board
+    AreAll job.board job.store run.space.terms run.space.words run.space.memory
+    (origin_of job number elements) run.board
     (met_of way) (path_in run.paths)
 
--- its cycle is finished: the bits that it has met are all, the next cycle hasn't begun, and what is behind it is left of the
--- word list
+-- its cycle is finished: the bits that it has met are all, the next cycle hasn't begun, and what is behind it is left
+-- of the word list
 pub record HasFinished (job : Job) (number : ℕ) (elements : List ℕ) (way : Way) (run : Run) : Type 0 where
   pub all : HasMetAll job number elements way run
   pub before : run.board.reading ≡ None
   pub left : ComesTo job number (met_of way) (left_behind_cycle job number run.space run.registers.items run.board)
 
--- after a turn: it asks for the next bit of the cases on its path, where the cycle is one of their segments; or the cycle
--- is finished
+-- after a turn: it asks for the next bit of the cases on its path, where the cycle is one of their segments; or the
+-- cycle is finished
 abbrev pub IsTurnedOnRun : Job → (number : ℕ) → (elements : List ℕ) → (from : List Kept) → Way → Run → (count : ℕ)
     → Turn → Type 0
 IsTurnedOnRun job number elements from way run count (Ask kind term) =
@@ -120,8 +123,8 @@ IsTurnedOnRun job number elements from way run count (Ask kind term) =
 IsTurnedOnRun job number elements from way run count Finished =
     IsOnRun job number elements from way run count × HasFinished job number elements way run
 
--- The segment of each start on its path has so many cycles, is late or isn't, and decides the bits that it has met. Where it
--- isn't late, the described step is left of the word list.
+-- The segment of each start on its path has so many cycles, is late or isn't, and decides the bits that it has met.
+-- Where it isn't late, the described step is left of the word list.
 pub record HasMetSegment (job : Job) (number : ℕ) (elements : List ℕ) (from : List Kept) (cycles : ℕ) (late : Bool)
     (way : Way) (run : Run) : Type 0 where
   pub on : IsOnWay job number (ground_in run.space elements) from way (path_in run.paths)
@@ -135,8 +138,8 @@ pub record HasMetSegment (job : Job) (number : ℕ) (elements : List ℕ) (from 
   pub of_board : IsBoardOf job number (ground_in run.space elements) run.space (path_in run.paths) run.board
   pub made : run.board.place.cycle ≡ cycles
 
--- The bits that it has met are all of the case of each start on its path, whose segment has so many cycles, and is late or
--- isn't; then its step is this.
+-- The bits that it has met are all of the case of each start on its path, whose segment has so many cycles, and is late
+-- or isn't; then its step is this.
 pub record HasMetCase (job : Job) (number : ℕ) (elements : List ℕ) (from : List Kept) (cycles : ℕ) (late : Bool)
     (way : Way) (run : Run) (step : Option Stepping) : Type 0 where
   pub on : IsOnWay job number (ground_in run.space elements) from way (path_in run.paths)
@@ -164,9 +167,10 @@ abbrev pub scene_of : Start → step.Scene
 scene_of start = record { image = start.pair.board.memory; inputs = start.env.inputs }
 
 -- The step is in that of each start on the path, of which these bits were given; they stand behind those of a segment
--- with so many cycles, which isn't late, at the end of which the board is. What is left of the word list behind the segment is
--- the step from where it began; and where it waits for no bit, it has come along the bits that were given.
-pub record IsOnStep (job : Job) (number : ℕ) (elements : List ℕ) (from : List Kept) (cycles : ℕ) (segment : List Decided)
+-- with so many cycles, which isn't late, at the end of which the board is. What is left of the word list behind the
+-- segment is the step from where it began; and where it waits for no bit, it has come along the bits that were given.
+pub record IsOnStep (job : Job) (number : ℕ) (elements : List ℕ) (from : List Kept) (cycles : ℕ)
+    (segment : List Decided)
     (board : Symbolic) (way : Way) (space : Space) (paths : Paths) (o : Stepping) : Type 0 where
   pub on : IsOnWay job number (ground_in space elements) from way (path_in paths)
   pub ended : HasSegment job number (ground_in space elements) (path_in paths) cycles false segment
@@ -183,7 +187,8 @@ pub record IsOnStep (job : Job) (number : ℕ) (elements : List ℕ) (from : Lis
       → IsAlong (said_from job.machine begun) job.machine so_far space.terms space.words space.memory o
 
 -- a step that has met all bits of the cases on its path has ended, along the bits that were given
-pub record HasEndedStep (job : Job) (number : ℕ) (elements : List ℕ) (begun : Underway) (so_far : List Bool) (space : Space)
+pub record HasEndedStep (job : Job) (number : ℕ) (elements : List ℕ) (begun : Underway)
+    (so_far : List Bool) (space : Space)
     (paths : Paths) (o : Stepping) : Type 0 where
   pub of_step : IsStepOf job number (ground_in space elements) space (path_in paths) o
   pub along : IsDoneAlong (said_from job.machine begun) so_far space.terms space.words space.memory o
@@ -229,7 +234,8 @@ Cycles job old new before after =
 abbrev pub StaysWithin : Job → (nodes : ℕ) → (old new : Way) → (before : Run) → (count : ℕ) → Type 0
 StaysWithin job nodes old new before count =
     (number : ℕ) (elements : List ℕ) (from : List Kept) → IsOnRun job number elements from old before count
-    → count < (numbered job number).bound → AreWithin job number nodes (met_of old) → AreWithin job number nodes (met_of new)
+    → count < (numbered job number).bound → AreWithin job number nodes (met_of old)
+    → AreWithin job number nodes (met_of new)
 
 -- so are they with the bit that was asked for
 abbrev pub SettlesWithin : Job → (nodes : ℕ) → (old new : Way) → (before : Run) → DecidedKind → (term : ℕ) → Type 0
@@ -243,7 +249,8 @@ SettlesWithin job nodes old new before kind term =
 abbrev pub MadeWithin : Job → (nodes : ℕ) → (old new : Way) → (before : Run) → (bound : ℕ) → Type 0
 MadeWithin job nodes old new before bound =
     (number : ℕ) (elements : List ℕ) (from : List Kept) → IsOnRun job number elements from old before 0
-    → bound ≡ (numbered job number).bound → AreWithin job number nodes (met_of old) → AreWithin job number nodes (met_of new)
+    → bound ≡ (numbered job number).bound → AreWithin job number nodes (met_of old)
+    → AreWithin job number nodes (met_of new)
 
 -- ---- where a call stops
 

@@ -1,5 +1,6 @@
 -- The elements' own terms at a boundary, and the terms that lines put in their place.
-use Rattle.std.specs.Prelude.{◌≡◌, ℕ, ◌<◌, ◌++◌, ◌==◌, List, Bool, true, false, if◌then◌else◌, Some, slice_get, slice_index, slice_set}
+use Rattle.std.specs.Prelude.{◌≡◌, ℕ, ◌<◌, ◌++◌, ◌==◌, List, Bool, true, false, if◌then◌else◌, Some, slice_get}
+use Rattle.std.specs.Prelude.{slice_index, slice_set}
 use Rattle.std.specs.List.{list_any}
 use Rattle.mw_term.specs.declared.kinds.WordKind.TheVariants.{Element}
 use Rattle.mw_term.specs.declared.word.Word.{Word}
@@ -14,8 +15,8 @@ use Rattle.mw_rel.specs.Lines.{Line}
 use Rattle.mw_rel.specs.Relation.{Boundary}
 use Rattle.mw_rel.specs.StartWords.{all_own_words}
 
--- The own term of the element of this number was made: words were added behind those that there were, and a free element
--- has its variable.
+-- The own term of the element of this number was made: words were added behind those that there were, and a free
+-- element has its variable.
 pub record IsOwn (free : Bool) (number : ℕ) (old new : List Word) (term : ℕ) : Type 0 where
   pub more : List Word
   pub words : new ≡ old ++ more
@@ -24,7 +25,8 @@ pub record IsOwn (free : Bool) (number : ℕ) (old new : List Word) (term : ℕ)
 -- among the first elements, so many, each that is free at a boundary has its variable
 abbrev pub AreOwn : Boundary → (count : ℕ) → List Word → (own : List ℕ) → Type 0
 AreOwn boundary count words own =
-    (n : ℕ) → n < count → is_free boundary n ≡ true → (place : ℕ) × IsVariable words place (slice_index own n) (Element n)
+    (n : ℕ) → n < count → is_free boundary n ≡ true
+    → (place : ℕ) × IsVariable words place (slice_index own n) (Element n)
 
 -- A line's left element has got the term of its right side, over the elements' own terms.
 pub record IsRelated (line : Line) (told tnew : Table) (wold wnew : List Word) (mold mnew : Memory)

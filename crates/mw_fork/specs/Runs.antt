@@ -20,7 +20,8 @@ pub record HasLine (t : Table) (words : List Word) : Type 0 where
 
 -- A board of a job within a cycle, with what it works on and the terms of the machine's registers. There are 64 base
 -- reads at most before the first cycle, and one in each; and there is no probe.
-pub record IsUnder (job : Job) (t : Table) (words : List Word) (m : Memory) (o : Symbolic) (registers : List ℕ) : Type 0 where
+pub record IsUnder (job : Job) (t : Table) (words : List Word) (m : Memory) (o : Symbolic)
+    (registers : List ℕ) : Type 0 where
   pub space : IsSpace job t words m
   pub symbolic : IsSymbolic job.board job.store t words m o
   pub taken : o.place.taken ≤ o.place.cycle
@@ -36,7 +37,8 @@ pub record IsIdle (o : Symbolic) (count : ℕ) : Type 0 where
   pub cycles : o.place.cycle ≡ count
 
 -- A turn of its cycle, from this place: it asks for a bit there, or the cycle is done.
-abbrev pub IsTurned : Job → (from : Place) → Table → List Word → Memory → Symbolic → (registers : List ℕ) → Turn → Type 0
+abbrev pub IsTurned : Job → (from : Place) → Table → List Word → Memory → Symbolic
+    → (registers : List ℕ) → Turn → Type 0
 IsTurned job from t words m o registers (Ask kind term) =
     IsUnder job t words m o registers × (o.place ≡ from) × Asks job.board job.store t words m o kind term
 IsTurned job from t words m o registers Finished = IsUnder job t words m o registers × IsIdle o (from.cycle + 1)

@@ -20,8 +20,8 @@ use Rattle.mw_rel.specs.Job.{Job}
 use Rattle.mw_rel.specs.Start.{Start}
 use Rattle.mw_fork.specs.Boundaries.{AreWide, IsSpace}
 
--- what a run works on: a table of terms, the words of the case, a memory over them, and the terms of all elements at the
--- start, by their numbers
+-- what a run works on: a table of terms, the words of the case, a memory over them, and the terms of all elements at
+-- the start, by their numbers
 pub record Ground : Type 0 where
   pub table : Table
   pub words : List Word
@@ -92,7 +92,8 @@ pub record IsGround (job : Job) (number : ℕ) (g : Ground) : Type 0 where
   pub variables : HaveVariables job.board g.table g.words cycles
   pub own : HaveOwnKinds g.words
 
--- A run went on: terms, words and base reads were added behind those that there were, and no two variables have one kind.
+-- A run went on: terms, words and base reads were added behind those that there were, and no two variables have one
+-- kind.
 pub record GoesTo (old new : Ground) : Type 0 where
   pub later : IsLater old.table new.table
   pub more : List Word

@@ -25,27 +25,32 @@ abbrev pub said_from : Description → (from : Underway) → List Bool → Come
 said_from d from bits = acts_words d.shape d.acts bits from
 
 -- from the first statement it has come here along so many branch bits
-pub record HasCome (d : Description) (from : Underway) (count : ℕ) (t : Table) (words : List Word) (m : Memory) (o : Stepping)
+pub record HasCome (d : Description) (from : Underway) (count : ℕ) (t : Table) (words : List Word)
+    (m : Memory) (o : Stepping)
     : Type 0 where
   pub bits : List Bool
   pub count_is : length bits ≡ count
   pub along : IsAlong (said_from d from) d bits t words m o
 
 -- from the first statement it has come here along so many branch bits, and asks for the next one by this term
-pub record HasStopped (d : Description) (from : Underway) (count : ℕ) (t : Table) (words : List Word) (m : Memory) (o : Stepping)
+pub record HasStopped (d : Description) (from : Underway) (count : ℕ) (t : Table) (words : List Word)
+    (m : Memory) (o : Stepping)
     (term : ℕ) : Type 0 where
   pub bits : List Bool
   pub count_is : length bits ≡ count
   pub asks : AsksAlong (said_from d from) d bits t words m o term
 
 -- from the first statement it has come to its end along so many branch bits
-pub record HasEnded (d : Description) (from : Underway) (count : ℕ) (t : Table) (words : List Word) (m : Memory) (o : Stepping)
+pub record HasEnded (d : Description) (from : Underway) (count : ℕ) (t : Table) (words : List Word)
+    (m : Memory) (o : Stepping)
     : Type 0 where
   pub bits : List Bool
   pub count_is : length bits ≡ count
   pub done : IsDoneAlong (said_from d from) bits t words m o
 
 -- what holds after a turn, which began along so many bits
-abbrev pub IsStepTurned : Description → (from : Underway) → (count : ℕ) → Table → List Word → Memory → Stepping → Turn → Type 0
-IsStepTurned d from count t words m o (Ask kind term) = Asks d t words m o kind term × HasStopped d from count t words m o term
+abbrev pub IsStepTurned : Description → (from : Underway) → (count : ℕ) → Table → List Word → Memory
+    → Stepping → Turn → Type 0
+IsStepTurned d from count t words m o (Ask kind term) =
+    Asks d t words m o kind term × HasStopped d from count t words m o term
 IsStepTurned d from count t words m o Finished = HasEnded d from count t words m o

@@ -11,9 +11,9 @@ use Rattle.mw_fork.specs.CasePaths.{IsCasePath, IsNextOfCase}
 use Rattle.mw_fork.specs.Listed.{AsksFor}
 use Rattle.mw_fork.specs.Starts.{Ground, IsGround}
 
--- What the word list says of a decided bit behind others. There is a ground that is the list's, with a path over it, which is
--- the list's and true exactly of the starts whose cases begin with them; and the term of one bit for which the list asks has
--- there the value of the next bit.
+-- What the word list says of a decided bit behind others. There is a ground that is the list's, with a path over it,
+-- which is the list's and true exactly of the starts whose cases begin with them; and the term of one bit for which the
+-- list asks has there the value of the next bit.
 pub record IsInList (job : Job) (number : ℕ) (before : List Decided) (k : Decided) : Type 0 where
   pub basis : Ground
   pub stands : IsGround job number basis
@@ -25,8 +25,8 @@ pub record IsInList (job : Job) (number : ℕ) (before : List Decided) (k : Deci
   pub wide : IsOfWidth basis.table 1 term
   pub next : IsNextOfCase job number basis before path k.kind term
 
--- A decided bit behind others is within a budget of nodes: the word list has it, and none of its path operations there has
--- more joint cofactors.
+-- A decided bit behind others is within a budget of nodes: the word list has it, and none of its path operations there
+-- has more joint cofactors.
 pub record IsWithin (job : Job) (number nodes : ℕ) (before : List Decided) (k : Decided) : Type 0 where
   pub listed : IsInList job number before k
   pub within : lists.IsWithin job number nodes before

@@ -1,5 +1,6 @@
 // The start that an assignment gives.
-ghost use Rattle.std.specs.Prelude.{◌≡◌, ◌≢◌, ℕ, ◌<◌, ◌^◌, ◌==◌, if◌then◌else◌, List, [], ◌∷◌, ◌++◌, filter, length, map, true, Some, IfOk, OnOk, slice_index_or};
+ghost use Rattle.std.specs.Prelude.{◌≡◌, ◌≢◌, ℕ, ◌<◌, ◌^◌, ◌==◌, if◌then◌else◌, List, [], ◌∷◌, ◌++◌, filter, length};
+ghost use Rattle.std.specs.Prelude.{map, true, Some, IfOk, OnOk, slice_index_or};
 ghost use Rattle.mw_term.specs.declared.kinds.WordKind.{WordKind};
 ghost use Rattle.mw_term.specs.declared.kinds.WordKind.TheVariants.{Element, Line, Noise};
 ghost use Rattle.mw_term.specs.Assigned.{given_by};
@@ -89,8 +90,8 @@ fn free_values(
     Ok(values)
 }
 
-/// The entry of a number gets a value. It is appended with those before it where it isn't there yet; `other` is what entries
-/// have which aren't there.
+/// The entry of a number gets a value. It is appended with those before it where it isn't there yet; `other` is what
+/// entries have which aren't there.
 fn place<T: Copy>(items: &mut Vec<T>, number: u32, other: T, value: T) -> Result<(), NoMemory>
     ensures entries { OnOk result ((n : ℕ) → slice_index_or items.new.items n other
         ≡ (if number == n then value else slice_index_or items.old.items n other)) }
@@ -136,7 +137,8 @@ fn take_word(
     requires line { (n : ℕ) → word.kind ≡ Some (Line n) → IsOfWidth space.now.terms 1 word.term }
     requires noise { (n : ℕ) → word.kind ≡ Some (Noise n) → IsOfWidth space.now.terms 14 word.term }
     ensures took { OnOk result ((other : WordKind) → is_outside other ≡ true → entry env.new other
-        ≡ (if is_of word.kind other then term_value space.now.terms (given_by given.now) word.term else entry env.old other)) }
+        ≡ (if is_of word.kind other then term_value space.now.terms (given_by given.now) word.term
+        else entry env.old other)) }
     ensures trimmed { OnOk result (IsTrimmed env.old → IsTrimmed env.new) }
 {
     match word.kind {
@@ -150,7 +152,8 @@ fn take_word(
 
 /// The environment with the values of all variables.
 fn environment(alloc: Global, space: &Space, given: &Assignment) -> Result<Env, NoMemory>
-    requires { (job : JobParts) × (number : ℕ) × (elements : List ℕ) × IsGround job number (ground_in space.now elements) }
+    requires { (job : JobParts) × (number : ℕ) × (elements : List ℕ)
+        × IsGround job number (ground_in space.now elements) }
     ensures entries { IfOk result (λ env. (kind : WordKind) → is_outside kind ≡ true → entry env kind
         ≡ value_or_zero space.now.terms (given_by given.now) (term_of space.now.words kind)) }
     ensures trimmed { IfOk result (λ env. IsTrimmed env) }
@@ -166,8 +169,8 @@ fn environment(alloc: Global, space: &Space, given: &Assignment) -> Result<Env, 
     Ok(env)
 }
 
-/// What an assignment gives at a boundary: the values of the free elements' variables, an image that the base reads fit, and
-/// the environment with the values of its variables.
+/// What an assignment gives at a boundary: the values of the free elements' variables, an image that the base reads
+/// fit, and the environment with the values of its variables.
 ///
 /// # Errors
 ///
@@ -182,7 +185,8 @@ pub(crate) fn begin_of(
     requires stands { (elements : List ℕ) × IsGround (job_of job.now) boundary (ground_in space.now elements) }
     ensures assigned { IfOk result (λ begin.
         IsAssigned (job_of job.now) boundary (list_of_space space.now) (given_by given.now) begin) }
-    ensures start { IfOk result (λ begin. (elements : List ℕ) → IsGround (job_of job.now) boundary (ground_in space.now elements)
+    ensures start { IfOk result
+        (λ begin. (elements : List ℕ) → IsGround (job_of job.now) boundary (ground_in space.now elements)
         → (start : Start) × IsChosen (job_of job.now) boundary begin start
         × IsStartOf (job_of job.now) boundary (ground_in space.now elements) (given_by given.now) start) }
 {

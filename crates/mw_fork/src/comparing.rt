@@ -1,8 +1,10 @@
 // The comparison of both sides of a case, on terms.
-ghost use Rattle.std.specs.Prelude.{◌≡◌, ◌↔◌, ◌<◌, ◌≤◌, ◌+◌, ◌^◌, ◌==◌, Bool, ℕ, List, All, IfErr, IfOk, IfSome, None, OnOk, Some, find, length, slice_get, take, true};
+ghost use Rattle.std.specs.Prelude.{◌≡◌, ◌↔◌, ◌<◌, ◌≤◌, ◌+◌, ◌^◌, ◌==◌, Bool, ℕ, List, All, IfErr, IfOk, IfSome, None};
+ghost use Rattle.std.specs.Prelude.{OnOk, Some, find, length, slice_get, take, true};
 ghost use Rattle.mw_macro.specs.Counts.{reads};
 ghost use Rattle.mw_rel.specs.Certified.{boundary_at};
-ghost use Rattle.mw_rel.specs.ComparisonWords.{Compared, Sides, Subject, are_alike, with_comparison, with_events, with_line};
+ghost use Rattle.mw_rel.specs.ComparisonWords.{Compared, Sides, Subject, are_alike, with_comparison, with_events};
+ghost use Rattle.mw_rel.specs.ComparisonWords.{with_line};
 ghost use Rattle.mw_rel.specs.ComparisonWords.{with_lines, with_memory};
 ghost use Rattle.mw_rel.specs.Lines as rel_line;
 ghost use Rattle.mw_rel.specs.Lines.{reads_of};
@@ -19,8 +21,10 @@ ghost use Rattle.mw_symmem.specs.Workspace.{IsWorkspace};
 ghost use Rattle.mw_fork.specs.declared.stop.Stop.TheVariants as stops;
 ghost use Rattle.mw_fork.specs.declared.way.Kept.{Kept};
 ghost use Rattle.mw_fork.specs.Boundaries.{AreWide, IsSpace};
-ghost use Rattle.mw_fork.specs.Comparing.{AreApart, AreEventsOf, AreOne, AreOneAtProbe, AreOneOn, ArePutOut, AreSidesOn, AreTwoAt, AreTwoInMemory};
-ghost use Rattle.mw_fork.specs.Comparing.{AreWritesOn, FailsAt, FailsFirst, GoesComparing, HaveCompared, HoldsAt, StopsComparing};
+ghost use Rattle.mw_fork.specs.Comparing.{AreApart, AreEventsOf, AreOne, AreOneAtProbe, AreOneOn, ArePutOut};
+ghost use Rattle.mw_fork.specs.Comparing.{AreSidesOn, AreTwoAt, AreTwoInMemory};
+ghost use Rattle.mw_fork.specs.Comparing.{AreWritesOn, FailsAt, FailsFirst, GoesComparing, HaveCompared, HoldsAt};
+ghost use Rattle.mw_fork.specs.Comparing.{StopsComparing};
 ghost use Rattle.mw_fork.specs.Comparing.{compared_all};
 ghost use Rattle.mw_rel.specs.CaseWords.{terms_with};
 ghost use Rattle.mw_symboard.specs.Parts.{AreParts};
@@ -95,9 +99,11 @@ fn apart(
     ensures found { IfOk result (λ o. IfSome o (λ numbers. (subject : Subject) (so_far : Compared)
         → HaveCompared space.old.terms.map nodes space.old (path_in paths.old) so_far
         → FailsFirst space.old.terms.map space.new (path_in paths.old) (with_comparison subject a b so_far) numbers)) }
-    ensures over { IfErr result (λ stop. (word j : ℕ) → stop ≡ stops.Over word j → (subject : Subject) (so_far : Compared)
+    ensures over { IfErr result
+        (λ stop. (word j : ℕ) → stop ≡ stops.Over word j → (subject : Subject) (so_far : Compared)
         → HaveCompared space.old.terms.map nodes space.old (path_in paths.old) so_far
-        → StopsComparing space.old.terms.map nodes space.new (path_in paths.old) (with_comparison subject a b so_far) word j) }
+        → StopsComparing space.old.terms.map nodes space.new (path_in paths.old)
+        (with_comparison subject a b so_far) word j) }
     ensures same { IfOk result (λ o. o ≡ None → AreOneOn space.new.terms (path_in paths.old) a b) }
     ensures apart { IfOk result (λ o. IfSome o (λ numbers. AreTwoAt space.new.terms (given_by numbers) a b)) }
 {
@@ -118,7 +124,8 @@ fn compare_events(
     nodes: u32,
 ) -> Result<Option<Assignment>, Stop>
     requires alike { are_alike board.now machine.now ≡ true }
-    requires wide { (word : ℕ) × AreEventsOf space.old.terms word board.now × AreEventsOf space.old.terms word machine.now }
+    requires wide { (word : ℕ) × AreEventsOf space.old.terms word board.now
+        × AreEventsOf space.old.terms word machine.now }
     requires workspace { IsWorkspace space.old.terms space.old.words space.old.memory }
     requires paths { HavePaths space.old paths.old }
     ensures goes { OnOk result (GoesComparing space.old space.new) }
@@ -128,13 +135,16 @@ fn compare_events(
     ensures probe { OnOk result (term_of space.new.words Probe ≡ term_of space.old.words Probe) }
     ensures none { IfOk result (λ o. o ≡ None → (so_far : Compared)
         → HaveCompared space.old.terms.map nodes space.old (path_in paths.old) so_far
-        → HaveCompared space.old.terms.map nodes space.new (path_in paths.old) (with_events 0 board.now machine.now so_far)) }
+        → HaveCompared space.old.terms.map nodes space.new (path_in paths.old)
+        (with_events 0 board.now machine.now so_far)) }
     ensures found { IfOk result (λ o. IfSome o (λ numbers. (so_far : Compared)
         → HaveCompared space.old.terms.map nodes space.old (path_in paths.old) so_far
-        → FailsFirst space.old.terms.map space.new (path_in paths.old) (with_events 0 board.now machine.now so_far) numbers)) }
+        → FailsFirst space.old.terms.map space.new (path_in paths.old)
+        (with_events 0 board.now machine.now so_far) numbers)) }
     ensures over { IfErr result (λ stop. (word j : ℕ) → stop ≡ stops.Over word j → (so_far : Compared)
         → HaveCompared space.old.terms.map nodes space.old (path_in paths.old) so_far
-        → StopsComparing space.old.terms.map nodes space.new (path_in paths.old) (with_events 0 board.now machine.now so_far) word j) }
+        → StopsComparing space.old.terms.map nodes space.new (path_in paths.old)
+        (with_events 0 board.now machine.now so_far) word j) }
     ensures same { IfOk result (λ o. o ≡ None → (number a b : ℕ) → ArePutOut board.now machine.now number a b
         → AreOneOn space.new.terms (path_in paths.old) a b) }
     ensures apart { IfOk result (λ o. IfSome o (λ numbers. (number : ℕ) × (a : ℕ) × (b : ℕ)
@@ -250,7 +260,8 @@ fn compare_lines(
         (with_lines (job_of job.now).relation.shape sides (lines_of lines.now) so_far) word j) }
     ensures more { OnOk result (length space.new.memory.reads
         ≤ length space.old.memory.reads + reads_of (lines_of lines.now)) }
-    ensures same { IfOk result (λ o. o ≡ None → (i : ℕ) (line : rel_line.Line) → slice_get (lines_of lines.now) i ≡ Some line
+    ensures same { IfOk result
+        (λ o. o ≡ None → (i : ℕ) (line : rel_line.Line) → slice_get (lines_of lines.now) i ≡ Some line
         → (given : Given) → path_in paths.old given ≡ true
         → HoldsAt (job_of job.now).relation.shape space.new elements.now given line) }
     ensures apart { IfOk result (λ o. IfSome o (λ numbers. (i : ℕ) × (line : rel_line.Line)
@@ -385,7 +396,8 @@ fn compare_all(
     nodes: u32,
 ) -> Result<Option<Assignment>, Stop>
     requires alike { are_alike board.now machine.now ≡ true }
-    requires events { (word : ℕ) × AreEventsOf space.old.terms word board.now × AreEventsOf space.old.terms word machine.now }
+    requires events { (word : ℕ) × AreEventsOf space.old.terms word board.now
+        × AreEventsOf space.old.terms word machine.now }
     requires lines_of { All (IsLineOf (job_of job.now).relation.shape) (lines_of lines.now) }
     requires few { length space.old.memory.reads + reads_of (lines_of lines.now) + 2 < 2 ^ 32 }
     requires space { IsSpace (job_of job.now) space.old.terms space.old.words space.old.memory }
@@ -403,7 +415,8 @@ fn compare_all(
         → AreSidesOn elements.now space.old sides
         → HaveCompared space.old.terms.map nodes space.old (path_in paths.old) so_far
         → FailsFirst space.old.terms.map space.new (path_in paths.old)
-        (compared_all (job_of job.now).relation.shape sides (lines_of lines.now) board.now machine.now so_far) numbers)) }
+        (compared_all (job_of job.now).relation.shape sides (lines_of lines.now) board.now machine.now so_far)
+        numbers)) }
     ensures over { IfErr result (λ stop. (word j : ℕ) → stop ≡ stops.Over word j → (sides : Sides) (so_far : Compared)
         → AreSidesOn elements.now space.old sides
         → HaveCompared space.old.terms.map nodes space.old (path_in paths.old) so_far
@@ -432,8 +445,8 @@ fn compare_all(
     Ok(found)
 }
 
-/// Compares both sides: the events, the lines of the boundary reached, the memory. Where the events aren't alike or the stack
-/// pointer is another number than the boundary's, each assignment on the path shows a difference.
+/// Compares both sides: the events, the lines of the boundary reached, the memory. Where the events aren't alike or the
+/// stack pointer is another number than the boundary's, each assignment on the path shows a difference.
 fn compare_sides(
     alloc: Global,
     job: &Job,
@@ -458,13 +471,15 @@ fn compare_sides(
         (number cycles : ℕ) (elements : List ℕ) (from : List Kept) (late : Bool) (way : Way)
         → HasMetCase (job_of job.now) number elements from cycles late way run.old (Some step.now)
         → IsFound (job_of job.now) number elements (met_of way) run.new.space numbers)) }
-    ensures over { IfErr result (λ stop. (number cycles : ℕ) (elements : List ℕ) (from : List Kept) (late : Bool) (way : Way)
+    ensures over { IfErr result
+        (λ stop. (number cycles : ℕ) (elements : List ℕ) (from : List Kept) (late : Bool) (way : Way)
         → HasMetCase (job_of job.now) number elements from cycles late way run.old (Some step.now)
         → ComparisonStops (job_of job.now) number nodes (met_of way) stop) }
 {
     // A call for the proof: what holds of every job.
     let _shape = job.shape();
-    // Laws for the proof: each term of the word list that is no constant has a word, and so has one that is over a budget.
+    // Laws for the proof: each term of the word list that is no constant has a word, and so has one that is over a
+    // budget.
     words_of_cases_are_numbered();
     words_of_cycles_are_numbered();
     words_are_numbered();
@@ -504,16 +519,21 @@ pub(crate) fn first_failing(
     requires fresh { term_of traced.old.run.space.words Probe ≡ None }
     requires paths { HavePaths traced.old.run.space traced.old.run.paths }
     ensures none { IfOk result (λ o. o ≡ None → (number : ℕ) (elements : List ℕ) (from : List Kept) (way : Way)
-        → HasMetCase (job_of job.now) number elements from traced.old.cycles traced.old.late way traced.old.run traced.old.step
+        → HasMetCase (job_of job.now) number elements from traced.old.cycles traced.old.late way
+        traced.old.run traced.old.step
         → NoneDiffersOf (job_of job.now) number (met_of way)) }
     ensures within { IfOk result (λ o. o ≡ None → (number : ℕ) (elements : List ℕ) (from : List Kept) (way : Way)
-        → HasMetCase (job_of job.now) number elements from traced.old.cycles traced.old.late way traced.old.run traced.old.step
+        → HasMetCase (job_of job.now) number elements from traced.old.cycles traced.old.late way
+        traced.old.run traced.old.step
         → ComparisonsAreWithin (job_of job.now) number nodes (met_of way)) }
-    ensures found { IfOk result (λ o. IfSome o (λ numbers. (number : ℕ) (elements : List ℕ) (from : List Kept) (way : Way)
-        → HasMetCase (job_of job.now) number elements from traced.old.cycles traced.old.late way traced.old.run traced.old.step
+    ensures found { IfOk result
+        (λ o. IfSome o (λ numbers. (number : ℕ) (elements : List ℕ) (from : List Kept) (way : Way)
+        → HasMetCase (job_of job.now) number elements from traced.old.cycles traced.old.late way
+        traced.old.run traced.old.step
         → IsFound (job_of job.now) number elements (met_of way) traced.new.run.space numbers)) }
     ensures over { IfErr result (λ stop. (number : ℕ) (elements : List ℕ) (from : List Kept) (way : Way)
-        → HasMetCase (job_of job.now) number elements from traced.old.cycles traced.old.late way traced.old.run traced.old.step
+        → HasMetCase (job_of job.now) number elements from traced.old.cycles traced.old.late way
+        traced.old.run traced.old.step
         → ComparisonStops (job_of job.now) number nodes (met_of way) stop) }
 {
     // A call for the proof: what holds of every job.

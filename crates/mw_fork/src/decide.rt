@@ -69,7 +69,8 @@ pub(crate) fn decide(
         → IsOnWay job number (ground_in space.now elements) from way.old (path_in paths.old)
         → IsNextOfCase job number (ground_in space.now elements) (met_of way.old) (path_in paths.old) kind term
         → AsksFor job number (met_of way.old) (ground_in space.now elements) term
-        → HasDecided job number (ground_in space.now elements) from way.old way.new (path_in paths.old) (path_in paths.new)
+        → HasDecided job number (ground_in space.now elements) from way.old way.new
+        (path_in paths.old) (path_in paths.new)
         kind term value) }
     ensures nodes { IfOk result (λ value. (job : Job) (number : ℕ) (elements : List ℕ) (from : List Kept) → IsJob job
         → IsOnWay job number (ground_in space.now elements) from way.old (path_in paths.old)
@@ -81,7 +82,8 @@ pub(crate) fn decide(
         → AsksFor job number (met_of way.old) (ground_in space.now elements) term
         → StopsBy job number nodes from way.new stop) }
 {
-    // Laws for the proof: each term of the word list that is no constant has a word, and so has one that is over a budget.
+    // Laws for the proof: each term of the word list that is no constant has a word, and so has one that is over a
+    // budget.
     words_of_cases_are_numbered();
     words_of_cycles_are_numbered();
     words_are_numbered();

@@ -125,7 +125,8 @@ fn push_own(
     ensures listed { OnOk result (with_own (numbered (job_of job.now) boundary) number
         (drop number (job_of job.now).relation.shape.widths) (all_ended own.old.items (list_of_space space.old))
         ≡ with_own (numbered (job_of job.now) boundary) (number + 1)
-        (drop (number + 1) (job_of job.now).relation.shape.widths) (all_ended own.new.items (list_of_space space.new))) }
+        (drop (number + 1) (job_of job.now).relation.shape.widths)
+        (all_ended own.new.items (list_of_space space.new))) }
 {
     let width = width_of(job, number);
     let number = number as u32;
@@ -180,7 +181,8 @@ fn relate_line(
         ≡ length space.old.memory.reads + reads (line_of line.now).right) }
     ensures own { OnOk result (AreElements (job_of job.now) space.new.terms space.new.words space.new.memory own.now) }
     ensures wide { OnOk result (AreWide space.new.terms (job_of job.now).relation.shape.widths terms.new.items) }
-    ensures related { OnOk result (IsRelated (line_of line.now) space.old.terms space.new.terms space.old.words space.new.words
+    ensures related { OnOk result
+        (IsRelated (line_of line.now) space.old.terms space.new.terms space.old.words space.new.words
         space.old.memory space.new.memory own.now terms.old.items terms.new.items) }
     ensures unwritten { OnOk result (space.new.memory.machine ≡ []) }
     ensures listed { OnOk result (line_words (job_of job.now).relation.shape own.now (line_of line.now)

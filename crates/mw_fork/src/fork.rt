@@ -1,5 +1,6 @@
 // The feasible cases of a boundary, one after another.
-ghost use Rattle.std.specs.Prelude.{◌≡◌, ◌≢◌, ◌+◌, ◌<◌, ◌≤◌, ℕ, List, [], length, IfOk, IfErr, IfSome, IsOk, OnOk, None, true, false};
+ghost use Rattle.std.specs.Prelude.{◌≡◌, ◌≢◌, ◌+◌, ◌<◌, ◌≤◌, ℕ, List, [], length, IfOk, IfErr, IfSome, IsOk, OnOk};
+ghost use Rattle.std.specs.Prelude.{None, true, false};
 ghost use Rattle.mw_cycle.specs.declared.decided.Decided.{Decided};
 ghost use Rattle.mw_term.specs.declared.kinds.WordKind.TheVariants.{Probe};
 ghost use Rattle.mw_term.specs.WordList.{term_of};
@@ -60,8 +61,8 @@ pub(crate) enum Stage {
     Behind,
 }
 
-/// The feasible cases of a boundary, which are given one after another. Each is run from all starts of the boundary with
-/// terms and diagrams of its own, which are dropped after it; what is kept from case to case are the decided bits.
+/// The feasible cases of a boundary, which are given one after another. Each is run from all starts of the boundary
+/// with terms and diagrams of its own, which are dropped after it; what is kept from case to case are the decided bits.
 #[derive(Drop)]
 pub struct Fork {
     boundary: usize,
@@ -173,7 +174,8 @@ fn ending(traced: Traced) -> (u32, bool)
 
 /// Why a case isn't given, by why its run stopped.
 fn fault_of(alloc: Global, boundary: usize, way: &Way, stop: Stop) -> ForkFault
-    ensures nodes { (number : ℕ) (prefix : List Decided) (word j : ℕ) → result ≡ faults.Over (overs.Nodes number prefix word j)
+    ensures nodes { (number : ℕ) (prefix : List Decided) (word j : ℕ)
+        → result ≡ faults.Over (overs.Nodes number prefix word j)
         → (number ≡ boundary) × (prefix ≡ met_of way.now) × (stop ≡ stops.Over word j) }
     ensures paths { (number limit : ℕ) → result ≢ faults.Over (overs.Paths number limit) }
 {
@@ -238,9 +240,9 @@ impl Fork {
     ///
     /// # Errors
     ///
-    /// - `Over`, with `Paths`, exactly where as many cases were given as the budget has paths, and another is to come; with
-    ///   `Nodes`, only where an operation at that word and bit, in the word list of that prefix, has more joint cofactors than
-    ///   the budget has nodes. No case that is still to come stands before the prefix.
+    /// - `Over`, with `Paths`, exactly where as many cases were given as the budget has paths, and another is to come;
+    ///   with `Nodes`, only where an operation at that word and bit, in the word list of that prefix, has more joint
+    ///   cofactors than the budget has nodes. No case that is still to come stands before the prefix.
     /// - `NoMemory`: memory ran out.
     ///
     /// After an error it may only be dropped.
@@ -302,15 +304,15 @@ impl Fork {
         }))
     }
 
-    /// A start of the case given last that differs: what the first assignment gives under which the first comparison fails
-    /// that can; of a late case, and where the events aren't alike or the stack pointer isn't the boundary's, the first
-    /// that takes its path. Where there is no error, nothing exactly where none of its starts differs. A case was given
-    /// last.
+    /// A start of the case given last that differs: what the first assignment gives under which the first comparison
+    /// fails that can; of a late case, and where the events aren't alike or the stack pointer isn't the boundary's, the
+    /// first that takes its path. Where there is no error, nothing exactly where none of its starts differs. A case was
+    /// given last.
     ///
     /// # Errors
     ///
-    /// - `Over`, with `Nodes`, only where an operation at that word and bit, in the word list of the case, which is the prefix,
-    ///   has more joint cofactors than the budget has nodes.
+    /// - `Over`, with `Nodes`, only where an operation at that word and bit, in the word list of the case, which is the
+    ///   prefix, has more joint cofactors than the budget has nodes.
     /// - `NoMemory`: memory ran out.
     ///
     /// After an error it may only be dropped.

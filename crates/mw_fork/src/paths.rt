@@ -1,5 +1,6 @@
 // Which starts take a path, as a Boolean function.
-ghost use Rattle.std.specs.Prelude.{◌≡◌, ◌↔◌, ◌⊎◌, ◌<◌, ℕ, true, false, None, IfOk, IfErr, IfSome, OnOk, cond, length, slice_index};
+ghost use Rattle.std.specs.Prelude.{◌≡◌, ◌↔◌, ◌⊎◌, ◌<◌, ℕ, true, false, None, IfOk, IfErr, IfSome, OnOk, cond, length};
+ghost use Rattle.std.specs.Prelude.{slice_index};
 ghost use Rattle.mw_term.specs.Assigned.{Given};
 ghost use Rattle.mw_term.specs.Cofactors.{Agree, HasAtMostCofactors, HasMoreCofactors};
 ghost use Rattle.mw_term.specs.Functions.{Function, always, made, never};
@@ -88,7 +89,8 @@ impl Paths {
     ) -> Result<Split, BlastFault>
         requires wide { IsOfWidth terms.now 1 term }
         requires paths { ArePaths terms.now self.old.dds self.old.blast self.old.path }
-        ensures split { IfOk result (IsSplit self.new.dds (function_of self.old.dds self.old.path) (bit terms.now term 0) nodes) }
+        ensures split { IfOk result
+            (IsSplit self.new.dds (function_of self.old.dds self.old.path) (bit terms.now term 0) nodes) }
         ensures over { IfErr result (IsSplitCause terms.now (function_of self.old.dds self.old.path) term nodes) }
         ensures path { self.new.path ≡ self.old.path }
         ensures paths { ArePaths terms.now self.new.dds self.new.blast self.new.path }
@@ -149,8 +151,10 @@ impl Paths {
         requires { AreTwo self.now.dds split.now }
         ensures zero { (result.zero ≡ false) ↔ Agree (function_of self.now.dds split.now.zero) never }
         ensures one { (result.one ≡ false) ↔ Agree (function_of self.now.dds split.now.one) never }
-        ensures zero_somewhere { result.zero ≡ true → (given : Given) × (function_of self.now.dds split.now.zero given ≡ true) }
-        ensures one_somewhere { result.one ≡ true → (given : Given) × (function_of self.now.dds split.now.one given ≡ true) }
+        ensures zero_somewhere { result.zero ≡ true
+            → (given : Given) × (function_of self.now.dds split.now.zero given ≡ true) }
+        ensures one_somewhere { result.one ≡ true
+            → (given : Given) × (function_of self.now.dds split.now.one given ≡ true) }
     {
         Feasible {
             zero: !self.dds.is_false(split.zero),

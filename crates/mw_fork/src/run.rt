@@ -3,7 +3,8 @@ ghost use Rattle.std.specs.Prelude.{◌≡◌, ◌+◌, ◌<◌, ℕ, List, IfEr
 ghost use Rattle.mw_board.specs.Elements.{element_count};
 ghost use Rattle.mw_symboard.specs.Turns.{Asks};
 ghost use Rattle.mw_rel.specs.Views.{job_of};
-ghost use Rattle.mw_fork.specs.OnWay.{Cycles, CyclesStop, HavePaths, IsFirst, IsRunOf, Settles, SettlesNot, SettlesWithin};
+ghost use Rattle.mw_fork.specs.OnWay.{Cycles, CyclesStop, HavePaths, IsFirst, IsRunOf, Settles, SettlesNot};
+ghost use Rattle.mw_fork.specs.OnWay.{SettlesWithin};
 ghost use Rattle.mw_fork.specs.OnWay.{StaysWithin, Turns};
 ghost use Rattle.mw_fork.specs.Runs.{IsIdle, IsTurned};
 
@@ -158,7 +159,8 @@ impl Run {
         ensures under { OnOk result (IsRunOf (job_of job.now) self.new) }
         ensures idle { OnOk result (IsIdle self.new.board (self.old.board.place.cycle + 1)) }
         ensures goes { OnOk result (Cycles (job_of job.now) way.old way.new self.old self.new) }
-        ensures nodes { OnOk result (StaysWithin (job_of job.now) nodes way.old way.new self.old self.old.board.place.cycle) }
+        ensures nodes { OnOk result
+            (StaysWithin (job_of job.now) nodes way.old way.new self.old self.old.board.place.cycle) }
         ensures over { IfErr result (CyclesStop (job_of job.now) nodes way.old way.new self.old) }
         ensures paths { OnOk result (HavePaths self.new.space self.new.paths) }
     {

@@ -61,7 +61,8 @@ fn begin(alloc: Global, job: &Job, run: &Run) -> Result<SymMach, NoMemory>
         run.now.space.terms run.now.space.words run.now.space.memory s) }
     ensures goes { IfOk result (λ s. (number cycles : ℕ) (elements : List ℕ) (from : List Kept) (way : ways.Way)
         → HasMetSegment (job_of job.now) number elements from cycles false way run.now
-        → IsOnStep (job_of job.now) number elements from cycles (ways.met_of way) run.now.board way run.now.space run.now.paths s) }
+        → IsOnStep (job_of job.now) number elements from cycles
+        (ways.met_of way) run.now.board way run.now.space run.now.paths s) }
 {
     // A call for the proof: what holds of every job.
     let _shape = job.shape();
@@ -74,7 +75,8 @@ fn begin(alloc: Global, job: &Job, run: &Run) -> Result<SymMach, NoMemory>
 
 /// Goes on to the next bit of the step, or to its end.
 fn turn(alloc: Global, job: &Job, space: &mut Space, step: &mut SymMach) -> Result<Turn, NoMemory>
-    requires under { IsUnderway (description_of job.now.machine) space.old.terms space.old.words space.old.memory step.old }
+    requires under { IsUnderway (description_of job.now.machine) space.old.terms space.old.words
+        space.old.memory step.old }
     requires idle { is_asked step.old.pending ≡ false }
     ensures under { OnOk result (IsUnderway (description_of job.now.machine)
         space.new.terms space.new.words space.new.memory step.new) }
@@ -82,7 +84,8 @@ fn turn(alloc: Global, job: &Job, space: &mut Space, step: &mut SymMach) -> Resu
         → HasCome (description_of job.now.machine) from count space.old.terms space.old.words space.old.memory step.old
         → IsStepTurned (description_of job.now.machine) from count
         space.new.terms space.new.words space.new.memory step.new turn) }
-    ensures goes { IfOk result (λ turn. (number cycles : ℕ) (elements : List ℕ) (from : List Kept) (segment : List Decided)
+    ensures goes { IfOk result
+        (λ turn. (number cycles : ℕ) (elements : List ℕ) (from : List Kept) (segment : List Decided)
         (board : Symbolic) (way : ways.Way) (paths : diagrams.Paths)
         → IsOnStep (job_of job.now) number elements from cycles segment board way space.old paths step.old
         → IsTurnedOnStep (job_of job.now) number elements from cycles segment board way space.new paths step.new turn) }
@@ -118,26 +121,34 @@ fn settle(
     way: &mut Way,
     nodes: u32,
 ) -> Result<(), Stop>
-    requires under { IsUnderway (description_of job.now.machine) space.now.terms space.now.words space.now.memory step.old }
-    requires asks { Asks (description_of job.now.machine) space.now.terms space.now.words space.now.memory step.old kind term }
+    requires under { IsUnderway (description_of job.now.machine) space.now.terms space.now.words
+        space.now.memory step.old }
+    requires asks { Asks (description_of job.now.machine) space.now.terms space.now.words space.now.memory
+        step.old kind term }
     requires paths { HavePaths space.now paths.old }
     ensures under { OnOk result (IsUnderway (description_of job.now.machine)
         space.now.terms space.now.words space.now.memory step.new) }
     ensures idle { OnOk result (is_asked step.new.pending ≡ false) }
     ensures come { OnOk result ((from : Underway) (count : ℕ)
-        → HasStopped (description_of job.now.machine) from count space.now.terms space.now.words space.now.memory step.old term
+        → HasStopped (description_of job.now.machine) from count space.now.terms space.now.words
+        space.now.memory step.old term
         → (count < total Statements (description_of job.now.machine).acts)
-        × HasCome (description_of job.now.machine) from (count + 1) space.now.terms space.now.words space.now.memory step.new) }
+        × HasCome (description_of job.now.machine) from
+        (count + 1) space.now.terms space.now.words space.now.memory step.new) }
     ensures met { OnOk result (way.new.met ≡ way.old.met + 1) }
     ensures goes { OnOk result ((number cycles : ℕ) (elements : List ℕ) (from : List Kept) (segment : List Decided)
-        (board : Symbolic) → IsTurnedOnStep (job_of job.now) number elements from cycles segment board way.old space.now paths.old step.old (Ask kind term)
+        (board : Symbolic) → IsTurnedOnStep (job_of job.now) number elements from cycles segment board way.old space.now
+        paths.old step.old (Ask kind term)
         → IsOnStep (job_of job.now) number elements from cycles segment board way.new space.now paths.new step.new) }
     ensures nodes { OnOk result ((number cycles : ℕ) (elements : List ℕ) (from : List Kept) (segment : List Decided)
-        (board : Symbolic) → IsTurnedOnStep (job_of job.now) number elements from cycles segment board way.old space.now paths.old step.old (Ask kind term)
+        (board : Symbolic) → IsTurnedOnStep (job_of job.now) number elements from cycles segment board way.old space.now
+        paths.old step.old (Ask kind term)
         → AreWithin (job_of job.now) number nodes (ways.met_of way.old)
         → AreWithin (job_of job.now) number nodes (ways.met_of way.new)) }
-    ensures over { IfErr result (λ stop. (number cycles : ℕ) (elements : List ℕ) (from : List Kept) (segment : List Decided)
-        (board : Symbolic) → IsTurnedOnStep (job_of job.now) number elements from cycles segment board way.old space.now paths.old step.old (Ask kind term)
+    ensures over { IfErr result
+        (λ stop. (number cycles : ℕ) (elements : List ℕ) (from : List Kept) (segment : List Decided)
+        (board : Symbolic) → IsTurnedOnStep (job_of job.now) number elements from cycles segment board way.old space.now
+        paths.old step.old (Ask kind term)
         → StopsBy (job_of job.now) number nodes from way.new stop) }
     ensures paths { OnOk result (HavePaths space.now paths.new) }
 {
@@ -160,7 +171,8 @@ fn finish(
     way: &mut Way,
     nodes: u32,
 ) -> Result<(), Stop>
-    requires under { IsUnderway (description_of job.now.machine) space.old.terms space.old.words space.old.memory step.old }
+    requires under { IsUnderway (description_of job.now.machine) space.old.terms space.old.words
+        space.old.memory step.old }
     requires idle { is_asked step.old.pending ≡ false }
     requires come { HasCome (description_of job.now.machine)
         (underway_of (description_of job.now.machine) space.old.terms space.old.words space.old.memory step.old) 0
@@ -173,14 +185,19 @@ fn finish(
         (underway_of (description_of job.now.machine) space.old.terms space.old.words space.old.memory step.old)
         (way.new.met - way.old.met) space.new.terms space.new.words space.new.memory step.new) }
     ensures goes { OnOk result ((number cycles : ℕ) (elements : List ℕ) (from : List Kept) (segment : List Decided)
-        (board : Symbolic) → IsOnStep (job_of job.now) number elements from cycles segment board way.old space.old paths.old step.old
-        → IsTurnedOnStep (job_of job.now) number elements from cycles segment board way.new space.new paths.new step.new Finished) }
+        (board : Symbolic)
+        → IsOnStep (job_of job.now) number elements from cycles segment board way.old space.old paths.old step.old
+        → IsTurnedOnStep (job_of job.now) number elements from cycles segment board way.new space.new paths.new
+        step.new Finished) }
     ensures nodes { OnOk result ((number cycles : ℕ) (elements : List ℕ) (from : List Kept) (segment : List Decided)
-        (board : Symbolic) → IsOnStep (job_of job.now) number elements from cycles segment board way.old space.old paths.old step.old
+        (board : Symbolic)
+        → IsOnStep (job_of job.now) number elements from cycles segment board way.old space.old paths.old step.old
         → AreWithin (job_of job.now) number nodes (ways.met_of way.old)
         → AreWithin (job_of job.now) number nodes (ways.met_of way.new)) }
-    ensures over { IfErr result (λ stop. (number cycles : ℕ) (elements : List ℕ) (from : List Kept) (segment : List Decided)
-        (board : Symbolic) → IsOnStep (job_of job.now) number elements from cycles segment board way.old space.old paths.old step.old
+    ensures over { IfErr result
+        (λ stop. (number cycles : ℕ) (elements : List ℕ) (from : List Kept) (segment : List Decided)
+        (board : Symbolic)
+        → IsOnStep (job_of job.now) number elements from cycles segment board way.old space.old paths.old step.old
         → StopsBy (job_of job.now) number nodes from way.new stop) }
     ensures paths { OnOk result (HavePaths space.new paths.new) }
 {

@@ -1,5 +1,6 @@
 // The decided bits of a case, which are kept for the next one.
-ghost use Rattle.std.specs.Prelude.{◌≡◌, ◌+◌, ◌-◌, ◌<◌, ◌≤◌, [], true, false, length, take, slice_get, slice_set, Some, None, IfOk, OnOk, OnErr, IfSome};
+ghost use Rattle.std.specs.Prelude.{◌≡◌, ◌+◌, ◌-◌, ◌<◌, ◌≤◌, [], true, false, length, take, slice_get, slice_set, Some};
+ghost use Rattle.std.specs.Prelude.{None, IfOk, OnOk, OnErr, IfSome};
 ghost use Rattle.mw_fork.specs.declared.way.Kept as keeps;
 ghost use Rattle.mw_fork.specs.Ways.{bits_of, first_of, kept_with, met_of, turned, turned_last, way_of};
 

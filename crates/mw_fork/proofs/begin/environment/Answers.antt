@@ -5,7 +5,8 @@ use Rattle.mw_term.specs.Assigned.{given_by}
 use Rattle.mw_term.specs.Values.{term_value}
 use Rattle.mw_term.specs.WordList.{is_of, term_of}
 use Rattle.mw_fork.specs.Begins.{value_or_zero}
-use Rattle.mw_fork.proofs.Taking.{entry_fresh, line_wide, new_at, noise_wide, own_found, taken_next, value_next, word_named, word_read}
+use Rattle.mw_fork.proofs.Taking.{entry_fresh, line_wide, new_at, noise_wide, own_found, taken_next, value_next}
+use Rattle.mw_fork.proofs.Taking.{word_named, word_read}
 use Rattle.mw_fork.proofs.begin.environment.Goals as goal
 
 pub take_word-requires-clause-fresh : goal.take_word-requires-clause-fresh
@@ -51,7 +52,8 @@ loop-word-preserved c =
     record {
       entries = λ kind outside.
           ensures.took kind outside
-          ∙ ap (λ v. if is_of w.kind kind then term_value t given w.term else v) (c.loop-word.invariant.entries kind outside)
+          ∙ ap (λ v. if is_of w.kind kind then term_value t given w.term else v)
+          (c.loop-word.invariant.entries kind outside)
           ∙ sym (value_next t given (take i words) w kind (λ k is. new_at words i w k slice.ensures.own at is))
           ∙ ap (λ ws. value_or_zero t given (term_of ws kind)) (sym (taken_next words i w at));
       trimmed = ensures.trimmed c.loop-word.invariant.trimmed;

@@ -10,6 +10,7 @@ use Rattle.mw_fork.proofs.begin.environment.Given as goal
 abbrev pub invariant-loop-word : goal.invariant-loop-word
 invariant-loop-word l = record {
   entries : (kind : WordKind) → is_outside kind ≡ true
-      → entry l.env kind ≡ value_or_zero l.space.terms (given_by l.given) (term_of (take l.word-index l.space.words) kind);
+      → entry l.env kind
+      ≡ value_or_zero l.space.terms (given_by l.given) (term_of (take l.word-index l.space.words) kind);
   trimmed : IsTrimmed l.env;
 }

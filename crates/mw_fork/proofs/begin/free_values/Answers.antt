@@ -14,6 +14,7 @@ loop-number-preserved c =
     record {
       so_far = c.in_ok-push_free.ensures
           ∙ free_step (is_free (numbered (job_of c.args.job.now) c.args.boundary))
-          (λ e. value_or_zero space.terms (given_by c.args.given.now) (term_of space.words (Element e))) c.loop-number.number
+          (λ e. value_or_zero space.terms (given_by c.args.given.now) (term_of space.words (Element e)))
+          c.loop-number.number
           c.loop-number.values.items c.loop-number.invariant.so_far;
     }

@@ -11,6 +11,7 @@ use Rattle.mw_fork.proofs.begin.free_values.Given as goal
 
 abbrev pub invariant-loop-number : goal.invariant-loop-number
 invariant-loop-number l = record {
-  so_far : l.values.items ≡ map (λ e. value_or_zero l.space.terms (given_by l.given) (term_of l.space.words (Element e)))
+  so_far : l.values.items
+      ≡ map (λ e. value_or_zero l.space.terms (given_by l.given) (term_of l.space.words (Element e)))
       (filter (is_free (numbered (job_of l.job) l.boundary)) (numbers 0 l.number));
 }

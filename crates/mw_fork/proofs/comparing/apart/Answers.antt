@@ -5,7 +5,8 @@ use Rattle.mw_symmem.proofs.Lists.{plain_behind}
 use Rattle.mw_term.specs.declared.kinds.WordKind.TheVariants.{Probe}
 use Rattle.mw_term.specs.WordList.{term_of}
 use Rattle.mw_fork.specs.OnWay.{path_in}
-use Rattle.mw_fork.proofs.Apart.{compared_found_if, compared_goes, compared_none, compared_over, compared_wide, one_on, two_at_first}
+use Rattle.mw_fork.proofs.Apart.{compared_found_if, compared_goes, compared_none, compared_over, compared_wide, one_on}
+use Rattle.mw_fork.proofs.Apart.{two_at_first}
 use Rattle.mw_fork.proofs.comparing.apart.Goals as goal
 
 pub add-requires : goal.add-requires
@@ -21,7 +22,15 @@ returns-in-Ok-clause-goes c =
     let e = c.in_ok-same.ensures in
     record {
       goes = compared_goes _ _ _ _ c.args.space.now.memory c.args.a c.args.b c.in_ok-same.same
-          (record { words = e.words; made = e.made; listed = e.listed; of = e.of; extends = e.extends; keeps = e.keeps; table = e.table })
+          (record {
+            words = e.words;
+            made = e.made;
+            listed = e.listed;
+            of = e.of;
+            extends = e.extends;
+            keeps = e.keeps;
+            table = e.table;
+          })
           c.requires.workspace;
       writes = writes_itself c.args.space.now.memory;
     }
@@ -36,7 +45,15 @@ returns-in-Ok-clause-none c = λ none subject so_far have.
     let e = c.in_ok-same.ensures in
     compared_none c.args.nodes c.args.space.now _ (path_in c.args.paths.now) subject c.args.a c.args.b c.in_ok-same.same
     so_far refl
-    (record { words = e.words; made = e.made; listed = e.listed; of = e.of; extends = e.extends; keeps = e.keeps; table = e.table })
+    (record {
+      words = e.words;
+      made = e.made;
+      listed = e.listed;
+      of = e.of;
+      extends = e.extends;
+      keeps = e.keeps;
+      table = e.table;
+    })
     (c.in-Ok.ensures.none none) c.in-Ok.ensures.within have
 
 pub returns-in-Ok-clause-found : goal.returns-in-Ok-clause-found
@@ -45,7 +62,15 @@ returns-in-Ok-clause-found c =
     compared_found_if c.args.nodes c.args.space.now
     (record { terms = c.add.new.terms; words = c.add.new.self; memory = c.args.space.now.memory })
     (path_in c.args.paths.now) c.args.a c.args.b c.in_ok-same.same c.in-Ok.found refl
-    (record { words = e.words; made = e.made; listed = e.listed; of = e.of; extends = e.extends; keeps = e.keeps; table = e.table })
+    (record {
+      words = e.words;
+      made = e.made;
+      listed = e.listed;
+      of = e.of;
+      extends = e.extends;
+      keeps = e.keeps;
+      table = e.table;
+    })
     c.in-Ok.ensures.first
 
 pub returns-in-Ok-clause-same : goal.returns-in-Ok-clause-same
@@ -65,5 +90,13 @@ returns-in-Err-clause-over c = λ word j is subject so_far have.
     let e = c.in_ok-same.ensures in
     compared_over c.args.nodes c.args.space.now _ (path_in c.args.paths.now) subject c.args.a c.args.b c.in_ok-same.same
     so_far c.in-Err.fault c.stop_of.result word j refl
-    (record { words = e.words; made = e.made; listed = e.listed; of = e.of; extends = e.extends; keeps = e.keeps; table = e.table })
+    (record {
+      words = e.words;
+      made = e.made;
+      listed = e.listed;
+      of = e.of;
+      extends = e.extends;
+      keeps = e.keeps;
+      table = e.table;
+    })
     c.in-Err.ensures.over (record { over = c.stop_of.ensures.over; none = c.stop_of.ensures.none }) is have

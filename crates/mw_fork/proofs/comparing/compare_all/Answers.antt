@@ -6,7 +6,9 @@ use Rattle.mw_rel.specs.Views.{job_of}
 use Rattle.mw_symmem.specs.Memory.{Memory}
 use Rattle.mw_term.specs.Cofactors.{Agree}
 use Rattle.mw_fork.specs.OnWay.{path_in}
-use Rattle.mw_fork.proofs.ComparedAll.{behind_events, fails_back, fails_on, goes_comparing_then, have_back, have_next, line_apart, one_all, put_apart, sides_compared, some_as, some_of, stops_back, stops_on}
+use Rattle.mw_fork.proofs.ComparedAll.{behind_events, fails_back, fails_on, goes_comparing_then, have_back, have_next}
+use Rattle.mw_fork.proofs.ComparedAll.{line_apart, one_all, put_apart, sides_compared, some_as, some_of, stops_back}
+use Rattle.mw_fork.proofs.ComparedAll.{stops_on}
 use Rattle.mw_fork.proofs.GoingOn.{goes_itself, memory_goes_on}
 use Rattle.mw_fork.proofs.comparing.compare_all.Goals as goal
 
@@ -132,8 +134,10 @@ returns-in_err-found-3-clause-over c =
     (have_back nodes old first second path path1 compared e1.goes e1.path
     (e2.none c.in_default-2.is sides events on1 one)) in
     let on2 = sides_compared elements old second sides goes2 on in
-    stops_back nodes old second c.compare_memory.new.space path path2 (with_memory s sides compared) _ word j goes2 agree2
-    (goes_itself (with_memory s sides compared)) (c.in_err-found-3.ensures.over word j is sides compared on2.writes two))
+    stops_back nodes old second c.compare_memory.new.space path path2
+    (with_memory s sides compared) _ word j goes2 agree2
+    (goes_itself (with_memory s sides compared))
+    (c.in_err-found-3.ensures.over word j is sides compared on2.writes two))
 
 pub returns-clause-goes : goal.returns-clause-goes
 returns-clause-goes c =
@@ -232,6 +236,7 @@ returns-clause-same c = λ none.
     let path2 = path_in c.compare_lines.new.paths in
     let goes2 = goes_comparing_then old first second e1.goes e2.goes in
     let agree2 : Agree path2 path = λ given. e2.path given ∙ e1.path given in
-    one_all s old first second c.compare_memory.new.space path path1 path2 elements lines c.requires.events.0 board machine
+    one_all s old first second c.compare_memory.new.space path path1 path2 elements lines
+    c.requires.events.0 board machine
     e1.goes e2.goes c.in_ok-found-3.ensures.goes e1.path agree2 c.requires.wide c.requires.lines_of c.requires.events.1
     c.requires.events.2 (e1.same c.in_default.is) (e2.same c.in_default-2.is) (c.in_ok-found-3.ensures.same none)

@@ -8,10 +8,13 @@ use Rattle.mw_fork.specs.Comparing.{AreOneOn, AreTwoAt, FailsFirst, HaveCompared
 use Rattle.mw_fork.specs.OnWay.{path_in}
 use Rattle.mw_fork.proofs.CameTo.{came_found, came_over, came_step}
 use Rattle.mw_fork.proofs.ComparingOn.{comparing_then}
-use Rattle.mw_fork.proofs.EventsCompared.{AreAt, alike_count, alike_rest, at_board, comparing_itself, events_behind, events_done, events_next, events_skip, events_wide, none_or_some, one_more, out_first, out_here, out_inside, out_second, put_out}
+use Rattle.mw_fork.proofs.EventsCompared.{AreAt, alike_count, alike_rest, at_board, comparing_itself, events_behind}
+use Rattle.mw_fork.proofs.EventsCompared.{events_done, events_next, events_skip, events_wide, none_or_some, one_more}
+use Rattle.mw_fork.proofs.EventsCompared.{out_first, out_here, out_inside, out_second, put_out}
 use Rattle.mw_fork.proofs.LinesCompared.{some_at}
 use Rattle.mw_fork.proofs.comparing.compare_events.Goals as goal
-use Rattle.mw_fork.proofs.comparing.compare_events.Goals.{in-Some+in-Some-out_of+in_ok-found+in_default-2, in-Some+in_default-out_of, in_default}
+use Rattle.mw_fork.proofs.comparing.compare_events.Goals.{in-Some+in-Some-out_of+in_ok-found+in_default-2}
+use Rattle.mw_fork.proofs.comparing.compare_events.Goals.{in-Some+in_default-out_of, in_default}
 
 pub loop-number-init : goal.loop-number-init
 loop-number-init c =
@@ -34,7 +37,8 @@ loop-number-init c =
 
 pub apart-requires-clause-wide : goal.apart-requires-clause-wide
 apart-requires-clause-wide c =
-    events_wide c.args.space.now c.loop-number.space c.args.board.now c.args.machine.now c.loop-number.number c.in-Some.a
+    events_wide c.args.space.now c.loop-number.space c.args.board.now c.args.machine.now
+    c.loop-number.number c.in-Some.a
     c.in-Some-out_of.b c.loop-number.invariant.goes c.requires.wide
     (put_out c.args.board.now c.args.machine.now c.loop-number.number c.index-board-number.result
     c.index-machine-number.result c.in-Some.a c.in-Some-out_of.b
@@ -44,7 +48,8 @@ apart-requires-clause-wide c =
       first = c.index-board-number.is;
       second = c.index-machine-number.is;
     })
-    ((c.out_of.ensures c.in-Some.a).0 c.in-Some.is) ((c.out_of-in-Some.ensures c.in-Some-out_of.b).0 c.in-Some-out_of.is))
+    ((c.out_of.ensures c.in-Some.a).0 c.in-Some.is)
+    ((c.out_of-in-Some.ensures c.in-Some-out_of.b).0 c.in-Some-out_of.is))
 
 pub returns-in_err-found-clause-over : goal.returns-in_err-found-clause-over
 returns-in_err-found-clause-over c =
@@ -147,7 +152,12 @@ loop-number-preserved c =
           let new = w.apart.new.space in
           let e = w.in_ok-found.ensures in
           let at : AreAt board machine k x y =
-          record { inside = inside; count = inv.count; first = c.index-board-number.is; second = w.index-machine-number.is } in
+          record {
+            inside = inside;
+            count = inv.count;
+            first = c.index-board-number.is;
+            second = w.index-machine-number.is;
+          } in
           let is_a = (c.out_of.ensures a).0 w.in-Some.is in
           let is_b = (w.out_of-in-Some.ensures b).0 w.in-Some-out_of.is in
           let out = put_out board machine k x y a b at is_a is_b in
@@ -170,14 +180,20 @@ loop-number-preserved c =
                 (λ z so_far. events_next board machine k x y a b so_far at is_a is_b) inv.came
                 (λ z so_far fit have. e.none none (event k) so_far have);
             same = one_more c.args.space.now now new board machine k path inv.goes e.goes c.requires.wide inv.same
-                (λ d f other. subst (λ v. AreOneOn new.terms path v f) (sym (out_first board machine k a b d f out other))
+                (λ d f other.
+                subst (λ v. AreOneOn new.terms path v f) (sym (out_first board machine k a b d f out other))
                 (subst (λ v. AreOneOn new.terms path a v) (sym (out_second board machine k a b d f out other))
                 (λ given on. e.same none given (inv.path given ∙ on))));
           })
       | in-Some+in_default-out_of w ↦
           let y = w.index-machine-number.result in
           let at : AreAt board machine k x y =
-          record { inside = inside; count = inv.count; first = c.index-board-number.is; second = w.index-machine-number.is } in
+          record {
+            inside = inside;
+            count = inv.count;
+            first = c.index-board-number.is;
+            second = w.index-machine-number.is;
+          } in
           rw (w.space-is, w.paths-is) (record {
             count = inv.count;
             alike = alike_rest board machine k x y at inv.alike;
@@ -194,7 +210,8 @@ loop-number-preserved c =
                   none_or_some w.out_of-in-Some.result b w.in_default-out_of.is ((w.out_of-in-Some.ensures b).1 is_b)),
             ));
             same = one_more c.args.space.now now now board machine k path inv.goes (comparing_itself now inv.workspace)
-                c.requires.wide inv.same (λ a b out. absurd (none_or_some w.out_of-in-Some.result b w.in_default-out_of.is
+                c.requires.wide inv.same
+                (λ a b out. absurd (none_or_some w.out_of-in-Some.result b w.in_default-out_of.is
                 ((w.out_of-in-Some.ensures b).1 (out_here board machine k x y a b at out).1)));
           })
       | in_default w ↦

@@ -12,7 +12,8 @@ use Rattle.mw_fork.specs.Comparing.{AreSidesOn, GoesComparing}
 use Rattle.mw_fork.specs.OnWay.{path_in}
 use Rattle.mw_fork.proofs.Boundaries.{machine_word}
 use Rattle.mw_fork.proofs.ComparingOn.{Leads, comparing_paths, comparing_then, leads_found, leads_none, leads_over}
-use Rattle.mw_fork.proofs.LineCompared.{HasMadeRight, base_goes, both_wide, line_fails, line_holds, left_at, line_leads, line_ready, shape_is}
+use Rattle.mw_fork.proofs.LineCompared.{HasMadeRight, base_goes, both_wide, line_fails, line_holds, left_at, line_leads}
+use Rattle.mw_fork.proofs.LineCompared.{line_ready, shape_is}
 use Rattle.mw_fork.proofs.MemoryCompared.{not_base}
 use Rattle.mw_fork.proofs.Runs.{probe_kept}
 use Rattle.mw_fork.proofs.comparing.compare_line.Goals as goal
@@ -31,7 +32,8 @@ pub apart-requires-clause-paths : goal.apart-requires-clause-paths
 apart-requires-clause-paths c =
     let mid : Space =
     record { terms = c.expr_term.new.terms; words = c.expr_term.new.words; memory = c.expr_term.new.memory } in
-    comparing_paths c.args.space.now mid c.args.paths.now (base_goes c.args.space.now mid _ c.in_ok-right.ensures.made.runs)
+    comparing_paths c.args.space.now mid c.args.paths.now
+    (base_goes c.args.space.now mid _ c.in_ok-right.ensures.made.runs)
     c.requires.paths
 
 pub apart-requires-clause-wide : goal.apart-requires-clause-wide
@@ -51,7 +53,8 @@ apart-requires-clause-wide c =
       made = c.in_ok-right.ensures.made;
       listed = c.in_ok-right.ensures.listed;
     })
-    (left_at (job_of c.args.job.now).relation.shape c.args.space.now.terms c.args.elements.now (line_of c.args.line.now) _
+    (left_at (job_of c.args.job.now).relation.shape c.args.space.now.terms c.args.elements.now
+    (line_of c.args.line.now) _
     c.requires.line_of c.requires.wide c.index-elements-line.is)
 
 abbrev mid_space : (c : goal.After-apart) → Space
@@ -83,7 +86,8 @@ leads : (c : goal.After-apart)
 leads c =
     line_leads (job_of c.args.job.now).relation.shape c.args.nodes c.args.space.now (mid_space c)
     (path_in c.args.paths.now) c.args.elements.now (line_of c.args.line.now) c.index-elements-line.result
-    c.in_ok-right.right (right_made c) (left_at (job_of c.args.job.now).relation.shape c.args.space.now.terms c.args.elements.now (line_of c.args.line.now) _
+    c.in_ok-right.right (right_made c) (left_at (job_of c.args.job.now).relation.shape c.args.space.now.terms
+    c.args.elements.now (line_of c.args.line.now) _
     c.requires.line_of c.requires.wide c.index-elements-line.is)
 
 pub returns-clause-goes : goal.returns-clause-goes
@@ -127,12 +131,14 @@ pub returns-clause-same : goal.returns-clause-same
 returns-clause-same c =
     line_holds (job_of c.args.job.now).relation.shape c.args.space.now (mid_space c) c.apart.new.space
     (path_in c.args.paths.now) c.args.elements.now (line_of c.args.line.now) c.index-elements-line.result
-    c.in_ok-right.right c.apart.result (right_made c) (left_at (job_of c.args.job.now).relation.shape c.args.space.now.terms c.args.elements.now (line_of c.args.line.now) _
+    c.in_ok-right.right c.apart.result (right_made c) (left_at
+    (job_of c.args.job.now).relation.shape c.args.space.now.terms c.args.elements.now (line_of c.args.line.now) _
     c.requires.line_of c.requires.wide c.index-elements-line.is) c.apart.ensures.goes c.apart.ensures.same
 
 pub returns-clause-apart : goal.returns-clause-apart
 returns-clause-apart c =
     line_fails (job_of c.args.job.now).relation.shape c.args.space.now (mid_space c) c.apart.new.space
     c.args.elements.now (line_of c.args.line.now) c.index-elements-line.result c.in_ok-right.right c.apart.result
-    (right_made c) (left_at (job_of c.args.job.now).relation.shape c.args.space.now.terms c.args.elements.now (line_of c.args.line.now) _
+    (right_made c) (left_at (job_of c.args.job.now).relation.shape c.args.space.now.terms c.args.elements.now
+    (line_of c.args.line.now) _
     c.requires.line_of c.requires.wide c.index-elements-line.is) c.apart.ensures.goes c.apart.ensures.apart

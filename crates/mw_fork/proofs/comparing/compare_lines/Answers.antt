@@ -18,7 +18,8 @@ use Rattle.mw_fork.proofs.comparing.compare_lines.Goals as goal
 
 pub compare_line-requires-clause-line_of : goal.compare_line-requires-clause-line_of
 compare_line-requires-clause-line_of c =
-    each_seen (IsLineOf c.args.job.now.relation.shape) line_of c.args.lines.now c.loop-line.line-index c.line-item.result
+    each_seen (IsLineOf c.args.job.now.relation.shape) line_of c.args.lines.now
+    c.loop-line.line-index c.line-item.result
     c.requires.lines_of c.loop-line-test.true c.line-item.is
 
 pub returns-in_err-found-clause-over : goal.returns-in_err-found-clause-over
@@ -111,7 +112,8 @@ loop-line-preserved c =
           (λ on so_far. lines_next s c.args.lines.now k line on so_far c.loop-line-test.true c.line-item.is)
           inv.came (e.none c.in_default.is);
       holds = hold_more s c.args.lines.now k line now new (path_in c.args.paths.now) (path_in c.loop-line.paths)
-          c.args.elements.now c.loop-line-test.true c.line-item.is c.requires.lines_of inv.space.workspace inv.wide e.goes
+          c.args.elements.now c.loop-line-test.true c.line-item.is c.requires.lines_of
+          inv.space.workspace inv.wide e.goes
           inv.path inv.holds (e.same c.in_default.is);
     }
 

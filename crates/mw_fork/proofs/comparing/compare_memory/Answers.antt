@@ -90,7 +90,8 @@ pub apart-requires-clause-paths : goal.apart-requires-clause-paths
 apart-requires-clause-paths c =
     let e = c.in_ok-probe.ensures in
     let s1 : Space = record { terms = c.fresh.new.terms; words = c.fresh.new.self; memory = c.args.space.now.memory } in
-    let has = probe_made c.args.space.now s1 _ _ c.in_ok-probe.probe refl c.requires.space.workspace e.words e.made e.listed
+    let has =
+    probe_made c.args.space.now s1 _ _ c.in_ok-probe.probe refl c.requires.space.workspace e.words e.made e.listed
     e.of e.extends e.keeps e.table in
     comparing_paths c.read_at.new.space c.read_at-2.new.space c.args.paths.now c.in_ok-machine.ensures.goes
     (comparing_paths s1 c.read_at.new.space c.args.paths.now c.in_ok-board.ensures.goes
@@ -126,7 +127,8 @@ pub returns-clause-same : goal.returns-clause-same
 returns-clause-same c =
     one_at_probe c.args.space.now (first_space c) c.read_at.new.space c.read_at-2.new.space c.apart.new.space
     (path_in c.args.paths.now) _ c.in_ok-probe.probe c.in_ok-board.board c.in_ok-machine.machine c.apart.result
-    (ap (λ b. b.address) c.parts.ensures.exact ∙ sym c.requires.space.address) (probed c) (board_read c) (machine_read c)
+    (ap (λ b. b.address) c.parts.ensures.exact ∙ sym c.requires.space.address) (probed c)
+    (board_read c) (machine_read c)
     c.apart.ensures.goes c.apart.ensures.same
 
 pub returns-clause-apart : goal.returns-clause-apart

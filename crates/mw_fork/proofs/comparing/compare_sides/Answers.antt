@@ -20,7 +20,8 @@ use Rattle.mw_fork.proofs.ComparedAll.{some_as}
 use Rattle.mw_fork.proofs.Differing.{wide_at_end}
 use Rattle.mw_fork.proofs.Numbered.{AreNumbered}
 use Rattle.mw_fork.proofs.Sides.{terms_at_end}
-use Rattle.mw_fork.proofs.SidesCompared.{OfAll, alike_at, alike_found, alike_stops, alike_within, same_ends, some_both, unlike_as, unlike_found, unlike_within}
+use Rattle.mw_fork.proofs.SidesCompared.{OfAll, alike_at, alike_found, alike_stops, alike_within, same_ends, some_both}
+use Rattle.mw_fork.proofs.SidesCompared.{unlike_as, unlike_found, unlike_within}
 use Rattle.mw_fork.proofs.comparing.compare_sides.Goals as goal
 
 pub unreachable-requires : goal.unreachable-requires
@@ -36,7 +37,8 @@ unreachable-requires c =
 pub returns-then-alike-sp-clause-none : goal.returns-then-alike-sp-clause-none
 returns-then-alike-sp-clause-none c = λ none number cycles elements from late way met.
     let run = c.args.run.now in
-    nowhere_none (job_of c.args.job.now) number elements (met_of way) run.space (path_in run.paths) c.shape-shape.ensures.valid
+    nowhere_none (job_of c.args.job.now) number elements (met_of way) run.space
+    (path_in run.paths) c.shape-shape.ensures.valid
     met.on.stands met.on.cases (c.in_ok-first.ensures.none none)
 
 pub returns-then-alike-sp-clause-within : goal.returns-then-alike-sp-clause-within
@@ -51,7 +53,8 @@ returns-then-alike-sp-clause-within c = λ none number cycles elements from late
     let is = ended_met job number elements from cycles late way run step valid met in
     let unlike = unlike_as job run.space run.board step reached c.alike.result c.sp.result true
     (c.alike.ensures ∙ ap₂ are_alike c.events.ensures c.events-2.ensures) c.sp.ensures c.if-alike-sp.true in
-    unlike_within job number c.args.nodes elements (met_of way) cycles run.space (path_in run.paths) run.board step reached is
+    unlike_within job number c.args.nodes elements (met_of way) cycles run.space
+    (path_in run.paths) run.board step reached is
     there unlike
 
 pub returns-then-alike-sp-clause-found : goal.returns-then-alike-sp-clause-found
@@ -68,7 +71,8 @@ returns-then-alike-sp-clause-found c =
     (c.alike.ensures ∙ ap₂ are_alike c.events.ensures c.events-2.ensures) c.sp.ensures c.if-alike-sp.true in
     some_as (IsFirst (path_in run.paths)) _ c.in_ok-first.field-0
     (λ numbers first number cycles elements from late way met.
-    unlike_found job number elements (met_of way) cycles run.space (path_in run.paths) run.board step reached numbers valid
+    unlike_found job number elements (met_of way) cycles run.space
+    (path_in run.paths) run.board step reached numbers valid
     (ended_met job number elements from cycles late way run step valid met) lines.0 there unlike first)
     c.in_ok-first.ensures.first
 
@@ -209,7 +213,8 @@ returns-clause-found c =
     (λ t ls b m.
     IfSome found (λ numbers. OfAll job nodes old path (λ all. FailsFirst old.terms.map new path all numbers) t ls b m))
     _ _ _ _ _ _ _ _ terms here c.events-3.ensures c.events-4.ensures e.found in
-    let two = same_ends (λ t ls b m. IfSome found (λ numbers. AreApart job.relation.shape new (given_by numbers) t ls b m))
+    let two =
+    same_ends (λ t ls b m. IfSome found (λ numbers. AreApart job.relation.shape new (given_by numbers) t ls b m))
     _ _ _ _ _ _ _ _ terms here c.events-3.ensures c.events-4.ensures e.apart in
     some_both (λ numbers. OfAll job nodes old path (λ all. FailsFirst old.terms.map new path all numbers)
     (terms_at_end job run.board step) reached.lines run.board.events step.parts.events)
@@ -217,7 +222,8 @@ returns-clause-found c =
     run.board.events step.parts.events) _ found
     (λ numbers fail apart number cycles elements from late way met.
     alike_found job number nodes elements (met_of way) cycles old new path run.board step reached numbers valid
-    (ended_met job number elements from cycles late way run step valid met) e.goes e.own lines.0 there unlike fail apart)
+    (ended_met job number elements from cycles late way run step valid met) e.goes e.own lines.0
+    there unlike fail apart)
     fails two
 
 pub returns-in_err-found-clause-over : goal.returns-in_err-found-clause-over
@@ -245,8 +251,11 @@ returns-in_err-found-clause-over c =
     } in
     let p = err_from_is_err_and c.from_residual-in_err-found.result c.from_residual-in_err-found.ensures.1 in
     rw (p.1, p.2) (λ number cycles elements from late way met.
-    alike_stops job number nodes elements (met_of way) cycles old new path run.board step reached c.in_err-found.field-0.0
-    c.over_have_numbers.ensures.over laws (ended_met job number elements from cycles late way run step valid met) there unlike
+    alike_stops job number nodes elements (met_of way) cycles old new path run.board step reached
+    c.in_err-found.field-0.0
+    c.over_have_numbers.ensures.over laws
+    (ended_met job number elements from cycles late way run step valid met) there unlike
     (λ word j over.
-    same_ends (OfAll job nodes old path (λ all. StopsComparing old.terms.map nodes new path all word j)) _ _ _ _ _ _ _ _ terms
+    same_ends (OfAll job nodes old path (λ all. StopsComparing old.terms.map nodes new path all word j))
+    _ _ _ _ _ _ _ _ terms
     here c.events-3.ensures c.events-4.ensures (c.in_err-found.ensures.over word j over)))

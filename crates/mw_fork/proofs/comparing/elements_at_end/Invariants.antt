@@ -7,7 +7,8 @@ use Rattle.mw_fork.proofs.comparing.elements_at_end.Given as goal
 
 abbrev pub invariant-loop-number : goal.invariant-loop-number
 invariant-loop-number l =
-    l.elements.items ≡ map (λ n. term_of_part l.board.place.parts (element_of (job_of l.job).board n)) (numbers 0 l.number)
+    l.elements.items
+    ≡ map (λ n. term_of_part l.board.place.parts (element_of (job_of l.job).board n)) (numbers 0 l.number)
 
 abbrev pub invariant-loop-number-2 : goal.invariant-loop-number-2
 invariant-loop-number-2 l = record {

@@ -34,7 +34,8 @@ returns-in-Some-clause-within c =
     let traced = c.args.traced.now in
     let job = job_of c.args.job.now in
     none_so job traced.cycles traced.late traced.run traced.step c.in-Some.step
-    (λ number elements way. ComparisonsAreWithin job number c.args.nodes (met_of way)) c.compare_sides.result c.in-Some.is
+    (λ number elements way. ComparisonsAreWithin job number c.args.nodes (met_of way))
+    c.compare_sides.result c.in-Some.is
     c.compare_sides.ensures.within
 
 pub returns-in-Some-clause-found : goal.returns-in-Some-clause-found

@@ -29,7 +29,8 @@ returns-clause-goes c = λ job number elements from valid on asked asks.
     let value = c.in_ok-value.value in
     let same : value ≡ k.bit.value = taken.value.2 in
     let e = c.feasible-feasible.ensures in
-    let told : AreTold c.feasible-feasible.result (function_of nodes split.zero) (function_of nodes split.one) = record {
+    let told : AreTold c.feasible-feasible.result (function_of nodes split.zero) (function_of nodes split.one) =
+    record {
       zero_somewhere = e.zero_somewhere;
       one_somewhere = e.one_somewhere;
       zero_nowhere = e.zero.0;
@@ -39,10 +40,12 @@ returns-clause-goes c = λ job number elements from valid on asked asks.
     ap (λ (v : Bool). function_of nodes (cond v split.one split.zero)) (sym same)
     ∙ ap (function_of nodes) (sym c.go.ensures.path)
     ∙ ap (λ (ns : List Node). function_of ns c.go.new.self.path) (sym c.go.ensures.dds) in
-    subst (λ (v : Bool). HasDecided job number g from old new path (path_in c.go.new.self) c.args.kind c.args.term v) (sym same)
+    subst (λ (v : Bool). HasDecided job number g from old new path (path_in c.go.new.self) c.args.kind c.args.term v)
+    (sym same)
     (subst (λ (f : Function). HasDecided job number g from old new path f c.args.kind c.args.term k.bit.value) next
     (has_decided job number g from old new nodes path _ split c.args.kind c.args.term _ k
-    (have_starts job number g valid on.stands) on.stands.space.workspace.table c.requires.wide on asked asks c.in-Ok.ensures.split
+    (have_starts job number g valid on.stands) on.stands.space.workspace.table c.requires.wide on asked asks
+    c.in-Ok.ensures.split
     told taken.within taken.value.1 taken.new))
 
 pub returns-clause-nodes : goal.returns-clause-nodes

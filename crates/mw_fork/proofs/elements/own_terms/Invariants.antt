@@ -18,7 +18,8 @@ invariant-loop-number l = record {
   of : AreOf l.space.terms l.space.words;
   below : HaveKinds (IsElementBelow l.number) l.space.words;
   memory : l.space.memory ≡ l.fn.space.memory;
-  listed : all_own_words (numbered (job_of l.job) l.boundary) 0 (job_of l.job).relation.shape.widths (list_of_space l.fn.space)
+  listed : all_own_words (numbered (job_of l.job) l.boundary) 0 (job_of l.job).relation.shape.widths
+      (list_of_space l.fn.space)
       ≡ with_own (numbered (job_of l.job) l.boundary) l.number (drop l.number (job_of l.job).relation.shape.widths)
       (all_ended l.own.items (list_of_space l.space));
 }

@@ -13,6 +13,7 @@ pub returns-clause-listed : goal.returns-clause-listed
 returns-clause-listed c =
     let job = job_of c.args.job.now in
     rw c.in_ok-push.ensures.items
-    (with_own_step (numbered job c.args.boundary) job.relation.shape.widths c.args.number c.free.result c.width_of-width.result
+    (with_own_step (numbered job c.args.boundary) job.relation.shape.widths c.args.number c.free.result
+    c.width_of-width.result
     c.in_ok-term.term c.args.own.now.items _ _ c.requires.there c.free.ensures c.width_of-width.ensures.exact
     c.in_ok-term.ensures.listed)

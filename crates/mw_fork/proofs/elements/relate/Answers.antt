@@ -10,7 +10,8 @@ use Rattle.mw_fork.proofs.elements.relate.Goals as goal
 
 pub relate_line-requires-clause-line_of : goal.relate_line-requires-clause-line_of
 relate_line-requires-clause-line_of c =
-    each_seen (IsLineOf c.args.job.now.relation.shape) line_of c.args.lines.now c.loop-line.line-index c.line-item.result
+    each_seen (IsLineOf c.args.job.now.relation.shape) line_of c.args.lines.now
+    c.loop-line.line-index c.line-item.result
     c.requires.lines_of c.loop-line-test.true c.line-item.is
 
 pub loop-line-init : goal.loop-line-init
@@ -43,14 +44,17 @@ loop-line-preserved c =
       own = ensures.own;
       wide = ensures.wide;
       related = related_step job (lines_of lines) k (line_of line) _ _ _ _ _ _ _ _ _ _ _ _ c.requires.own
-          (each_seen (IsLineOf c.args.job.now.relation.shape) line_of lines k line c.requires.lines_of inside c.line-item.is)
+          (each_seen (IsLineOf c.args.job.now.relation.shape) line_of lines k line c.requires.lines_of
+          inside c.line-item.is)
           inv.wide (seen_line lines k line inside c.line-item.is) ensures.related inv.related;
       unwritten = ensures.unwritten;
-      listed = inv.listed ∙ lines_step job.relation.shape c.args.own.now lines k line _ _ inside c.line-item.is ensures.listed;
+      listed = inv.listed
+          ∙ lines_step job.relation.shape c.args.own.now lines k line _ _ inside c.line-item.is ensures.listed;
     }
 
 pub returns-clause-listed : goal.returns-clause-listed
 returns-clause-listed c =
     let inv = c.loop-line.invariant in
     inv.listed
-    ∙ lines_last (job_of c.args.job.now).relation.shape c.args.own.now c.args.lines.now c.loop-line.line-index _ (omega arith)
+    ∙ lines_last (job_of c.args.job.now).relation.shape c.args.own.now c.args.lines.now
+    c.loop-line.line-index _ (omega arith)

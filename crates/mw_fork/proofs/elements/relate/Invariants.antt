@@ -16,7 +16,8 @@ invariant-loop-line l = record {
   related : AreRelated (lines_of l.lines) l.line-index l.fn.space.terms l.space.terms l.fn.space.words l.space.words
       l.fn.space.memory l.space.memory l.own l.terms.items;
   unwritten : l.space.memory.machine ≡ [];
-  listed : lines_words (job_of l.job).relation.shape l.own (lines_of l.lines) (all_ended l.own (list_of_space l.fn.space))
+  listed : lines_words (job_of l.job).relation.shape l.own (lines_of l.lines)
+      (all_ended l.own (list_of_space l.fn.space))
       ≡ lines_words (job_of l.job).relation.shape l.own (lines_of (drop l.line-index l.lines))
       (all_ended l.terms.items (list_of_space l.space));
 }

@@ -12,7 +12,8 @@ returns-then-is_boundary-clause-goes c =
     let job = job_of c.args.job.now in
     let inv = c.loop-number.invariant in
     let e = c.in_ok-cycle.ensures in
-    let named = ap (is_named (addresses_of job)) (sym c.at.ensures) ∙ sym c.is_boundary.ensures ∙ c.if-is_boundary.true in
+    let named =
+    ap (is_named (addresses_of job)) (sym c.at.ensures) ∙ sym c.is_boundary.ensures ∙ c.if-is_boundary.true in
     has_reached job c.args.way.now c.loop-number.way c.cycle.new.way c.args.run.now c.loop-number.run c.cycle.new.self
     c.args.bound c.loop-number.number inv.goes inv.idle.cycles c.loop-number-test.true inv.passed e.goes e.under
     (e.idle.cycles ∙ ap (λ (n : ℕ). n + 1) inv.idle.cycles) named
@@ -30,14 +31,16 @@ loop-number-preserved c =
     let job = job_of c.args.job.now in
     let inv = c.loop-number.invariant in
     let e = c.in_ok-cycle.ensures in
-    let none = ap (is_named (addresses_of job)) (sym c.at.ensures) ∙ sym c.is_boundary.ensures ∙ c.if-is_boundary.false in
+    let none =
+    ap (is_named (addresses_of job)) (sym c.at.ensures) ∙ sym c.is_boundary.ensures ∙ c.if-is_boundary.false in
     let more = e.idle.cycles ∙ ap (λ (n : ℕ). n + 1) inv.idle.cycles in
     record {
       under = e.under;
       idle = record { idle = e.idle.idle; cycles = more };
       paths = e.paths;
       passed = λ some. none;
-      nodes = within_made job c.args.nodes c.args.way.now c.loop-number.way c.cycle.new.way c.args.run.now c.loop-number.run
+      nodes =
+          within_made job c.args.nodes c.args.way.now c.loop-number.way c.cycle.new.way c.args.run.now c.loop-number.run
           c.args.bound c.loop-number.number inv.goes inv.idle.cycles c.loop-number-test.true inv.passed e.nodes
           inv.nodes;
       goes = has_made_more job c.args.way.now c.loop-number.way c.cycle.new.way c.args.run.now c.loop-number.run

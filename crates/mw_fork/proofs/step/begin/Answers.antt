@@ -13,11 +13,13 @@ returns-clause-under c =
     let job = job_of c.args.job.now in
     let run = c.args.run.now in
     let valid = c.shape-shape.ensures.valid in
-    let waits = waits_behind job _ _ _ _ _ _ valid c.requires.under c.count.ensures.own c.request-request.ensures.wide in
+    let waits =
+    waits_behind job _ _ _ _ _ _ valid c.requires.under c.count.ensures.own c.request-request.ensures.wide in
     let e = c.in_ok-step.ensures in
     underway_behind job _ _ _ _ _ _ valid c.requires.under c.requires.few e.reads
     (e.stepping run.space.terms run.space.words run.space.memory
-    (subst (λ registers. Waits job.machine run.space.terms run.space.words run.space.memory registers c.request-request.result)
+    (subst
+    (λ registers. Waits job.machine run.space.terms run.space.words run.space.memory registers c.request-request.result)
     (sym c.deref.ensures.value) waits))
 
 pub returns-clause-goes : goal.returns-clause-goes
@@ -30,5 +32,6 @@ returns-clause-goes c = λ number cycles elements from way met.
     (subst (λ registers. Begins job run.space.terms run.space.memory registers request c.in_ok-step.step)
     c.deref.ensures.value (e.step run.space.terms run.space.memory)) e.left
     (subst (λ registers. underway_of job.machine run.space.terms run.space.words run.space.memory c.in_ok-step.step
-    ≡ begun_words job.machine registers request run.space.memory.machine (list_of_space run.space)) c.deref.ensures.value
+    ≡ begun_words job.machine registers request run.space.memory.machine (list_of_space run.space))
+    c.deref.ensures.value
     (e.listed run.space.terms run.space.words run.space.memory)) c.request-request.ensures.line met

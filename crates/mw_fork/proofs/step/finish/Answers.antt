@@ -18,7 +18,8 @@ settle-requires-clause-asks c =
     let d = description_of c.args.job.now.machine in
     let old = c.args.space.now in
     let from = underway_of d old.terms old.words old.memory c.args.step.now in
-    (asked d from (c.loop-turn.way.met - c.args.way.now.met) _ _ _ _ c.in_ok-turn.turn c.in-Ask.kind c.in-Ask.term c.in-Ask.is
+    (asked d from (c.loop-turn.way.met - c.args.way.now.met) _ _ _ _ c.in_ok-turn.turn c.in-Ask.kind
+    c.in-Ask.term c.in-Ask.is
     (c.in_ok-turn.ensures.turned from (c.loop-turn.way.met - c.args.way.now.met) c.loop-turn.invariant.come)).0
 
 pub returns-in_default-clause-ended : goal.returns-in_default-clause-ended
@@ -62,11 +63,13 @@ loop-turn-preserved c =
           c.loop-turn.way.met c.settle.new.way.met _ _ _ _ c.loop-turn.invariant.met e.met (come_on c).1;
       goes = λ number cycles elements from segment board on.
           e.goes number cycles elements from segment board
-          (asks_on (job_of c.args.job.now) number cycles elements from segment board _ _ _ _ _ _ _ _ _ _ c.in_ok-turn.turn c.in-Ask.kind
+          (asks_on (job_of c.args.job.now) number cycles elements from segment board _ _ _ _ _ _ _ _ _ _
+          c.in_ok-turn.turn c.in-Ask.kind
           c.in-Ask.term c.in-Ask.is c.loop-turn.invariant.goes c.in_ok-turn.ensures.goes on);
       nodes = λ number cycles elements from segment board on are.
           e.nodes number cycles elements from segment board
-          (asks_on (job_of c.args.job.now) number cycles elements from segment board _ _ _ _ _ _ _ _ _ _ c.in_ok-turn.turn c.in-Ask.kind
+          (asks_on (job_of c.args.job.now) number cycles elements from segment board _ _ _ _ _ _ _ _ _ _
+          c.in_ok-turn.turn c.in-Ask.kind
           c.in-Ask.term c.in-Ask.is c.loop-turn.invariant.goes c.in_ok-turn.ensures.goes on)
           (c.loop-turn.invariant.nodes number cycles elements from segment board on are);
       paths = e.paths;
@@ -86,5 +89,6 @@ returns-in_err-settle-clause-over c =
     let p = err_from_is_err_and c.from_residual-in_err-settle.result c.from_residual-in_err-settle.ensures.1 in
     rw (p.1, p.2) (λ number cycles elements from segment board on.
     c.in_err-settle.ensures.over number cycles elements from segment board
-    (asks_on (job_of c.args.job.now) number cycles elements from segment board _ _ _ _ _ _ _ _ _ _ c.in_ok-turn.turn c.in-Ask.kind
+    (asks_on (job_of c.args.job.now) number cycles elements from segment board _ _ _ _ _ _ _ _ _ _
+    c.in_ok-turn.turn c.in-Ask.kind
     c.in-Ask.term c.in-Ask.is c.loop-turn.invariant.goes c.in_ok-turn.ensures.goes on))

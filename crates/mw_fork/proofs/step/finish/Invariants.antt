@@ -24,11 +24,14 @@ invariant-loop-turn l = record {
       (underway_of (description_of l.job.machine) l.fn.space.terms l.fn.space.words l.fn.space.memory l.fn.step)
       (l.way.met - l.fn.way.met) l.space.terms l.space.words l.space.memory l.step;
   goes : (number cycles : ℕ) (elements : List ℕ) (from : List Kept) (segment : List Decided)
-      (board : Symbolic) → IsOnStep (job_of l.job) number elements from cycles segment board l.fn.way l.fn.space l.fn.paths l.fn.step
+      (board : Symbolic)
+      → IsOnStep (job_of l.job) number elements from cycles segment board l.fn.way l.fn.space l.fn.paths l.fn.step
       → IsOnStep (job_of l.job) number elements from cycles segment board l.way l.space l.paths l.step;
   nodes : (number cycles : ℕ) (elements : List ℕ) (from : List Kept) (segment : List Decided)
-      (board : Symbolic) → IsOnStep (job_of l.job) number elements from cycles segment board l.fn.way l.fn.space l.fn.paths l.fn.step
-      → AreWithin (job_of l.job) number l.nodes (met_of l.fn.way) → AreWithin (job_of l.job) number l.nodes (met_of l.way);
+      (board : Symbolic)
+      → IsOnStep (job_of l.job) number elements from cycles segment board l.fn.way l.fn.space l.fn.paths l.fn.step
+      → AreWithin (job_of l.job) number l.nodes (met_of l.fn.way)
+      → AreWithin (job_of l.job) number l.nodes (met_of l.way);
   paths : HavePaths l.space l.paths;
 }
 

@@ -15,7 +15,8 @@ returns-clause-come c = λ from count stopped.
     let d = description_of c.args.job.now.machine in
     let e = c.decide-2.ensures in (
       stops_early d from count _ _ _ _ _ stopped,
-      goes_on d from count _ _ _ _ _ _ _ c.steps_go_along.ensures.bits stopped e.new (e.left d _ _ _ c.requires.under.stepping),
+      goes_on d from count _ _ _ _ _ _ _ c.steps_go_along.ensures.bits stopped e.new
+          (e.left d _ _ _ c.requires.under.stepping),
     )
 
 pub returns-clause-goes : goal.returns-clause-goes
@@ -24,8 +25,10 @@ returns-clause-goes c = λ number cycles elements from segment board turned.
     let under = c.requires.under in
     let e = c.decide-2.ensures in
     let asks = asks_where job number cycles elements from segment board _ _ _ _ _ _ turned in
-    takes job number cycles elements from segment board _ _ c.args.space.now _ _ _ _ c.args.kind c.args.term _ c.requires.asks
-    (e.decided job.machine _ _ _ under.stepping) c.steps_go_along.ensures.bits e.new (e.left job.machine _ _ _ under.stepping)
+    takes job number cycles elements from segment board _ _ c.args.space.now _ _ _ _ c.args.kind
+    c.args.term _ c.requires.asks
+    (e.decided job.machine _ _ _ under.stepping) c.steps_go_along.ensures.bits e.new
+    (e.left job.machine _ _ _ under.stepping)
     (c.in_ok-value.ensures.goes job number elements from c.shape-shape.ensures.valid turned.0.on turned.1 asks) turned
 
 pub returns-clause-nodes : goal.returns-clause-nodes

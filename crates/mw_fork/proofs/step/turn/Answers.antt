@@ -12,7 +12,8 @@ returns-clause-under c =
 pub returns-clause-turned : goal.returns-clause-turned
 returns-clause-turned c = λ from count come.
     let e = c.in_ok-turn.ensures in
-    turned (description_of c.args.job.now.machine) from count _ _ _ _ _ _ _ _ _ c.steps_go_along.ensures.turns come e.turn
+    turned (description_of c.args.job.now.machine) from count _ _ _ _ _ _ _ _ _
+    c.steps_go_along.ensures.turns come e.turn
     e.listed e.done e.begun
 
 pub returns-clause-paths : goal.returns-clause-paths
@@ -24,5 +25,7 @@ returns-clause-paths c = λ paths are. record {
 pub returns-clause-goes : goal.returns-clause-goes
 returns-clause-goes c = λ number cycles elements from segment board way paths on.
     let e = c.in_ok-turn.ensures in
-    turns (job_of c.args.job.now) number cycles elements from segment board way _ _ paths _ _ _ c.shape-shape.ensures.valid
-    e.turn e.goes e.board e.stepping c.count.ensures.own c.steps_go_along.ensures.turns e.listed e.done e.begun c.requires.idle on
+    turns (job_of c.args.job.now) number cycles elements from segment board way _ _ paths _ _ _
+    c.shape-shape.ensures.valid
+    e.turn e.goes e.board e.stepping c.count.ensures.own c.steps_go_along.ensures.turns e.listed e.done
+    e.begun c.requires.idle on

@@ -8,7 +8,8 @@ use Rattle.mw_fork.proofs.fork.Fork.next_case.Goals as goal
 
 pub returns-then-not-lead_on-clause-none : goal.returns-then-not-lead_on-clause-none
 returns-then-not-lead_on-clause-none c = λ same.
-    none_next (job_of c.args.job.now) _ _ _ _ _ _ c.self.view_is c.requires.of (c.lead_on.ensures.none c.if-not-lead_on.true)
+    none_next (job_of c.args.job.now) _ _ _ _ _ _ c.self.view_is c.requires.of
+    (c.lead_on.ensures.none c.if-not-lead_on.true)
 
 pub returns-clause-of : goal.returns-clause-of
 returns-clause-of c =
@@ -19,8 +20,10 @@ returns-clause-of c =
       there = before.there;
       few = omega (arith, before.few, c.if-self.false);
       keeps = subst (λ (g : Fork). KeepsFor job g.boundary (At (bits_of way.kept)) way.kept) (sym c.self.view_is)
-          (has_given (job_of c.args.job.now) _ _ _ _ _ _ _ c.trace.new.way _ _ _ _ c.shape-shape.ensures.valid c.self.view_is
-          c.requires.of (c.lead_on.ensures.some c.if-not-lead_on.false) c.in-Ok.ensures.case c.in-Ok.ensures.nodes).keeps;
+          (has_given (job_of c.args.job.now) _ _ _ _ _ _ _ c.trace.new.way _ _ _ _
+          c.shape-shape.ensures.valid c.self.view_is
+          c.requires.of (c.lead_on.ensures.some c.if-not-lead_on.false) c.in-Ok.ensures.case
+          c.in-Ok.ensures.nodes).keeps;
     }
 
 pub returns-clause-case : goal.returns-clause-case

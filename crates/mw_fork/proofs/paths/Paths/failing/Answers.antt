@@ -8,7 +8,8 @@ pub returns-in-Ok-clause-first : goal.returns-in-Ok-clause-first
 returns-in-Ok-clause-first c =
     let now = c.bits.new.dds in
     let path = c.args.self.now.path in
-    let stands = only_stands c.args.terms.now now c.args.term c.only.result _ _ c.requires.wide c.in_ok-bits.ensures.bits
+    let stands =
+    only_stands c.args.terms.now now c.args.term c.only.result _ _ c.requires.wide c.in_ok-bits.ensures.bits
     c.only.ensures c.deref.ensures.value in
     let same = zero_same c.args.self.now.dds now path c.only.result c.constant-never.result _ c.requires.paths.there
     c.bits.ensures.keeps stands c.constant-never.ensures.exact in
@@ -19,7 +20,8 @@ pub returns-in-Ok-clause-within : goal.returns-in-Ok-clause-within
 returns-in-Ok-clause-within c =
     let now = c.bits.new.dds in
     let path = c.args.self.now.path in
-    let stands = only_stands c.args.terms.now now c.args.term c.only.result _ _ c.requires.wide c.in_ok-bits.ensures.bits
+    let stands =
+    only_stands c.args.terms.now now c.args.term c.only.result _ _ c.requires.wide c.in_ok-bits.ensures.bits
     c.only.ensures c.deref.ensures.value in
     let same = zero_same c.args.self.now.dds now path c.only.result c.constant-never.result _ c.requires.paths.there
     c.bits.ensures.keeps stands c.constant-never.ensures.exact in
@@ -29,7 +31,8 @@ pub returns-in-Err-OverBudget-clause-over : goal.returns-in-Err-OverBudget-claus
 returns-in-Err-OverBudget-clause-over c = λ named j is.
     let now = c.bits.new.dds in
     let path = c.args.self.now.path in
-    let stands = only_stands c.args.terms.now now c.args.term c.only.result _ _ c.requires.wide c.in_ok-bits.ensures.bits
+    let stands =
+    only_stands c.args.terms.now now c.args.term c.only.result _ _ c.requires.wide c.in_ok-bits.ensures.bits
     c.only.ensures c.deref.ensures.value in
     let same = zero_same c.args.self.now.dds now path c.only.result c.constant-never.result _ c.requires.paths.there
     c.bits.ensures.keeps stands c.constant-never.ensures.exact in

@@ -15,4 +15,5 @@ returns-in-Some-clause-split c =
     let keeps = c.bits.ensures.keeps in
     let old : StandsFor c.bits.new.dds path (function_of c.args.self.now.dds path) =
     record { there = keeps.there path c.requires.paths.there; exact = keeps.same path c.requires.paths.there } in
-    c.in-Some.ensures (function_of c.args.self.now.dds path) b c.args.nodes old (subst (λ x. StandsFor c.bits.new.dds x b) (sym at) first)
+    c.in-Some.ensures (function_of c.args.self.now.dds path) b c.args.nodes old
+    (subst (λ x. StandsFor c.bits.new.dds x b) (sym at) first)

@@ -17,15 +17,18 @@ pub loop-turn-preserved : goal.loop-turn-preserved
 loop-turn-preserved c =
     let job = job_of c.args.job.now in
     let e = c.in_ok-settle.ensures in
-    let place = asked_at job _ _ _ _ _ _ c.in_ok-turn.turn c.in-Ask.kind c.in-Ask.term c.in-Ask.is c.in_ok-turn.ensures.turned in
+    let place =
+    asked_at job _ _ _ _ _ _ c.in_ok-turn.turn c.in-Ask.kind c.in-Ask.term c.in-Ask.is c.in_ok-turn.ensures.turned in
     let cycle = ap (λ (p : Place). p.cycle) place ∙ c.loop-turn.invariant.idle.cycles in
     record {
       under = e.under;
       idle = record { idle = e.idle.idle; cycles = e.idle.cycles ∙ cycle };
-      goes = stays_with job c.args.way.now c.loop-turn.way c.settle.new.way c.args.self.now c.loop-turn.self c.turn.new.self
+      goes = stays_with job c.args.way.now c.loop-turn.way c.settle.new.way c.args.self.now
+          c.loop-turn.self c.turn.new.self
           c.settle.new.self c.args.self.now.board.place.cycle c.in_ok-turn.turn c.in-Ask.kind c.in-Ask.term c.in-Ask.is
           c.loop-turn.invariant.idle.cycles cycle c.loop-turn.invariant.goes c.in_ok-turn.ensures.goes e.goes;
-      nodes = within_with job c.args.nodes c.args.way.now c.loop-turn.way c.settle.new.way c.args.self.now c.loop-turn.self
+      nodes =
+          within_with job c.args.nodes c.args.way.now c.loop-turn.way c.settle.new.way c.args.self.now c.loop-turn.self
           c.turn.new.self c.args.self.now.board.place.cycle c.in_ok-turn.turn c.in-Ask.kind c.in-Ask.term c.in-Ask.is
           c.loop-turn.invariant.idle.cycles cycle c.loop-turn.invariant.goes c.in_ok-turn.ensures.goes e.nodes
           c.loop-turn.invariant.nodes;
@@ -36,7 +39,8 @@ pub returns-in_err-settle-clause-over : goal.returns-in_err-settle-clause-over
 returns-in_err-settle-clause-over c =
     let job = job_of c.args.job.now in
     let made = c.loop-turn.invariant.idle.cycles in
-    let place = asked_at job _ _ _ _ _ _ c.in_ok-turn.turn c.in-Ask.kind c.in-Ask.term c.in-Ask.is c.in_ok-turn.ensures.turned in
+    let place =
+    asked_at job _ _ _ _ _ _ c.in_ok-turn.turn c.in-Ask.kind c.in-Ask.term c.in-Ask.is c.in_ok-turn.ensures.turned in
     let p = err_from_is_err_and c.from_residual-in_err-settle.result c.from_residual-in_err-settle.ensures.1 in
     rw (p.1, p.2)
     (stops_with job c.args.nodes c.args.way.now c.loop-turn.way c.settle.new.way c.args.self.now c.loop-turn.self

@@ -1,4 +1,5 @@
-use Rattle.std.proofs.Common.{◌≡◌, ℕ, List, ◌<◌, ◌≤◌, ◌^◌, ap, arith, drop, length, length-take-le, slice_index, subst, sym, take, ◌∙◌}
+use Rattle.std.proofs.Common.{◌≡◌, ℕ, List, ◌<◌, ◌≤◌, ◌^◌, ap, arith, drop, length, length-take-le, slice_index, subst}
+use Rattle.std.proofs.Common.{sym, take, ◌∙◌}
 use Rattle.mw_board.specs.Depth.{depth_of}
 use Rattle.mw_board.specs.Elements.{element_count}
 use Rattle.mw_cycle.specs.BoardTerms.{term_of_part}

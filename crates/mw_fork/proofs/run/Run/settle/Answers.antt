@@ -12,7 +12,8 @@ returns-clause-under c =
     let job = job_of c.args.job.now in
     let asks = c.requires.asks in
     let given = c.decide-2.ensures.new c.args.kind asks.asked in
-    let symbolic = c.decide-2.ensures.symbolic job.board job.store _ _ _ c.args.kind c.args.term asks c.requires.under.symbolic in
+    let symbolic =
+    c.decide-2.ensures.symbolic job.board job.store _ _ _ c.args.kind c.args.term asks c.requires.under.symbolic in
     decided_under job _ _ _ _ _ _ c.args.kind _ c.args.term given c.requires.under asks symbolic
 
 pub returns-clause-idle : goal.returns-clause-idle
@@ -31,7 +32,8 @@ returns-clause-goes c = λ number elements from turned below.
     let job = job_of c.args.job.now in
     let run = c.args.self.now in
     let next = next_of_case job number elements from c.args.way.now run c.args.kind c.args.term below turned in
-    let has = c.in_ok-value.ensures.goes job number elements from c.shape-shape.ensures.valid turned.0.on next turned.2.here in
+    let has =
+    c.in_ok-value.ensures.goes job number elements from c.shape-shape.ensures.valid turned.0.on next turned.2.here in
     on_decided job number elements from c.args.way.now c.decide.new.way run c.decide.new.paths c.decide-2.new.self
     c.args.kind c.args.term c.in_ok-value.value
     (c.decide-2.ensures.new c.args.kind c.requires.asks.asked) turned has
@@ -39,7 +41,8 @@ returns-clause-goes c = λ number elements from turned below.
 pub returns-clause-nodes : goal.returns-clause-nodes
 returns-clause-nodes c = λ number elements from turned below are.
     let job = job_of c.args.job.now in
-    let next = next_of_case job number elements from c.args.way.now c.args.self.now c.args.kind c.args.term below turned in
+    let next =
+    next_of_case job number elements from c.args.way.now c.args.self.now c.args.kind c.args.term below turned in
     c.in_ok-value.ensures.nodes job number elements from c.shape-shape.ensures.valid turned.0.on next turned.2.here
     are
 
