@@ -150,7 +150,8 @@ relation_formed =
     } in
     record {
       few = omega arith;
-      boundaries = All-from_recursion (IsFormedBoundary generated_elements) generated_relation.boundaries (boundary, tt);
+      boundaries =
+          All-from_recursion (IsFormedBoundary generated_elements) generated_relation.boundaries (boundary, tt);
     }
 
 -- and is accepted

@@ -9,7 +9,8 @@ use Rattle.mw_cases.specs.Described.{word_read, act_of, choice_of}
 use Rattle.mw_cases.specs.Operations.{instruction_of}
 
 -- no bit: the statements of one instruction
-pub no_bits : (number bits first : ℕ) (operations : List Operation) → bits ≡ 0 → operations ≡ instruction_of number first
+pub no_bits : (number bits first : ℕ) (operations : List Operation) → bits ≡ 0
+    → operations ≡ instruction_of number first
     → acts_of (map act_of operations) ≡ choice_of number bits first
 unfolding choice_of
 no_bits number bits first operations none are = rw (none, are) refl

@@ -33,9 +33,11 @@ bit_below true = omega arith
 bit_below false = omega arith
 
 -- each stands at its place
-module _ (w s f d a b q r : ℕ) (c o e m i : Bool) (s_below : s < 8) (f_below : f < 8) (d_below : d < 8) (a_below : a < 16)
+module _ (w s f d a b q r : ℕ) (c o e m i : Bool) (s_below : s < 8) (f_below : f < 8)
+    (d_below : d < 8) (a_below : a < 16)
     (b_below : b < 16) (q_below : q < 16) (r_below : r < 4096)
-    (sum : w ≡ s + f * 2 ^ 3 + d * 2 ^ 6 + a * 2 ^ 9 + b * 2 ^ 13 + num c * 2 ^ 17 + q * 2 ^ 18 + r * 2 ^ 22 + num o * 2 ^ 34
+    (sum : w
+    ≡ s + f * 2 ^ 3 + d * 2 ^ 6 + a * 2 ^ 9 + b * 2 ^ 13 + num c * 2 ^ 17 + q * 2 ^ 18 + r * 2 ^ 22 + num o * 2 ^ 34
     + num e * 2 ^ 35 + num m * 2 ^ 36 + num i * 2 ^ 37) where
   packed_fields : HasFields w s f d a b (num c) q r (num o) (num e) (num m) (num i)
   packed_fields =
@@ -146,7 +148,8 @@ choices_are word w s f d q s_below f_below d_below has source function destinati
 -- a microword with each field at its place chooses what the word of the code does
 pub packed_chooses : (word : Word) → IsWord word → (w s f d q : ℕ) → s < 8 → f < 8 → d < 8 → q < 16
     → w ≡ s + f * 2 ^ 3 + d * 2 ^ 6 + word.a * 2 ^ 9 + word.b * 2 ^ 13 + num word.carry_in * 2 ^ 17 + q * 2 ^ 18
-    + word.branch * 2 ^ 22 + num word.test_disable * 2 ^ 34 + num word.reads_memory * 2 ^ 35 + num word.mar_load * 2 ^ 36
+    + word.branch * 2 ^ 22 + num word.test_disable * 2 ^ 34 + num word.reads_memory * 2 ^ 35
+    + num word.mar_load * 2 ^ 36
     + num word.ir_load * 2 ^ 37
     → source_of s ≡ word.source → function_of (f * 8) ≡ word.function → destination_of (d * 64) ≡ word.destination
     → sequence_of q ≡ word.sequencer
@@ -156,7 +159,8 @@ packed_chooses word is w s f d q s_below f_below d_below q_below sum source func
     packed_fields w s f d word.a word.b q word.branch word.carry_in word.test_disable word.reads_memory word.mar_load
     word.ir_load s_below f_below d_below is.a is.b q_below is.branch sum in
     record {
-      below = packed_below w s f d word.a word.b q word.branch word.carry_in word.test_disable word.reads_memory word.mar_load
+      below = packed_below w s f d word.a word.b q word.branch word.carry_in word.test_disable
+          word.reads_memory word.mar_load
           word.ir_load s_below f_below d_below is.a is.b q_below is.branch sum;
       chosen = choices_are word w s f d q s_below f_below d_below has source function destination sequencer;
     }

@@ -1,5 +1,6 @@
 -- The statements of the described machine keep the rules of machines, whatever the number.
-use Rattle.std.proofs.Common.{◌≡◌, ℕ, zero, suc, ◌+◌, ◌-◌, ◌*◌, ◌^◌, ◌<◌, ◌≤◌, List, [], ◌∷◌, map, length, Bool, true, refl, arith}
+use Rattle.std.proofs.Common.{◌≡◌, ℕ, zero, suc, ◌+◌, ◌-◌, ◌*◌, ◌^◌, ◌<◌, ◌≤◌, List, [], ◌∷◌, map, length, Bool, true}
+use Rattle.std.proofs.Common.{refl, arith}
 use Rattle.std.specs.Prelude.{All, ◌&&◌, nat_lt, nat_le, slice_index}
 use Rattle.std.specs.List.{list_all}
 use Rattle.std.proofs.Math.Nat.{pow-suc}
@@ -119,7 +120,8 @@ unfolding choice_of
 choice_right number zero first few = operations_right (instruction_of number first) (instruction_registers number first)
 choice_right number (suc bits) first few =
     both _ _ (both _ _ (bit_right bits (omega arith))
-    (both _ _ (choice_right number bits (first + 2 ^ bits) (omega arith)) (choice_right number bits first (omega arith))))
+    (both _ _ (choice_right number bits (first + 2 ^ bits) (omega arith))
+    (choice_right number bits first (omega arith))))
     refl
 
 -- ---- nesting

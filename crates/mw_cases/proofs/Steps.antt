@@ -1,5 +1,6 @@
 -- What a step of a generated machine does.
-use Rattle.std.proofs.Common.{◌≡◌, ℕ, zero, suc, ◌+◌, ◌-◌, ◌*◌, ◌/◌, ◌%◌, ◌^◌, ◌<◌, List, [], ◌∷◌, ◌++◌, map, length, Bool, true, false, refl, sym, ap, ◌∙◌, append_assoc, add_assoc, zero-add, arith}
+use Rattle.std.proofs.Common.{◌≡◌, ℕ, zero, suc, ◌+◌, ◌-◌, ◌*◌, ◌/◌, ◌%◌, ◌^◌, ◌<◌, List, [], ◌∷◌, ◌++◌, map, length}
+use Rattle.std.proofs.Common.{Bool, true, false, refl, sym, ap, ◌∙◌, append_assoc, add_assoc, zero-add, arith}
 use Rattle.std.specs.Prelude.{All, take, slice_index, slice_set, ◌==◌, if◌then◌else◌}
 use Rattle.std.proofs.lemmas.List.{get_or_append_left, set-append_left, length-set}
 use Rattle.std.proofs.lemmas.Nat.{mod-pow-add, shr-shr}
@@ -14,7 +15,8 @@ use Rattle.mw_macro.specs.Statements.{acts_of}
 use Rattle.mw_cases.specs.declared.operation.Kind.{Kind}
 use Rattle.mw_cases.specs.declared.operation.Kind.TheVariants.{Add, Subr, Or, And, Exor}
 use Rattle.mw_cases.specs.declared.operation.Operation.{Operation}
-use Rattle.mw_cases.specs.Described.{generated_shape, generated_machine, register, outcome_of, act_of, choice_of, reading, counting}
+use Rattle.mw_cases.specs.Described.{generated_shape, generated_machine, register, outcome_of, act_of, choice_of}
+use Rattle.mw_cases.specs.Described.{reading, counting}
 use Rattle.mw_cases.specs.Laws.{StepsDoOperations}
 use Rattle.mw_cases.specs.Steps.{made_of, after_operation, after_operations, counted}
 use Rattle.mw_cases.specs.Operations.{instruction_of, IsOperation}
@@ -58,7 +60,8 @@ module _ (registers others memory : List ℕ) (five : length registers ≡ 5) wh
       (ap (slice_set (registers ++ others) (register operation.b))
       (outcome_is operation.kind operation.a operation.b is.a_below is.b_below)
       ∙ set-append_left registers others (register operation.b)
-      (made_of operation.kind (slice_index registers (register operation.a)) (slice_index registers (register operation.b)))
+      (made_of operation.kind (slice_index registers (register operation.a))
+      (slice_index registers (register operation.b)))
       within)
 
 -- there are five registers still
@@ -69,9 +72,11 @@ still_five (operation ∷ rest) registers =
     still_five rest (after_operation operation registers) ∙ length-set registers (register operation.b) _
 
 -- what there is after operations
-operations_done : (others memory inputs : List ℕ) (first : ℕ) (events : List Event) (taken : ℕ) (operations : List Operation)
+operations_done : (others memory inputs : List ℕ) (first : ℕ) (events : List Event) (taken : ℕ)
+    (operations : List Operation)
     → All IsOperation operations → (registers : List ℕ) → length registers ≡ 5
-    → after_all generated_shape inputs first (acts_of (map act_of operations)) (now (registers ++ others) memory events taken)
+    → after_all generated_shape inputs first (acts_of (map act_of operations))
+    (now (registers ++ others) memory events taken)
     ≡ now (after_operations operations registers ++ others) memory events taken
 operations_done others memory inputs first events taken [] all registers five = refl
 operations_done others memory inputs first events taken (operation ∷ rest) all registers five =
@@ -113,14 +118,16 @@ by_test : (test : Bool) (one other outcome : Now) → (test ≡ true → one ≡
 by_test true one other outcome first second = first refl
 by_test false one other outcome first second = second refl
 
-module _ (number : ℕ) (memory inputs : List ℕ) (start : ℕ) (events : List Event) (taken word : ℕ) (others registers : List ℕ)
+module _ (number : ℕ) (memory inputs : List ℕ) (start : ℕ) (events : List Event) (taken word : ℕ)
+    (others registers : List ℕ)
     (five : length registers ≡ 5) where
   -- what there is after an instruction
   done : ℕ → Now
   done i = now (after_operations (instruction_of number i) registers ++ word ∷ others) memory events taken
 
   bit_is : (bits : ℕ)
-      → part (8 + bits) (8 + bits - (8 + bits) + 1) (slice_index (registers ++ word ∷ others) 5) ≡ word / 2 ^ (8 + bits) % 2
+      → part (8 + bits) (8 + bits - (8 + bits) + 1) (slice_index (registers ++ word ∷ others) 5)
+      ≡ word / 2 ^ (8 + bits) % 2
   bit_is bits =
       let same : 8 + bits - (8 + bits) + 1 ≡ 1 = omega arith in
       rw (same, read_is registers word others five) refl
@@ -180,7 +187,8 @@ module _ (registers memory inputs : List ℕ) (first request : ℕ) (five : leng
       ≡ now (counted registers ++ word_at_pc ∷ request ∷ []) memory [] 0
   prepared =
       let begins = ap (λ values. now values memory [] 0) (append_assoc registers (0 ∷ []) (request ∷ [])) in
-      ap (after generated_shape inputs first counting) (ap (after generated_shape inputs first reading) begins ∙ read_done)
+      ap (after generated_shape inputs first counting)
+      (ap (after generated_shape inputs first reading) begins ∙ read_done)
       ∙ count_done word_at_pc
 
 -- the temporary and the request are forgotten

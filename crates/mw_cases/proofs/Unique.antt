@@ -1,5 +1,6 @@
 -- A job is generated of a number in one way: a microword is one by what it chooses.
-use Rattle.std.proofs.Common.{◌≡◌, ℕ, zero, suc, ◌+◌, ◌*◌, ◌-◌, ◌/◌, ◌%◌, ◌^◌, ◌<◌, ◌≤◌, List, [], ◌∷◌, refl, sym, ap, subst, ◌∙◌, inl, inr, arith}
+use Rattle.std.proofs.Common.{◌≡◌, ℕ, zero, suc, ◌+◌, ◌*◌, ◌-◌, ◌/◌, ◌%◌, ◌^◌, ◌<◌, ◌≤◌, List, [], ◌∷◌, refl, sym, ap}
+use Rattle.std.proofs.Common.{subst, ◌∙◌, inl, inr, arith}
 use Rattle.std.specs.Prelude.{◌≢◌, ◌==◌, slice_index}
 use Rattle.std.proofs.lemmas.Bool.{cases_lt}
 use Rattle.std.proofs.lemmas.Grind.{same_number_lists}
@@ -166,9 +167,11 @@ has_codes w =
     let f : part 3 3 w < 8 = omega arith in
     let d : part 6 3 w < 8 = omega arith in
     record {
-      source = sym (ap source_code (source_at (part 0 3 w) (part 3 3 w) (part 6 3 w) s f d) ∙ source_back (part 0 3 w) s);
+      source =
+          sym (ap source_code (source_at (part 0 3 w) (part 3 3 w) (part 6 3 w) s f d) ∙ source_back (part 0 3 w) s);
       function =
-          sym (ap function_code (function_at (part 0 3 w) (part 3 3 w) (part 6 3 w) s f d) ∙ function_back (part 3 3 w) f);
+          sym (ap function_code (function_at (part 0 3 w) (part 3 3 w) (part 6 3 w) s f d)
+          ∙ function_back (part 3 3 w) f);
       destination = sym (ap destination_code (destination_at (part 0 3 w) (part 3 3 w) (part 6 3 w) s f d)
           ∙ destination_back (part 6 3 w) d);
       a_address = refl;
@@ -199,9 +202,11 @@ one_by_codes w v choices w_below v_below one other =
     omega (arith, at_3, one.source, other.source)
 
 -- a microword is one by what it chooses
-words_are_one : (w v : ℕ) → w < 2 ^ 38 → v < 2 ^ 38 → choices_of generated_board w ≡ choices_of generated_board v → w ≡ v
+words_are_one : (w v : ℕ) → w < 2 ^ 38 → v < 2 ^ 38
+    → choices_of generated_board w ≡ choices_of generated_board v → w ≡ v
 words_are_one w v w_below v_below same =
-    one_by_codes w v (choices_of generated_board v) w_below v_below (subst (HasCodes w) same (has_codes w)) (has_codes v)
+    one_by_codes w v (choices_of generated_board v) w_below v_below
+    (subst (HasCodes w) same (has_codes w)) (has_codes v)
 
 -- ---- the words of a number
 

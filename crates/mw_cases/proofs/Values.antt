@@ -1,10 +1,12 @@
 -- The value goes on.
-use Rattle.std.proofs.Common.{◌≡◌, ℕ, zero, suc, ◌+◌, ◌<◌, List, length, map, slice_index_or, subst, sym, ap, ◌∙◌, arith}
+use Rattle.std.proofs.Common.{◌≡◌, ℕ, zero, suc, ◌+◌, ◌<◌, List, length, map, slice_index_or, subst, sym, ap, ◌∙◌}
+use Rattle.std.proofs.Common.{arith}
 use Rattle.std.specs.Prelude.{All}
 use Rattle.std.proofs.lemmas.List.FromFn.{length-map-range_with_len, get_or-map-range_with_len}
 use Rattle.std.specs.List.{range_with_len}
 use Rattle.mw_cases.specs.declared.operation.Operation.{Operation}
-use Rattle.mw_cases.specs.Operations.{next_value, value_after, operation_of, operations_before, operation_count, operation_at, instruction_of, instructions_of, IsOperation}
+use Rattle.mw_cases.specs.Operations.{next_value, value_after, operation_of, operations_before, operation_count}
+use Rattle.mw_cases.specs.Operations.{operation_at, instruction_of, instructions_of, IsOperation}
 
 -- after some operations, and then after more
 pub value_on : (number m n : ℕ) → value_after (value_after number m) n ≡ value_after number (m + n)
@@ -25,7 +27,8 @@ same_map f g same xs = ap (λ h. map h xs) (λ i j. same j i)
 -- ---- the instructions
 
 -- an instruction more has been counted
-pub before_more : (number i : ℕ) → operations_before number i + operation_count number i ≡ operations_before number (i + 1)
+pub before_more : (number i : ℕ)
+    → operations_before number i + operation_count number i ≡ operations_before number (i + 1)
 unfolding operations_before
 before_more number i = ap (operations_before number) (let e : suc i ≡ i + 1 = omega arith in e)
 
@@ -36,7 +39,8 @@ pub made_is : (number i : ℕ)
 unfolding operation_at instruction_of
 made_is number i =
     same_map _ (operation_at number i)
-    (λ j. ap operation_of (value_on number (operations_before number i) (j + 1) ∙ ap (value_after number) (omega arith)))
+    (λ j.
+    ap operation_of (value_on number (operations_before number i) (j + 1) ∙ ap (value_after number) (omega arith)))
     (range_with_len 0 (operation_count number i))
 
 -- an instruction has as many operations as it should

@@ -67,8 +67,8 @@ generated_map = map first_address (range_with_len 0 256)
 abbrev pub unmasked : DFrom → DSource
 unmasked from = record { from = from; mask = None }
 
--- Registers of 16 bits, a memory of 256 such words, and no flip-flops. The carry in is 0 or 1, D is 0 or the memory, and the
--- condition and the links are 0. The map sees the high eight bits of the instruction register.
+-- Registers of 16 bits, a memory of 256 such words, and no flip-flops. The carry in is 0 or 1, D is 0 or the memory,
+-- and the condition and the links are 0. The map sees the high eight bits of the instruction register.
 unfoldable pub generated_board : BoardParts
 generated_board = record {
   width = 16;

@@ -52,8 +52,8 @@ act_of operation = assign (register operation.b) (outcome_of operation.kind oper
 
 -- ---- the step
 
--- The acts of the 2 ^ bits instructions from the first on. Bit 7 + bits of the word chooses the second half of them where it
--- is 1, and else the first half, and so on down to bit 8.
+-- The acts of the 2 ^ bits instructions from the first on. Bit 7 + bits of the word chooses the second half of them
+-- where it is 1, and else the first half, and so on down to bit 8.
 unfoldable pub choice_of : (number bits first : ℕ) → Acts
 choice_of number zero first = acts_of (map act_of (instruction_of number first))
 choice_of number (suc bits) first =
@@ -69,8 +69,8 @@ reading = assign word_read (memory (part (element counter) 7 0))
 abbrev pub counting : Act
 counting = assign counter (pair signs.Add (element counter) (constant 1 16))
 
--- The machine of a number: its step reads a word, adds 1 to PC, and does the operations of the instruction in the word's high
--- byte.
+-- The machine of a number: its step reads a word, adds 1 to PC, and does the operations of the instruction in the
+-- word's high byte.
 unfoldable pub generated_machine : ℕ → Description
 generated_machine number =
     described generated_names 5 generated_shape (next reading (next counting (choice_of number 8 0)))

@@ -27,7 +27,8 @@ StepsDoOperations = (number : ℕ) (registers memory : List ℕ) (request : Bool
     → length registers ≡ 5
     → step_of (generated_machine number) (record { registers = registers; memory = memory }) request inputs first
     ≡ record {
-      state = kept (after_operations (instruction_of number (instruction_in registers memory)) (counted registers)) memory;
+      state =
+          kept (after_operations (instruction_of number (instruction_in registers memory)) (counted registers)) memory;
       events = [];
       taken = 0;
     }

@@ -1,4 +1,5 @@
--- Which operations the instructions of a generated job have: a number gives them, by a value that goes on before each one.
+-- Which operations the instructions of a generated job have: a number gives them, by a value that goes on before each
+-- one.
 use Rattle.std.specs.Prelude.{ℕ, zero, suc, ◌+◌, ◌*◌, ◌/◌, ◌%◌, ◌^◌, ◌<◌, List, map, if◌then◌else◌, ◌==◌}
 use Rattle.std.specs.List.{range_with_len}
 use Rattle.mw_cases.specs.declared.operation.Kind.{Kind}

@@ -25,8 +25,8 @@ equal_registers n m = record { left = board_register n; right = element (machine
 abbrev pub counter_line : Line
 counter_line = record { left = microprogram_counter; right = constant 1 12 }
 
--- The one boundary, at address 0 with an empty stack: registers 0 to 3 are A0 to A3, and register 15 is PC. A segment takes
--- three cycles and one for each operation, seven at most.
+-- The one boundary, at address 0 with an empty stack: registers 0 to 3 are A0 to A3, and register 15 is PC. A segment
+-- takes three cycles and one for each operation, seven at most.
 abbrev pub generated_boundary : Boundary
 generated_boundary = record {
   address = 0;

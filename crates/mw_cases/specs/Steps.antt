@@ -18,7 +18,8 @@ made_of Exor a b = bit_xor a b
 abbrev pub after_operation : Operation → List ℕ → List ℕ
 after_operation operation registers =
     slice_set registers (register operation.b)
-    (made_of operation.kind (slice_index registers (register operation.a)) (slice_index registers (register operation.b)))
+    (made_of operation.kind (slice_index registers (register operation.a))
+    (slice_index registers (register operation.b)))
 
 -- and after some, each in its turn
 abbrev pub after_operations : List Operation → List ℕ → List ℕ

@@ -1,5 +1,6 @@
 -- What the microwords of a generated job choose.
-use Rattle.std.specs.Prelude.{◌≡◌, ◌≢◌, ℕ, ◌+◌, ◌<◌, ◌≤◌, ◌^◌, List, length, slice_index, Bool, true, false, if◌then◌else◌, ◌==◌}
+use Rattle.std.specs.Prelude.{◌≡◌, ◌≢◌, ℕ, ◌+◌, ◌<◌, ◌≤◌, ◌^◌, List, length, slice_index, Bool, true, false}
+use Rattle.std.specs.Prelude.{if◌then◌else◌, ◌==◌}
 use Rattle.mw_alu.specs.declared.instruction.Destination.{Destination}
 use Rattle.mw_alu.specs.declared.instruction.Destination.TheVariants as destinations
 use Rattle.mw_alu.specs.declared.instruction.Function.{Function}
@@ -25,8 +26,8 @@ use Rattle.mw_cases.specs.declared.word.Word.{Word}
 use Rattle.mw_cases.specs.Board.{generated_board, first_address}
 use Rattle.mw_cases.specs.Operations.{operation_at, operation_count}
 
--- What a microword chooses: the Am2901's operands, function and destination, its registers A and B, the carry in, D, the
--- Am2910's instruction, the branch address, and whether the test is disabled and `mar` and `ir` are loaded.
+-- What a microword chooses: the Am2901's operands, function and destination, its registers A and B, the carry in, D,
+-- the Am2910's instruction, the branch address, and whether the test is disabled and `mar` and `ir` are loaded.
 pub record Choices : Type 0 where
   pub source : Source
   pub function : Function
@@ -118,8 +119,8 @@ abbrev pub carry_for : Kind → Bit
 carry_for kinds.Subr = One
 carry_for other = Zero
 
--- The operation of registers A and B, which B takes. The last one of an instruction jumps to 0 by CJP with the test disabled;
--- the others go on.
+-- The operation of registers A and B, which B takes. The last one of an instruction jumps to 0 by CJP with the test
+-- disabled; the others go on.
 abbrev pub operating : Operation → (is_last : Bool) → Choices
 operating operation is_last = record idle {
   source = operands.Ab;

@@ -8,7 +8,10 @@ use Rattle.mw_cases.proofs.board.board.Goals as goal
 
 pub new-requires : goal.new-requires
 new-requires c =
-    record { order = subst (λ (parts : BoardParts). AreInOrder parts.fields) (sym c.in_ok-parts.ensures) fields_in_order }
+    record {
+      order =
+          subst (λ (parts : BoardParts). AreInOrder parts.fields) (sym c.in_ok-parts.ensures) fields_in_order;
+    }
 
 pub unreachable-requires : goal.unreachable-requires
 unreachable-requires c =

@@ -19,6 +19,7 @@ unreachable-requires c =
     let board = c.in_ok-board.board in
     let machine = description_of c.in_ok-machine.machine in
     let agree : memories_agree board machine ≡ true =
-    ap₂ memories_agree c.in_ok-board.ensures c.in_ok-machine.ensures ∙ memories_are_one c.args.instructions.now.number in
+    ap₂ memories_agree c.in_ok-board.ensures c.in_ok-machine.ensures
+    ∙ memories_are_one c.args.instructions.now.number in
     let differ : memories_agree board machine ≡ false = c.in-Err.ensures.err in
     absurd cc

@@ -1,7 +1,8 @@
 use Rattle.std.proofs.Common.{◌≡◌, ℕ, ◌+◌, List, map, ◌∙◌, ap, ap₂, rules}
 use Rattle.std.specs.List.{range_with_len}
 use Rattle.mw_cases.specs.declared.operation.Operation.{Operation}
-use Rattle.mw_cases.specs.Operations.{value_after, operation_of, operations_before, operation_count, instruction_of, instructions_of}
+use Rattle.mw_cases.specs.Operations.{value_after, operation_of, operations_before, operation_count, instruction_of}
+use Rattle.mw_cases.specs.Operations.{instructions_of}
 use Rattle.mw_cases.proofs.Pushed.{pushed}
 use Rattle.mw_cases.proofs.Values.{value_on, made_is, before_more}
 use Rattle.mw_cases.proofs.instructions.all_operations.Goals as goal

@@ -8,6 +8,7 @@ loop-address-preserved c =
     record {
       count = rw c.in_ok-push.ensures.items
           (one_more c.loop-address.words.items c.loop-address.address c.word_at.result before.count);
-      words = rw c.in_ok-push.ensures.items (all_behind (StandsAt c.args.instructions.now.number) c.loop-address.words.items
+      words =
+          rw c.in_ok-push.ensures.items (all_behind (StandsAt c.args.instructions.now.number) c.loop-address.words.items
           c.loop-address.address c.word_at.result before.count before.words c.word_at.ensures);
     }

@@ -5,5 +5,6 @@ use Rattle.mw_cases.proofs.store.store.Given as goal
 abbrev pub invariant-loop-address : goal.invariant-loop-address
 invariant-loop-address l = record {
   count : length l.words.items ≡ l.address;
-  words : (address : ℕ) → address < l.address → StandsAt l.instructions.number address (slice_index l.words.items address);
+  words : (address : ℕ) → address < l.address
+      → StandsAt l.instructions.number address (slice_index l.words.items address);
 }

@@ -12,7 +12,8 @@ index-requires c =
     omega arith
 
 -- what is lent is the instruction
-is_instruction : (c : goal.After-as_slice) → c.as_slice.result.now ≡ instruction_of c.args.self.now.number c.args.instruction
+is_instruction : (c : goal.After-as_slice)
+    → c.as_slice.result.now ≡ instruction_of c.args.self.now.number c.args.instruction
 is_instruction c =
     let self = c.args.self.now in
     let below : c.from.result < 256 = omega arith in
