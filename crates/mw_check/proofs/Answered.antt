@@ -95,7 +95,8 @@ first_difference q f numbers holds first =
 -- ---- unknown
 
 -- the answer of a cause
-pub cause_answer : (q : Asked) (fault : BlastFault) (t : Table) (words : List Word) (end budget : ℕ) → IsListOf q t words end
+pub cause_answer : (q : Asked) (fault : BlastFault) (t : Table) (words : List Word) (end budget : ℕ)
+    → IsListOf q t words end
     → IsCause t end budget fault → (e : Equality)
     → ((term : ℕ) × (j : ℕ) × (word : ℕ) × (fault ≡ blast.Over term j) × (number_of words term ≡ Some word)
     × (e ≡ equality.Unknown word j))

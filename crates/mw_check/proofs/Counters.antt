@@ -1,5 +1,6 @@
 -- A start that an assignment gives is that of a counter.
-use Rattle.std.proofs.Common.{◌≡◌, ℕ, zero, suc, ◌+◌, ◌<◌, ◌^◌, List, length, map, slice_index, sym, ap, ◌∙◌, subst, arith}
+use Rattle.std.proofs.Common.{◌≡◌, ℕ, zero, suc, ◌+◌, ◌<◌, ◌^◌, List, length, map, slice_index, sym, ap, ◌∙◌, subst}
+use Rattle.std.proofs.Common.{arith}
 use Rattle.std.specs.Prelude.{All, slice_index_or}
 use Rattle.std.proofs.lemmas.List.{get_or-map, length-map}
 use Rattle.std.proofs.lemmas.List.Elements.{All-filter}
@@ -18,13 +19,15 @@ use Rattle.mw_replay.specs.Counter.{IsCounter}
 
 -- ---- the values of a pair's free elements are words of these
 
-number_below : (from count k d : ℕ) → k < length (numbers from count) → slice_index_or (numbers from count) k d < from + count
+number_below : (from count k d : ℕ) → k < length (numbers from count)
+    → slice_index_or (numbers from count) k d < from + count
 number_below from zero k d inside = absurd (omega (arith, inside))
 number_below from (suc count) zero d inside = omega arith
 number_below from (suc count) (suc k) d inside =
     let below = number_below (from + 1) count k d (omega (arith, inside)) in omega (arith, below)
 
-free_is_element : (job : Job) (boundary : Boundary) → All (λ e. e < length job.relation.shape.widths) (free_elements job boundary)
+free_is_element : (job : Job) (boundary : Boundary)
+    → All (λ e. e < length job.relation.shape.widths) (free_elements job boundary)
 free_is_element job boundary =
     let n = length job.relation.shape.widths in
     All-filter (is_free boundary) (λ e. e < n) (numbers 0 n)

@@ -1,5 +1,6 @@
 -- The variables of a question, one after another.
-use Rattle.std.proofs.Common.{◌≡◌, inl, inr, ℕ, zero, suc, ◌+◌, ◌%◌, ◌^◌, ◌<◌, List, [], ◌∷◌, ◌++◌, length, map, slice_index, refl, ap, ap₂, sym, ◌∙◌, arith, length-append, subst}
+use Rattle.std.proofs.Common.{◌≡◌, inl, inr, ℕ, zero, suc, ◌+◌, ◌%◌, ◌^◌, ◌<◌, List, [], ◌∷◌, ◌++◌, length, map}
+use Rattle.std.proofs.Common.{slice_index, refl, ap, ap₂, sym, ◌∙◌, arith, length-append, subst}
 use Rattle.std.specs.Prelude.{false, if◌then◌else◌, Some}
 use Rattle.std.proofs.lemmas.Bool.Decides.{nat_tests}
 use Rattle.std.proofs.lemmas.List.{map_push}
@@ -51,7 +52,8 @@ map_kept : (f g : ℕ → ℕ) (xs : List ℕ) → ((i : ℕ) → i < length xs 
     → map f xs ≡ map g xs
 map_kept f g [] same = refl
 map_kept f g (x ∷ rest) same =
-    ap₂ (λ (y : ℕ) ys. y ∷ ys) (same 0 (omega arith)) (map_kept f g rest (λ i inside. same (suc i) (omega (arith, inside))))
+    ap₂ (λ (y : ℕ) ys. y ∷ ys) (same 0 (omega arith))
+    (map_kept f g rest (λ i inside. same (suc i) (omega (arith, inside))))
 
 below_more : (xs : List ℕ) (x bound : ℕ) → ((i : ℕ) → i < length xs → slice_index xs i < bound) → x < bound → (i : ℕ)
     → i < length (xs ++ x ∷ []) → slice_index (xs ++ x ∷ []) i < bound

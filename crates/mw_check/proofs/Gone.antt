@@ -1,5 +1,6 @@
 -- From a fork that has given some cases to the next one, and to what a search ends with.
-use Rattle.std.proofs.Common.{◌≡◌, ◌≢◌, ◌⊎◌, inl, inr, ℕ, ◌+◌, ◌-◌, ◌<◌, ◌≤◌, max, List, [], ◌∷◌, ◌++◌, length, refl, sym, ap, ◌∙◌, subst, arith}
+use Rattle.std.proofs.Common.{◌≡◌, ◌≢◌, ◌⊎◌, inl, inr, ℕ, ◌+◌, ◌-◌, ◌<◌, ◌≤◌, max, List, [], ◌∷◌, ◌++◌, length, refl}
+use Rattle.std.proofs.Common.{sym, ap, ◌∙◌, subst, arith}
 use Rattle.std.specs.Prelude.{All, Contains, slice_index_or}
 use Rattle.std.proofs.Math.Nat.{le-max_left, le-max_right, max-eq_left, max-eq_right}
 use Rattle.std.proofs.lemmas.Bool.{cases_lt}
@@ -61,7 +62,8 @@ before_all job number budget fork of boundary budget_is at given = record {
 -- ---- the next case
 
 -- What a fork says of a case that it gave, and of its starts: none of them differs.
-pub record HasGiven (job : Job) (number : ℕ) (budget : Budget) (old new : Fork) (bits : List Decided) (cycles : ℕ) : Type 0 where
+pub record HasGiven (job : Job) (number : ℕ) (budget : Budget) (old new : Fork) (bits : List Decided)
+    (cycles : ℕ) : Type 0 where
   pub of : IsForkOf job new
   pub boundary : new.boundary ≡ number
   pub budget_is : new.budget ≡ budget
@@ -89,7 +91,8 @@ up_to_more : (job : Job) (number few many : ℕ) (bits : List Decided) → few �
 up_to_more job number few many bits less up start starts of =
     let few = up start starts of in omega (arith, less, few)
 
-one_of : (job : Job) (number a b most : ℕ) (cases more : List (List Decided)) (start : Start) → IsStartAt job number start
+one_of : (job : Job) (number a b most : ℕ) (cases more : List (List Decided)) (start : Start)
+    → IsStartAt job number start
     → cycles_of job start ≡ b → IsGreater a b most → IsOfOne job number a cases → IsOfOne job number most more
 one_of job number a b most cases more start starts is greater one = elim greater.one [
   | inr new ↦ inr (start, starts, is ∙ sym new)
@@ -129,7 +132,8 @@ one_more job number budget old new summary cases bits cycles is gone now =
         to_come = λ other come.
             let behind : IsBefore bits other = subst (λ here. IsToCome here other) now.at come in
             All-push (λ b. IsBefore b other) cases bits
-            (λ k d inside. (before_is_an_order (slice_index_or cases k d) bits other (before_it k d inside)).1 behind) behind;
+            (λ k d inside. (before_is_an_order (slice_index_or cases k d) bits other (before_it k d inside)).1 behind)
+            behind;
         given = length-append cases (bits ∷ []) ∙ ap (λ n. n + 1) gone.given ∙ sym now.given;
         counted = length-append cases (bits ∷ []) ∙ ap (λ n. n + 1) gone.counted;
         most = All-push (HasUpTo job number most) cases bits
@@ -148,7 +152,8 @@ some_case_there : (job : Job) (number : ℕ) → IsJob job → number < length j
 some_case_there job number is there =
     let one = some_case job number is there in (one.feasible.start, one.feasible.starts)
 
-pub after_all : (job : Job) (number : ℕ) (budget : Budget) (fork : Fork) (summary : Summary) (cases : List (List Decided))
+pub after_all : (job : Job) (number : ℕ) (budget : Budget) (fork : Fork) (summary : Summary)
+    (cases : List (List Decided))
     → IsJob job → HasGone job number budget fork summary cases → NoneIsToCome job number fork.at
     → IsSearched job number budget summary
 after_all job number budget fork summary cases is gone none =
@@ -239,9 +244,11 @@ over_paths job number limit budget fork summary cases gone limit_is given come n
       limit_is = limit_is;
       over = record {
         cases = cases ++ come.other ∷ [];
-        feasible = All-push (IsCase job number) cases come.other (λ k d inside. (gone.each k d inside).feasible) come.feasible;
+        feasible =
+            All-push (IsCase job number) cases come.other (λ k d inside. (gone.each k d inside).feasible) come.feasible;
         different = all_pairs_push (λ a b. a ≢ b) cases come.other
-            (λ i j d less inside. apart (slice_index_or cases i d) (slice_index_or cases j d) (gone.in_order i j d less inside))
+            (λ i j d less inside.
+            apart (slice_index_or cases i d) (slice_index_or cases j d) (gone.in_order i j d less inside))
             (λ k d inside. apart (slice_index_or cases k d) come.other (behind k d inside));
         more = omega (arith, length-append cases (come.other ∷ []), gone.given, given);
       };
@@ -260,7 +267,8 @@ over_paths job number limit budget fork summary cases gone limit_is given come n
     }
 
 -- an operation is over the nodes, in the list of a prefix
-pub over_nodes : (job : Job) (number : ℕ) (budget : Budget) (fork : Fork) (summary : Summary) (cases : List (List Decided))
+pub over_nodes : (job : Job) (number : ℕ) (budget : Budget) (fork : Fork) (summary : Summary)
+    (cases : List (List Decided))
     (prefix : List Decided) (word j : ℕ) → HasGone job number budget fork summary cases
     → AreNodesOver job number budget.nodes prefix word j
     → ((other : List Decided) → IsCase job number other → IsBefore other prefix → ¬ IsToCome fork.at other)
@@ -272,7 +280,8 @@ over_nodes job number budget fork summary cases prefix word j gone over none ear
 }
 
 -- one case less is to be given
-pub smaller : (job : Job) (number : ℕ) (budget : Budget) (old new : Fork) (summary : Summary) (cases : List (List Decided))
+pub smaller : (job : Job) (number : ℕ) (budget : Budget) (old new : Fork) (summary : Summary)
+    (cases : List (List Decided))
     (cycles : ℕ) → HasGone job number budget old summary cases → IsOneMore job number budget new summary cycles cases
     → old.given < old.budget.paths → new.budget.paths - new.given < old.budget.paths - old.given
 smaller job number budget old new summary cases cycles gone more few =

@@ -3,9 +3,11 @@ use Rattle.std.proofs.Common.{◌≡◌, ℕ, ◌+◌, ◌-◌, List, ◌∷◌,
 use Rattle.std.specs.Prelude.{Bool, true, false, ◌||◌, ◌==◌, if◌then◌else◌, unwrap_or, slice_get}
 use Rattle.mw_base.specs.Words as words
 use Rattle.mw_expr.specs.declared.shape.Shape.{Shape}
-use Rattle.mw_expr.specs.Tree.{Tree, element, constant, complement, pair, choice, part, join, widened, memory, Trees, none, more}
+use Rattle.mw_expr.specs.Tree.{Tree, element, constant, complement, pair, choice, part, join, widened, memory, Trees}
+use Rattle.mw_expr.specs.Tree.{none, more}
 use Rattle.mw_expr.specs.Values.{value, joined, bits, pair_value, reads_memory, read_memory}
-use Rattle.mw_expr.specs.Widths.{width, total_width, element_width, pair_width, choice_width, part_width, added, join_width, widened_width, count}
+use Rattle.mw_expr.specs.Widths.{width, total_width, element_width, pair_width, choice_width, part_width, added}
+use Rattle.mw_expr.specs.Widths.{join_width, widened_width, count}
 use Rattle.mw_macro.specs.Counts.{reads, reads_in}
 use Rattle.mw_macro.specs.ExpressionWords.{expression_words, words_of_parts, sign_words, all_joined}
 use Rattle.mw_term.specs.declared.op.Op.TheVariants.{Ite}
@@ -104,7 +106,8 @@ mutual
   joined_free s t values i j same none free = refl
   joined_free s t values i j same (more tree rest) free =
       let no = no_read (reads_memory tree) (read_memory rest) free in
-      ap (λ o. words.join (unwrap_or o 0) (value s values i tree) (joined s values i rest)) (total_free s t same rest no.1)
+      ap (λ o. words.join (unwrap_or o 0) (value s values i tree) (joined s values i rest))
+      (total_free s t same rest no.1)
       ∙ ap₂ (λ x y. words.join (unwrap_or (total_width t rest) 0) x y) (value_free s t values i j same tree no.0)
       (joined_free s t values i j same rest no.1)
 

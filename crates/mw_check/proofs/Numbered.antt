@@ -10,7 +10,8 @@ use Rattle.mw_term.proofs.Numbered.{numbered_at_first, numbered_variable, number
 use Rattle.mw_blast.specs.Causes.{IsOver}
 use Rattle.mw_blast.proofs.Numbers.{over_have_numbers}
 use Rattle.mw_check.specs.Question.{Asked}
-use Rattle.mw_check.specs.QuestionWords.{with_variables, no_words, variables, left_words, right_words, words_of, table_for}
+use Rattle.mw_check.specs.QuestionWords.{with_variables, no_words, variables, left_words, right_words, words_of}
+use Rattle.mw_check.specs.QuestionWords.{table_for}
 
 -- ---- the words of a question
 

@@ -1,5 +1,6 @@
 -- What each line of a question's text keeps.
-use Rattle.std.proofs.Common.{◌≡◌, ℕ, ◌+◌, ◌≤◌, List, [], ◌∷◌, length, Bool, true, false, refl, ◌∙◌, sym, ap, arith, subst}
+use Rattle.std.proofs.Common.{◌≡◌, ℕ, ◌+◌, ◌≤◌, List, [], ◌∷◌, length, Bool, true, false, refl, ◌∙◌, sym, ap, arith}
+use Rattle.std.proofs.Common.{subst}
 use Rattle.std.specs.Prelude.{None, nat_le, nat_lt, ◌&&◌, codes, if◌then◌else◌, Result, Ok, Err, IfOk}
 use Rattle.std.specs.Str.{bytes_eq}
 use Rattle.std.proofs.lemmas.Bool.Decides.{nat_tests}
@@ -23,7 +24,10 @@ use Rattle.mw_expr.specs.Grammar.{number_of}
 use Rattle.mw_check.specs.declared.question.Question.{Question}
 use Rattle.mw_check.specs.Question.{Asked, asked_of}
 use Rattle.mw_check.specs.QuestionKept.{AreVariables, IsHalf, IsRead, IsKept, TextsAskQuestions}
-use Rattle.mw_check.specs.QuestionText.{Variables, Half, Known, declaring, halved, whole, no_variables, few, is_reserved, width_in, with_variable, shape_over, side_of, variable_line, left_line, first_line, word_first, right_line, last_line, with_tokens, with_any, with_line, finished, question_of}
+use Rattle.mw_check.specs.QuestionText.{Variables, Half, Known, declaring, halved, whole, no_variables, few}
+use Rattle.mw_check.specs.QuestionText.{is_reserved, width_in, with_variable, shape_over, side_of, variable_line}
+use Rattle.mw_check.specs.QuestionText.{left_line, first_line, word_first, right_line, last_line, with_tokens, with_any}
+use Rattle.mw_check.specs.QuestionText.{with_line, finished, question_of}
 use Rattle.mw_check.proofs.Sides.{side_read}
 
 -- ---- variables

@@ -30,7 +30,8 @@ searched_at job budget summaries number are inside =
     let none : Summary = record { cases = 0; cycles = 0 } in
     (slice_index_or summaries number none, are number _ (slice_get-get_or summaries number none inside))
 
-pub none_before : (job : Job) (budget : Budget) (summaries : List Summary) (number : ℕ) → AreSearched job budget summaries
+pub none_before : (job : Job) (budget : Budget) (summaries : List Summary) (number : ℕ)
+    → AreSearched job budget summaries
     → length summaries ≡ number → NoneDiffersBefore job number
 none_before job budget summaries number are count earlier less =
     (searched_at job budget summaries earlier are (omega (arith, less, count))).1.none

@@ -44,7 +44,8 @@ differs_once job start other s t d e same (DiffersAt.later one run boundary step
     record { step = ap (λ (n : ℕ). n + 1) later.step; difference = later.difference }
 
 -- so many steps from a start show one thing
-pub shows_one : (job : Job) (start : Start) (steps : ℕ) (a b : Compared) → Shows job start steps a → Shows job start steps b
+pub shows_one : (job : Job) (start : Start) (steps : ℕ) (a b : Compared) → Shows job start steps a
+    → Shows job start steps b
     → a ≡ b
 shows_one job start steps Same Same same again = refl
 shows_one job start steps Same (Differs step difference) same differs =

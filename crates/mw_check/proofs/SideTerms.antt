@@ -1,5 +1,6 @@
 -- The sides of a question as terms, and whether both have one value.
-use Rattle.std.proofs.Common.{◌≡◌, ℕ, zero, suc, ◌^◌, ◌<◌, List, [], ◌∷◌, length, map, slice_index, refl, ap, ap₂, sym, ◌∙◌, arith, subst}
+use Rattle.std.proofs.Common.{◌≡◌, ℕ, zero, suc, ◌^◌, ◌<◌, List, [], ◌∷◌, length, map, slice_index, refl, ap, ap₂, sym}
+use Rattle.std.proofs.Common.{◌∙◌, arith, subst}
 use Rattle.std.specs.Prelude.{◌==◌, Option, Some, Result, Ok, Err, IsOk, IfOk, IsSome}
 use Rattle.std.proofs.lemmas.Bool.{false≢true}
 use Rattle.std.proofs.lemmas.Option.{same_Some}
@@ -170,7 +171,8 @@ side_term q t0 t1 w0 w1 m0 m1 elements side term before later is made =
       value = λ given.
           made.means.value given zeros (is_image m1 later.address later.word)
           (subst (λ reads. FitImage t1 given reads zeros) (sym later.none) (fits_none t1 given zeros))
-          ∙ value_free s q.shape (values_at t0 given elements) (held_by t0 given m0 Board zeros) [] before.wide side is.free
+          ∙ value_free s q.shape (values_at t0 given elements) (held_by t0 given m0 Board zeros)
+          [] before.wide side is.free
           ∙ ap (λ values. value q.shape values [] side) (before.values given);
     }
 
@@ -205,7 +207,8 @@ after_side q t0 t1 w0 w1 m0 m1 elements side term before is made listed =
 
 -- ---- the end of the list
 
-pub comparison_fits : (q : Asked) (t0 t1 t2 : Table) (w0 w1 w2 : List Word) (m1 m2 : Memory) (elements : List ℕ) (a b : ℕ)
+pub comparison_fits : (q : Asked) (t0 t1 t2 : Table) (w0 w1 w2 : List Word) (m1 m2 : Memory)
+    (elements : List ℕ) (a b : ℕ)
     → IsQuestion q → AfterSide q t0 t1 w0 w1 m1 elements q.left a → AfterSide q t1 t2 w1 w2 m2 elements q.right b
     → Fits t2 (Eq a b)
 comparison_fits q t0 t1 t2 w0 w1 w2 m1 m2 elements a b is left right =

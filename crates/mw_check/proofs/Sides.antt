@@ -17,7 +17,8 @@ use Rattle.mw_expr.specs.Parts.{listed}
 use Rattle.mw_expr.specs.Placed.{Placed}
 use Rattle.mw_expr.specs.Plain.{plain}
 use Rattle.mw_expr.specs.Text.{IsShape}
-use Rattle.mw_expr.specs.Tree.{Tree, element, constant, complement, pair, choice, part, join, widened, memory, Trees, none, more}
+use Rattle.mw_expr.specs.Tree.{Tree, element, constant, complement, pair, choice, part, join, widened, memory, Trees}
+use Rattle.mw_expr.specs.Tree.{none, more}
 use Rattle.mw_expr.specs.Values.{reads_memory, read_memory}
 use Rattle.mw_expr.specs.Widths.{width_if, memory_width, width, is_known, depth, width_of}
 use Rattle.mw_expr.proofs.Accepted.{has_width, parts_have_widths}

@@ -34,7 +34,8 @@ pub record IsFaultAtNext (job : Job) (fork : Fork) (fault : ForkFault) : Type 0 
   pub paths : (boundary limit : ℕ) → fault ≡ faults.Over (overs.Paths boundary limit)
       → (boundary ≡ fork.boundary) × (limit ≡ fork.budget.paths) × (fork.given ≡ limit)
       × OneIsToCome job fork.boundary fork.at
-  pub here : (boundary : ℕ) (prefix : List Decided) (word bit : ℕ) → fault ≡ faults.Over (overs.Nodes boundary prefix word bit)
+  pub here : (boundary : ℕ) (prefix : List Decided) (word bit : ℕ)
+      → fault ≡ faults.Over (overs.Nodes boundary prefix word bit)
       → boundary ≡ fork.boundary
   pub cause : (boundary : ℕ) (prefix : List Decided) (word bit : ℕ)
       → fault ≡ faults.Over (overs.Nodes boundary prefix word bit)
@@ -46,14 +47,16 @@ pub record IsFaultAtNext (job : Job) (fork : Fork) (fault : ForkFault) : Type 0 
 pub stops_at_next : (job : Job) (number : ℕ) (budget : Budget) (fork : Fork) (summary : Summary)
     (cases : List (List Decided)) (fault : ForkFault) (stop : Stop) → IsStopOf fault stop → IsFaultAtNext job fork fault
     → HasGone job number budget fork summary cases → NoneDiffersBefore job number → StopsSearch job budget stop
-stops_at_next job number budget fork summary cases fault (Differs counter) of is gone none = absurd (of.differs counter refl)
+stops_at_next job number budget fork summary cases fault (Differs counter) of is gone none =
+    absurd (of.differs counter refl)
 stops_at_next job number budget fork summary cases fault NoMemory of is gone none = tt
 stops_at_next job number budget fork summary cases fault (Over (overs.Nodes boundary prefix word j)) of is gone none =
     let over = of.over (overs.Nodes boundary prefix word j) refl in
     let here : boundary ≡ number = is.here boundary prefix word j over ∙ gone.boundary in
     over_nodes job boundary budget fork summary cases prefix word j
     (subst (λ n. HasGone job n budget fork summary cases) (sym here) gone)
-    (subst (λ (b : Budget). AreNodesOver job boundary b.nodes prefix word j) gone.budget_is (is.cause boundary prefix word j over))
+    (subst (λ (b : Budget). AreNodesOver job boundary b.nodes prefix word j) gone.budget_is
+    (is.cause boundary prefix word j over))
     (is.before boundary prefix word j over) (subst (NoneDiffersBefore job) (sym here) none)
 stops_at_next job number budget fork summary cases fault (Over (overs.Paths boundary limit)) of is gone none =
     let told = is.paths boundary limit (of.over (overs.Paths boundary limit) refl) in
@@ -89,9 +92,11 @@ pub stops_at_last : (job : Job) (number : ℕ) (budget : Budget) (old new : Fork
 stops_at_last job number budget old new summary cases bits fault (Differs counter) of is given gone none =
     absurd (of.differs counter refl)
 stops_at_last job number budget old new summary cases bits fault NoMemory of is given gone none = tt
-stops_at_last job number budget old new summary cases bits fault (Over (overs.Paths boundary limit)) of is given gone none =
+stops_at_last job number budget old new summary cases bits fault
+    (Over (overs.Paths boundary limit)) of is given gone none =
     absurd (is.paths boundary limit (of.over (overs.Paths boundary limit) refl))
-stops_at_last job number budget old new summary cases bits fault (Over (overs.Nodes boundary prefix word j)) of is given gone
+stops_at_last job number budget old new summary cases bits fault
+    (Over (overs.Nodes boundary prefix word j)) of is given gone
     none =
     let told = is.cause boundary prefix word j (of.over (overs.Nodes boundary prefix word j) refl) in
     let here : boundary ≡ number = told.0 ∙ given.boundary in

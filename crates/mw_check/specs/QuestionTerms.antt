@@ -19,8 +19,8 @@ use Rattle.mw_check.specs.QuestionWords.{no_words, with_variables, words_of, tab
 abbrev pub ended_at : Table → List Word → (terms : List ℕ) → AllEnded
 ended_at t words terms = record { list = list_of t.ops words []; terms = terms }
 
--- Variables of these widths are the whole of a table and of a list. Each is as wide as its width, and has the value that
--- is given to its word.
+-- Variables of these widths are the whole of a table and of a list. Each is as wide as its width, and has the value
+-- that is given to its word.
 pub record AreDeclared (widths : List ℕ) (t : Table) (words : List Word) (terms : List ℕ) : Type 0 where
   pub table : IsTable t
   pub no_map : t.map ≡ []

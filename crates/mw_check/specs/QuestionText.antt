@@ -1,5 +1,6 @@
 -- The question of a text.
-use Rattle.std.specs.Prelude.{ℕ, List, [], ◌∷◌, ◌++◌, codes, length, Bool, ◌&&◌, ◌||◌, nat_le, nat_lt, if◌then◌else◌, Option, Some, None, Result, Ok, Err}
+use Rattle.std.specs.Prelude.{ℕ, List, [], ◌∷◌, ◌++◌, codes, length, Bool, ◌&&◌, ◌||◌, nat_le, nat_lt, if◌then◌else◌}
+use Rattle.std.specs.Prelude.{Option, Some, None, Result, Ok, Err}
 use Rattle.std.specs.Str.{bytes_eq}
 use Rattle.mw_base.specs.declared.cause.Cause.TheVariants.{TooMany, ValueTooWide, BadSyntax}
 use Rattle.mw_base.specs.declared.cursor.Numeral.{Numeral}
@@ -143,7 +144,8 @@ last_line q line = do
   end ← end_at 0 line
   Ok (whole q)
 
--- what is known after a line that isn't blank: first the variables, then the left side, then the right one, then nothing
+-- what is known after a line that isn't blank: first the variables, then the left side, then the right one, then
+-- nothing
 abbrev pub with_tokens : Known → Cursor → Result Known TextFault
 with_tokens (declaring v) line = first_line v line
 with_tokens (halved h) line = right_line h line

@@ -31,8 +31,8 @@ abbrev pub IsOfOne : Job → (number cycles : ℕ) → List (List Decided) → T
 IsOfOne job number cycles cases =
     ((cases ≡ []) × (cycles ≡ 0)) ⊎ ((start : Start) × IsStartAt job number start × (cycles_of job start ≡ cycles))
 
--- A fork has given these cases, in their order, all of them were gone through, and each other one is to come; the summary
--- counts them, and has the most cycles of their segments.
+-- A fork has given these cases, in their order, all of them were gone through, and each other one is to come; the
+-- summary counts them, and has the most cycles of their segments.
 pub record HasGone (job : Job) (number : ℕ) (budget : Budget) (fork : Fork) (summary : Summary)
     (cases : List (List Decided)) : Type 0 where
   pub of : IsForkOf job fork

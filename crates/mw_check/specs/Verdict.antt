@@ -31,8 +31,8 @@ pub record AreSummaries (job : Job) (summaries : List Summary) : Type 0 where
   pub count : length summaries ≡ length job.relation.boundaries
   pub each : (number : ℕ) (summary : Summary) → slice_get summaries number ≡ Some summary → IsSummary job number summary
 
--- A boundary is within a budget: it has so many cases, no more than the budget's paths; and no path operation of a decided
--- bit or of a comparison has more joint cofactors than the budget's nodes.
+-- A boundary is within a budget: it has so many cases, no more than the budget's paths; and no path operation of a
+-- decided bit or of a comparison has more joint cofactors than the budget's nodes.
 pub record IsWithinBudget (job : Job) (budget : Budget) (number : ℕ) : Type 0 where
   pub count : ℕ
   pub cases : HasCases job number count
@@ -78,9 +78,10 @@ pub record IsNo (job : Job) (counter : Counter) : Type 0 where
 
 -- ---- unknown
 
--- Unknown by nodes: an operation at the word and bit, in the list of the prefix, is over the budget's nodes; and no start
--- differs at an earlier boundary or in a case before the prefix.
-pub record IsUnknownByNodes (job : Job) (budget : Budget) (number : ℕ) (prefix : List Decided) (word j : ℕ) : Type 0 where
+-- Unknown by nodes: an operation at the word and bit, in the list of the prefix, is over the budget's nodes; and no
+-- start differs at an earlier boundary or in a case before the prefix.
+pub record IsUnknownByNodes (job : Job) (budget : Budget) (number : ℕ) (prefix : List Decided)
+    (word j : ℕ) : Type 0 where
   pub over : AreNodesOver job number budget.nodes prefix word j
   pub first_case : NoneDiffersInCasesBefore job number prefix
   pub first_boundary : NoneDiffersBefore job number

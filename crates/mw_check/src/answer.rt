@@ -1,5 +1,6 @@
 // Whether the sides of a question are equal.
-ghost use Rattle.std.specs.Prelude.{◌≡◌, ◌<◌, ◌≤◌, ◌%◌, ◌^◌, ℕ, List, [], All, None, Some, IsSome, length, not, IfOk, IfErr, IfSome};
+ghost use Rattle.std.specs.Prelude.{◌≡◌, ◌<◌, ◌≤◌, ◌%◌, ◌^◌, ℕ, List, [], All, None, Some, IsSome, length, not, IfOk};
+ghost use Rattle.std.specs.Prelude.{IfErr, IfSome};
 ghost use Rattle.mw_blast.specs.Bits.{AreBits};
 ghost use Rattle.mw_blast.specs.Causes.{IsCause};
 ghost use Rattle.mw_blast.specs.declared.fault.BlastFault.TheVariants as blast;
@@ -48,7 +49,8 @@ fn variables(
     Ok(elements)
 }
 
-/// The list of a question, as terms and their words, and the term at its end, which is 1 where both sides have one value.
+/// The list of a question, as terms and their words, and the term at its end, which is 1 where both sides have one
+/// value.
 fn question_term(
     alloc: Global,
     terms: &mut Terms,
@@ -97,7 +99,8 @@ fn first_without(
 {
     let never = dds.constant(false);
     let always = dds.constant(true);
-    // No row of the term table has this operation, so the caller's budget isn't asked. There can't be more nodes than this.
+    // No row of the term table has this operation, so the caller's budget isn't asked. There can't be more nodes than
+    // this.
     match dds.ite(alloc, same, never, always, u32::MAX) {
         Ok(differ) => dds.some_assignment(alloc, differ),
         Err(_) => Err(NoMemory),
@@ -128,7 +131,8 @@ fn values_of(alloc: Global, given: &Assignment, widths: &[u8]) -> Result<Items<u
 ///
 /// # Errors
 ///
-/// - `Over`: an operation at the bit that is named, of a term that is this one or is reached from it, is over the budget.
+/// - `Over`: an operation at the bit that is named, of a term that is this one or is reached from it, is over the
+///   budget.
 /// - `NoMemory`: memory ran out.
 fn bits_within(
     alloc: Global,
@@ -194,12 +198,12 @@ fn answer(
     }
 }
 
-/// Whether the sides of a question are equal for all values of its variables, asked within a budget of joint cofactors for
-/// each operation.
+/// Whether the sides of a question are equal for all values of its variables, asked within a budget of joint cofactors
+/// for each operation.
 ///
 /// - `Yes`: they are.
-/// - `No`: they differ under these values, and under none that are earlier in the order of variables: by bit, then by the
-///   variable's number, 0 before 1.
+/// - `No`: they differ under these values, and under none that are earlier in the order of variables: by bit, then by
+///   the variable's number, 0 before 1.
 /// - `Unknown`: in the question's list of words an operation of the word of this number has, at this bit, more joint
 ///   cofactors than the budget. So where none has, the answer is yes or no.
 ///

@@ -14,7 +14,8 @@ ghost use Rattle.mw_check.specs.declared.certification.Stop.TheVariants as stops
 ghost use Rattle.mw_check.specs.declared.verdict.Summary.{Summary as SummaryOf};
 ghost use Rattle.mw_check.specs.declared.verdict.Verdict.TheVariants as verdicts;
 ghost use Rattle.mw_check.specs.Searched.{AreSearched, HasGone, IsSearched, IsOneMore, StopsSearch};
-ghost use Rattle.mw_check.specs.Verdict.{AreSummaries, AreWithinBudget, IsNo, IsUnknownByNodes, IsUnknownByPaths, NoneDiffersBefore};
+ghost use Rattle.mw_check.specs.Verdict.{AreSummaries, AreWithinBudget, IsNo, IsUnknownByNodes, IsUnknownByPaths};
+ghost use Rattle.mw_check.specs.Verdict.{NoneDiffersBefore};
 
 use crate::verdict::{Summary, Verdict};
 use mw_base::{Items, NoMemory};
@@ -82,7 +83,8 @@ fn counter_at(boundary: usize, begin: Begin) -> Result<Counter, NoMemory>
     Ok(Counter { boundary, begin })
 }
 
-/// Goes through the next case of a boundary, and answers how many cycles its segments have; nothing where there is none.
+/// Goes through the next case of a boundary, and answers how many cycles its segments have; nothing where there is
+/// none.
 fn next_cycles(
     alloc: Global,
     job: &Job,
@@ -90,7 +92,8 @@ fn next_cycles(
     fork: &mut Fork,
 ) -> Result<Option<u32>, Stop>
     requires of { IsForkOf (job_of job.now) fork.old }
-    ensures more { IfOk result (λ o. IfSome o (λ cycles. (budget : BudgetOf) (summary : SummaryOf) (cases : List (List Decided))
+    ensures more { IfOk result
+        (λ o. IfSome o (λ cycles. (budget : BudgetOf) (summary : SummaryOf) (cases : List (List Decided))
         → HasGone (job_of job.now) boundary budget fork.old summary cases
         → IsOneMore (job_of job.now) boundary budget fork.new summary cycles cases)) }
     ensures few { IfOk result (λ o. IfSome o (λ cycles. fork.old.given < fork.old.budget.paths)) }
@@ -154,12 +157,12 @@ fn search_all(alloc: Global, job: &Job, budget: Budget) -> Result<Vec<Summary>, 
 /// Whether a job is certified, asked within a budget. It goes through the boundaries in the order of the relation, and
 /// through the cases of each in the order of their bits, up to the first that differs or is over the budget.
 ///
-/// - `Yes`: from every start of the job, whatever its memory, inputs, interrupt line and undefined bits, each boundary of
-///   the board's run comes within the bound of the one before it, in relation with the described machine after as many
-///   steps, with equal memory, outputs and inputs taken. Each summary says how many feasible cases its boundary has, and
-///   how many cycles its longest segment; all of them are within the budget.
-/// - `No`: the start that this counter gives differs. It is at the first boundary, and there in the first case, that has
-///   one; of these it is what the first assignment gives under which the first comparison fails that can.
+/// - `Yes`: from every start of the job, whatever its memory, inputs, interrupt line and undefined bits, each boundary
+///   of the board's run comes within the bound of the one before it, in relation with the described machine after as
+///   many steps, with equal memory, outputs and inputs taken. Each summary says how many feasible cases its boundary
+///   has, and how many cycles its longest segment; all of them are within the budget.
+/// - `No`: the start that this counter gives differs. It is at the first boundary, and there in the first case, that
+///   has one; of these it is what the first assignment gives under which the first comparison fails that can.
 /// - `Unknown`: an operation at that word and bit, in the word list of that prefix of a case, has more joint cofactors
 ///   than the budget's nodes; or that boundary has more feasible cases than the budget's paths. No start differs at an
 ///   earlier boundary, or in an earlier case of this one. So where nothing is over the budget, the answer is yes or no.
@@ -168,7 +171,8 @@ fn search_all(alloc: Global, job: &Job, budget: Budget) -> Result<Vec<Summary>, 
 ///
 /// Memory ran out.
 pub fn certify(alloc: Global, job: &Job, budget: Budget) -> Result<Verdict, NoMemory>
-    ensures yes { IfOk result (λ v. (summaries : List SummaryOf) → v ≡ verdicts.Yes summaries → Certified (job_of job.now)) }
+    ensures yes { IfOk result
+        (λ v. (summaries : List SummaryOf) → v ≡ verdicts.Yes summaries → Certified (job_of job.now)) }
     ensures summaries { IfOk result (λ v. (summaries : List SummaryOf) → v ≡ verdicts.Yes summaries
         → AreSummaries (job_of job.now) summaries) }
     ensures within { IfOk result (λ v. (summaries : List SummaryOf) → v ≡ verdicts.Yes summaries

@@ -81,9 +81,9 @@ fn compare_by(parts: bool, job: &Job, replay: &mut Replay, steps: u32) -> Compar
     }
 }
 
-/// Compares so many steps from a start of a job: a segment of the board beside a described step, each from where the last
-/// one ended, up to the first that shows a difference. With `parts` the board's arithmetic goes through its slices, joined
-/// by lookahead, and not over whole words.
+/// Compares so many steps from a start of a job: a segment of the board beside a described step, each from where the
+/// last one ended, up to the first that shows a difference. With `parts` the board's arithmetic goes through its
+/// slices, joined by lookahead, and not over whole words.
 ///
 /// # Errors
 ///

@@ -3,7 +3,9 @@ ghost use Rattle.std.specs.Prelude.{◌≡◌, ◌<◌, ◌^◌, length, IfOk};
 ghost use Rattle.mw_base.specs.Reading.{Gives};
 ghost use Rattle.mw_base.specs.Steps.{steps};
 ghost use Rattle.mw_check.specs.Question.{asked_of, IsQuestion};
-ghost use Rattle.mw_check.specs.QuestionText.{declaring, no_variables, shape_over, variable_line, left_line, first_line, word_first, right_line, last_line, with_tokens, with_line, finished, question_of};
+ghost use Rattle.mw_check.specs.QuestionText.{declaring, no_variables, shape_over, variable_line, left_line};
+ghost use Rattle.mw_check.specs.QuestionText.{first_line, word_first, right_line, last_line, with_tokens, with_line};
+ghost use Rattle.mw_check.specs.QuestionText.{finished, question_of};
 ghost use Rattle.mw_check.specs.QuestionKept.{AreVariables, IsHalf, IsKept, TextsAskQuestions};
 ghost use Rattle.mw_check.specs.QuestionViews.{variables_seen, half_seen, known_seen};
 

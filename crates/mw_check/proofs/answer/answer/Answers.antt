@@ -3,7 +3,8 @@ use Rattle.std.proofs.lemmas.Result.{IfOk-weaker}
 use Rattle.mw_dd.specs.Nodes.{function_of}
 use Rattle.mw_check.specs.Equal.{IsAnswer}
 use Rattle.mw_check.specs.Question.{asked_of}
-use Rattle.mw_check.proofs.Answered.{holds_where_same, always_agree, first_difference, cause_answer, cause_numbered, end_stands, one_bit}
+use Rattle.mw_check.proofs.Answered.{holds_where_same, always_agree, first_difference, cause_answer, cause_numbered}
+use Rattle.mw_check.proofs.Answered.{end_stands, one_bit}
 use Rattle.mw_check.proofs.answer.answer.Goals as goal
 
 pub bits_within-requires : goal.bits_within-requires
@@ -11,7 +12,8 @@ bits_within-requires c = c.requires.list.there
 
 pub unknown-requires : goal.unknown-requires
 unknown-requires c =
-    cause_numbered (asked_of c.args.question.now) c.in-Err.fault c.args.terms.now c.args.words.now c.args.same c.args.budget
+    cause_numbered (asked_of c.args.question.now) c.in-Err.fault c.args.terms.now c.args.words.now
+    c.args.same c.args.budget
     c.requires.list c.in-Err.ensures.over
 
 pub returns-in-Err : goal.returns-in-Err

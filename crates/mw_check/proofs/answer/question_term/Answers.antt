@@ -27,7 +27,8 @@ expr_term-requires-2 c =
     let listed = rw (c.deref.ensures.value, c.new-memory.ensures) at c.in_ok-left.ensures.listed in
     let left = after_side q c.variables.new.terms c.expr_term.new.terms c.variables.new.words c.expr_term.new.words
     (memory_of 1 1 [] [] []) c.expr_term.new.memory elements q.left c.in_ok-left.left
-    (stands_first q c.variables.new.terms c.variables.new.words elements declared) c.requires.question.left made listed in
+    (stands_first q c.variables.new.terms c.variables.new.words elements declared)
+    c.requires.question.left made listed in
     rw c.deref-2.ensures.value
     (ready q c.expr_term.new.terms c.expr_term.new.words c.expr_term.new.memory elements q.right left.stands
     c.requires.question.right)
@@ -41,14 +42,16 @@ add-requires c =
     let listed = rw (c.deref.ensures.value, c.new-memory.ensures) at c.in_ok-left.ensures.listed in
     let left = after_side q c.variables.new.terms c.expr_term.new.terms c.variables.new.words c.expr_term.new.words
     (memory_of 1 1 [] [] []) c.expr_term.new.memory elements q.left c.in_ok-left.left
-    (stands_first q c.variables.new.terms c.variables.new.words elements declared) c.requires.question.left made listed in
+    (stands_first q c.variables.new.terms c.variables.new.words elements declared)
+    c.requires.question.left made listed in
     let made_next = rw c.deref-2.ensures.value at c.in_ok-right.ensures.made in
     let listed_next = rw c.deref-2.ensures.value at c.in_ok-right.ensures.listed in
     let right = after_side q c.expr_term.new.terms c.expr_term-2.new.terms c.expr_term.new.words c.expr_term-2.new.words
     c.expr_term.new.memory c.expr_term-2.new.memory elements q.right c.in_ok-right.right left.stands
     c.requires.question.right made_next listed_next in
     comparison_fits q c.variables.new.terms c.expr_term.new.terms c.expr_term-2.new.terms c.variables.new.words
-    c.expr_term.new.words c.expr_term-2.new.words c.expr_term.new.memory c.expr_term-2.new.memory elements c.in_ok-left.left
+    c.expr_term.new.words c.expr_term-2.new.words c.expr_term.new.memory c.expr_term-2.new.memory
+    elements c.in_ok-left.left
     c.in_ok-right.right c.requires.question left right
 
 pub returns : goal.returns
@@ -60,7 +63,8 @@ returns c =
     let listed = rw (c.deref.ensures.value, c.new-memory.ensures) at c.in_ok-left.ensures.listed in
     let left = after_side q c.variables.new.terms c.expr_term.new.terms c.variables.new.words c.expr_term.new.words
     (memory_of 1 1 [] [] []) c.expr_term.new.memory elements q.left c.in_ok-left.left
-    (stands_first q c.variables.new.terms c.variables.new.words elements declared) c.requires.question.left made listed in
+    (stands_first q c.variables.new.terms c.variables.new.words elements declared)
+    c.requires.question.left made listed in
     let made_next = rw c.deref-2.ensures.value at c.in_ok-right.ensures.made in
     let listed_next = rw c.deref-2.ensures.value at c.in_ok-right.ensures.listed in
     let right = after_side q c.expr_term.new.terms c.expr_term-2.new.terms c.expr_term.new.words c.expr_term-2.new.words
@@ -70,7 +74,9 @@ returns c =
     both_ok (IsTermOf c.expr_term-2.new.terms c.add.new.terms op)
     (Lists (with_word op) c.expr_term-2.new.terms c.add.new.terms c.expr_term-2.new.words c.add.new.self)
     (IsListOf q c.add.new.terms c.add.new.self) c.add.result
-    (λ end. is_list q c.variables.new.terms c.expr_term.new.terms c.expr_term-2.new.terms c.add.new.terms c.variables.new.words
-    c.expr_term.new.words c.expr_term-2.new.words c.add.new.self c.expr_term.new.memory c.expr_term-2.new.memory elements
+    (λ end.
+    is_list q c.variables.new.terms c.expr_term.new.terms c.expr_term-2.new.terms c.add.new.terms c.variables.new.words
+    c.expr_term.new.words c.expr_term-2.new.words c.add.new.self c.expr_term.new.memory
+    c.expr_term-2.new.memory elements
     c.in_ok-left.left c.in_ok-right.right end declared left right c.add.ensures.extends)
     c.add.ensures.made c.add.ensures.listed

@@ -11,7 +11,8 @@ loop-i-preserved c =
     let size : length (take l.i widths) ≡ l.i = length-take-le l.i widths (omega (arith, inside)) in
     let number : c.in-Ok.number ≡ l.i = c.in-Ok.ensures.1 in
     let fresh = c.in_ok-fresh.ensures in
-    let adds : Adds l.terms c.fresh.new.terms l.words c.fresh.new.self (length (take l.i widths)) (slice_index widths l.i)
+    let adds : Adds l.terms c.fresh.new.terms l.words c.fresh.new.self (length (take l.i widths))
+    (slice_index widths l.i)
     c.in_ok-fresh.field-0 = rw (size ∙ sym number) (record {
       words = fresh.words;
       made = fresh.made;

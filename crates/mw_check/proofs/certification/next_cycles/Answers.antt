@@ -12,12 +12,14 @@ pub returns-in-Ok-None-clause-all : goal.returns-in-Ok-None-clause-all
 returns-in-Ok-None-clause-all c = λ none budget summary cases gone.
     let job = job_of c.args.job.now in
     after_all job c.args.boundary budget c.args.fork.now summary cases c.shape-shape.ensures.valid gone
-    (subst (λ n. NoneIsToCome job n c.args.fork.now.at) gone.boundary (c.in-Ok-None.ensures.none c.in-Ok-None.field-0-is))
+    (subst (λ n. NoneIsToCome job n c.args.fork.now.at) gone.boundary
+    (c.in-Ok-None.ensures.none c.in-Ok-None.field-0-is))
 
 pub returns-in-Err-clause-stops : goal.returns-in-Err-clause-stops
 returns-in-Err-clause-stops c = λ budget summary cases gone none.
     let says = c.in-Err.ensures in
-    stops_at_next (job_of c.args.job.now) c.args.boundary budget c.args.fork.now summary cases c.in-Err.fault c.stop_of.result
+    stops_at_next (job_of c.args.job.now) c.args.boundary budget c.args.fork.now summary cases
+    c.in-Err.fault c.stop_of.result
     (record { over = c.stop_of.ensures.over; differs = c.stop_of.ensures.differs })
     (record {
       paths = says.paths;
@@ -33,7 +35,8 @@ returns-in-Ok-None-differs-clause-more c = λ budget summary cases gone.
     let bits = c.in-Ok-Some.case.prefix in
     let found = c.in-Ok-None-differs.ensures in
     let at = rw c.in-Ok-Some.field-0-is at said.at in
-    let next = subst (λ n. IsNextCase job n c.args.fork.now.at bits) gone.boundary (rw c.in-Ok-Some.field-0-is at said.case) in
+    let next =
+    subst (λ n. IsNextCase job n c.args.fork.now.at bits) gone.boundary (rw c.in-Ok-Some.field-0-is at said.case) in
     let here = said.boundary ∙ gone.boundary in
     let same = said.budget ∙ gone.budget_is in
     one_more job c.args.boundary budget c.args.fork.now c.differs.new.self summary cases bits c.in-Ok-Some.case.cycles
@@ -70,7 +73,8 @@ returns-in-Ok-Some-differs-clause-stops c = λ budget summary cases gone none.
       boundary = said.boundary ∙ gone.boundary;
       budget_is = said.budget ∙ gone.budget_is;
       at = rw c.in-Ok-Some.field-0-is at said.at;
-      next = subst (λ n. IsNextCase job n c.args.fork.now.at bits) gone.boundary (rw c.in-Ok-Some.field-0-is at said.case);
+      next =
+          subst (λ n. IsNextCase job n c.args.fork.now.at bits) gone.boundary (rw c.in-Ok-Some.field-0-is at said.case);
     }) (rw c.in-Ok-Some-differs.field-0-is at c.in-Ok-Some-differs.ensures.differs)
     (rw c.in-Ok-Some-differs.field-0-is at c.in-Ok-Some-differs.ensures.least)
     c.in_ok-counter_at-in-Ok-Some-differs.ensures.is c.in_ok-counter_at-in-Ok-Some-differs.ensures.short gone none
@@ -80,12 +84,14 @@ returns-clause-stops c = λ budget summary cases gone none.
     let job = job_of c.args.job.now in
     let said = c.in-Ok-Some.ensures in
     let bits = c.in-Ok-Some.case.prefix in
-    stops_at_last job c.args.boundary budget c.args.fork.now c.next_case.new.self summary cases bits c.in-Err-differs.fault
+    stops_at_last job c.args.boundary budget c.args.fork.now c.next_case.new.self summary cases bits
+    c.in-Err-differs.fault
     c.stop_of-in-Err-differs.result
     (record { over = c.stop_of-in-Err-differs.ensures.over; differs = c.stop_of-in-Err-differs.ensures.differs })
     (record { cause = c.in-Err-differs.ensures.cause; paths = c.in-Err-differs.ensures.paths }) (record {
       boundary = said.boundary ∙ gone.boundary;
       budget_is = said.budget ∙ gone.budget_is;
       at = rw c.in-Ok-Some.field-0-is at said.at;
-      next = subst (λ n. IsNextCase job n c.args.fork.now.at bits) gone.boundary (rw c.in-Ok-Some.field-0-is at said.case);
+      next =
+          subst (λ n. IsNextCase job n c.args.fork.now.at bits) gone.boundary (rw c.in-Ok-Some.field-0-is at said.case);
     }) gone none

@@ -8,5 +8,6 @@ abbrev pub invariant-loop-made : goal.invariant-loop-made
 invariant-loop-made g l = record {
   stands : IsReplay (job_of l.job) l.replay;
   few : HasMade l.made l.replay;
-  reached : IsReached (job_of l.job) (next_start (job_of l.job) l.fn.replay) l.made (next_start (job_of l.job) l.replay);
+  reached : IsReached (job_of l.job) (next_start (job_of l.job) l.fn.replay) l.made
+      (next_start (job_of l.job) l.replay);
 }

@@ -9,7 +9,10 @@ use Rattle.mw_check.proofs.QuestionLines.{none_kept, line_kept}
 use Rattle.mw_check.proofs.question_text.known_of.Goals as goal
 
 pub loop-line-init : goal.loop-line-init
-loop-line-init c = record { told = search rules; kept = subst (λ (v : Variables). AreVariables v.names (shape_over v.widths)) (sym c.new.ensures) none_kept }
+loop-line-init c = record {
+  told = search rules;
+  kept = subst (λ (v : Variables). AreVariables v.names (shape_over v.widths)) (sym c.new.ensures) none_kept;
+}
 
 pub returns-in_err-known : goal.returns-in_err-known
 returns-in_err-known c =

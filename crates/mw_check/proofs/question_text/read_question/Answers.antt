@@ -11,6 +11,7 @@ returns-clause-question c =
 
 pub returns-clause-variables : goal.returns-clause-variables
 returns-clause-variables c =
-    IfOk-weaker c.question_in.result (λ q. IsRead (asked_of q)) (λ q. AreVariables (asked_of q).names (asked_of q).shape)
+    IfOk-weaker c.question_in.result (λ q. IsRead (asked_of q))
+    (λ q. AreVariables (asked_of q).names (asked_of q).shape)
     (λ q read. read.variables)
     (given_read c.args.text.now c.question_in.result c.question_in.ensures)

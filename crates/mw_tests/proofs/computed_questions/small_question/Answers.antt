@@ -10,7 +10,8 @@ use Rattle.mw_base.specs.Symbols.{symbol_of}
 use Rattle.mw_base.specs.TokenLines.{line_of, lines_from}
 use Rattle.mw_base.specs.Tokens.{tokens_from, line_tokens}
 use Rattle.mw_expr.specs.Grammar.{reduced, tree_from}
-use Rattle.mw_check.specs.QuestionText.{with_variable, side_of, variable_line, left_line, first_line, word_first, right_line, question_of}
+use Rattle.mw_check.specs.QuestionText.{with_variable, side_of, variable_line, left_line, first_line, word_first}
+use Rattle.mw_check.specs.QuestionText.{right_line, question_of}
 use Rattle.mw_tests.proofs.computed_questions.small_question.Goals as goal
 
 pub returns : goal.returns
