@@ -1,6 +1,7 @@
 -- The steps of a command along its plan.
 use Rattle.std.specs.Prelude.{Contains, slice_get}
-use Rattle.std.proofs.Common.{◌≡◌, ℕ, zero, suc, ◌<◌, suc-le-suc, length, List, [], ◌∷◌, Some, Result, Ok, Err, refl, ap, subst, arith}
+use Rattle.std.proofs.Common.{◌≡◌, ℕ, zero, suc, ◌<◌, suc-le-suc, length, List, [], ◌∷◌, Some, Result, Ok, Err, refl}
+use Rattle.std.proofs.Common.{ap, subst, arith}
 use Rattle.mw_outside.specs.Views.{ShelfView, IsLater}
 use Rattle.mw_plan.specs.declared.fault.Stop.{Stop}
 use Rattle.mw_plan.specs.Plan.{Plan, done, after}

@@ -26,7 +26,8 @@ abbrev pub read_as : {F G A : Type 0} → (G → F) → Result A G → Plan F A
 read_as kind (Ok x) = done x
 read_as kind (Err fault) = refused (At (kind fault))
 
--- what the contents of a file come to: those of more than 1,048,576 bytes are too long, and others are given to a reader
+-- what the contents of a file come to: those of more than 1,048,576 bytes are too long, and others are given to a
+-- reader
 abbrev pub read_by : {F G A : Type 0} → (G → F) → (List ℕ → Result A G) → List ℕ → Plan F A
 read_by kind reader bytes = if nat_lt 1048576 (length bytes) then refused TooLong else read_as kind (reader bytes)
 

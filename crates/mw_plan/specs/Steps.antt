@@ -26,8 +26,8 @@ Stops plan first now files stops.ReadFault =
 Stops plan first now files (stops.Refused fault) = (name : List ℕ) × IsRefusedAt plan first files name fault
 Stops plan first now files stops.NoMemory = Unit {0}
 
--- what a plan has come to since a first view of the shelf: a value was made with which it goes on by `rest`, or the next
--- file stops it
+-- what a plan has come to since a first view of the shelf: a value was made with which it goes on by `rest`, or the
+-- next file stops it
 abbrev pub Follows : {F A X : Type 0} → (X → Plan F A) → Plan F A → ShelfView → ShelfView → FilesRead
     → Result X (Stop F) → Type 0
 Follows rest plan first now files (Ok x) = IsLeft plan first files (rest x)
@@ -40,7 +40,8 @@ Ends plan first now files result = Follows done plan first now files result
 -- each call of a closure that returns gives what the reader gives
 abbrev pub Reads : {G X : Type 0} → (Bor (List ℕ) → Result X (Refused G) → Type 0) → (List ℕ → Result X G) → Type 0
 Reads {G} {X} returns reader =
-    (bytes : Bor (List ℕ)) (result : Result X (Refused G)) → returns bytes result → Gives (λ x. x) result (reader bytes.now)
+    (bytes : Bor (List ℕ)) (result : Result X (Refused G)) → returns bytes result
+    → Gives (λ x. x) result (reader bytes.now)
 
 -- a closure returned this for some bytes, of which a file has at most 1,048,576
 abbrev pub WasReturned : {G X : Type 0} → (Bor (List ℕ) → Result X (Refused G) → Type 0) → X → Type 0

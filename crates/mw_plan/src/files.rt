@@ -1,5 +1,6 @@
 // The files of a command, one after another.
-ghost use Rattle.std.specs.Prelude.{◌≡◌, ◌+◌, ◌<◌, ◌≤◌, List, ℕ, [], Result, Some, length, map, string_bytes, IfOk, OnOk, OnErr};
+ghost use Rattle.std.specs.Prelude.{◌≡◌, ◌+◌, ◌<◌, ◌≤◌, List, ℕ, [], Result, Some, length, map, string_bytes, IfOk};
+ghost use Rattle.std.specs.Prelude.{OnOk, OnErr};
 ghost use Rattle.std.specs.Borrow.{Bor};
 ghost use Rattle.mw_outside.specs.Views.{ShelfView, IsLater, shelf_shown};
 ghost use Rattle.mw_plan.specs.Files.{IsLeft, next_name};
@@ -71,7 +72,8 @@ impl<'a, W, F> Files<'a, W, F> {
     ) -> Result<T, Stop<F>>
         requires more { length self.old.contents < length self.old.names }
         requires callable { (bytes : Bor (List ℕ)) → length bytes.now ≤ 1048576 → R.pre read bytes }
-        ensures follows { (kind : G → F) (reader : List ℕ → Result T G) → Converts G.converts kind → Reads (R.post read) reader
+        ensures follows { (kind : G → F) (reader : List ℕ → Result T G) → Converts G.converts kind
+            → Reads (R.post read) reader
             → (plan : Plan F W) (rest : T → Plan F W) (first : ShelfView)
             → IsLater first (shelf_shown S.Shelf shelf.old) → IsLeft plan first self.old (first_by kind reader rest)
             → Follows rest plan first (shelf_shown S.Shelf shelf.new) self.new result }
