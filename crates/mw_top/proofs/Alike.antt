@@ -16,7 +16,8 @@ use Rattle.mw_top.specs.declared.commands.Work.TheVariants as works
 use Rattle.mw_top.specs.declared.fault.Fault.{Fault}
 use Rattle.mw_top.specs.declared.fault.Fault.TheVariants.{Board, Text}
 use Rattle.mw_top.specs.declared.request.Command.{Command}
-use Rattle.mw_top.specs.declared.request.Command.TheVariants.{Compare, Asm, Run, Debug, Equal, Certify, Replay, Generate}
+use Rattle.mw_top.specs.declared.request.Command.TheVariants.{Compare, Asm, Run, Debug, Equal, Certify, Replay}
+use Rattle.mw_top.specs.declared.request.Command.TheVariants.{Generate}
 use Rattle.mw_top.specs.declared.status.Status.{Status}
 use Rattle.mw_top.specs.Commands.Asm.{asm_plan}
 use Rattle.mw_top.specs.Commands.Compare.{IsComparison, compare_plan, compare_report, compare_status}
@@ -83,7 +84,8 @@ comparison_once steps comparison status other report text first second =
 
 -- so has each such work
 answer_once : (request : RequestData) (parts : Bool) (work : Work) (status other : Status) (report text : List ℕ)
-    → IsDetermined work → IsAnswer request work status report → IsAnswer (record request { parts = parts }) work other text
+    → IsDetermined work → IsAnswer request work status report
+    → IsAnswer (record request { parts = parts }) work other text
     → (other ≡ status) × (text ≡ report)
 answer_once request parts (works.Comparison comparison) status other report text only first second =
     comparison_once request.steps comparison status other report text first second

@@ -1,5 +1,6 @@
 -- Bits of cycles, one cycle after another.
-use Rattle.std.proofs.Common.{◌≡◌, ℕ, suc, ◌+◌, ◌<◌, min, List, [], ◌∷◌, ◌++◌, codes, Bool, true, false, cond, nat_lt, Some, None, refl, subst, arith, length, take, drop}
+use Rattle.std.proofs.Common.{◌≡◌, ℕ, suc, ◌+◌, ◌<◌, min, List, [], ◌∷◌, ◌++◌, codes, Bool, true, false, cond, nat_lt}
+use Rattle.std.proofs.Common.{Some, None, refl, subst, arith, length, take, drop}
 use Rattle.std.specs.List.{flat_map, position, position_or_len}
 use Rattle.std.proofs.lemmas.Bool.Decides.{nat_tests}
 use Rattle.mw_cycle.specs.declared.decided.Decided.{Decided}

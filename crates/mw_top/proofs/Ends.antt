@@ -6,7 +6,8 @@ use Rattle.mw_plan.specs.Shelf.{AreTold}
 use Rattle.mw_plan.proofs.Once.{ends_once}
 use Rattle.mw_plan.proofs.Steps.{next_is_among}
 use Rattle.mw_top.specs.declared.status.Status.{Status}
-use Rattle.mw_top.specs.declared.status.Status.TheVariants.{Done, Differs, Unknown, Usage, Refused, ReadFault, WriteFault, NoMemory}
+use Rattle.mw_top.specs.declared.status.Status.TheVariants.{Done, Differs, Unknown, Usage, Refused, ReadFault}
+use Rattle.mw_top.specs.declared.status.Status.TheVariants.{WriteFault, NoMemory}
 use Rattle.mw_top.specs.Answer.{AreAccepted, AreRefused, IsWorked, IsRefusal, IsEnd, IsWorkEnd, is_worked}
 use Rattle.mw_top.specs.Call.{Call, NothingFailed}
 use Rattle.mw_top.specs.Commands.Table.{plan_of}

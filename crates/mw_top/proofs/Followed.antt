@@ -1,5 +1,7 @@
 -- What a difference of a job reads as may stand behind the word of a line `difference ..`.
-use Rattle.std.proofs.Common.{◌≡◌, ℕ, zero, suc, ◌+◌, ◌*◌, ◌-◌, ◌<◌, ◌≤◌, ◌^◌, List, [], ◌∷◌, ◌++◌, codes, map, take, length, slice_get, slice_index_or, Bool, true, false, cond, ◌==◌, Option, Some, None, Ok, lit≤, append-nil, refl, sym, ap, ap₂, ◌∙◌, subst, inl, inr, arith}
+use Rattle.std.proofs.Common.{◌≡◌, ℕ, zero, suc, ◌+◌, ◌*◌, ◌-◌, ◌<◌, ◌≤◌, ◌^◌, List, [], ◌∷◌, ◌++◌, codes, map, take}
+use Rattle.std.proofs.Common.{length, slice_get, slice_index_or, Bool, true, false, cond, ◌==◌, Option, Some, None, Ok}
+use Rattle.std.proofs.Common.{lit≤, append-nil, refl, sym, ap, ap₂, ◌∙◌, subst, inl, inr, arith}
 use Rattle.std.specs.Prelude.{All, nat_le, unwrap_or}
 use Rattle.std.specs.Char.{is_ascii_digit}
 use Rattle.std.specs.Int.Digits.{AllBelowBase, digits_of, number_from_digits, number_from_digits_after}
@@ -178,7 +180,8 @@ has_decimal number start at n few =
     let piece : piece_at (glyph printed.first) w ≡ Ok (token_of (Number n) (length w)) =
     figure_piece printed.first w printed.below.0
     ∙ ap₂ number_of_word
-    (ap number_spelled whole ∙ number_read printed.first printed.rest n printed.below printed.value (omega arith)) size in
+    (ap number_spelled whole
+    ∙ number_read printed.first printed.rest n printed.below printed.value (omega arith)) size in
     subst (λ bytes. Has number start at bytes (token number start at (Number n) (length bytes) ∷ [])) (sym printed.text)
     (has_one number start at (glyph printed.first) behind (Number n) piece)
 

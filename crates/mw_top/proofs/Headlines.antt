@@ -21,15 +21,18 @@ use Rattle.mw_top.specs.declared.commands.Work.{Work}
 use Rattle.mw_top.specs.declared.commands.Work.TheVariants as works
 use Rattle.mw_top.specs.declared.fault.Fault.{Fault}
 use Rattle.mw_top.specs.declared.request.Command.{Command}
-use Rattle.mw_top.specs.declared.request.Command.TheVariants.{Compare, Asm, Run, Debug, Equal, Certify, Replay, Generate}
+use Rattle.mw_top.specs.declared.request.Command.TheVariants.{Compare, Asm, Run, Debug, Equal, Certify, Replay}
+use Rattle.mw_top.specs.declared.request.Command.TheVariants.{Generate}
 use Rattle.mw_top.specs.declared.status.Status.{Status}
-use Rattle.mw_top.specs.declared.status.Status.TheVariants.{Done, Differs, Unknown, Usage, Refused, ReadFault, WriteFault, NoMemory}
+use Rattle.mw_top.specs.declared.status.Status.TheVariants.{Done, Differs, Unknown, Usage, Refused, ReadFault}
+use Rattle.mw_top.specs.declared.status.Status.TheVariants.{WriteFault, NoMemory}
 use Rattle.mw_top.specs.Answer.{AreAccepted, IsEnd, IsWorked}
 use Rattle.mw_top.specs.Call.{Call, NothingFailed, Took}
 use Rattle.mw_top.specs.Commands.Certify.{IsCertification, IsVerdictReport, certify_plan, verdict_status}
 use Rattle.mw_top.specs.Commands.Generate.{IsGeneration, generate_plan, operations_text}
 use Rattle.mw_top.specs.Commands.Table.{IsAnswer, budget_of, plan_of}
-use Rattle.mw_top.specs.Headline.{AreToCertify, AsksToCertify, Certifies, IsJobOf, IsJobTold, IsNoEnd, IsSettled, IsUnknownEnd, IsYesEnd, NothingIsOver, after_yes, is_certifying}
+use Rattle.mw_top.specs.Headline.{AreToCertify, AsksToCertify, Certifies, IsJobOf, IsJobTold, IsNoEnd, IsSettled}
+use Rattle.mw_top.specs.Headline.{IsUnknownEnd, IsYesEnd, NothingIsOver, after_yes, is_certifying}
 use Rattle.mw_top.specs.Request.{RequestData, files_of, request_of}
 use Rattle.mw_top.proofs.Ends.{end_accepted}
 use Rattle.mw_top.proofs.Made.{MakesOnly, made_so, makes_of_job}
@@ -85,8 +88,8 @@ none_after ReadFault other = refl
 none_after WriteFault other = refl
 none_after NoMemory other = refl
 
--- The work of a command is the certification of a job, of which the report begins with these lines: behind a yes comes what
--- the command adds, and nothing else.
+-- The work of a command is the certification of a job, of which the report begins with these lines: behind a yes comes
+-- what the command adds, and nothing else.
 record IsWorkOn (command : Command) (call : Call) (request : RequestData) (status : Status)
     (report : List ℕ) : Type 0 where
   job : Job
@@ -142,7 +145,8 @@ work_on call asks status report worked =
     (subst (λ (r : RequestData). IsAnswer r worked.work status report) same worked.answer)
 
 abbrev work_of : (call : Call) (asks : AsksToCertify call) (status : Status) (report : List ℕ)
-    (on : IsWorkOn asks.request.command call asks.request status report) → Certifies call on.job (budget_of asks.request)
+    (on : IsWorkOn asks.request.command call asks.request status report)
+    → Certifies call on.job (budget_of asks.request)
 work_of call asks status report on = record { asks = asks; budget_is = refl; job_is = on.job_is }
 
 -- ---- yes, no and unknown
@@ -164,7 +168,8 @@ yes_by call job budget lines (verdicts.No counter) work is status text took = ab
 yes_by call job budget lines (verdicts.Unknown over) work is status text took = absurd cc
 
 no_by : (call : Call) (job : Job) (budget : Budget) (report : List ℕ) (verdict : Verdict) → Certifies call job budget
-    → IsVerdict job budget verdict → Differs ≡ verdict_status verdict → IsVerdictReport job verdict report → Took call report
+    → IsVerdict job budget verdict → Differs ≡ verdict_status verdict
+    → IsVerdictReport job verdict report → Took call report
     → IsNoEnd call
 no_by call job budget report (verdicts.No counter) work is status text took = record {
   job = job;
@@ -182,7 +187,8 @@ no_by call job budget report (verdicts.No counter) work is status text took = re
 no_by call job budget report (verdicts.Yes summaries) work is status text took = absurd cc
 no_by call job budget report (verdicts.Unknown over) work is status text took = absurd cc
 
-unknown_by : (call : Call) (job : Job) (budget : Budget) (report : List ℕ) (verdict : Verdict) → Certifies call job budget
+unknown_by : (call : Call) (job : Job) (budget : Budget) (report : List ℕ) (verdict : Verdict)
+    → Certifies call job budget
     → IsVerdict job budget verdict → Unknown ≡ verdict_status verdict → IsVerdictReport job verdict report
     → Took call report → IsUnknownEnd call
 unknown_by call job budget report (verdicts.Unknown over) work is status text took = record {
@@ -289,13 +295,15 @@ never_unknown : (call : Call) (job : Job) (budget : Budget) → AreToCertify cal
 never_unknown call job budget to none end =
     let on = work_on call to.asks Unknown end.0 end.1 in
     let here : NothingIsOver on.job (budget_of to.asks.request) =
-    subst (λ (j : Job). NothingIsOver j (budget_of to.asks.request)) (sym (same_job call job budget to Unknown end.0 on))
+    subst (λ (j : Job). NothingIsOver j (budget_of to.asks.request))
+    (sym (same_job call job budget to Unknown end.0 on))
     (subst (NothingIsOver job) to.budget_is none) in
     over_by on.job (budget_of to.asks.request) on.answer.verdict on.answer.answers on.answer.status_is here
 
 -- contents that are told and accepted
 AreGood : Call → RequestData → Type 0
-AreGood call request = (contents : List (List ℕ)) × AreTold call.shelf_before request.files contents × AreAccepted request contents
+AreGood call request =
+    (contents : List (List ℕ)) × AreTold call.shelf_before request.files contents × AreAccepted request contents
 
 good_by : (command : Command) → is_certifying command ≡ true → (call : Call) (request : RequestData) (job : Job)
     → request.command ≡ command → IsJobTold command call request job → AreGood call request
@@ -338,7 +346,8 @@ its_left : (call : Call) (request other : RequestData) (contents : List (List �
     → after (plan_of other.command) contents ≡ Some left → left ≡ done works.Generation
 its_left call request other contents left requested is requested_too made =
     let same : other ≡ request = cc (requested, requested_too) in
-    let plan : plan_of other.command ≡ generate_plan = ap (λ (r : RequestData). plan_of r.command) same ∙ ap plan_of is in
+    let plan : plan_of other.command ≡ generate_plan =
+    ap (λ (r : RequestData). plan_of r.command) same ∙ ap plan_of is in
     generation_is contents left (subst (λ (p : Plan Fault Work). after p contents ≡ Some left) plan made)
 
 pub end_without_files : (call : Call) (status : Status) → IsEnd call status → (request : RequestData)

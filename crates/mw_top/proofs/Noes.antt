@@ -29,14 +29,16 @@ start_of_no : (job : Job) (counter : Counter) (is : IsNo job counter) → IsStar
 start_of_no job counter is =
     let chosen = is.differs.chosen in
     record {
-      boundary = sym (get_or_from_slice_get job.relation.boundaries counter.boundary is.differs.start.boundary no_boundary
+      boundary =
+          sym (get_or_from_slice_get job.relation.boundaries counter.boundary is.differs.start.boundary no_boundary
           chosen.starts.there);
       pair = chosen.pair;
       env = chosen.env;
     }
 
 -- so the counter's start shows a difference
-pub shows_one : (job : Job) (counter : Counter) (start : Start) → IsJob job → IsNo job counter → IsStartOf job counter start
+pub shows_one : (job : Job) (counter : Counter) (start : Start) → IsJob job → IsNo job counter
+    → IsStartOf job counter start
     → difference_of job start ≢ None
 shows_one job counter start valid is its none =
     is.differs.differs (subst (λ (s : Start). difference_of job s ≡ None)
@@ -81,7 +83,8 @@ is_no_report job counter difference text report valid board is shows few same be
       ∙ back labels (difference_text job difference) (differences_may_follow job difference valid board
       (is_of_job job shows.start difference valid few shows.differs.shows))
       (subst AreShort (sym (whole job counter is)) is.short)
-      ∙ ap (λ (env : Environment). Ok (record counter { begin = record counter.begin { env = env } })) (whole job counter is);
+      ∙ ap (λ (env : Environment). Ok (record counter { begin = record counter.begin { env = env } }))
+      (whole job counter is);
 }
 
 -- ---- where something is over the budget

@@ -11,7 +11,8 @@ use Rattle.mw_top.specs.declared.commands.Work.TheVariants as works
 use Rattle.mw_check.specs.declared.comparison.Compared.{Compared}
 use Rattle.mw_check.specs.declared.comparison.Compared.TheVariants as compared
 use Rattle.mw_top.specs.declared.status.Status.{Status}
-use Rattle.mw_top.specs.declared.status.Status.TheVariants.{Done, Differs, Unknown, Usage, Refused, ReadFault, WriteFault, NoMemory}
+use Rattle.mw_top.specs.declared.status.Status.TheVariants.{Done, Differs, Unknown, Usage, Refused, ReadFault}
+use Rattle.mw_top.specs.declared.status.Status.TheVariants.{WriteFault, NoMemory}
 use Rattle.mw_top.specs.Answer.{is_worked, IsWorked, IsReport}
 use Rattle.mw_top.specs.Call.{Call}
 use Rattle.mw_top.specs.Commands.Certify.{verdict_status}

@@ -6,7 +6,8 @@ use Rattle.mw_plan.specs.Plan.{done, refused, after}
 use Rattle.mw_top.specs.declared.commands.Work.{Work}
 use Rattle.mw_top.specs.declared.fault.Fault.{Fault}
 use Rattle.mw_top.specs.declared.status.Status.{Status}
-use Rattle.mw_top.specs.declared.status.Status.TheVariants.{Done, Differs, Unknown, Usage, Refused, ReadFault, WriteFault, NoMemory}
+use Rattle.mw_top.specs.declared.status.Status.TheVariants.{Done, Differs, Unknown, Usage, Refused, ReadFault}
+use Rattle.mw_top.specs.declared.status.Status.TheVariants.{WriteFault, NoMemory}
 use Rattle.mw_top.specs.Call.{Call, Took, TookSome, SinkFailed, ShelfFailed}
 use Rattle.mw_top.specs.Commands.Table.{plan_of, IsAnswer}
 use Rattle.mw_top.specs.Report.{usage_line, fault_line, refusal_line}
@@ -47,8 +48,8 @@ pub record IsRefusal (call : Call) (report : List ℕ) : Type 0 where
   pub refused : IsRefusedAt (plan_of request.command) call.shelf_before (files_of request contents) file fault
   pub line : report ≡ refusal_line file fault
 
--- There is a request, its files were read and accepted up to one that its plan asks for, the shelf failed there, and the report
--- names that one.
+-- There is a request, its files were read and accepted up to one that its plan asks for, the shelf failed there, and
+-- the report names that one.
 pub record IsReadFault (call : Call) (report : List ℕ) : Type 0 where
   pub request : RequestData
   pub requested : request_of call.words ≡ Some request
@@ -58,8 +59,8 @@ pub record IsReadFault (call : Call) (report : List ℕ) : Type 0 where
   pub failed : ShelfFailed call file
   pub line : report ≡ fault_line file
 
--- The reports that a status permits, whether they are then written whole or not; want of memory and a write fault have none
--- of their own.
+-- The reports that a status permits, whether they are then written whole or not; want of memory and a write fault have
+-- none of their own.
 abbrev pub IsReport : Call → Status → List ℕ → Type 0
 IsReport call Done report = IsWorked call Done report
 IsReport call Differs report = IsWorked call Differs report

@@ -3,7 +3,8 @@ use Rattle.std.proofs.Common.{◌≡◌, ◌≢◌, ℕ, refl, ap, arith}
 use Rattle.std.specs.Coded.{Coded, coded_ℕ}
 use base.Stored.{Gv, gnil, gnum, gcons}
 use Rattle.mw_expr.specs.contracts.expr.Pair2 as sign
-use Rattle.mw_expr.specs.Tree.{Tree, element, constant, complement, pair, choice, part, join, widened, memory, Trees, none, more}
+use Rattle.mw_expr.specs.Tree.{Tree, element, constant, complement, pair, choice, part, join, widened, memory, Trees}
+use Rattle.mw_expr.specs.Tree.{none, more}
 use Rattle.mw_macro.specs.Statements.{Act, assign, write, put, take_in, choose, Acts, nothing, next}
 
 -- the first of two
@@ -52,7 +53,8 @@ mutual
   tree_inj (element n) (widened a2 w2) p = absurd (apart 0 7 p (omega arith))
   tree_inj (element n) (memory a2) p = absurd (apart 0 8 p (omega arith))
   tree_inj (constant n w) (element n2) p = absurd (apart 1 0 p (omega arith))
-  tree_inj (constant n w) (constant n2 w2) p = λ i. constant (coded_ℕ.inj n n2 (ap (λ (g : Gv). head (tail g)) p) i) (coded_ℕ.inj w w2 (ap (λ (g : Gv). tail (tail g)) p) i)
+  tree_inj (constant n w) (constant n2 w2) p = λ i. constant (coded_ℕ.inj n n2 (ap (λ (g : Gv). head (tail g)) p) i)
+      (coded_ℕ.inj w w2 (ap (λ (g : Gv). tail (tail g)) p) i)
   tree_inj (constant n w) (complement a2) p = absurd (apart 1 2 p (omega arith))
   tree_inj (constant n w) (pair s2 a2 b2) p = absurd (apart 1 3 p (omega arith))
   tree_inj (constant n w) (choice c2 a2 b2) p = absurd (apart 1 4 p (omega arith))
@@ -72,7 +74,9 @@ mutual
   tree_inj (pair s a b) (element n2) p = absurd (apart 3 0 p (omega arith))
   tree_inj (pair s a b) (constant n2 w2) p = absurd (apart 3 1 p (omega arith))
   tree_inj (pair s a b) (complement a2) p = absurd (apart 3 2 p (omega arith))
-  tree_inj (pair s a b) (pair s2 a2 b2) p = λ i. pair (sign.the_row.coded.inj s s2 (ap (λ (g : Gv). head (tail g)) p) i) (tree_inj a a2 (ap (λ (g : Gv). head (tail (tail g))) p) i) (tree_inj b b2 (ap (λ (g : Gv). tail (tail (tail g))) p) i)
+  tree_inj (pair s a b) (pair s2 a2 b2) p = λ i. pair (sign.the_row.coded.inj s s2 (ap (λ (g : Gv). head (tail g)) p) i)
+      (tree_inj a a2 (ap (λ (g : Gv). head (tail (tail g))) p) i)
+      (tree_inj b b2 (ap (λ (g : Gv). tail (tail (tail g))) p) i)
   tree_inj (pair s a b) (choice c2 a2 b2) p = absurd (apart 3 4 p (omega arith))
   tree_inj (pair s a b) (part a2 h2 l2) p = absurd (apart 3 5 p (omega arith))
   tree_inj (pair s a b) (join ts2) p = absurd (apart 3 6 p (omega arith))
@@ -82,7 +86,9 @@ mutual
   tree_inj (choice c a b) (constant n2 w2) p = absurd (apart 4 1 p (omega arith))
   tree_inj (choice c a b) (complement a2) p = absurd (apart 4 2 p (omega arith))
   tree_inj (choice c a b) (pair s2 a2 b2) p = absurd (apart 4 3 p (omega arith))
-  tree_inj (choice c a b) (choice c2 a2 b2) p = λ i. choice (tree_inj c c2 (ap (λ (g : Gv). head (tail g)) p) i) (tree_inj a a2 (ap (λ (g : Gv). head (tail (tail g))) p) i) (tree_inj b b2 (ap (λ (g : Gv). tail (tail (tail g))) p) i)
+  tree_inj (choice c a b) (choice c2 a2 b2) p = λ i. choice
+      (tree_inj c c2 (ap (λ (g : Gv). head (tail g)) p) i) (tree_inj a a2 (ap (λ (g : Gv). head (tail (tail g))) p) i)
+      (tree_inj b b2 (ap (λ (g : Gv). tail (tail (tail g))) p) i)
   tree_inj (choice c a b) (part a2 h2 l2) p = absurd (apart 4 5 p (omega arith))
   tree_inj (choice c a b) (join ts2) p = absurd (apart 4 6 p (omega arith))
   tree_inj (choice c a b) (widened a2 w2) p = absurd (apart 4 7 p (omega arith))
@@ -92,7 +98,8 @@ mutual
   tree_inj (part a h l) (complement a2) p = absurd (apart 5 2 p (omega arith))
   tree_inj (part a h l) (pair s2 a2 b2) p = absurd (apart 5 3 p (omega arith))
   tree_inj (part a h l) (choice c2 a2 b2) p = absurd (apart 5 4 p (omega arith))
-  tree_inj (part a h l) (part a2 h2 l2) p = λ i. part (tree_inj a a2 (ap (λ (g : Gv). head (tail g)) p) i) (coded_ℕ.inj h h2 (ap (λ (g : Gv). head (tail (tail g))) p) i) (coded_ℕ.inj l l2 (ap (λ (g : Gv). tail (tail (tail g))) p) i)
+  tree_inj (part a h l) (part a2 h2 l2) p = λ i. part (tree_inj a a2 (ap (λ (g : Gv). head (tail g)) p) i) (coded_ℕ.inj
+      h h2 (ap (λ (g : Gv). head (tail (tail g))) p) i) (coded_ℕ.inj l l2 (ap (λ (g : Gv). tail (tail (tail g))) p) i)
   tree_inj (part a h l) (join ts2) p = absurd (apart 5 6 p (omega arith))
   tree_inj (part a h l) (widened a2 w2) p = absurd (apart 5 7 p (omega arith))
   tree_inj (part a h l) (memory a2) p = absurd (apart 5 8 p (omega arith))
@@ -112,7 +119,8 @@ mutual
   tree_inj (widened a w) (choice c2 a2 b2) p = absurd (apart 7 4 p (omega arith))
   tree_inj (widened a w) (part a2 h2 l2) p = absurd (apart 7 5 p (omega arith))
   tree_inj (widened a w) (join ts2) p = absurd (apart 7 6 p (omega arith))
-  tree_inj (widened a w) (widened a2 w2) p = λ i. widened (tree_inj a a2 (ap (λ (g : Gv). head (tail g)) p) i) (coded_ℕ.inj w w2 (ap (λ (g : Gv). tail (tail g)) p) i)
+  tree_inj (widened a w) (widened a2 w2) p = λ i. widened (tree_inj a a2 (ap (λ (g : Gv). head (tail g)) p) i)
+      (coded_ℕ.inj w w2 (ap (λ (g : Gv). tail (tail g)) p) i)
   tree_inj (widened a w) (memory a2) p = absurd (apart 7 8 p (omega arith))
   tree_inj (memory a) (element n2) p = absurd (apart 8 0 p (omega arith))
   tree_inj (memory a) (constant n2 w2) p = absurd (apart 8 1 p (omega arith))
@@ -129,7 +137,8 @@ mutual
   trees_inj none none p = refl
   trees_inj none (more t2 ts2) p = absurd (apart 0 1 p (omega arith))
   trees_inj (more t ts) none p = absurd (apart 1 0 p (omega arith))
-  trees_inj (more t ts) (more t2 ts2) p = λ i. more (tree_inj t t2 (ap (λ (g : Gv). head (tail g)) p) i) (trees_inj ts ts2 (ap (λ (g : Gv). tail (tail g)) p) i)
+  trees_inj (more t ts) (more t2 ts2) p = λ i.
+      more (tree_inj t t2 (ap (λ (g : Gv). head (tail g)) p) i) (trees_inj ts ts2 (ap (λ (g : Gv). tail (tail g)) p) i)
 
 -- expressions are told apart by their codes
 abbrev pub coded_tree : Coded Tree
@@ -152,13 +161,15 @@ abbrev mutual
 mutual
   -- statements of one code are one
   pub act_inj : (x y : Act) → act_code x ≡ act_code y → x ≡ y
-  act_inj (assign n v) (assign n2 v2) p = λ i. assign (coded_ℕ.inj n n2 (ap (λ (g : Gv). head (tail g)) p) i) (tree_inj v v2 (ap (λ (g : Gv). tail (tail g)) p) i)
+  act_inj (assign n v) (assign n2 v2) p = λ i. assign (coded_ℕ.inj n n2 (ap (λ (g : Gv). head (tail g)) p) i)
+      (tree_inj v v2 (ap (λ (g : Gv). tail (tail g)) p) i)
   act_inj (assign n v) (write a2 v2) p = absurd (apart 0 1 p (omega arith))
   act_inj (assign n v) (put v2) p = absurd (apart 0 2 p (omega arith))
   act_inj (assign n v) (take_in n2) p = absurd (apart 0 3 p (omega arith))
   act_inj (assign n v) (choose c2 a2 b2) p = absurd (apart 0 4 p (omega arith))
   act_inj (write a v) (assign n2 v2) p = absurd (apart 1 0 p (omega arith))
-  act_inj (write a v) (write a2 v2) p = λ i. write (tree_inj a a2 (ap (λ (g : Gv). head (tail g)) p) i) (tree_inj v v2 (ap (λ (g : Gv). tail (tail g)) p) i)
+  act_inj (write a v) (write a2 v2) p = λ i.
+      write (tree_inj a a2 (ap (λ (g : Gv). head (tail g)) p) i) (tree_inj v v2 (ap (λ (g : Gv). tail (tail g)) p) i)
   act_inj (write a v) (put v2) p = absurd (apart 1 2 p (omega arith))
   act_inj (write a v) (take_in n2) p = absurd (apart 1 3 p (omega arith))
   act_inj (write a v) (choose c2 a2 b2) p = absurd (apart 1 4 p (omega arith))
@@ -176,14 +187,17 @@ mutual
   act_inj (choose c a b) (write a2 v2) p = absurd (apart 4 1 p (omega arith))
   act_inj (choose c a b) (put v2) p = absurd (apart 4 2 p (omega arith))
   act_inj (choose c a b) (take_in n2) p = absurd (apart 4 3 p (omega arith))
-  act_inj (choose c a b) (choose c2 a2 b2) p = λ i. choose (tree_inj c c2 (ap (λ (g : Gv). head (tail g)) p) i) (acts_inj a a2 (ap (λ (g : Gv). head (tail (tail g))) p) i) (acts_inj b b2 (ap (λ (g : Gv). tail (tail (tail g))) p) i)
+  act_inj (choose c a b) (choose c2 a2 b2) p = λ i. choose
+      (tree_inj c c2 (ap (λ (g : Gv). head (tail g)) p) i) (acts_inj a a2 (ap (λ (g : Gv). head (tail (tail g))) p) i)
+      (acts_inj b b2 (ap (λ (g : Gv). tail (tail (tail g))) p) i)
 
   -- so are statements in their order
   pub acts_inj : (x y : Acts) → acts_code x ≡ acts_code y → x ≡ y
   acts_inj nothing nothing p = refl
   acts_inj nothing (next x2 xs2) p = absurd (apart 0 1 p (omega arith))
   acts_inj (next x xs) nothing p = absurd (apart 1 0 p (omega arith))
-  acts_inj (next x xs) (next x2 xs2) p = λ i. next (act_inj x x2 (ap (λ (g : Gv). head (tail g)) p) i) (acts_inj xs xs2 (ap (λ (g : Gv). tail (tail g)) p) i)
+  acts_inj (next x xs) (next x2 xs2) p = λ i.
+      next (act_inj x x2 (ap (λ (g : Gv). head (tail g)) p) i) (acts_inj xs xs2 (ap (λ (g : Gv). tail (tail g)) p) i)
 
 -- statements are told apart by their codes
 abbrev pub coded_acts : Coded Acts

@@ -46,11 +46,12 @@ pub record AsksToCertify (call : Call) : Type 0 where
   pub requested : request_of call.words ≡ Some request
   pub command : is_certifying request.command ≡ true
 
--- The job of a command that certifies: four files were read and accepted, as the board, the microprogram, the described machine
--- and the relation of this job; or it is one that is generated of the number.
+-- The job of a command that certifies: four files were read and accepted, as the board, the microprogram, the described
+-- machine and the relation of this job; or it is one that is generated of the number.
 abbrev pub IsJobOf : Command → Call → RequestData → Job → Type 0
 IsJobOf Certify call request job =
-    (contents : List (List ℕ)) × IsLeft certify_plan call.shelf_before (files_of request contents) (done (Certification job))
+    (contents : List (List ℕ))
+    × IsLeft certify_plan call.shelf_before (files_of request contents) (done (Certification job))
 IsJobOf Generate call request job = IsGenerated request.number job
 IsJobOf other call request job = ⊥
 
@@ -60,8 +61,8 @@ pub record Certifies (call : Call) (job : Job) (budget : Budget) : Type 0 where
   pub budget_is : budget ≡ budget_of asks.request
   pub job_is : IsJobOf asks.request.command call asks.request job
 
--- Yes: the job is certified. The report says so, and of each boundary how many feasible cases it has and how many cycles its
--- longest segment; and all is within the budget.
+-- Yes: the job is certified. The report says so, and of each boundary how many feasible cases it has and how many
+-- cycles its longest segment; and all is within the budget.
 pub record IsYesEnd (call : Call) : Type 0 where
   pub job : Job
   pub budget : Budget
@@ -72,8 +73,8 @@ pub record IsYesEnd (call : Call) : Type 0 where
   pub within : AreWithinBudget job budget
   pub report : Took call (yes_report job summaries ++ after_yes work.asks.request.command)
 
--- No: a start differs. The report has the difference, and the start's counter, as which it is read back; and this start is
--- the first that there is to find.
+-- No: a start differs. The report has the difference, and the start's counter, as which it is read back; and this start
+-- is the first that there is to find.
 pub record IsNoEnd (call : Call) : Type 0 where
   pub job : Job
   pub budget : Budget
@@ -96,8 +97,8 @@ pub record IsUnknownEnd (call : Call) : Type 0 where
   pub unknown : IsUnknown job budget over
   pub report : Took call (unknown_report job over)
 
--- The job of a command that certifies, by what is told: the shelf tells contents of the four files that are accepted as those
--- of this job; or it is the one that is generated of the number.
+-- The job of a command that certifies, by what is told: the shelf tells contents of the four files that are accepted as
+-- those of this job; or it is the one that is generated of the number.
 abbrev pub IsJobTold : Command → Call → RequestData → Job → Type 0
 IsJobTold Certify call request job = (contents : List (List ℕ)) × AreTold call.shelf_before request.files contents
     × (after certify_plan contents ≡ Some (done (Certification job)))

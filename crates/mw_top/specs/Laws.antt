@@ -16,7 +16,8 @@ use Rattle.mw_top.specs.Report.{difference_text}
 abbrev pub PartsChangeNothing : Type 0
 PartsChangeNothing = (call other : Call) (status otherwise : Status) (report text : List ℕ) (parts : Bool)
     → (worked : IsWorked call status report) → (again : IsWorked other otherwise text)
-    → is_determined worked.request.command ≡ true → again.request ≡ record worked.request { parts = parts } → again.contents ≡ worked.contents
+    → is_determined worked.request.command ≡ true → again.request ≡ record worked.request { parts = parts }
+    → again.contents ≡ worked.contents
     → (otherwise ≡ status) × (text ≡ report)
 
 -- what a difference of a job reads as may stand behind the word of a line `difference ..`

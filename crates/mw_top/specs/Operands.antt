@@ -1,5 +1,6 @@
 -- The words behind the command: the names of its files, or the number of a job.
-use Rattle.std.specs.Prelude.{ℕ, List, [], ◌∷◌, string_bytes, map, length, ◌==◌, if◌then◌else◌, Option, Some, None, option_map, unwrap_or, codes}
+use Rattle.std.specs.Prelude.{ℕ, List, [], ◌∷◌, string_bytes, map, length, ◌==◌, if◌then◌else◌, Option, Some, None}
+use Rattle.std.specs.Prelude.{option_map, unwrap_or, codes}
 use Rattle.clap.specs.Words.{Row, all_of}
 use Rattle.mw_top.specs.declared.request.operands.Expected.{Expected}
 use Rattle.mw_top.specs.declared.request.operands.Expected.TheVariants.{Files, JobNumber}

@@ -1,5 +1,6 @@
 -- The options of a command line.
-use Rattle.std.specs.Prelude.{◌&&◌, ℕ, Bool, true, false, Option, Some, None, Result, Ok, Err, codes, if◌then◌else◌, length, nat_le}
+use Rattle.std.specs.Prelude.{◌&&◌, ℕ, Bool, true, false, Option, Some, None, Result, Ok, Err, codes, if◌then◌else◌}
+use Rattle.std.specs.Prelude.{length, nat_le}
 use Rattle.std.specs.Char.{is_ascii_digit}
 use Rattle.std.specs.List.{list_all}
 use Rattle.std.specs.Str.{bytes_eq}
@@ -10,8 +11,8 @@ use Rattle.mw_top.specs.declared.request.options.Number.{Number}
 use Rattle.mw_top.specs.declared.request.options.Number.TheVariants.{Nodes, Paths, Steps, Cycles}
 use Rattle.mw_top.specs.declared.request.options.Options.{Options}
 
--- the name of an option with a number, the greatest number that it takes, and its number where the line doesn't give it;
--- the least number is 1
+-- the name of an option with a number, the greatest number that it takes, and its number where the line doesn't give
+-- it; the least number is 1
 pub record Limit : Type 0 where
   pub name : Text
   pub most : ℕ
@@ -48,8 +49,8 @@ abbrev pub is_true : Option Text → Bool
 is_true None = false
 is_true (Some text) = bytes_eq text (codes "true")
 
--- whether the board works as its parts, by whether that is the command's own choice, and whether the flag is on the line:
--- nothing where it isn't to be there
+-- whether the board works as its parts, by whether that is the command's own choice, and whether the flag is on the
+-- line: nothing where it isn't to be there
 abbrev pub parts_of : Bool → Bool → Option Bool
 parts_of own false = Some false
 parts_of own true = if own then Some true else None

@@ -1,5 +1,6 @@
 -- The text of a prefix of decided bits: a piece for each cycle of the board, and the branch bits of the described step.
-use Rattle.std.specs.Prelude.{ℕ, ◌+◌, ◌*◌, List, [], ◌∷◌, ◌++◌, codes, length, map, filter, find, Bool, true, false, not, ◌==◌, if◌then◌else◌, Option, None, Some}
+use Rattle.std.specs.Prelude.{ℕ, ◌+◌, ◌*◌, List, [], ◌∷◌, ◌++◌, codes, length, map, filter, find, Bool, true, false}
+use Rattle.std.specs.Prelude.{not, ◌==◌, if◌then◌else◌, Option, None, Some}
 use Rattle.std.specs.List.{fold, join_by, onto_first}
 use Rattle.mw_base.specs.Numbers.{padded}
 use Rattle.mw_base.specs.Words.{num}
@@ -73,7 +74,8 @@ cycle_text bits =
 -- bits cycle by cycle, in their order: a cycle goes up to and with its last bit
 abbrev pub cycle_by_cycle : List Decided → List (List Decided)
 cycle_by_cycle [] = []
-cycle_by_cycle (bit ∷ bits) = if is_last bit.kind then (bit ∷ []) ∷ cycle_by_cycle bits else onto_first bit (cycle_by_cycle bits)
+cycle_by_cycle (bit ∷ bits) =
+    if is_last bit.kind then (bit ∷ []) ∷ cycle_by_cycle bits else onto_first bit (cycle_by_cycle bits)
 
 -- the pieces of the cycles, with a space between two
 abbrev pub cycles_text : List Decided → List ℕ

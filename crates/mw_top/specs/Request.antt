@@ -1,12 +1,14 @@
 -- What the words of a command line ask for.
-use Rattle.std.specs.Prelude.{◌≡◌, ℕ, List, [], ◌∷◌, codes, string_bytes, map, length, find, Bool, true, false, Option, Some, None, option_and_then}
+use Rattle.std.specs.Prelude.{◌≡◌, ℕ, List, [], ◌∷◌, codes, string_bytes, map, length, find, Bool, true, false, Option}
+use Rattle.std.specs.Prelude.{Some, None, option_and_then}
 use Rattle.std.specs.List.{list_any}
 use Rattle.std.specs.Str.{bytes_eq}
 use Rattle.clap.specs.Kinds.{Kinds}
 use Rattle.clap.specs.Words.{Row, fault_of, first_of, matches_of}
 use Rattle.mw_plan.specs.Files.{FilesRead}
 use Rattle.mw_top.specs.declared.request.Command.{Command}
-use Rattle.mw_top.specs.declared.request.Command.TheVariants.{Asm, Certify, Compare, Debug, Equal, Generate, Replay, Run}
+use Rattle.mw_top.specs.declared.request.Command.TheVariants.{Asm, Certify, Compare, Debug, Equal, Generate, Replay}
+use Rattle.mw_top.specs.declared.request.Command.TheVariants.{Run}
 use Rattle.mw_top.specs.declared.request.Request.{Request}
 use Rattle.mw_top.specs.declared.request.operands.Expected.{Expected}
 use Rattle.mw_top.specs.declared.request.operands.Expected.TheVariants.{Files, JobNumber}
@@ -17,8 +19,8 @@ use Rattle.mw_top.specs.Line.{line}
 use Rattle.mw_top.specs.Operands.{OperandsData, file_count, operands_of, words_in}
 use Rattle.mw_top.specs.Options.{limit_of, number_of, is_true, parts_of, options_from}
 
--- A command, the names of its files in the order of the words, the number of a job, and the options. An option that isn't
--- the command's own stands as it does where no line gives it, and the number as 0.
+-- A command, the names of its files in the order of the words, the number of a job, and the options. An option that
+-- isn't the command's own stands as it does where no line gives it, and the number as 0.
 pub record RequestData : Type 0 where
   pub command : Command
   pub files : List (List ℕ)

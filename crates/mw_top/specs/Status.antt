@@ -1,7 +1,8 @@
 -- The exit statuses.
 use Rattle.std.specs.Prelude.{ℕ}
 use Rattle.mw_top.specs.declared.status.Status.{Status}
-use Rattle.mw_top.specs.declared.status.Status.TheVariants.{Done, Differs, Unknown, Usage, Refused, ReadFault, WriteFault, NoMemory}
+use Rattle.mw_top.specs.declared.status.Status.TheVariants.{Done, Differs, Unknown, Usage, Refused, ReadFault}
+use Rattle.mw_top.specs.declared.status.Status.TheVariants.{WriteFault, NoMemory}
 
 -- the exit status of a call
 abbrev pub number_of : Status → ℕ

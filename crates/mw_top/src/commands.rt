@@ -59,7 +59,8 @@ pub(crate) fn read_files<S: Shelf>(
 ) -> Result<Work, Stop<Fault>>
     requires counted { length files.old.names ≡ file_count (row_of command).operands }
     requires none_read { files.old.contents ≡ [] }
-    ensures ends { Ends (plan_of command) (shelf_shown S.Shelf shelf.old) (shelf_shown S.Shelf shelf.new) files.new result }
+    ensures ends { Ends (plan_of command) (shelf_shown S.Shelf shelf.old)
+        (shelf_shown S.Shelf shelf.new) files.new result }
     ensures names { files.new.names ≡ files.old.names }
     ensures later { IsLater (shelf_shown S.Shelf shelf.old) (shelf_shown S.Shelf shelf.new) }
 {

@@ -1,7 +1,10 @@
 // The text of a prefix of decided bits.
-ghost use Rattle.std.specs.Prelude.{◌≡◌, ◌∷◌, ◌++◌, ◌≤◌, ◌<◌, OnOk, IfOk, IfSome, drop, filter, length, map, not, position, take};
-ghost use Rattle.mw_top.specs.PrefixText.{address_text, branches_text, cycle_by_cycle, cycle_text, cycles_text, digit, digit_or_dash, first_of};
-ghost use Rattle.mw_top.specs.PrefixText.{is_address, is_branch, is_counter_zero, is_last, is_pass, number_of, prefix_text, values_of};
+ghost use Rattle.std.specs.Prelude.{◌≡◌, ◌∷◌, ◌++◌, ◌≤◌, ◌<◌, OnOk, IfOk, IfSome, drop, filter, length, map, not};
+ghost use Rattle.std.specs.Prelude.{position, take};
+ghost use Rattle.mw_top.specs.PrefixText.{address_text, branches_text, cycle_by_cycle, cycle_text, cycles_text, digit};
+ghost use Rattle.mw_top.specs.PrefixText.{digit_or_dash, first_of};
+ghost use Rattle.mw_top.specs.PrefixText.{is_address, is_branch, is_counter_zero, is_last, is_pass, number_of};
+ghost use Rattle.mw_top.specs.PrefixText.{prefix_text, values_of};
 
 mod computed_examples;
 

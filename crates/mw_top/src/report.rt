@@ -1,7 +1,8 @@
 // The texts of reports.
 ghost use Rattle.std.specs.Prelude.{◌≡◌, ◌++◌, [], OnOk, slice_index_or};
 ghost use Rattle.mw_sim.specs.Texts.{line};
-ghost use Rattle.mw_top.specs.Report.{usage_line, value_line, fault_line, cause_text, place_text, reader_text, fault_text, refusal_line};
+ghost use Rattle.mw_top.specs.Report.{usage_line, value_line, fault_line, cause_text, place_text, reader_text};
+ghost use Rattle.mw_top.specs.Report.{fault_text, refusal_line};
 ghost use Rattle.mw_top.specs.Differences.{AreOf32Bits};
 ghost use Rattle.mw_top.specs.Report.{difference_line, difference_text, element_text};
 ghost use Rattle.mw_base.specs.Numbers.{decimal, hex};

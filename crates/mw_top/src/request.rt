@@ -2,7 +2,8 @@
 ghost use Rattle.std.specs.Prelude.{◌≡◌, IfOk, IfSome, Some, length, map, option_map, string_bytes};
 ghost use Rattle.std.specs.Str.{bytes_eq};
 ghost use Rattle.clap.specs.Words.{first_of, found_of, rows_of};
-ghost use Rattle.mw_top.specs.Request.{HasItsFiles, command_in, command_of, data_of, number_in, options_in, request_in, request_of, row_of, with_options};
+ghost use Rattle.mw_top.specs.Request.{HasItsFiles, command_in, command_of, data_of, number_in, options_in, request_in};
+ghost use Rattle.mw_top.specs.Request.{request_of, row_of, with_options};
 ghost use Rattle.mw_top.specs.Operands.{file_count, operands_data};
 
 mod computed_examples;
@@ -38,8 +39,8 @@ pub enum Command {
     Generate,
 }
 
-/// A command with what stands behind it, and its options. An option that isn't the command's own stands as it does where
-/// it isn't given.
+/// A command with what stands behind it, and its options. An option that isn't the command's own stands as it does
+/// where it isn't given.
 #[derive(Debug, Drop)]
 pub struct Request {
     /// What is to be done.
@@ -239,8 +240,8 @@ fn request_in(alloc: Global, line: &ArgMatches<'_>) -> Result<Option<Request>, N
 }
 
 /// The request of the words of a command line, without the program's name. None where they are no request: `clap`
-/// refuses them, there is no such command, the words behind it aren't its own, an option isn't its own, or a number isn't
-/// one to eight decimal digits or is out of its range.
+/// refuses them, there is no such command, the words behind it aren't its own, an option isn't its own, or a number
+/// isn't one to eight decimal digits or is out of its range.
 ///
 /// # Errors
 ///

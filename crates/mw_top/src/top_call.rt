@@ -1,14 +1,17 @@
 // The top call: all that the program does.
-ghost use Rattle.std.specs.Prelude.{◌≡◌, ◌≢◌, ◌≤◌, List, ℕ, [], ◌∷◌, None, Some, true, Contains, IfOk, map, string_bytes};
+ghost use Rattle.std.specs.Prelude.{◌≡◌, ◌≢◌, ◌≤◌, List, ℕ, [], ◌∷◌, None, Some, true, Contains, IfOk, map};
+ghost use Rattle.std.specs.Prelude.{string_bytes};
 ghost use Rattle.mw_outside.specs.Views.{ShelfView, SinkView, IsLater, shelf_shown, sink_shown};
 ghost use Rattle.mw_fork.specs.declared.budget.Budget.{Budget};
 ghost use Rattle.mw_plan.specs.Shelf.{AreTold};
 ghost use Rattle.mw_rel.specs.Job.{Job};
 ghost use Rattle.mw_top.specs.declared.request.Command.{Command};
 ghost use Rattle.mw_top.specs.Answer.{AreAccepted, AreRefused, IsEnd, IsReport, is_worked};
-ghost use Rattle.mw_top.specs.Answer.{IsMemoryEnd, IsReadFaultEnd, IsRefusalEnd, IsUsageEnd, IsWorkEnd, IsWriteFaultEnd};
+ghost use Rattle.mw_top.specs.Answer.{IsMemoryEnd, IsReadFaultEnd, IsRefusalEnd, IsUsageEnd, IsWorkEnd};
+ghost use Rattle.mw_top.specs.Answer.{IsWriteFaultEnd};
 ghost use Rattle.mw_top.specs.Call.{Call, NothingFailed, call_of};
-ghost use Rattle.mw_top.specs.Headline.{AreToCertify, AsksToCertify, IsNoEnd, IsSettled, IsUnknownEnd, IsYesEnd, NothingIsOver};
+ghost use Rattle.mw_top.specs.Headline.{AreToCertify, AsksToCertify, IsNoEnd, IsSettled, IsUnknownEnd, IsYesEnd};
+ghost use Rattle.mw_top.specs.Headline.{NothingIsOver};
 ghost use Rattle.mw_top.specs.Request.{HasItsFiles, RequestData, data_of, request_of};
 
 use crate::commands::{answer_with, read_files};
@@ -110,21 +113,25 @@ pub fn bench<S: Shelf, K: Sink>(
         → IsWorkEnd (call_of S.Shelf K.Sink words.now shelf.old shelf.new out.old out.new) result }
 
     // The headline. `Done`, where the words ask to certify: the job of the four files, or of the number, is certified.
-    ensures yes { AsksToCertify (call_of S.Shelf K.Sink words.now shelf.old shelf.new out.old out.new) → result ≡ Status.Done
+    ensures yes { AsksToCertify (call_of S.Shelf K.Sink words.now shelf.old shelf.new out.old out.new)
+        → result ≡ Status.Done
         → IsYesEnd (call_of S.Shelf K.Sink words.now shelf.old shelf.new out.old out.new) }
 
     // `Differs`: the start that the report gives differs.
-    ensures no { AsksToCertify (call_of S.Shelf K.Sink words.now shelf.old shelf.new out.old out.new) → result ≡ Status.Differs
+    ensures no { AsksToCertify (call_of S.Shelf K.Sink words.now shelf.old shelf.new out.old out.new)
+        → result ≡ Status.Differs
         → IsNoEnd (call_of S.Shelf K.Sink words.now shelf.old shelf.new out.old out.new) }
 
     // `Unknown`: what the report names is over the budget.
-    ensures unknown { AsksToCertify (call_of S.Shelf K.Sink words.now shelf.old shelf.new out.old out.new) → result ≡ Status.Unknown
+    ensures unknown { AsksToCertify (call_of S.Shelf K.Sink words.now shelf.old shelf.new out.old out.new)
+        → result ≡ Status.Unknown
         → IsUnknownEnd (call_of S.Shelf K.Sink words.now shelf.old shelf.new out.old out.new) }
 
     // Where nothing is over the budget, and nothing fails, the answer is yes or no, as the job is certified or isn't.
     ensures settled { (job : Job) (budget : Budget)
         → AreToCertify (call_of S.Shelf K.Sink words.now shelf.old shelf.new out.old out.new) job budget
-        → NothingIsOver job budget → NothingFailed (call_of S.Shelf K.Sink words.now shelf.old shelf.new out.old out.new)
+        → NothingIsOver job budget
+        → NothingFailed (call_of S.Shelf K.Sink words.now shelf.old shelf.new out.old out.new)
         → IsSettled job result }
 
     // `generate` reads no file, so none is refused, and none can't be read.
@@ -133,7 +140,8 @@ pub fn bench<S: Shelf, K: Sink>(
         → Contains (Status.Done ∷ Status.Differs ∷ Status.Unknown ∷ Status.WriteFault ∷ Status.NoMemory ∷ []) result }
 
     // Good words and good files are not refused.
-    ensures answer_due { (request : RequestData) (contents : List (List ℕ)) → request_of (map string_bytes words.now) ≡ Some request
+    ensures answer_due { (request : RequestData) (contents : List (List ℕ))
+        → request_of (map string_bytes words.now) ≡ Some request
         → AreTold (shelf_shown S.Shelf shelf.old) request.files contents → AreAccepted request contents
         → (result ≢ Status.Usage) × (result ≢ Status.Refused) }
 
@@ -142,11 +150,13 @@ pub fn bench<S: Shelf, K: Sink>(
         → IsRefusalEnd (call_of S.Shelf K.Sink words.now shelf.old shelf.new out.old out.new) }
 
     // Files that are refused have no other end, but for the faults and want of memory.
-    ensures refused_due { (request : RequestData) (contents : List (List ℕ)) → request_of (map string_bytes words.now) ≡ Some request
+    ensures refused_due { (request : RequestData) (contents : List (List ℕ))
+        → request_of (map string_bytes words.now) ≡ Some request
         → AreTold (shelf_shown S.Shelf shelf.old) request.files contents → AreRefused request contents
         → Contains (Status.Refused ∷ Status.ReadFault ∷ Status.WriteFault ∷ Status.NoMemory ∷ []) result }
 
-    // `ReadFault`: the files before one were read and accepted, the shelf failed at it, and the line that says so was taken.
+    // `ReadFault`: the files before one were read and accepted, the shelf failed at it, and the line that says so was
+    // taken.
     ensures read_in_order { result ≡ Status.ReadFault
         → IsReadFaultEnd (call_of S.Shelf K.Sink words.now shelf.old shelf.new out.old out.new) }
 
@@ -160,7 +170,8 @@ pub fn bench<S: Shelf, K: Sink>(
 
     // Where neither the shelf nor the sink fails, only memory can keep the work from its end.
     ensures complete { NothingFailed (call_of S.Shelf K.Sink words.now shelf.old shelf.new out.old out.new)
-        → Contains (Status.Done ∷ Status.Differs ∷ Status.Unknown ∷ Status.Usage ∷ Status.Refused ∷ Status.NoMemory ∷ []) result }
+        → Contains
+        (Status.Done ∷ Status.Differs ∷ Status.Unknown ∷ Status.Usage ∷ Status.Refused ∷ Status.NoMemory ∷ []) result }
 
     // The files are as before, and no count of faults fell.
     ensures kept { (name : List ℕ) → S.told shelf.new name ≡ S.told shelf.old name }

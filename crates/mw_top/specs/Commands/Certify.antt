@@ -50,12 +50,14 @@ count_text front count = front ++ decimal count
 -- whether the pairs in relation at a boundary have all states of the machine: no `m.` element is on a left side there
 unfoldable pub states_text : Job → Boundary → List ℕ
 states_text job boundary =
-    if list_any (λ line. nat_le (element_count job.board) line.left) boundary.lines then codes "restricted" else codes "all"
+    if list_any (λ line. nat_le (element_count job.board) line.left) boundary.lines
+    then codes "restricted" else codes "all"
 
 -- boundary A cases N cycles M machine-states S
 unfoldable pub summary_line : Job → (number : ℕ) → Summary → List ℕ
 summary_line job number summary =
-    boundary_text job number ++ count_text (codes " cases ") summary.cases ++ count_text (codes " cycles ") summary.cycles
+    boundary_text job number ++ count_text (codes " cases ") summary.cases
+    ++ count_text (codes " cycles ") summary.cycles
     ++ line (codes " machine-states " ++ states_text job (numbered job number))
 
 -- no summary; it is only asked for those that there are
@@ -106,8 +108,8 @@ pub record Shows (job : Job) (counter : Counter) (difference : Difference) : Typ
   pub its : IsStartOf job counter start
   pub differs : StartDiffers job start difference
 
--- The report of a no: its start differs by the difference that is named, and the report is read back as the counter, whatever
--- the labels.
+-- The report of a no: its start differs by the difference that is named, and the report is read back as the counter,
+-- whatever the labels.
 pub record IsNoReport (job : Job) (counter : Counter) (report : List ℕ) : Type 0 where
   pub difference : Difference
   pub shows : Shows job counter difference

@@ -1,4 +1,5 @@
--- compare, replay: a board file, a microprogram for its board, a described machine, a relation between both, and a start of it.
+-- compare, replay: a board file, a microprogram for its board, a described machine, a relation between both, and a
+-- start of it.
 use Rattle.std.specs.Prelude.{◌≡◌, ℕ, List, ◌++◌, codes}
 use Rattle.mw_base.specs.Numbers.{decimal}
 use Rattle.mw_check.specs.declared.comparison.Compared.{Compared}

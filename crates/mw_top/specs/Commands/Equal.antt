@@ -41,7 +41,8 @@ variable_lines names values = flat_map (variable_line names values) (range_with_
 -- what the two sides are under these values
 unfoldable pub sides_line : Asked → (values : List ℕ) → List ℕ
 sides_line q values =
-    line (codes "left " ++ hex (value q.shape values [] q.left) ++ codes " right " ++ hex (value q.shape values [] q.right))
+    line
+    (codes "left " ++ hex (value q.shape values [] q.left) ++ codes " right " ++ hex (value q.shape values [] q.right))
 
 -- a word and a bit of it
 abbrev pub word_text : (word bit : ℕ) → List ℕ

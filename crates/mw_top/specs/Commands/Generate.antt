@@ -17,13 +17,14 @@ use Rattle.mw_top.specs.Commands.Certify.{IsCertification}
 unfoldable pub generate_plan : Plan Fault Work
 generate_plan = done works.Generation
 
--- Behind a yes stands `operations N`, how many operations the instructions have together; behind another answer nothing.
+-- Behind a yes stands `operations N`, how many operations the instructions have together; behind another answer
+-- nothing.
 abbrev pub operations_text : Status → ℕ → List ℕ
 operations_text Done operations = line (codes "operations " ++ decimal operations)
 operations_text other operations = []
 
--- A job that is generated of the number is certified within a budget, as one of files is, and behind a yes stand its 640
--- operations.
+-- A job that is generated of the number is certified within a budget, as one of files is, and behind a yes stand its
+-- 640 operations.
 pub record IsGeneration (budget : Budget) (number : ℕ) (status : Status) (report : List ℕ) : Type 0 where
   pub job : Job
   pub generated : IsGenerated number job

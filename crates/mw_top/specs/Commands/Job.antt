@@ -1,5 +1,5 @@
--- The first four files of a command on a job: a board file, a microprogram for its board, a described machine, and a relation
--- between both.
+-- The first four files of a command on a job: a board file, a microprogram for its board, a described machine, and a
+-- relation between both.
 use Rattle.std.specs.Prelude.{List}
 use Rattle.mw_asm.specs.declared.assembled.Label.{Label}
 use Rattle.mw_asm.specs.Microprogram.{store_of}

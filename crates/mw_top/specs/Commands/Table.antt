@@ -6,7 +6,8 @@ use Rattle.mw_top.specs.declared.commands.Work.{Work}
 use Rattle.mw_top.specs.declared.commands.Work.TheVariants as works
 use Rattle.mw_top.specs.declared.fault.Fault.{Fault}
 use Rattle.mw_top.specs.declared.request.Command.{Command}
-use Rattle.mw_top.specs.declared.request.Command.TheVariants.{Compare, Asm, Run, Debug, Equal, Certify, Replay, Generate}
+use Rattle.mw_top.specs.declared.request.Command.TheVariants.{Compare, Asm, Run, Debug, Equal, Certify, Replay}
+use Rattle.mw_top.specs.declared.request.Command.TheVariants.{Generate}
 use Rattle.mw_top.specs.declared.status.Status.{Status}
 use Rattle.mw_top.specs.Commands.Asm.{asm_plan, IsListing}
 use Rattle.mw_top.specs.Commands.Certify.{certify_plan, IsCertification}
@@ -42,8 +43,8 @@ IsAnswer request (works.Question question) status report = IsEquality request.no
 IsAnswer request (works.Certification job) status report = IsCertification (budget_of request) job status report
 IsAnswer request works.Generation status report = IsGeneration (budget_of request) request.number status report
 
--- the commands of which status and report are a function of the request and of what was read; an unknown answer may name
--- one of several words
+-- the commands of which status and report are a function of the request and of what was read; an unknown answer may
+-- name one of several words
 abbrev pub is_determined : Command → Bool
 is_determined Compare = true
 is_determined Asm = true

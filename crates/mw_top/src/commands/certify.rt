@@ -7,7 +7,10 @@ ghost use Rattle.mw_plan.specs.Steps.{Ends};
 ghost use Rattle.mw_rel.specs.Seen.{boundary_of, lines_of};
 ghost use Rattle.mw_rel.specs.Views.{job_of};
 ghost use Rattle.mw_replay.specs.CounterPrinted.{no_lines};
-ghost use Rattle.mw_top.specs.Commands.Certify.{boundary_text, certify_plan, count_text, number_of, operation_text, states_text, summary_line, summary_lines, unknown_report, verdict_status, yes_report, IsCertification, IsNoReport, IsVerdictReport, Shows};
+ghost use Rattle.mw_top.specs.Commands.Certify.{boundary_text, certify_plan, count_text, number_of, operation_text};
+ghost use Rattle.mw_top.specs.Commands.Certify.{states_text, summary_line, summary_lines, unknown_report};
+ghost use Rattle.mw_top.specs.Commands.Certify.{verdict_status, yes_report, IsCertification, IsNoReport};
+ghost use Rattle.mw_top.specs.Commands.Certify.{IsVerdictReport, Shows};
 ghost use Rattle.mw_top.specs.Differences.{AreOf32Bits};
 ghost use Rattle.mw_top.specs.Report.{difference_text};
 
@@ -249,7 +252,8 @@ fn append_no_lines(
     job: &Job,
     difference: Difference,
 ) -> Result<(), NoMemory>
-    ensures lines { OnOk result (report.new.items ≡ report.old.items ++ no_lines (difference_text (job_of job.now) difference)) }
+    ensures lines { OnOk result
+        (report.new.items ≡ report.old.items ++ no_lines (difference_text (job_of job.now) difference)) }
     ensures numbers { OnOk result (AreOf32Bits difference) }
 {
     append_line(report, b"no")?;

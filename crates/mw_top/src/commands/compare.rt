@@ -1,4 +1,5 @@
-// compare, replay: a board file, a microprogram for its board, a described machine, a relation between both, and a start of it.
+// compare, replay: a board file, a microprogram for its board, a described machine, a relation between both, and a
+// start of it.
 ghost use Rattle.std.specs.Prelude.{◌≡◌, ◌++◌, [], IfOk, OnOk, length};
 ghost use Rattle.mw_outside.specs.Views.{IsLater, shelf_shown};
 ghost use Rattle.mw_plan.specs.Steps.{Ends};

@@ -6,7 +6,8 @@ ghost use Rattle.mw_check.specs.QuestionText.{question_of};
 ghost use Rattle.mw_expr.specs.Values.{AreWords};
 ghost use Rattle.mw_outside.specs.Views.{IsLater, shelf_shown};
 ghost use Rattle.mw_plan.specs.Steps.{Ends};
-ghost use Rattle.mw_top.specs.Commands.Equal.{equal_plan, equality_report, equality_status, sides_line, unknown_line, variable_line, variable_lines, word_text, IsEquality};
+ghost use Rattle.mw_top.specs.Commands.Equal.{equal_plan, equality_report, equality_status, sides_line, unknown_line};
+ghost use Rattle.mw_top.specs.Commands.Equal.{variable_line, variable_lines, word_text, IsEquality};
 
 use super::Work;
 use crate::fault::Fault;

@@ -1,5 +1,5 @@
-// The first four files of a command on a job: a board file, a microprogram for its board, a described machine, and a relation
-// between both.
+// The first four files of a command on a job: a board file, a microprogram for its board, a described machine, and a
+// relation between both.
 ghost use Rattle.std.specs.Prelude.{◌≡◌, ◌+◌, ◌<◌, ◌≤◌, ◌^◌, List, IfOk, OnOk, length, true};
 ghost use Rattle.mw_base.specs.Reading.{Gives};
 ghost use Rattle.mw_descfile.specs.Machine.{machine_of};
@@ -92,7 +92,8 @@ fn read_related(
     text: &[u8],
 ) -> Result<Related, Refusal>
     requires { length text.now < 2 ^ 32 }
-    ensures gives { Gives (λ relation. relation) result (relation_of program.now.board program.now.made.labels described.now text.now) }
+    ensures gives { Gives (λ relation. relation) result
+        (relation_of program.now.board program.now.made.labels described.now text.now) }
     ensures made { IfOk result (λ relation. AreForEachOther program.now.board described.now relation) }
     ensures agree { OnOk result (memories_agree program.now.board described.now ≡ true) }
 {
@@ -131,7 +132,8 @@ pub(super) fn read_job<S: Shelf>(
     requires four { length files.old.contents + 4 ≤ length files.old.names }
     ensures follows { (plan : Plan Fault Work) (rest : JobOf → List Label → Plan Fault Work) (first : ShelfView)
         → IsLater first (shelf_shown S.Shelf shelf.old) → IsLeft plan first files.old (job_plan rest)
-        → Follows (λ read. rest (job_of read.job) read.labels) plan first (shelf_shown S.Shelf shelf.new) files.new result }
+        → Follows (λ read. rest (job_of read.job) read.labels) plan first
+        (shelf_shown S.Shelf shelf.new) files.new result }
     ensures names { files.new.names ≡ files.old.names }
     ensures four_more { OnOk result (length files.new.contents ≡ length files.old.contents + 4) }
     ensures later { IsLater (shelf_shown S.Shelf shelf.old) (shelf_shown S.Shelf shelf.new) }

@@ -10,7 +10,8 @@ fn whole_cycles()
     ensures tested { prefix_text (decided Pass true ∷ address_bits 0xABC 12) ≡ codes "1-ABC" }
     ensures counted { prefix_text (decided CounterZero false ∷ address_bits 4 12) ≡ codes "-0004" }
     ensures both { prefix_text (decided Pass false ∷ decided CounterZero true ∷ address_bits 0xFFF 12) ≡ codes "01FFF" }
-    ensures stepped { prefix_text (address_bits 1 12 ++ address_bits 0 12 ++ decided Branch false ∷ decided Branch true ∷ [])
+    ensures stepped { prefix_text
+        (address_bits 1 12 ++ address_bits 0 12 ++ decided Branch false ∷ decided Branch true ∷ [])
         ≡ codes "--001 --000 / 01" }
 {}
 
@@ -19,6 +20,8 @@ fn cycles_begun()
     ensures nothing { prefix_text [] ≡ codes "-" }
     ensures passed { prefix_text (decided Pass true ∷ []) ≡ codes "1-b" }
     ensures counted { prefix_text (decided Pass true ∷ decided CounterZero false ∷ []) ≡ codes "10b" }
-    ensures two_bits { prefix_text (decided Pass true ∷ decided (Next 11) false ∷ decided (Next 10) true ∷ []) ≡ codes "1-b01" }
-    ensures second { prefix_text (decided CounterZero false ∷ address_bits 4 12 ++ decided (Next 11) false ∷ []) ≡ codes "-0004 --b0" }
+    ensures two_bits { prefix_text (decided Pass true ∷ decided (Next 11) false ∷ decided (Next 10) true ∷ [])
+        ≡ codes "1-b01" }
+    ensures second { prefix_text (decided CounterZero false ∷ address_bits 4 12 ++ decided (Next 11) false ∷ [])
+        ≡ codes "-0004 --b0" }
 {}

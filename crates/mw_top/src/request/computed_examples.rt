@@ -7,8 +7,10 @@ ghost use Rattle.mw_top.specs.declared.request.Command.TheVariants.{Asm, Compare
 fn requests()
     ensures one_cycle { request_of (codes "run" ∷ codes "b" ∷ codes "m" ∷ codes "e" ∷ codes "--cycles" ∷ codes "1" ∷ [])
         ≡ Some (record (plainly Run (codes "b" ∷ codes "m" ∷ codes "e" ∷ [])) { cycles = 1 }) }
-    ensures seven_steps { request_of (codes "--steps=007" ∷ codes "compare" ∷ codes "b" ∷ codes "m" ∷ codes "--parts" ∷ codes "k" ∷ codes "r" ∷ codes "s" ∷ [])
-        ≡ Some (record (plainly Compare (codes "b" ∷ codes "m" ∷ codes "k" ∷ codes "r" ∷ codes "s" ∷ [])) { steps = 7; parts = true }) }
+    ensures seven_steps { request_of (codes "--steps=007" ∷ codes "compare" ∷ codes "b" ∷ codes "m" ∷ codes "--parts"
+        ∷ codes "k" ∷ codes "r" ∷ codes "s" ∷ [])
+        ≡ Some (record (plainly Compare (codes "b" ∷ codes "m" ∷ codes "k" ∷ codes "r" ∷ codes "s" ∷ []))
+        { steps = 7; parts = true }) }
     ensures file_words { request_of (codes "asm" ∷ codes "--" ∷ codes "-b" ∷ codes "" ∷ [])
         ≡ Some (plainly Asm (codes "-b" ∷ [] ∷ [])) }
     ensures job_number { request_of (codes "generate" ∷ codes "65535" ∷ codes "--paths" ∷ codes "255" ∷ [])
@@ -26,11 +28,16 @@ fn no_requests()
     ensures other { request_of (codes "asm" ∷ codes "b" ∷ codes "m" ∷ codes "--cycles" ∷ codes "2" ∷ []) ≡ None }
     ensures flag { request_of (codes "asm" ∷ codes "b" ∷ codes "m" ∷ codes "--parts" ∷ []) ≡ None }
     ensures no_number { request_of (codes "run" ∷ codes "b" ∷ codes "m" ∷ codes "e" ∷ codes "--cycles" ∷ []) ≡ None }
-    ensures twice { request_of (codes "run" ∷ codes "b" ∷ codes "m" ∷ codes "e" ∷ codes "--parts" ∷ codes "--parts" ∷ []) ≡ None }
-    ensures based { request_of (codes "run" ∷ codes "b" ∷ codes "m" ∷ codes "e" ∷ codes "--cycles" ∷ codes "0x1" ∷ []) ≡ None }
-    ensures nine_digits { request_of (codes "run" ∷ codes "b" ∷ codes "m" ∷ codes "e" ∷ codes "--cycles" ∷ codes "123456789" ∷ []) ≡ None }
-    ensures zero { request_of (codes "run" ∷ codes "b" ∷ codes "m" ∷ codes "e" ∷ codes "--cycles" ∷ codes "0" ∷ []) ≡ None }
-    ensures too_great { request_of (codes "run" ∷ codes "b" ∷ codes "m" ∷ codes "e" ∷ codes "--cycles" ∷ codes "1000001" ∷ []) ≡ None }
+    ensures twice { request_of
+        (codes "run" ∷ codes "b" ∷ codes "m" ∷ codes "e" ∷ codes "--parts" ∷ codes "--parts" ∷ []) ≡ None }
+    ensures based { request_of (codes "run" ∷ codes "b" ∷ codes "m" ∷ codes "e" ∷ codes "--cycles" ∷ codes "0x1" ∷ [])
+        ≡ None }
+    ensures nine_digits { request_of
+        (codes "run" ∷ codes "b" ∷ codes "m" ∷ codes "e" ∷ codes "--cycles" ∷ codes "123456789" ∷ []) ≡ None }
+    ensures zero { request_of (codes "run" ∷ codes "b" ∷ codes "m" ∷ codes "e" ∷ codes "--cycles" ∷ codes "0" ∷ [])
+        ≡ None }
+    ensures too_great { request_of
+        (codes "run" ∷ codes "b" ∷ codes "m" ∷ codes "e" ∷ codes "--cycles" ∷ codes "1000001" ∷ []) ≡ None }
     ensures job_too_great { request_of (codes "generate" ∷ codes "65536" ∷ []) ≡ None }
     ensures two_jobs { request_of (codes "generate" ∷ codes "0" ∷ codes "7" ∷ []) ≡ None }
 {}

@@ -39,7 +39,8 @@ fn copies(alloc: Global, texts: &[&str]) -> Result<Vec<String>, NoMemory>
 
 /// The words as names of files, where there are so many.
 fn as_files(alloc: Global, count: usize, words: &[&str]) -> Result<Option<Operands>, NoMemory>
-    ensures exact { IfOk result (λ operands. option_map operands_data operands ≡ as_files count (map (λ word. word.now) words.now)) }
+    ensures exact { IfOk result
+        (λ operands. option_map operands_data operands ≡ as_files count (map (λ word. word.now) words.now)) }
     ensures count { IfOk result (λ operands. IfSome operands (λ o. length o.files.items ≡ count)) }
 {
     if words.len() != count {
@@ -70,7 +71,8 @@ fn operands_of(
     expected: Expected,
     words: &[&str],
 ) -> Result<Option<Operands>, NoMemory>
-    ensures exact { IfOk result (λ operands. option_map operands_data operands ≡ operands_of expected (map (λ word. word.now) words.now)) }
+    ensures exact { IfOk result
+        (λ operands. option_map operands_data operands ≡ operands_of expected (map (λ word. word.now) words.now)) }
     ensures count { IfOk result (λ operands. IfSome operands (λ o. length o.files.items ≡ file_count expected)) }
 {
     match expected {
@@ -89,7 +91,9 @@ pub(crate) fn operands_in(
     expected: Expected,
     line: &ArgMatches<'_>,
 ) -> Result<Option<Operands>, NoMemory>
-    ensures exact { IfOk result (λ operands. option_map operands_data operands ≡ operands_of expected (words_in (rows_of (found_of line.now)))) }
+    ensures exact { IfOk result
+        (λ operands.
+        option_map operands_data operands ≡ operands_of expected (words_in (rows_of (found_of line.now)))) }
     ensures count { IfOk result (λ operands. IfSome operands (λ o. length o.files.items ≡ file_count expected)) }
 {
     match line.get_strs("operands") {

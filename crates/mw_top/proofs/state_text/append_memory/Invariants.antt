@@ -6,4 +6,5 @@ use Rattle.mw_top.proofs.state_text.append_memory.Given as goal
 abbrev pub invariant-loop-address : goal.invariant-loop-address
 invariant-loop-address l =
     l.report.items
-    ≡ l.fn.report.items ++ flat_map (λ address. word_line address (slice_index l.words address)) (range_with_len 0 l.address)
+    ≡ l.fn.report.items
+    ++ flat_map (λ address. word_line address (slice_index l.words address)) (range_with_len 0 l.address)

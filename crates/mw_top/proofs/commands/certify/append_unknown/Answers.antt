@@ -13,7 +13,8 @@ returns-in_ok-append_boundary-in-Nodes c =
     let job = job_of c.args.job.now in
     let over = c.in-Nodes in
     rw c.in-Nodes.is (IfOk-weaker c.append_operation.result _ _ (λ done last.
-    (rw (c.in_ok-append_boundary-in-Nodes.ensures, c.in_ok-extend_from_slice-in-Nodes.ensures.items, c.as_slice.ensures) at last)
+    (rw (c.in_ok-append_boundary-in-Nodes.ensures, c.in_ok-extend_from_slice-in-Nodes.ensures.items, c.as_slice.ensures)
+    at last)
     ∙ three_behind c.args.report.now.items (codes "unknown nodes ") (boundary_text job over.boundary)
     (operation_text over.prefix over.word over.bit)) c.append_operation.ensures)
 

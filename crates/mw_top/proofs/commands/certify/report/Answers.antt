@@ -29,12 +29,14 @@ verdict_says job budget (Yes summaries) certified sums within differs nodes path
 verdict_says job budget (No counter) certified sums within differs nodes paths = differs counter refl
 verdict_says job budget (Unknown (overs.Nodes number prefix word j)) certified sums within differs nodes paths =
     nodes number prefix word j refl
-verdict_says job budget (Unknown (overs.Paths number limit)) certified sums within differs nodes paths = paths number limit refl
+verdict_says job budget (Unknown (overs.Paths number limit)) certified sums within differs nodes paths =
+    paths number limit refl
 
 pub append_verdict-requires-clause-is : goal.append_verdict-requires-clause-is
 append_verdict-requires-clause-is c =
     let says = c.in_ok-verdict.ensures in
-    verdict_says _ c.args.budget c.in_ok-verdict.verdict says.yes says.summaries says.within says.no says.nodes says.paths
+    verdict_says _ c.args.budget c.in_ok-verdict.verdict says.yes says.summaries says.within says.no
+    says.nodes says.paths
 
 pub returns : goal.returns
 returns c = record {

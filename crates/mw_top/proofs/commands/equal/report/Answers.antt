@@ -20,7 +20,8 @@ returns c =
     record {
       question_is = rw (← c.asked.view_is) c.asked.invariant;
       equality = c.in_ok-equality.equality;
-      answers = rw (← c.asked.view_is) (answer_says _ c.args.nodes c.in_ok-equality.equality says.yes says.no says.unknown);
+      answers =
+          rw (← c.asked.view_is) (answer_says _ c.args.nodes c.in_ok-equality.equality says.yes says.no says.unknown);
       status_is = c.status_of.ensures;
       report_is = rw c.new-report.ensures.items at written;
     }

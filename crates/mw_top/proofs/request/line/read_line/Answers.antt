@@ -6,7 +6,8 @@ use Rattle.clap.specs.declared.error.Error.{Error}
 use Rattle.clap.specs.declared.error.kind.ErrorKind.{ErrorKind}
 use Rattle.clap.specs.declared.error.kind.ErrorKind.TheVariants.{OutOfMemory}
 use Rattle.clap.specs.declared.parser.matches.ArgMatches.{ArgMatches}
-use Rattle.clap.specs.Words.{App, HasMatchesOf, Text, fault_of, found_of, is_simple, is_simple_and_free, kind_of, matches_of, rows_of}
+use Rattle.clap.specs.Words.{App, HasMatchesOf, Text, fault_of, found_of, is_simple, is_simple_and_free, kind_of}
+use Rattle.clap.specs.Words.{matches_of, rows_of}
 use Rattle.mw_top.specs.Line.{line}
 use Rattle.mw_top.proofs.request.line.read_line.Goals as goal
 
@@ -36,7 +37,8 @@ err_kinds : (app : App) (words : List Text) (error : Error) → app ≡ line →
     → (is_simple_and_free app ≡ true → HasKind (fault_of app words) error) → fault_of line words ≢ []
 err_kinds app words error is other kinds = elim (kinds (ap is_simple_and_free is ∙ line_is_free)) [
   | inl memory ↦ absurd (other memory)
-  | inr among ↦ λ none. among_some (kind_of error) (fault_of app words) among (ap (λ (a : App). fault_of a words) is ∙ none)
+  | inr among ↦
+      λ none. among_some (kind_of error) (fault_of app words) among (ap (λ (a : App). fault_of a words) is ∙ none)
 ]
 
 pub returns-in-Ok : goal.returns-in-Ok

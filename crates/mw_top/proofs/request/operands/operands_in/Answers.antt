@@ -13,7 +13,8 @@ or_none found = unwrap_or found []
 pub returns-in-Some-clause-exact : goal.returns-in-Some-clause-exact
 returns-in-Some-clause-exact c = IfOk-weaker c.operands_of.result _ _ (λ operands same.
     same ∙ ap (λ (words : List (List ℕ)). operands_of c.args.expected words)
-    (ap or_none (c.in-Some.ensures ∙ raw_values-rows (found_of c.args.line.now) (codes "operands")))) c.operands_of.ensures.exact
+    (ap or_none (c.in-Some.ensures ∙ raw_values-rows (found_of c.args.line.now) (codes "operands"))))
+    c.operands_of.ensures.exact
 
 pub returns-in-None-clause-exact : goal.returns-in-None-clause-exact
 returns-in-None-clause-exact c = IfOk-weaker c.operands_of-in-None.result _ _ (λ operands same.
