@@ -49,7 +49,8 @@ fn take(bytes: &mut Vec<u8>, escape: Escape, byte: u8) -> Result<Escape, Fault> 
     Ok(Escape::Nothing)
 }
 
-/// Appends the bytes that a text spells: `\n`, `\r`, `\t`, `\\` and `\xHH` are one byte, and all else stands for itself.
+/// Appends the bytes that a text spells: `\n`, `\r`, `\t`, `\\` and `\xHH` are one byte, and all else stands for
+/// itself.
 pub fn push_spelled(bytes: &mut Vec<u8>, text: &str) -> Result<(), Fault> {
     let mut escape = Escape::Nothing;
     for &byte in text.as_bytes() {
