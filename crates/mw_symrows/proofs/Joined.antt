@@ -19,7 +19,8 @@ use Rattle.mw_symrows.specs.Runs.{IsUnder}
 use Rattle.mw_symrows.specs.StepRuns.{AreRegisters}
 
 -- a variable of a list is the one that the list answers with for its kind
-pub only : (words : List Word) (kind : WordKind) (place term : ℕ) → HaveOwnKinds words → IsVariable words place term kind
+pub only : (words : List Word) (kind : WordKind) (place term : ℕ) → HaveOwnKinds words
+    → IsVariable words place term kind
     → term_of words kind ≡ Some term
 only words kind place term own is = by (term_of words kind) refl
   where

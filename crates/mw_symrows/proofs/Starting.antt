@@ -31,10 +31,11 @@ use Rattle.mw_symrows.specs.Runs.{AreFree, IsFreeKind, IsTurned, IsUnder}
 -- one more is free
 pub free_push : (words : List Word) (term : ℕ) (own : WordKind) → AreFree words → IsFreeKind own
     → AreFree (words ++ variable term own ∷ [])
-free_push words term own free is place other kind at = elim (pushed words (variable term own) place (variable other kind) at) [
-  | inl h ↦ free place other kind h.1
-  | inr h ↦ subst IsFreeKind (kind_of h.1) is
-]
+free_push words term own free is place other kind at =
+    elim (pushed words (variable term own) place (variable other kind) at) [
+      | inl h ↦ free place other kind h.1
+      | inr h ↦ subst IsFreeKind (kind_of h.1) is
+    ]
 
 -- they are no line and no noise
 pub free_no_later : (words : List Word) → AreFree words → AreNoLater 0 words
@@ -46,7 +47,8 @@ free_no_later words free n from = (
 -- nor inputs
 pub free_inputs : (board : BoardParts) (t : Table) (words : List Word) → AreFree words → AreInputs board t words
 free_inputs board t words free n term is =
-    let none : term_of words (Input n) ≡ None = absent words (Input n) (λ place other is. free place other (Input n) is) in
+    let none : term_of words (Input n) ≡ None =
+    absent words (Input n) (λ place other is. free place other (Input n) is) in
     absurd cc
 
 -- nor base reads
@@ -56,7 +58,8 @@ free_no_base words free place term k is = free place term (Base k) is
 -- ---- base reads
 
 -- where there is no variable of a base read, there are no more reads
-pub few_reads : (t : Table) (words : List Word) (m : Memory) (n : ℕ) → IsMemory t words m → term_of words (Base n) ≡ None
+pub few_reads : (t : Table) (words : List Word) (m : Memory) (n : ℕ) → IsMemory t words m
+    → term_of words (Base n) ≡ None
     → length m.reads ≤ n
 few_reads t words m n memory none = elim (cases_lt n (length m.reads)) [
   | inl more ↦
@@ -115,7 +118,8 @@ pub few_before : (m : Microword) → bits_before m ≤ 2
 few_before m = at_most (decides_pass m) (decides_counter m)
 
 -- with a bit that was given
-pub decided_under : (board : BoardParts) (store : List ℕ) (t : Table) (words : List Word) (m : Memory) (old new : Symbolic)
+pub decided_under : (board : BoardParts) (store : List ℕ) (t : Table) (words : List Word) (m : Memory)
+    (old new : Symbolic)
     (kind : DecidedKind) (value : Bool) → new ≡ decided_so old kind value → IsUnder board store t words m old
     → IsSymbolic board store t words m new → IsUnder board store t words m new
 decided_under board store t words m old new kind value is under symbolic =
@@ -149,7 +153,8 @@ started board store t words m o address word good new table map of free is_addre
         memory = subst (IsMemory t words) (sym made)
             (new t words address word
             (omega (arith, is_address, good.sizes.address_some), omega (arith, is_address, good.sizes.address_most))
-            (omega (arith, is_word, good.sizes.least), omega (arith, is_word, good.sizes.most)) (free_no_base words free));
+            (omega (arith, is_word, good.sizes.least), omega (arith, is_word, good.sizes.most))
+            (free_no_base words free));
       };
       symbolic = symbolic;
     }

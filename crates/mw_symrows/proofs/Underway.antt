@@ -28,10 +28,11 @@ use Rattle.mw_symrows.specs.StepRuns.{AreFirst, AreRegisters, IsFirstKind, IsTur
 -- one more is a first variable
 pub first_push : (words : List Word) (term : ℕ) (own : WordKind) → AreFirst words → IsFirstKind own
     → AreFirst (words ++ variable term own ∷ [])
-first_push words term own first is place other kind at = elim (pushed words (variable term own) place (variable other kind) at) [
-  | inl h ↦ first place other kind h.1
-  | inr h ↦ subst IsFirstKind (kind_of h.1) is
-]
+first_push words term own first is place other kind at =
+    elim (pushed words (variable term own) place (variable other kind) at) [
+      | inl h ↦ first place other kind h.1
+      | inr h ↦ subst IsFirstKind (kind_of h.1) is
+    ]
 
 -- a variable has the bits of its op
 pub wide_variable : (told tnew : Table) (n w term : ℕ) → IsTermOf told tnew (Var n w) term → IsOfWidth tnew w term
@@ -49,7 +50,8 @@ first_no_input words first place term k is = first place term (Input k) is
 -- ---- before the first statement
 
 -- with variables for its registers and its request, and a new memory
-pub waits_first : (d : Description) (told tnew : Table) (words : List Word) (m : Memory) (registers : List ℕ) (request : ℕ)
+pub waits_first : (d : Description) (told tnew : Table) (words : List Word) (m : Memory)
+    (registers : List ℕ) (request : ℕ)
     → IsMemoryAtFirst → IsRight d → AreOf tnew words → AreFirst words → length registers ≡ d.registers
     → AreRegisters d.shape tnew d.registers registers → IsLater told tnew → IsOfWidth told 1 request
     → m ≡ memory_of d.shape.address d.shape.word [] [] [] → Waits d tnew words m registers request
@@ -92,7 +94,8 @@ enough_by d t words m p (Some term) formed has = omega (arith, has.0.count)
 pub turned : (d : Description) (told tnew : Table) (wold wnew : List Word) (mold mnew : Memory) (old new : Stepping)
     (turn : Turn) → IsFormed d → IsUnderway d told wold mold old → GoesOn IsOfStep told tnew wold wnew mold mnew
     → IsTurn d told tnew wnew mold mnew old new turn
-    → length mnew.reads + reads_to_come d new ≤ length mold.reads + reads_to_come d old → IsStepping d tnew wnew mnew new
+    → length mnew.reads + reads_to_come d new ≤ length mold.reads + reads_to_come d old
+    → IsStepping d tnew wnew mnew new
     → IsTurned d tnew wnew mnew new turn
 turned d told tnew wold wnew mold mnew old new (Ask kind term) formed under goes is few stepping = (
   record {

@@ -25,10 +25,12 @@ AreFree words = HaveKinds IsFreeKind words
 
 -- the terms of the first elements of a board, so many, have their widths
 abbrev pub AreSoFar : BoardParts → Table → (count : ℕ) → (terms : List ℕ) → Type 0
-AreSoFar board t count terms = (n : ℕ) → n < count → IsOfWidth t (bits_of board (element_of board n)) (slice_index terms n)
+AreSoFar board t count terms =
+    (n : ℕ) → n < count → IsOfWidth t (bits_of board (element_of board n)) (slice_index terms n)
 
 -- a board and what it works on, within a cycle
-pub record IsUnder (board : BoardParts) (store : List ℕ) (t : Table) (words : List Word) (m : Memory) (o : Symbolic) : Type 0 where
+pub record IsUnder (board : BoardParts) (store : List ℕ) (t : Table) (words : List Word) (m : Memory)
+    (o : Symbolic) : Type 0 where
   pub map : t.map ≡ board.map_entries
   pub address : m.address ≡ board.address
   pub word : m.word ≡ board.width

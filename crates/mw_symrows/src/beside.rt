@@ -1,5 +1,5 @@
-// A symbolic board and a described step over one table of terms, one list of words and one memory, from a start where elements of the board are
-// registers of the machine.
+// A symbolic board and a described step over one table of terms, one list of words and one memory, from a start where
+// elements of the board are registers of the machine.
 ghost use Rattle.std.specs.Prelude.{◌≡◌, ◌≤◌, ◌<◌, ◌+◌, ℕ, List, false, length, IfOk, OnOk, IsTrue};
 ghost use Rattle.mw_board.specs.Elements.{element_count};
 ghost use Rattle.mw_cycle.specs.State.{Fits};
@@ -27,7 +27,8 @@ use std::alloc::Global;
 /// What an element of the board has at the start.
 #[derive(Clone, Copy)]
 pub enum Bound {
-    /// The variable of this number: the elements of the board have the first numbers, and the registers of the machine the next ones.
+    /// The variable of this number: the elements of the board have the first numbers, and the registers of the machine
+    /// the next ones.
     Variable(u32),
     /// A constant.
     Number(u32),
@@ -234,8 +235,8 @@ fn bound_terms(
     Ok(elements)
 }
 
-/// A board at a state's control address and stack pointer, whose elements have these terms. There is a variable for each element that has its own,
-/// and then one for each register of the machine, by their numbers.
+/// A board at a state's control address and stack pointer, whose elements have these terms. There is a variable for
+/// each element that has its own, and then one for each register of the machine, by their numbers.
 ///
 /// # Errors
 ///
@@ -248,7 +249,8 @@ pub fn started(
     bounds: &[Bound],
 ) -> Result<Run, Stop>
     requires { Fits board.now state.now }
-    ensures under { IfOk result (λ run. (store : List ℕ) → IsUnder board.now store run.terms run.words run.memory run.board) }
+    ensures under { IfOk result
+        (λ run. (store : List ℕ) → IsUnder board.now store run.terms run.words run.memory run.board) }
     ensures idle { IfOk result (λ run. IsIdle run.board 0) }
 {
     are_of_at_first();
@@ -273,7 +275,8 @@ fn push_register(
     requires count { length registers.old.items ≡ number }
     requires so_far { AreRegisters (description_of machine.now).shape terms.now number registers.old.items }
     ensures count { OnOk result (length registers.new.items ≡ number + 1) }
-    ensures so_far { OnOk result (AreRegisters (description_of machine.now).shape terms.now (number + 1) registers.new.items) }
+    ensures so_far { OnOk result
+        (AreRegisters (description_of machine.now).shape terms.now (number + 1) registers.new.items) }
 {
     let width = register_width(machine, number);
     let term = found(terms, words, register_kind(board, number)?, width)?;

@@ -1,8 +1,9 @@
-// `call described request=BIT inputs=WORD,.. NAME=VALUE .. mem:ADDRESS=WORD ..`: a step of a machine on terms. Its registers
-// and its request are variables, and have these values; inputs and words of the memory that aren't named are 0. Each bit that the step asks for
-// has the value of its term. The registers after the step, the memory's words at the addresses that are named, the events, how many inputs were
-// taken, and the branch bits, a line each. Words and addresses are hexadecimal. `call step-words` with the same words: the words that the step
-// adds. Before it there are variables for an address of the memory, for the request and for each register, by their numbers.
+// `call described request=BIT inputs=WORD,.. NAME=VALUE .. mem:ADDRESS=WORD ..`: a step of a machine on terms. Its
+// registers and its request are variables, and have these values; inputs and words of the memory that aren't named
+// are 0. Each bit that the step asks for has the value of its term. The registers after the step, the memory's words at
+// the addresses that are named, the events, how many inputs were taken, and the branch bits, a line each. Words and
+// addresses are hexadecimal. `call step-words` with the same words: the words that the step adds. Before it there are
+// variables for an address of the memory, for the request and for each register, by their numbers.
 ghost use Rattle.std.specs.Prelude.{◌≡◌, false};
 ghost use Rattle.mw_macro.specs.Described.{description_of};
 ghost use Rattle.mw_symmach.specs.Turns.{is_asked};

@@ -1,9 +1,10 @@
-// `call joint cycles=N line=BIT b.ELEMENT=m.REGISTER .. b.ELEMENT=NUMBER .. m.REGISTER=VALUE ..`: so many cycles of a symbolic board and one step
-// of a described machine, on the same terms, words and memory. Each register and each element of the board is a variable, but for those elements
-// that are a register or a constant. Elements have the values of the state, registers those that are named, and else 0; the request is the line of
-// the first cycle, and has its value; all else of the outside and of the memory is 0. How many words there are at the start; the words that each
-// cycle adds; those that the step adds; the board after the cycles; and the registers after the step, a line each. Numbers that are read are
-// hexadecimal.
+// `call joint cycles=N line=BIT b.ELEMENT=m.REGISTER .. b.ELEMENT=NUMBER .. m.REGISTER=VALUE ..`: so many cycles of a
+// symbolic board and one step of a described machine, on the same terms, words and memory. Each register and each
+// element of the board is a variable, but for those elements that are a register or a constant. Elements have the
+// values of the state, registers those that are named, and else 0; the request is the line of the first cycle, and has
+// its value; all else of the outside and of the memory is 0. How many words there are at the start; the words that each
+// cycle adds; those that the step adds; the board after the cycles; and the registers after the step, a line each.
+// Numbers that are read are hexadecimal.
 ghost use Rattle.std.specs.Prelude.{◌≡◌, ◌≤◌, ◌<◌, ◌+◌, false, OnOk};
 ghost use Rattle.mw_cycle.specs.State.{Fits};
 ghost use Rattle.mw_macro.specs.Described.{description_of};
@@ -203,7 +204,8 @@ fn push_cycle(
     requires under { IsUnder board.now store.now.words run.old.terms run.old.words run.old.memory run.old.board }
     requires idle { run.old.board.asked ≡ None }
     requires few { run.old.board.place.cycle < 1000 }
-    ensures under { OnOk result (IsUnder board.now store.now.words run.new.terms run.new.words run.new.memory run.new.board) }
+    ensures under { OnOk result
+        (IsUnder board.now store.now.words run.new.terms run.new.words run.new.memory run.new.board) }
     ensures idle { OnOk result (IsIdle run.new.board (run.old.board.place.cycle + 1)) }
 {
     let first = run.words.count();
@@ -245,7 +247,8 @@ fn push_step(
 ) -> Result<(), Stop>
     requires under { IsUnderway (description_of machine.now) run.old.terms run.old.words run.old.memory run.old.step }
     requires idle { is_asked run.old.step.pending ≡ false }
-    ensures { OnOk result (IsEnded (description_of machine.now) run.new.terms run.new.words run.new.memory run.new.step) }
+    ensures { OnOk result
+        (IsEnded (description_of machine.now) run.new.terms run.new.words run.new.memory run.new.step) }
 {
     let scene = Scene {
         inputs: Vec::new(alloc),
@@ -266,7 +269,8 @@ fn push_ends(
     given: &mut Assignment,
     report: &mut Vec<u8>,
 ) -> Result<(), Stop>
-    requires under { IsUnderway (description_of machine.now) joint.old.step.terms joint.old.step.words joint.old.step.memory joint.old.step.step }
+    requires under { IsUnderway (description_of machine.now) joint.old.step.terms joint.old.step.words
+        joint.old.step.memory joint.old.step.step }
     requires idle { is_asked joint.old.step.step.pending ≡ false }
     requires parts { (t : Table) × AreParts board.now t joint.old.board.place.parts }
 {
@@ -350,8 +354,8 @@ fn on_board(
 ///
 /// # Errors
 ///
-/// Words or files that aren't what the call reads, a state that doesn't fit the board, a machine with another memory than the board's, and want of
-/// memory.
+/// Words or files that aren't what the call reads, a state that doesn't fit the board, a machine with another memory
+/// than the board's, and want of memory.
 pub fn run(
     alloc: Global,
     given: &[String],

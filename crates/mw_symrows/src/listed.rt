@@ -1,5 +1,5 @@
-// Words as texts, a token each: `sum(w14,w15,0'1)`. A variable stands by its kind, the kind's number and its width, as `line(0,1)`. An operand is
-// `wN`, the word of number N, or `VALUE'WIDTH`, a constant. All numbers are decimal.
+// Words as texts, a token each: `sum(w14,w15,0'1)`. A variable stands by its kind, the kind's number and its width, as
+// `line(0,1)`. An operand is `wN`, the word of number N, or `VALUE'WIDTH`, a constant. All numbers are decimal.
 use crate::valued::Stop;
 use mw_symmem::Words;
 use mw_term::{Op, Term, Terms, WordKind, terms_have_widths};

@@ -107,7 +107,8 @@ fn push_register(
     requires of { AreOf terms.old words.old }
     requires first { AreFirst words.old }
     ensures count { OnOk result (length registers.new.items ≡ number + 1) }
-    ensures so_far { OnOk result (AreRegisters (description_of machine.now).shape terms.new (number + 1) registers.new.items) }
+    ensures so_far { OnOk result
+        (AreRegisters (description_of machine.now).shape terms.new (number + 1) registers.new.items) }
     ensures later { OnOk result (IsLater terms.old terms.new) }
     ensures of { OnOk result (AreOf terms.new words.new) }
     ensures first { OnOk result (AreFirst words.new) }
@@ -162,13 +163,15 @@ fn difference(before: &[u32], after: &[u32]) -> Option<usize> {
 }
 
 impl StepRun {
-    /// A step from a variable for each register, and one for the request. There is a variable for an address of the memory too.
+    /// A step from a variable for each register, and one for the request. There is a variable for an address of the
+    /// memory too.
     ///
     /// # Errors
     ///
     /// Memory ran out.
     pub fn new(alloc: Global, machine: &Machine) -> Result<StepRun, Stop>
-        ensures under { IfOk result (λ run. IsUnderway (description_of machine.now) run.terms run.words run.memory run.step) }
+        ensures under { IfOk result
+            (λ run. IsUnderway (description_of machine.now) run.terms run.words run.memory run.step) }
         ensures idle { IfOk result (λ run. is_asked run.step.pending ≡ false) }
     {
         are_of_at_first();
@@ -200,7 +203,8 @@ impl StepRun {
     ) -> Result<StepRun, Stop>
         requires waits { Waits (description_of machine.now) terms words memory registers.now request }
         requires few { length memory.reads ≤ 1000 }
-        ensures under { IfOk result (λ run. IsUnderway (description_of machine.now) run.terms run.words run.memory run.step) }
+        ensures under { IfOk result
+            (λ run. IsUnderway (description_of machine.now) run.terms run.words run.memory run.step) }
         ensures idle { IfOk result (λ run. is_asked run.step.pending ≡ false) }
     {
         let step = SymMach::new(alloc, machine, registers, request)?;
@@ -214,9 +218,11 @@ impl StepRun {
 
     /// Goes on to the next bit of the step, or to its end.
     fn turn(&mut self, alloc: Global, machine: &Machine) -> Result<Turn, Stop>
-        requires under { IsUnderway (description_of machine.now) self.old.terms self.old.words self.old.memory self.old.step }
+        requires under { IsUnderway (description_of machine.now) self.old.terms self.old.words
+            self.old.memory self.old.step }
         requires idle { is_asked self.old.step.pending ≡ false }
-        ensures turned { IfOk result (IsTurned (description_of machine.now) self.new.terms self.new.words self.new.memory self.new.step) }
+        ensures turned { IfOk result
+            (IsTurned (description_of machine.now) self.new.terms self.new.words self.new.memory self.new.step) }
         ensures workspace { OnOk result (IsWorkspace self.new.terms self.new.words self.new.memory) }
     {
         let turn = self.step.sym_step(
@@ -231,9 +237,11 @@ impl StepRun {
 
     /// Gives the bit that was asked for.
     fn decide(&mut self, _machine: &Machine, value: bool)
-        requires under { IsUnderway (description_of _machine.now) self.old.terms self.old.words self.old.memory self.old.step }
+        requires under { IsUnderway (description_of _machine.now) self.old.terms self.old.words
+            self.old.memory self.old.step }
         requires asked { is_asked self.old.step.pending ≡ true }
-        ensures under { IsUnderway (description_of _machine.now) self.new.terms self.new.words self.new.memory self.new.step }
+        ensures under { IsUnderway (description_of _machine.now) self.new.terms self.new.words
+            self.new.memory self.new.step }
         ensures idle { is_asked self.new.step.pending ≡ false }
     {
         self.step.decide(value);
@@ -247,8 +255,8 @@ impl StepRun {
         Ok(image)
     }
 
-    /// Gives the base read of a number the word at its address. Its address is where the image changes with it; where an older read has its address,
-    /// its own word is of no account.
+    /// Gives the base read of a number the word at its address. Its address is where the image changes with it; where
+    /// an older read has its address, its own word is of no account.
     fn set_base(
         &self,
         alloc: Global,
@@ -317,9 +325,11 @@ impl StepRun {
         given: &mut Assignment,
         bits: &mut Vec<bool>,
     ) -> Result<u32, Stop>
-        requires under { IsUnderway (description_of machine.now) self.old.terms self.old.words self.old.memory self.old.step }
+        requires under { IsUnderway (description_of machine.now) self.old.terms self.old.words
+            self.old.memory self.old.step }
         requires idle { is_asked self.old.step.pending ≡ false }
-        ensures { OnOk result (IsEnded (description_of machine.now) self.new.terms self.new.words self.new.memory self.new.step) }
+        ensures { OnOk result
+            (IsEnded (description_of machine.now) self.new.terms self.new.words self.new.memory self.new.step) }
     {
         let mut bases = 0;
         for _ in 0..4097 {
@@ -404,7 +414,8 @@ impl StepRun {
         number: u32,
         given: &Assignment,
     ) -> Result<u32, Stop>
-        requires over { IsEnded (description_of machine.now) self.now.terms self.now.words self.now.memory self.now.step }
+        requires over { IsEnded (description_of machine.now) self.now.terms self.now.words
+            self.now.memory self.now.step }
         requires there { number < (description_of machine.now).registers }
     {
         value(alloc, &self.terms, self.step.register(number), given)

@@ -1,7 +1,8 @@
-// `call symbolic noise= line= input=`: the cycle that `call cycle` makes, of a symbolic board whose elements are variables. The variables have the
-// values of the state, of the outside and of the memory, and each bit that the board asks for has the value of its term. The state after the
-// cycle; and the event of the cycle and its decided bits, each by what it says. `call cycle-words noise= line= input=`: the words that this cycle
-// adds. Before it there are a variable for an address of the memory and one for each element, by their numbers.
+// `call symbolic noise= line= input=`: the cycle that `call cycle` makes, of a symbolic board whose elements are
+// variables. The variables have the values of the state, of the outside and of the memory, and each bit that the board
+// asks for has the value of its term. The state after the cycle; and the event of the cycle and its decided bits, each
+// by what it says. `call cycle-words noise= line= input=`: the words that this cycle adds. Before it there are a
+// variable for an address of the memory and one for each element, by their numbers.
 ghost use Rattle.std.specs.Prelude.{◌<◌, OnOk};
 ghost use Rattle.mw_cycle.specs.State.{Fits};
 ghost use Rattle.mw_term.specs.Table.{Table};
@@ -37,8 +38,8 @@ struct Asked {
     printed: Printed,
 }
 
-/// Whether the memory after a cycle is read at an address: where there was a word that isn't 0, at the address register, and where one bit differs
-/// from it.
+/// Whether the memory after a cycle is read at an address: where there was a word that isn't 0, at the address
+/// register, and where one bit differs from it.
 fn is_read(place: usize, word: u32, mar: u32) -> bool {
     match u32::try_from(place) {
         Ok(place) => word != 0 || (place ^ mar).count_ones() < 2,
@@ -73,8 +74,8 @@ struct Flips {
     next: u32,
 }
 
-/// Appends an element, or puts it to the flip-flops, which are printed as one. The elements come in the order of their numbers. Registers that are 0
-/// aren't named.
+/// Appends an element, or puts it to the flip-flops, which are printed as one. The elements come in the order of their
+/// numbers. Registers that are 0 aren't named.
 fn push_element(
     alloc: Global,
     text: &mut String,

@@ -185,15 +185,16 @@ pub struct Bit {
 }
 
 impl Run {
-    /// A board at a state's control address and stack pointer, with a variable for each of its elements. It has a variable for an address of
-    /// the memory too.
+    /// A board at a state's control address and stack pointer, with a variable for each of its elements. It has a
+    /// variable for an address of the memory too.
     ///
     /// # Errors
     ///
     /// Memory ran out.
     pub fn new(alloc: Global, board: &Board, state: &State) -> Result<Run, Stop>
         requires { Fits board.now state.now }
-        ensures under { IfOk result (λ run. (store : List ℕ) → IsUnder board.now store run.terms run.words run.memory run.board) }
+        ensures under { IfOk result
+            (λ run. (store : List ℕ) → IsUnder board.now store run.terms run.words run.memory run.board) }
         ensures idle { IfOk result (λ run. IsIdle run.board 0) }
     {
         are_of_at_first();
@@ -225,7 +226,8 @@ impl Run {
         requires table { IsTable terms }
         requires of { AreOf terms words }
         requires free { AreFree words }
-        ensures under { IfOk result (λ run. (store : List ℕ) → IsUnder board.now store run.terms run.words run.memory run.board) }
+        ensures under { IfOk result
+            (λ run. (store : List ℕ) → IsUnder board.now store run.terms run.words run.memory run.board) }
         ensures idle { IfOk result (λ run. IsIdle run.board 0) }
     {
         is_memory_at_first();
@@ -252,10 +254,12 @@ impl Run {
 
     /// Goes on to the next bit of the cycle, or to its end.
     fn turn(&mut self, alloc: Global, board: &Board, store: &Store) -> Result<Turn, Stop>
-        requires under { IsUnder board.now store.now.words self.old.terms self.old.words self.old.memory self.old.board }
+        requires under { IsUnder board.now store.now.words self.old.terms self.old.words
+            self.old.memory self.old.board }
         requires idle { self.old.board.asked ≡ None }
         requires few { self.old.board.place.cycle < 1000 }
-        ensures { IfOk result (IsTurned board.now store.now.words self.old.board.place.cycle self.new.terms self.new.words self.new.memory self.new.board) }
+        ensures { IfOk result (IsTurned board.now store.now.words self.old.board.place.cycle self.new.terms
+            self.new.words self.new.memory self.new.board) }
     {
         if !self.has_few_reads() {
             return Err(Stop::Unlike);
@@ -280,9 +284,12 @@ impl Run {
         _term: Term,
         value: bool,
     )
-        requires turned { IsUnder _board.now _store.now.words self.old.terms self.old.words self.old.memory self.old.board }
-        requires asks { Asks _board.now _store.now.words self.old.terms self.old.words self.old.memory self.old.board _kind _term }
-        ensures under { IsUnder _board.now _store.now.words self.new.terms self.new.words self.new.memory self.new.board }
+        requires turned { IsUnder _board.now _store.now.words self.old.terms self.old.words
+            self.old.memory self.old.board }
+        requires asks { Asks _board.now _store.now.words self.old.terms self.old.words self.old.memory
+            self.old.board _kind _term }
+        ensures under { IsUnder _board.now _store.now.words self.new.terms self.new.words
+            self.new.memory self.new.board }
         ensures idle { IsIdle self.new.board self.old.board.place.cycle }
     {
         self.board.decide(value);
@@ -315,10 +322,12 @@ impl Run {
         given: &mut Assignment,
         bits: &mut Vec<Bit>,
     ) -> Result<(), Stop>
-        requires under { IsUnder board.now store.now.words self.old.terms self.old.words self.old.memory self.old.board }
+        requires under { IsUnder board.now store.now.words self.old.terms self.old.words
+            self.old.memory self.old.board }
         requires idle { self.old.board.asked ≡ None }
         requires few { self.old.board.place.cycle < 1000 }
-        ensures under { OnOk result (IsUnder board.now store.now.words self.new.terms self.new.words self.new.memory self.new.board) }
+        ensures under { OnOk result
+            (IsUnder board.now store.now.words self.new.terms self.new.words self.new.memory self.new.board) }
         ensures idle { OnOk result (IsIdle self.new.board (self.old.board.place.cycle + 1)) }
         ensures over { OnOk result (IsOver board.now self.new.terms self.new.words self.new.memory self.new.board) }
     {

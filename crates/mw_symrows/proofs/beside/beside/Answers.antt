@@ -9,7 +9,8 @@ on-requires-clause-waits c =
     let d = description_of c.args.machine.now in
     let run = c.args.run in
     let request = c.in_ok-request.request in
-    let waits = waits_beside _ _ d run.terms run.words run.memory run.board _ request c.requires.under c.count.ensures.own
+    let waits =
+    waits_beside _ _ d run.terms run.words run.memory run.board _ request c.requires.under c.count.ensures.own
     (c.if-not-are_alike.ensures.address refl) (c.if-not-are_alike.ensures.word refl) c.in_ok-registers.ensures.count
     c.in_ok-registers.ensures.registers c.in_ok-request.ensures in
     subst (λ registers. Waits d run.terms run.words run.memory registers request) (sym c.deref.ensures.value) waits

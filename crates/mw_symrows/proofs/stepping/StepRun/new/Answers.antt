@@ -14,5 +14,6 @@ on-requires-clause-waits c =
     c.in_ok-registers.ensures.registers c.in_ok-registers.ensures.later c.in_ok-request.ensures.wide
     (c.new-memory.ensures
     ∙ ap₂ (λ a w. memory_of a w [] [] []) (ap (λ s. s.address) c.shape.ensures) (ap (λ s. s.word) c.shape-2.ensures)) in
-    subst (λ registers. Waits d c.make_registers.new.terms c.make_registers.new.words c.new-memory.result registers c.in_ok-request.request)
+    subst (λ registers.
+    Waits d c.make_registers.new.terms c.make_registers.new.words c.new-memory.result registers c.in_ok-request.request)
     (sym c.deref.ensures.value) waits

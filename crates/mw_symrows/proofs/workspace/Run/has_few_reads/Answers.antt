@@ -4,4 +4,5 @@ use Rattle.mw_symrows.proofs.workspace.Run.has_few_reads.Goals as goal
 
 pub returns-in-None : goal.returns-in-None
 returns-in-None c =
-    λ holds. few_reads c.args.self.now.terms c.args.self.now.words c.args.self.now.memory 1000 c.requires (sym c.in-None.ensures.exact)
+    λ holds. few_reads c.args.self.now.terms c.args.self.now.words c.args.self.now.memory 1000 c.requires
+    (sym c.in-None.ensures.exact)

@@ -14,5 +14,6 @@ returns-clause-under c = λ store.
     (free_inputs board t words c.requires.free) (free_no_later words c.requires.free) in
     started board store t words m o _ _ (search rules) c.is_memory_at_first.ensures c.requires.table c.requires.map
     c.requires.of c.requires.free
-    (ap (λ (p : BoardParts). p.address) c.parts-parts.ensures.exact) (ap (λ (p : BoardParts). p.width) c.parts-parts.ensures.exact)
+    (ap (λ (p : BoardParts). p.address) c.parts-parts.ensures.exact)
+    (ap (λ (p : BoardParts). p.width) c.parts-parts.ensures.exact)
     c.new-2.ensures c.in_ok-symbolic.ensures.cycle c.in_ok-symbolic.ensures.taken symbolic
