@@ -1,10 +1,11 @@
-// `call cases nodes=N paths=N`: the cases of each boundary of the job of the board of the file `b` with the microprogram of the file `m`,
-// the machine of the file `k` and the relation of the file `text`, within this budget; nodes and paths are hexadecimal. A
-// line for each boundary with its address, and one for each case: its cycles, each as pass, counter zero and next address, its
-// branch bits behind `/`, how many cycles it has, and whether it is late. `call count-cases` with the same words: a line for
-// each boundary, with how many cases it has and the cycles of the longest. What is over its budget ends the list with a line:
-// the limit of paths, or the bits before an operation, its word and its bit. Bits are printed as those of a case, or as `-`
-// where there are none; of a cycle that isn't whole, `b` and the bits so far stand in place of the next address.
+// `call cases nodes=N paths=N`: the cases of each boundary of the job of the board of the file `b` with the
+// microprogram of the file `m`, the machine of the file `k` and the relation of the file `text`, within this budget;
+// nodes and paths are hexadecimal. A line for each boundary with its address, and one for each case: its cycles, each
+// as pass, counter zero and next address, its branch bits behind `/`, how many cycles it has, and whether it is late.
+// `call count-cases` with the same words: a line for each boundary, with how many cases it has and the cycles of the
+// longest. What is over its budget ends the list with a line: the limit of paths, or the bits before an operation, its
+// word and its bit. Bits are printed as those of a case, or as `-` where there are none; of a cycle that isn't whole,
+// `b` and the bits so far stand in place of the next address.
 ghost use Rattle.std.specs.Prelude.{◌≡◌, ◌<◌, length, true, IfOk};
 ghost use Rattle.mw_rel.specs.Views.{job_of};
 ghost use Rattle.mw_fork.specs.Forks.{IsForkOf};
@@ -21,7 +22,8 @@ use std::alloc::Global;
 /// More cases than this are not asked for.
 pub(super) const MOST_CASES: u32 = 65_536;
 
-/// What is decided of a cycle so far: the digits of pass and counter zero, and the bits of the next address, also as digits.
+/// What is decided of a cycle so far: the digits of pass and counter zero, and the bits of the next address, also as
+/// digits.
 #[derive(Drop)]
 struct Piece {
     pass: u8,

@@ -1,5 +1,5 @@
-// `call cycle noise= line= input=`: one cycle of the board of the file `board`, whose microwords stand in the file `store`,
-// from the state of the file `state`. The state after it, and its nets, a line each.
+// `call cycle noise= line= input=`: one cycle of the board of the file `board`, whose microwords stand in the file
+// `store`, from the state of the file `state`. The state after it, and its nets, a line each.
 ghost use Rattle.std.specs.Prelude.{◌<◌};
 
 use mw_board::{Board, Store};

@@ -1,8 +1,8 @@
-// `call differs nodes=N paths=N`: the cases of each boundary of a job as `call cases` has them, over the same files and with
-// the same words, and behind each one a start of it that differs: its counter, and the first difference that a replay of
-// this text shows; or `same` where none of its starts differs. What is over its budget ends the list of its boundary with a
-// line. `call counter`: the text of the file `s`, read as a counter of the same job and printed again, or its first fault.
-// A boundary stands there by its address.
+// `call differs nodes=N paths=N`: the cases of each boundary of a job as `call cases` has them, over the same files and
+// with the same words, and behind each one a start of it that differs: its counter, and the first difference that a
+// replay of this text shows; or `same` where none of its starts differs. What is over its budget ends the list of its
+// boundary with a line. `call counter`: the text of the file `s`, read as a counter of the same job and printed again,
+// or its first fault. A boundary stands there by its address.
 ghost use Rattle.std.specs.Prelude.{◌≡◌, ◌<◌, ◌^◌, List, length, true, false, IfOk};
 ghost use Rattle.mw_cycle.specs.declared.decided.Decided.{Decided};
 ghost use Rattle.mw_rel.specs.Views.{job_of};

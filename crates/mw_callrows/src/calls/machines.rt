@@ -1,5 +1,5 @@
-// `call machine`: reads the file `text`. Its machine: the memory, the registers, the temporaries, and the statements, in which
-// expressions are trees and each `if` has both lists; or one line has the first fault.
+// `call machine`: reads the file `text`. Its machine: the memory, the registers, the temporaries, and the statements,
+// in which expressions are trees and each `if` has both lists; or one line has the first fault.
 use super::trees::push_tree;
 use mw_base::{Name, append_decimal};
 use mw_descfile::read_machine;

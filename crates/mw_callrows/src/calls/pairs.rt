@@ -1,9 +1,10 @@
-// `call pair boundary=N values=N memory=N`: the pair in relation at the boundary of this number, from 0, of the job of the
-// board of the file `b` with the microprogram of the file `m`, the machine of the file `k` and the relation of the file
-// `text`. It is chosen by so many values of free elements and so many words of a memory, which the file `begin` names as
-// `vN=` and `memA=`; what isn't named is 0. Numbers are hexadecimal. What is printed: how many elements there are; those
-// that aren't free at that boundary; both states, or that this is no choice there; and the boundaries at which the pair
-// is in relation, by the job and, where there is a file `other`, by the one with the relation of that file.
+// `call pair boundary=N values=N memory=N`: the pair in relation at the boundary of this number, from 0, of the job of
+// the board of the file `b` with the microprogram of the file `m`, the machine of the file `k` and the relation of the
+// file `text`. It is chosen by so many values of free elements and so many words of a memory, which the file `begin`
+// names as `vN=` and `memA=`; what isn't named is 0. Numbers are hexadecimal. What is printed: how many elements there
+// are; those that aren't free at that boundary; both states, or that this is no choice there; and the boundaries at
+// which the pair is in relation, by the job and, where there is a file `other`, by the one with the relation of that
+// file.
 ghost use Rattle.std.specs.Prelude.{◌<◌, ◌^◌, IfOk, IsTrue, length};
 ghost use Rattle.mw_macro.specs.Described.{description_of};
 ghost use Rattle.mw_rel.specs.Job.{AreForEachOther};
@@ -38,7 +39,8 @@ fn related(
     files: &[File],
     name: &str,
 ) -> Result<Relation, Fault>
-    ensures { IfOk result (λ relation. AreForEachOther micro.now.board (description_of machine.now) (relation_of relation)) }
+    ensures { IfOk result
+        (λ relation. AreForEachOther micro.now.board (description_of machine.now) (relation_of relation)) }
 {
     let text = text_of(files, name)?;
     match read_relation(alloc, &micro.board, &micro.made, machine, text) {

@@ -68,8 +68,8 @@ pub fn alu_table(alloc: Global, given: &[String]) -> Result<Vec<u8>, Fault> {
     Ok(report)
 }
 
-/// `call slice function=N`: the same of one slice, whose S is register 7, with G and P as a third digit. A last line says
-/// in how many answers Y is F.
+/// `call slice function=N`: the same of one slice, whose S is register 7, with G and P as a third digit. A last line
+/// says in how many answers Y is F.
 pub fn slice_table(alloc: Global, given: &[String]) -> Result<Vec<u8>, Fault> {
     let ins = instruction(given)?;
     let pins = Pins {

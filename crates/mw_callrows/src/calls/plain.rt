@@ -1,8 +1,8 @@
-// `call plain`: whether there is a job of the board of the file `b`, the machine of the file `k` and the boundaries of the
-// file `text`, which no reader has looked at: `a job`, or the cause for which it is refused. A line of the text is a
-// boundary: its address, its bound, its stack pointer, and words LEFT=RIGHT with elements by their numbers, where RIGHT
-// is an element, a constant VALUE#WIDTH, or `memN`, the word of the memory at the address in an element. All numbers are
-// hexadecimal.
+// `call plain`: whether there is a job of the board of the file `b`, the machine of the file `k` and the boundaries of
+// the file `text`, which no reader has looked at: `a job`, or the cause for which it is refused. A line of the text is
+// a boundary: its address, its bound, its stack pointer, and words LEFT=RIGHT with elements by their numbers, where
+// RIGHT is an element, a constant VALUE#WIDTH, or `memN`, the word of the memory at the address in an element. All
+// numbers are hexadecimal.
 ghost use Rattle.std.specs.Prelude.{◌≡◌, ◌≤◌, ◌<◌, ◌^◌, All, IfOk, IsTrue, length, true};
 ghost use Rattle.mw_expr.specs.Tree.{view};
 ghost use Rattle.mw_expr.specs.Widths.{is_known, depth};

@@ -1,4 +1,5 @@
-// `call described`, `call step-words` and `call joint`: steps on terms of the machine of the file `text`. `mw_symrows` has what their words say.
+// `call described`, `call step-words` and `call joint`: steps on terms of the machine of the file `text`. `mw_symrows`
+// has what their words say.
 use super::machines::machine_in;
 use mw_rowfile::{Fault, File};
 use mw_symrows::{described, joint};

@@ -1,5 +1,5 @@
-// `call tokens`: reads the file `text`. A line for each token has its line and column, the places where it begins and ends
-// in the text, and what it is; or one line has the first fault.
+// `call tokens`: reads the file `text`. A line for each token has its line and column, the places where it begins and
+// ends in the text, and what it is; or one line has the first fault.
 use mw_base::{Kind, Token, append_decimal, tokens};
 use mw_rowfile::texts::push_refusal;
 use mw_rowfile::{Fault, wrong};

@@ -12,5 +12,8 @@ counter_of-requires-clause-differs c =
     let fork = c.args.fork.now in
     let given = c.requires.given in
     let told = subst (λ found. IfSome found (λ begin. (last : List Decided) → fork.at ≡ At last
-    → IsDiffering job fork.boundary last begin)) c.in-Ok-Some.field-0-is c.in-Ok-Some.ensures.differs in
-    (given.0, subst (λ (number : ℕ). IsDiffering job number given.0 c.in-Ok-Some.begin) c.requires.boundary (told given.0 given.1))
+    → IsDiffering job fork.boundary last begin)) c.in-Ok-Some.field-0-is c.in-Ok-Some.ensures.differs in (
+      given.0,
+      subst (λ (number : ℕ). IsDiffering job number given.0 c.in-Ok-Some.begin) c.requires.boundary
+          (told given.0 given.1),
+    )

@@ -11,7 +11,8 @@ loop-boundary-preserved c =
     let i = c.loop-boundary.boundary-index in
     let boundary = c.boundary-item.result in
     let rest = drop (i + 1) boundaries in
-    let first : drop i boundaries ≡ boundary ∷ rest = next boundaries i boundary c.loop-boundary-test.true c.boundary-item.is in
+    let first : drop i boundaries ≡ boundary ∷ rest =
+    next boundaries i boundary c.loop-boundary-test.true c.boundary-item.is in
     let formed : IsFormedBoundary c.args.shape.now (boundary_of boundary) = search rules in
     let pointer : boundary.sp ≤ 5 = search rules in
     record {
