@@ -40,8 +40,8 @@ fn are_names(names: &[Name]) -> bool
     names.iter().all(|name| is_name(name.as_slice()))
 }
 
-/// A machine over a memory of sixteen words of 4 bits, with elements of one letter each and these widths, or why it is refused. What
-/// isn't formed as a machine has to be is a line that isn't in its grammar.
+/// A machine over a memory of sixteen words of 4 bits, with elements of one letter each and these widths, or why it is
+/// refused. What isn't formed as a machine has to be is a line that isn't in its grammar.
 #[tactic(auto, using(mw_macro::proofs::Words::spelled_all))]
 fn made(
     alloc: Global,
@@ -83,7 +83,8 @@ fn two_registers(
     made(alloc, b"XY", vec![in alloc; 4, 4, 1]?, 2, statements)
 }
 
-/// A step from a state in which X is 7 and Y is 1: the state after it, its events, and how many inputs it took. None where it can't be made.
+/// A step from a state in which X is 7 and Y is 1: the state after it, its events, and how many inputs it took. None
+/// where it can't be made.
 fn stepped(
     alloc: Global,
     machine: &Machine,

@@ -3,8 +3,8 @@ ghost use Rattle.std.specs.Prelude.{◌≡◌, [], ◌∷◌, Some, None};
 ghost use Rattle.mw_rel.specs.Examples.{same_job, element_job, late_job, subtract_job, push_job, shown};
 ghost use Rattle.mw_rel.specs.declared.difference.Difference.TheVariants.{Late, Element, StackPointer};
 
-/// What each of them shows: nothing where both sides do the same; else the element or the stack pointer that differs, or
-/// that the segment is late.
+/// What each of them shows: nothing where both sides do the same; else the element or the stack pointer that differs,
+/// or that the segment is late.
 fn worked_starts()
     ensures same { shown same_job (7 ∷ 1 ∷ 15 ∷ []) ≡ None }
     ensures element { shown element_job (7 ∷ 1 ∷ 15 ∷ []) ≡ Some (Element 1) }

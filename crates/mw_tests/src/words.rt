@@ -25,9 +25,9 @@ fn worked_comparison_words()
     ensures pointer { compared [] [] 1 ≡ None }
 {}
 
-/// The list of a case of two cycles, in which the board adds and jumps back. It begins up to word 29, which the first bit
-/// asks; word 28 is the sum of both registers; and all bits lead through the comparison of the lines and of the memory. Of a
-/// late case nothing is listed behind its cycles.
+/// The list of a case of two cycles, in which the board adds and jumps back. It begins up to word 29, which the first
+/// bit asks; word 28 is the sum of both registers; and all bits lead through the comparison of the lines and of the
+/// memory. Of a late case nothing is listed behind its cycles.
 fn worked_case_words()
     ensures asks { (case_words adding_job 0 []).asked ≡ Some 36 }
     ensures at { number_of (case_words adding_job 0 []).list.words 36 ≡ Some 29 }

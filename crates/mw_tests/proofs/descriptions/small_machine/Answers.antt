@@ -10,7 +10,8 @@ use Rattle.mw_base.specs.Symbols.{symbol_of}
 use Rattle.mw_base.specs.TokenLines.{line_of, lines_from}
 use Rattle.mw_base.specs.Tokens.{tokens_from, line_tokens}
 use Rattle.mw_expr.specs.Grammar.{reduced, tree_from}
-use Rattle.mw_descfile.specs.Declarations.{word_first, sizes_of, element_of, step_of, declaration_of, with_sizes, new_width, with_declared}
+use Rattle.mw_descfile.specs.Declarations.{word_first, sizes_of, element_of, step_of, declaration_of, with_sizes}
+use Rattle.mw_descfile.specs.Declarations.{new_width, with_declared}
 use Rattle.mw_descfile.specs.Expressions.{whole_of, asked_whole}
 use Rattle.mw_descfile.specs.Machine.{with_tokens, machine_of}
 use Rattle.mw_descfile.specs.Statements.{assign_of, said_of}

@@ -13,29 +13,36 @@ use Rattle.mw_term.specs.WordList.{memory_read_words}
 use Rattle.mw_tests.proofs.words.worked_case_words.Goals as goal
 
 pub returns-clause-asks : goal.returns-clause-asks
-unfolding cycle_on_literals start_on_literals reading_words leaving_words edge_words cycle_words step_words words_along comparison_words start_words memory_read_words
+unfolding cycle_on_literals start_on_literals reading_words leaving_words edge_words cycle_words step_words words_along
+    comparison_words start_words memory_read_words
 returns-clause-asks c = refl
 
 pub returns-clause-at : goal.returns-clause-at
-unfolding cycle_on_literals start_on_literals reading_words leaving_words edge_words cycle_words step_words words_along comparison_words start_words memory_read_words
+unfolding cycle_on_literals start_on_literals reading_words leaving_words edge_words cycle_words step_words words_along
+    comparison_words start_words memory_read_words
 returns-clause-at c = refl
 
 pub returns-clause-sum : goal.returns-clause-sum
-unfolding cycle_on_literals start_on_literals reading_words leaving_words edge_words cycle_words step_words words_along comparison_words start_words memory_read_words
+unfolding cycle_on_literals start_on_literals reading_words leaving_words edge_words cycle_words step_words words_along
+    comparison_words start_words memory_read_words
 returns-clause-sum c = refl
 
 pub returns-clause-op : goal.returns-clause-op
-unfolding cycle_on_literals start_on_literals reading_words leaving_words edge_words cycle_words step_words words_along comparison_words start_words memory_read_words
+unfolding cycle_on_literals start_on_literals reading_words leaving_words edge_words cycle_words step_words words_along
+    comparison_words start_words memory_read_words
 returns-clause-op c = refl
 
 pub returns-clause-whole : goal.returns-clause-whole
-unfolding cycle_on_literals start_on_literals reading_words leaving_words edge_words cycle_words step_words words_along comparison_words start_words memory_read_words
+unfolding cycle_on_literals start_on_literals reading_words leaving_words edge_words cycle_words step_words words_along
+    comparison_words start_words memory_read_words
 returns-clause-whole c = refl
 
 pub returns-clause-compares : goal.returns-clause-compares
-unfolding cycle_on_literals start_on_literals reading_words leaving_words edge_words cycle_words step_words words_along comparison_words start_words memory_read_words
+unfolding cycle_on_literals start_on_literals reading_words leaving_words edge_words cycle_words step_words words_along
+    comparison_words start_words memory_read_words
 returns-clause-compares c = refl
 
 pub returns-clause-late : goal.returns-clause-late
-unfolding cycle_on_literals start_on_literals reading_words leaving_words edge_words cycle_words step_words words_along comparison_words start_words memory_read_words
+unfolding cycle_on_literals start_on_literals reading_words leaving_words edge_words cycle_words step_words words_along
+    comparison_words start_words memory_read_words
 returns-clause-late c = refl
