@@ -1,5 +1,5 @@
-//! Runs rows of calls of the parts that no command shows. The arguments are the names of the files. docs/CONTRIBUTING.md has
-//! the form of a file of rows.
+//! Runs rows of calls of the parts that no command shows. The arguments are the names of the files.
+//! docs/CONTRIBUTING.md has the form of a file of rows.
 #![tactic(auto)]
 
 mod calls;

@@ -66,8 +66,8 @@ fn compared(alloc: Global, terms: &mut Terms, a: Term, b: Term) -> Result<End, N
     made(alloc, terms, same, AMPLE)
 }
 
-/// Two words of four bits and a carry in: their sum commutes and isn't the first word; the first is less than the second
-/// where their difference borrows; and a sum overflows where its sign is that of neither word.
+/// Two words of four bits and a carry in: their sum commutes and isn't the first word; the first is less than the
+/// second where their difference borrows; and a sum overflows where its sign is that of neither word.
 #[test]
 fn sums(rt: HostRuntime) -> Result<(), Fail> {
     let alloc = rt.alloc();
@@ -94,8 +94,8 @@ fn sums(rt: HostRuntime) -> Result<(), Fail> {
     Ok(())
 }
 
-/// A choice between two bits is the one with what is chosen by, or the other without; a map of each index to itself; and
-/// a word is its parts, joined.
+/// A choice between two bits is the one with what is chosen by, or the other without; a map of each index to itself;
+/// and a word is its parts, joined.
 #[test]
 fn choices(rt: HostRuntime) -> Result<(), Fail> {
     let alloc = rt.alloc();

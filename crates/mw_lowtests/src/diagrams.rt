@@ -1,5 +1,5 @@
-// Each public call with ample memory, and the budgets of small operations worked by hand. Word 1 has the variable x as its
-// bit 0, and word 2 the variable y.
+// Each public call with ample memory, and the budgets of small operations worked by hand. Word 1 has the variable x as
+// its bit 0, and word 2 the variable y.
 use mw_base::NoMemory;
 use mw_dd::Diagrams;
 use std::alloc::Global;

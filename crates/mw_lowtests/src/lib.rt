@@ -1,5 +1,5 @@
-//! Tests of the lowest parts: what no row of `mw_rows` shows. They stand apart from the parts, because a crate with tests of
-//! its own is proved a second time with them.
+//! Tests of the lowest parts: what no row shows. They stand apart from the parts, because a crate with tests of its own
+//! is proved a second time with them.
 #![tactic(auto)]
 
 #[cfg(test)]

@@ -196,8 +196,8 @@ fn first_words(rt: HostRuntime) -> Result<(), Fail> {
     Ok(())
 }
 
-/// Under each assignment a read is what a concrete memory holds after the same writes: one of the board before its write
-/// at a, one of it at b after, and one of the machine at a after its write at b.
+/// Under each assignment a read is what a concrete memory holds after the same writes: one of the board before its
+/// write at a, one of it at b after, and one of the machine at a after its write at b.
 #[test]
 fn reads_of_two_sides(rt: HostRuntime) -> Result<(), Fail> {
     let alloc = rt.alloc();

@@ -1,5 +1,5 @@
-//! Files of rows: their lines, sets and rows, how they are run, why not all of them were, and what the calls of rows read
-//! and print alike.
+//! Files of rows: their lines, sets and rows, how they are run, why not all of them were, and what the calls of rows
+//! read and print alike.
 #![tactic(auto)]
 
 mod fault;

@@ -1,4 +1,4 @@
-// Each public function, once with ample memory. Comparisons are tested by the commands above.
+// Questions: each public function once with ample memory.
 use mw_check::{Equality, equal, read_question, steps_show_one_thing, texts_ask_questions};
 use mw_expr::width_of;
 use std::test::Fail;
