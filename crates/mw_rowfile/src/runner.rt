@@ -225,8 +225,8 @@ fn run_files<R: Env + Files + Print + AllocGlobal, W: Worker>(
 
 /// Runs the rows of the files that the arguments name, and prints each row that ends otherwise than it says, with what
 /// was wanted and what came; then a line for each file with the number of its rows, and last the number of all. A file
-/// that isn't right ends the run with its first fault, so that no row is left out unseen. Success is where each row ends
-/// as it says.
+/// that isn't right ends the run with its first fault, so that no row is left out unseen. Success is where each row
+/// ends as it says.
 pub fn run<R: Env + Files + Print + AllocGlobal, W: Worker>(rt: &R, worker: &W) -> ExitCode {
     match run_files(rt, worker) {
         Ok(0) => ExitCode::SUCCESS,

@@ -1,7 +1,7 @@
-// `call start`: the start of a run of the board of the file `b`, with the microprogram of the file `m`, as the file `e`
-// has it. `call until address= limit= slices=`: a run from there up to a control address; with `slices=1` it is made
-// slice by slice. What is printed: of a run `late` where that address didn't come, how many cycles were made, and the events;
-// and the state as an environment, or the line that refuses `e`.
+// `call start`: the start of a run of the board of the file `b`, with the microprogram of the file `m`, as the file
+// `e` has it. `call until address= limit= slices=`: a run from there up to a control address; with `slices=1` it is
+// made slice by slice. What is printed: of a run `late` where that address didn't come, how many cycles were made, and
+// the events; and the state as an environment, or the line that refuses `e`.
 ghost use Rattle.std.specs.Prelude.{IfOk};
 ghost use Rattle.mw_cycle.specs.Environment.{IsEnvironment};
 ghost use Rattle.mw_cycle.specs.State.{Fits};
