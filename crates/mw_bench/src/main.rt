@@ -48,11 +48,7 @@ fn main(rt: HostRuntime) -> ExitCode {
 }
 
 #[cfg(test)]
-mod certify_tests;
-#[cfg(test)]
-mod command_tests;
-#[cfg(test)]
-mod compare_tests;
+mod failing_tests;
 #[cfg(test)]
 mod pdp8_tests;
 #[cfg(test)]

@@ -51,10 +51,7 @@ pub(crate) const RELATION: &[u8] =
 /// A start.
 pub(crate) const START: &[u8] = b"boundary LOOP\nset m.X 0x7\nset m.Y 0x1\n";
 
-/// An environment for a run.
-pub(crate) const ENVIRONMENT: &[u8] = b"at LOOP\nset b.r0 0x9\nset b.r1 0x8\nset b.upc 0x1\n";
-
-/// The files, with the names b, m, k, r, s and e, on a shelf that gives at most so many bytes a fetch. The fetches of
+/// The files, with the names b, m, k, r and s, on a shelf that gives at most so many bytes a fetch. The fetches of
 /// these numbers fail.
 pub(crate) fn small(alloc: Global, most: usize, failing: &[u64]) -> Result<MemoryShelf, Fail>
     requires { 0 < most }
@@ -65,7 +62,6 @@ pub(crate) fn small(alloc: Global, most: usize, failing: &[u64]) -> Result<Memor
     shelf.set(alloc, "k", MACHINE)?;
     shelf.set(alloc, "r", RELATION)?;
     shelf.set(alloc, "s", START)?;
-    shelf.set(alloc, "e", ENVIRONMENT)?;
     Ok(shelf)
 }
 
@@ -81,21 +77,4 @@ pub(crate) fn call(
         owned.push(String::from_str(alloc, word)?)?;
     }
     Ok(bench(alloc, &owned, shelf, out).number())
-}
-
-/// Whether a call with these words over the small files, of which one has other contents, ends with a status and
-/// prints a report.
-pub(crate) fn ends(
-    alloc: Global,
-    words: &[&str],
-    file: &str,
-    contents: &[u8],
-    status: u8,
-    report: &[u8],
-) -> Result<bool, Fail> {
-    let mut shelf = small(alloc, 65_536, &[])?;
-    shelf.set(alloc, file, contents)?;
-    let mut out = MemorySink::new(alloc, 4096, &[])?;
-    let number = call(alloc, words, &mut shelf, &mut out)?;
-    Ok(number == status && out.bytes() == report)
 }
