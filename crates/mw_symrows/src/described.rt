@@ -38,7 +38,7 @@ struct Setting {
 }
 
 /// The number of a register.
-pub(crate) fn register_named(machine: &Machine, text: &str) -> Option<usize> {
+fn register_named(machine: &Machine, text: &str) -> Option<usize> {
     let registers = machine.registers() as usize;
     for (number, name) in machine.names().iter().enumerate() {
         if number < registers && name.as_slice() == text.as_bytes() {
@@ -49,7 +49,7 @@ pub(crate) fn register_named(machine: &Machine, text: &str) -> Option<usize> {
 }
 
 /// A value of so many bits.
-pub(crate) fn fitting(text: &str, bits: u8) -> Result<u32, Fault> {
+fn fitting(text: &str, bits: u8) -> Result<u32, Fault> {
     let value = word(hexadecimal(text)?)?;
     match value.checked_shr(u32::from(bits)) {
         None | Some(0) => Ok(value),
@@ -150,7 +150,7 @@ fn setting_of(alloc: Global, machine: &Machine, given: &[String]) -> Result<Sett
 }
 
 /// Appends the registers.
-pub(crate) fn push_registers(
+fn push_registers(
     alloc: Global,
     report: &mut Vec<u8>,
     machine: &Machine,

@@ -107,7 +107,7 @@ fn push_element(
 }
 
 /// The control address, the elements and the stack pointer of a symbolic board over these terms.
-pub(crate) fn elements_text(
+fn elements_text(
     alloc: Global,
     board: &Board,
     terms: &Terms,

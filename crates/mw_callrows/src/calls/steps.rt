@@ -1,8 +1,8 @@
-// `call described`, `call step-words` and `call joint`: steps on terms of the machine of the file `text`. `mw_symrows`
-// has what their words say.
+// `call described` and `call step-words`: steps on terms of the machine of the file `text`. `mw_symrows` has what their
+// words say.
 use super::machines::machine_in;
 use mw_rowfile::{Fault, File};
-use mw_symrows::{described, joint};
+use mw_symrows::described;
 use std::alloc::Global;
 
 /// What a step comes to.
@@ -23,14 +23,4 @@ pub fn run(alloc: Global, given: &[String], files: &[File]) -> Result<Vec<u8>, F
 pub fn words(alloc: Global, given: &[String], files: &[File]) -> Result<Vec<u8>, Fault> {
     let machine = machine_in(alloc, files, "text")?;
     described::words(alloc, given, &machine)
-}
-
-/// The words and the ends of cycles of a board and of a step beside them.
-///
-/// # Errors
-///
-/// As `run`.
-pub fn beside(alloc: Global, given: &[String], files: &[File]) -> Result<Vec<u8>, Fault> {
-    let machine = machine_in(alloc, files, "text")?;
-    joint::run(alloc, given, files, &machine)
 }
