@@ -4,7 +4,7 @@
     tools/pdp8_texts.py            writes the file
     tools/pdp8_texts.py --check    says whether the file is as it would be written: status 1 if not
 
-tools/pdp8_table.py --check compares the texts that the rows have.
+tools/rows/pdp8.py --check compares the texts that the rows have.
 """
 import sys
 from pathlib import Path

@@ -1,4 +1,4 @@
-// Each public function, once with ample memory. The words are those that tools/generate_table.py prints.
+// Each public function, once with ample memory. The words are those that tools/generate.py prints.
 use mw_cases::{
     Made, Texts, generate, jobs_are_one, operations_are_640, operations_are_few, pdp8,
     steps_do_operations,
