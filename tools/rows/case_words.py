@@ -9,8 +9,8 @@ A word is one token: its op, and its operands in parentheses. An operand is `wN`
 from 1, or VALUE'WIDTH, a constant. Before a cycle the list has a variable for an address of the memory and one for each
 element; before a step one for an address, the request and one for each register.
 
-    case_words.py cycles     the rows of `call cycle-words`, for crates/mw_rows/data/cycle-words
-    case_words.py steps      the rows of `call step-words`, for crates/mw_rows/data/step-words
+    case_words.py cycles     the rows of `call cycle-words`, for crates/mw_callrows/data/cycle-words
+    case_words.py steps      the rows of `call step-words`, for crates/mw_callrows/data/step-words
     case_words.py --check    no row: the words have the values of the cycle and of the step under the assignment of each
                              case and of random ones, the cases use every kind of bit, source, load and instruction, and the
                              small case has the numbers of the manual

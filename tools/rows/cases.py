@@ -5,7 +5,7 @@ What a start decides is worked out by model/cases.py. case_jobs.py has the jobs,
 words, lines, noise and inputs it reads. These take all their values, and all else is 0.
 
     cases.py rows           the rows of `call cases`, and of `call count-cases` where a boundary has very many, for
-                            crates/mw_rows/data/cases
+                            crates/mw_callrows/data/cases
     cases.py --check        no row: starts in which everything is random have no other case
     cases.py list NAME      the cases of one job
 """

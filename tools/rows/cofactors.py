@@ -4,7 +4,7 @@
 Functions are tables of model/cofactors.py, which counts joint cofactors and knows no nodes.
 
     cofactors.py cofactors        the rows of functions made in two ways, of sums, and of budgets of many operations, for
-                                  crates/mw_rows/data/cofactors
+                                  crates/mw_callrows/data/cofactors
     cofactors.py check FILE..     the rows of `call diagrams` in these files that give something else
 """
 import random

@@ -4,8 +4,8 @@
 A cycle is that of model/cycle.py. cycle_cases.py has the boards and the cases. The boards are read from the very texts
 that are printed.
 
-    cycles.py rows       the rows, for crates/mw_rows/data/cycles
-    cycles.py symbolic   the rows of symbolic cycles, for crates/mw_rows/data/symbolic: the same cases, and cycles of random
+    cycles.py rows       the rows, for crates/mw_callrows/data/cycles
+    cycles.py symbolic   the rows of symbolic cycles, for crates/mw_callrows/data/symbolic: the same cases, and cycles of random
                          microwords from random states. They have the state after the cycle, its event, and its decided bits
     cycles.py --check    no row: random cycles keep a state's ranges, and the cases choose every entry of every list
 """

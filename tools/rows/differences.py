@@ -6,7 +6,7 @@ starts of a case that differ first at the first comparison at which any does, th
 where all of them differ (late, other events, another stack pointer), it is taken from all. The variables and their order
 are those of the word list, by model/words.py, and their values are worked out on it. difference_jobs.py has the jobs.
 
-    differences.py rows         the rows of `call differs` and `call counter`, for crates/mw_rows/data/differences
+    differences.py rows         the rows of `call differs` and `call counter`, for crates/mw_callrows/data/differences
     differences.py --check      no row: starts in which everything is random differ nowhere before, and with no variables
                                 that are before those of the start taken
     differences.py list NAME    what one job gives

@@ -1,5 +1,5 @@
 #!/usr/bin/env python3
-"""Writes and reads files of rows, as docs/CONTRIBUTING.md has them and the crate mw_rows runs them.
+"""Writes and reads files of rows, as docs/CONTRIBUTING.md has them and the crates mw_rows and mw_callrows run them.
 
     files.py cases FILE..    the rows of cases that are JSON, one a line: name, words, files, stdout, status. What is a
                              file of several of them is a set

@@ -6,7 +6,7 @@ The functions, their flags and G and P are those of model/am2901.py.
     functions.py alu      two digits an answer: F; carry, overflow, zero, sign
     functions.py slice    three digits an answer: F; carry, overflow, zero, sign; G, P
 
-Both stand in crates/mw_rows/data/functions. A line has one R, and its answers stand in the order of S, then of the carry
+Both stand in crates/mw_callrows/data/functions. A line has one R, and its answers stand in the order of S, then of the carry
 in. Where a function is no sum, its carry and its overflow are printed as 0.
 """
 import sys

@@ -3,7 +3,7 @@
 
 The format of machines, and first faults, are those of model/description.py.
 
-    machines.py machines              the rows of machines, for crates/mw_rows/data/machines
+    machines.py machines              the rows of machines, for crates/mw_callrows/data/machines
     machines.py check FILE..          the rows of `call machine` in these files that give something else
     machines.py give FILE             what the text of this file gives
 """

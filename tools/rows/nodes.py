@@ -4,7 +4,7 @@
 model/words.py has the words of a case, from the word table, and model/cofactors.py their operations, from the term table
 and truth tables. The jobs and the cases, with their order, are those of cases.py, from all starts.
 
-    nodes.py rows           the rows of `call cases` with budgets of nodes, for crates/mw_rows/data/nodes
+    nodes.py rows           the rows of `call cases` with budgets of nodes, for crates/mw_callrows/data/nodes
     nodes.py --check        no row: what is named is right, whatever the order; and the words and bits of each case are
                             those of its starts
     nodes.py list NAME      what one job gives with each budget up to the least that is enough

@@ -4,7 +4,7 @@
 What a pair is, and which elements are free, is worked out by model/comparison.py. Why a job is refused stands beside its
 boundaries here, by hand.
 
-    pairs.py rows    the rows of `call pair` and `call plain`, for crates/mw_rows/data/pairs
+    pairs.py rows    the rows of `call pair` and `call plain`, for crates/mw_callrows/data/pairs
 """
 import random
 import sys

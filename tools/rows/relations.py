@@ -4,7 +4,7 @@
 The format of relations is that of model/relation.py. Boards and microprograms aren't read: what a relation sees of them
 stands in BOARDS.
 
-    relations.py relations                the rows of relations, for crates/mw_rows/data/relations
+    relations.py relations                the rows of relations, for crates/mw_callrows/data/relations
     relations.py check FILE..             the rows of `call relation` in these files that give something else
 """
 import sys

@@ -1,5 +1,5 @@
 #!/usr/bin/env python3
-"""Prints what an Am2910 answers to each of its instructions, as rows, for crates/mw_rows/data/sequencer.
+"""Prints what an Am2910 answers to each of its instructions, as rows, for crates/mw_callrows/data/sequencer.
 
 The instructions are those of model/am2910.py. PC is 0x200, R is 0 or 7, D is 0x123, an empty stack reads 0xABC, the carry
 into PC is 1, and of the stack's words 0x101 to 0x105, from the bottom, none, two or five are on it.

@@ -4,7 +4,7 @@
 What a step comes to is that of model/description.py. The machines are a few by hand, and random ones, in which all
 statements and operators stand.
 
-    steps.py rows       the rows, for crates/mw_rows/data/steps
+    steps.py rows       the rows, for crates/mw_callrows/data/steps
     steps.py counts     no row: how often each statement is done, and each operator worked out
 """
 import random
