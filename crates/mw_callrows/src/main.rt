@@ -10,9 +10,9 @@ use std::alloc::Global;
 use std::process::ExitCode;
 
 /// Makes calls.
-struct Calls;
+struct Caller;
 
-impl Worker for Calls {
+impl Worker for Caller {
     fn ended(&self, alloc: Global, work: &Work, files: &[File]) -> Result<End, Fault> {
         match work {
             Work::Bench(_) => Err(wrong("a row of a call begins with call")),
@@ -26,5 +26,5 @@ impl Worker for Calls {
 
 /// Ends with 0 where each row ends as it says, and with 1 otherwise.
 fn main(rt: HostRuntime) -> ExitCode {
-    run(&rt, &Calls)
+    run(&rt, &Caller)
 }
