@@ -2,7 +2,6 @@
 // `e` has it. `call until address= limit= slices=`: a run from there up to a control address; with `slices=1` it is
 // made slice by slice. What is printed: of a run `late` where that address didn't come, how many cycles were made, and
 // the events; and the state as an environment, or the line that refuses `e`.
-ghost use Rattle.std.specs.Prelude.{IfOk};
 ghost use Rattle.mw_cycle.specs.Environment.{IsEnvironment};
 ghost use Rattle.mw_cycle.specs.State.{Fits};
 
@@ -113,7 +112,7 @@ fn push_run(
     push_state(alloc, report, board, state)
 }
 
-/// What is asked of a run: where it ends, and how many cycles it has at most.
+/// Where a run ends, and how many cycles it has at most.
 #[derive(Clone, Copy)]
 struct Asked {
     address: u16,
@@ -158,39 +157,43 @@ fn simulated<A: Datapath>(
     Ok(report)
 }
 
-/// The start of a run, or the line that refuses the file `e`.
-fn read(alloc: Global, machine: &Machine, files: &[File]) -> Result<Result<Start, Vec<u8>>, Fault>
-    ensures fits { IfOk result (λ read. IfOk read (λ start. Fits machine.now.board start.state)) }
-    ensures env_in { IfOk result (λ read. IfOk read (λ start. IsEnvironment machine.now.board start.env)) }
+/// The start of a run, printed as an environment.
+fn printed(alloc: Global, machine: &Machine, start: Start) -> Result<Vec<u8>, Fault>
+    requires { Fits machine.now.board start.state }
 {
+    let mut report = Vec::new(alloc);
+    push_state(alloc, &mut report, &machine.board, &start.state)?;
+    Ok(report)
+}
+
+/// What the start of the file `e` comes to: printed where no run is asked for, or a run, made whole or slice by slice.
+fn run(
+    alloc: Global,
+    files: &[File],
+    asked: Option<Asked>,
+    slices: bool,
+) -> Result<Vec<u8>, Fault> {
+    let machine = machine_of(alloc, files)?;
     let text = contents(files, "e")?;
     if text.len() > 1 << 20 {
         return Err(wrong("the environment is too long"));
     }
     match read_start(alloc, &machine.board, &machine.made, text) {
-        Ok(start) => Ok(Ok(start)),
+        Ok(start) => match asked {
+            None => printed(alloc, &machine, start),
+            Some(asked) => {
+                if slices {
+                    simulated(alloc, &Parts, &machine, start, asked)
+                } else {
+                    simulated(alloc, &Whole, &machine, start, asked)
+                }
+            }
+        },
         Err(refusal) => {
             let mut report = Vec::new(alloc);
             texts::push_refusal(alloc, &mut report, refusal)?;
-            Ok(Err(report))
-        }
-    }
-}
-
-/// The start of a run, printed as an environment.
-///
-/// # Errors
-///
-/// Files that aren't what the call reads, and want of memory.
-pub fn start(alloc: Global, files: &[File]) -> Result<Vec<u8>, Fault> {
-    let machine = machine_of(alloc, files)?;
-    match read(alloc, &machine, files)? {
-        Ok(start) => {
-            let mut report = Vec::new(alloc);
-            push_state(alloc, &mut report, &machine.board, &start.state)?;
             Ok(report)
         }
-        Err(refused) => Ok(refused),
     }
 }
 
@@ -200,6 +203,15 @@ fn cycles_of(number: u64) -> Result<u32, Fault> {
         return Err(wrong("too many cycles"));
     }
     Ok(number as u32)
+}
+
+/// The start of a run, as an environment.
+///
+/// # Errors
+///
+/// Files that aren't what the call reads, and want of memory.
+pub fn start(alloc: Global, files: &[File]) -> Result<Vec<u8>, Fault> {
+    run(alloc, files, None, false)
 }
 
 /// A run to the control address `address=`, of `limit=` cycles at most.
@@ -212,11 +224,5 @@ pub fn until(alloc: Global, given: &[String], files: &[File]) -> Result<Vec<u8>,
         address: address(number_of(given, "address")?)?,
         limit: cycles_of(number_of(given, "limit")?)?,
     };
-    let slices = bit_of(given, "slices")?;
-    let machine = machine_of(alloc, files)?;
-    match read(alloc, &machine, files)? {
-        Ok(start) if slices => simulated(alloc, &Parts, &machine, start, asked),
-        Ok(start) => simulated(alloc, &Whole, &machine, start, asked),
-        Err(refused) => Ok(refused),
-    }
+    run(alloc, files, Some(asked), bit_of(given, "slices")?)
 }
