@@ -48,7 +48,7 @@ fn main(rt: HostRuntime) -> ExitCode {
 }
 
 #[cfg(test)]
-mod failing_tests;
+mod fault_tests;
 #[cfg(test)]
 mod pdp8_tests;
 #[cfg(test)]

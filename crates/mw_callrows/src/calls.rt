@@ -9,6 +9,7 @@ mod numbers;
 mod pairs;
 mod parts;
 mod plain;
+mod programmed;
 mod relations;
 mod runs;
 mod steps;

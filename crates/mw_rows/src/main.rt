@@ -8,8 +8,6 @@ use mw_outside::{MemoryShelf, MemorySink};
 use mw_rowfile::{End, Fault, File, Work, Worker, run, wrong};
 use mw_top::bench;
 use std::alloc::Global;
-use std::env::Env;
-use std::fs::Files;
 use std::process::ExitCode;
 
 /// Runs commands.

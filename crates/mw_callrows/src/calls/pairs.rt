@@ -11,9 +11,10 @@ ghost use Rattle.mw_rel.specs.Job.{AreForEachOther};
 ghost use Rattle.mw_rel.specs.Views.{job_of, relation_of};
 
 use super::machines::machine_in;
-use super::runs::{Machine, machine_of};
+use super::programmed::{Programmed, read_programmed};
 use mw_cycle::Env;
 use mw_descfile::read_relation;
+use mw_macro::Machine;
 use mw_rel::{Begin, Job, Pair, Relation, complete, free, holds};
 use mw_rowfile::named::{hexadecimal, number_of, set_word, word};
 use mw_rowfile::states::file_words;
@@ -34,8 +35,8 @@ pub(super) fn text_of<'a>(files: &'a [File], name: &str) -> Result<&'a [u8], Fau
 /// The relation of a file between a board with its microprogram and a machine.
 fn related(
     alloc: Global,
-    micro: &Machine,
-    machine: &mw_macro::Machine,
+    micro: &Programmed,
+    machine: &Machine,
     files: &[File],
     name: &str,
 ) -> Result<Relation, Fault>
@@ -50,10 +51,10 @@ fn related(
 }
 
 /// The job of these parts.
-fn joined(micro: Machine, machine: mw_macro::Machine, relation: Relation) -> Result<Job, Fault>
+fn joined(micro: Programmed, machine: Machine, relation: Relation) -> Result<Job, Fault>
     requires { AreForEachOther micro.board (description_of machine) (relation_of relation) }
 {
-    let Machine { board, made } = micro;
+    let Programmed { board, made } = micro;
     match Job::new(board, made.store, machine, relation) {
         Ok(job) => Ok(job),
         Err(_) => Err(wrong("the job is refused")),
@@ -63,8 +64,8 @@ fn joined(micro: Machine, machine: mw_macro::Machine, relation: Relation) -> Res
 /// The job of these parts and of the relation of a file.
 fn job_with(
     alloc: Global,
-    micro: Machine,
-    machine: mw_macro::Machine,
+    micro: Programmed,
+    machine: Machine,
     files: &[File],
     name: &str,
 ) -> Result<Job, Fault> {
@@ -76,7 +77,7 @@ fn job_with(
 
 /// The job of the files `b`, `m` and `k`, and of the relation of another one.
 pub(super) fn read_job(alloc: Global, files: &[File], name: &str) -> Result<Job, Fault> {
-    let micro = machine_of(alloc, files)?;
+    let micro = read_programmed(alloc, files)?;
     match machine_in(alloc, files, "k") {
         Ok(machine) => job_with(alloc, micro, machine, files, name),
         Err(fault) => Err(fault),

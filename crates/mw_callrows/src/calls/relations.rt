@@ -5,7 +5,7 @@ ghost use Rattle.std.specs.Prelude.{◌<◌, ◌^◌, length};
 
 use super::machines::machine_in;
 use super::pairs::text_of;
-use super::runs::{Machine as Micro, machine_of};
+use super::programmed::{Programmed, read_programmed};
 use super::trees::push_tree;
 use mw_base::{Name, Refusal};
 use mw_board::Board;
@@ -109,7 +109,12 @@ pub(super) fn refused(alloc: Global, refusal: Refusal) -> Result<Vec<u8>, Fault>
 }
 
 /// The same between a board with its microprogram and a machine.
-fn between(alloc: Global, micro: &Micro, machine: &Machine, text: &[u8]) -> Result<Vec<u8>, Fault>
+fn between(
+    alloc: Global,
+    micro: &Programmed,
+    machine: &Machine,
+    text: &[u8],
+) -> Result<Vec<u8>, Fault>
     requires { length text.now < 2 ^ 32 }
 {
     match read_relation(alloc, &micro.board, &micro.made, machine, text) {
@@ -119,7 +124,7 @@ fn between(alloc: Global, micro: &Micro, machine: &Machine, text: &[u8]) -> Resu
 }
 
 /// The same between a board with its microprogram and the machine of the file `k`.
-fn of_micro(alloc: Global, micro: &Micro, files: &[File]) -> Result<Vec<u8>, Fault> {
+fn of_micro(alloc: Global, micro: &Programmed, files: &[File]) -> Result<Vec<u8>, Fault> {
     let text = text_of(files, "text")?;
     let machine = machine_in(alloc, files, "k")?;
     between(alloc, micro, &machine, text)
@@ -132,6 +137,6 @@ fn of_micro(alloc: Global, micro: &Micro, files: &[File]) -> Result<Vec<u8>, Fau
 /// A board, a microprogram or a machine that is refused, a text of more than 1,048,576 bytes, which no file that is
 /// read has, and want of memory.
 pub fn read(alloc: Global, files: &[File]) -> Result<Vec<u8>, Fault> {
-    let micro = machine_of(alloc, files)?;
+    let micro = read_programmed(alloc, files)?;
     of_micro(alloc, &micro, files)
 }

@@ -5,38 +5,17 @@
 ghost use Rattle.mw_cycle.specs.Environment.{IsEnvironment};
 ghost use Rattle.mw_cycle.specs.State.{Fits};
 
-use mw_asm::{Assembled, assemble};
+use super::programmed::{Programmed, read_programmed};
 use mw_base::{Event, append_hex};
 use mw_board::Board;
 use mw_cycle::{Clock, Datapath, State, Whole};
 use mw_rowfile::named::{address, bit_of, number_of};
-use mw_rowfile::states::board_of;
 use mw_rowfile::{Fault, File, contents, texts, wrong};
 use mw_sim::{Late, Parts, Start, read_start, run_to_boundary};
 use std::alloc::Global;
 
 /// The most cycles of a row.
 const MOST_CYCLES: u64 = 100_000;
-
-/// A board and its microprogram.
-#[derive(Drop)]
-pub(super) struct Machine {
-    pub board: Board,
-    pub made: Assembled,
-}
-
-/// The board of the file `b` with the microprogram of the file `m`.
-pub(super) fn machine_of(alloc: Global, files: &[File]) -> Result<Machine, Fault> {
-    let board = board_of(alloc, files, "b")?;
-    let text = contents(files, "m")?;
-    if text.len() >= 1 << 20 {
-        return Err(wrong("the microprogram is too long"));
-    }
-    match assemble(alloc, &board, text) {
-        Ok(made) => Ok(Machine { board, made }),
-        Err(_) => Err(wrong("the microprogram is refused")),
-    }
-}
 
 /// Appends a line: these bytes and a number.
 fn push_line(alloc: Global, report: &mut Vec<u8>, front: &[u8], number: u32) -> Result<(), Fault> {
@@ -112,26 +91,27 @@ fn push_run(
     push_state(alloc, report, board, state)
 }
 
-/// Where a run ends, and how many cycles it has at most.
+/// Where a run ends, how many cycles it has at most, and whether it is made slice by slice.
 #[derive(Clone, Copy)]
 struct Asked {
     address: u16,
     limit: u32,
+    slices: bool,
 }
 
 /// A run, made by this arithmetic part.
 fn simulated<A: Datapath>(
     alloc: Global,
     part: &A,
-    machine: &Machine,
+    programmed: &Programmed,
     start: Start,
     asked: Asked,
 ) -> Result<Vec<u8>, Fault>
-    requires fits { Fits machine.now.board start.state }
-    requires env_in { IsEnvironment machine.now.board start.env }
+    requires fits { Fits programmed.now.board start.state }
+    requires env_in { IsEnvironment programmed.now.board start.env }
 {
     let Start { mut state, env } = start;
-    let Machine { board, made } = machine;
+    let Programmed { board, made } = programmed;
     let begun = Clock { cycle: 0, taken: 0 };
     let mut events = Vec::with_capacity(alloc, asked.limit as usize)?;
     let mut report = Vec::new(alloc);
@@ -158,34 +138,29 @@ fn simulated<A: Datapath>(
 }
 
 /// The start of a run, printed as an environment.
-fn printed(alloc: Global, machine: &Machine, start: Start) -> Result<Vec<u8>, Fault>
-    requires { Fits machine.now.board start.state }
+fn printed(alloc: Global, programmed: &Programmed, start: Start) -> Result<Vec<u8>, Fault>
+    requires { Fits programmed.now.board start.state }
 {
     let mut report = Vec::new(alloc);
-    push_state(alloc, &mut report, &machine.board, &start.state)?;
+    push_state(alloc, &mut report, &programmed.board, &start.state)?;
     Ok(report)
 }
 
-/// What the start of the file `e` comes to: printed where no run is asked for, or a run, made whole or slice by slice.
-fn run(
-    alloc: Global,
-    files: &[File],
-    asked: Option<Asked>,
-    slices: bool,
-) -> Result<Vec<u8>, Fault> {
-    let machine = machine_of(alloc, files)?;
+/// What the start of the file `e` comes to: printed where no run is asked for, or a run.
+fn run(alloc: Global, files: &[File], asked: Option<Asked>) -> Result<Vec<u8>, Fault> {
+    let programmed = read_programmed(alloc, files)?;
     let text = contents(files, "e")?;
     if text.len() > 1 << 20 {
         return Err(wrong("the environment is too long"));
     }
-    match read_start(alloc, &machine.board, &machine.made, text) {
+    match read_start(alloc, &programmed.board, &programmed.made, text) {
         Ok(start) => match asked {
-            None => printed(alloc, &machine, start),
+            None => printed(alloc, &programmed, start),
             Some(asked) => {
-                if slices {
-                    simulated(alloc, &Parts, &machine, start, asked)
+                if asked.slices {
+                    simulated(alloc, &Parts, &programmed, start, asked)
                 } else {
-                    simulated(alloc, &Whole, &machine, start, asked)
+                    simulated(alloc, &Whole, &programmed, start, asked)
                 }
             }
         },
@@ -211,7 +186,7 @@ fn cycles_of(number: u64) -> Result<u32, Fault> {
 ///
 /// Files that aren't what the call reads, and want of memory.
 pub fn start(alloc: Global, files: &[File]) -> Result<Vec<u8>, Fault> {
-    run(alloc, files, None, false)
+    run(alloc, files, None)
 }
 
 /// A run to the control address `address=`, of `limit=` cycles at most.
@@ -223,6 +198,7 @@ pub fn until(alloc: Global, given: &[String], files: &[File]) -> Result<Vec<u8>,
     let asked = Asked {
         address: address(number_of(given, "address")?)?,
         limit: cycles_of(number_of(given, "limit")?)?,
+        slices: bit_of(given, "slices")?,
     };
-    run(alloc, files, Some(asked), bit_of(given, "slices")?)
+    run(alloc, files, Some(asked))
 }
