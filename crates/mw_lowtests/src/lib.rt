@@ -7,15 +7,7 @@ mod alus;
 #[cfg(test)]
 mod bits;
 #[cfg(test)]
-mod diagrams;
-#[cfg(test)]
 mod files;
-#[cfg(test)]
-mod lines;
-#[cfg(test)]
-mod memories;
-#[cfg(test)]
-mod plans;
 #[cfg(test)]
 mod sequencers;
 #[cfg(test)]

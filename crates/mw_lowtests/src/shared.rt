@@ -1,8 +1,5 @@
-// Widths, numbers, names, lists, causes and tokens.
-use mw_base::{
-    Cause, Items, Kind, Name, Token, Width, append_decimal, append_hex, append_padded, bit,
-    is_name, mask, number, tokens,
-};
+// Widths, printed numbers, names and lists.
+use mw_base::{Items, Name, Width, append_decimal, append_hex, append_padded, bit, mask};
 use std::test::Fail;
 
 #[test]
@@ -60,26 +57,6 @@ fn padded_numbers(rt: HostRuntime) -> Result<(), Fail> {
 }
 
 #[test]
-fn cause_numbers(rt: HostRuntime) {
-    let numbers = [
-        Cause::BadByte,
-        Cause::FileTooLong,
-        Cause::FieldOutside,
-        Cause::TooMany,
-        Cause::NotToml,
-        Cause::BadValue,
-        Cause::Twice,
-        Cause::BadLine,
-        Cause::TooDeep,
-        Cause::NotFree,
-        Cause::BadSyntax,
-        Cause::NothingToUndo,
-    ]
-    .map(Cause::number);
-    assert_eq!(rt; numbers, [1, 5, 10, 14, 20, 24, 31, 36, 42, 56, 60, 72]);
-}
-
-#[test]
 fn names_and_lists(rt: HostRuntime) -> Result<(), Fail> {
     let name = Name::new(rt.alloc(), b"link").ok().ok_or("memory")?;
     assert_eq!(rt; name.as_slice(), b"link".as_slice());
@@ -90,46 +67,5 @@ fn names_and_lists(rt: HostRuntime) -> Result<(), Fail> {
     assert_eq!(rt; list.into_vec().as_slice(), [3, 1, 2].as_slice());
     let copied = Items::from_slice(rt.alloc(), &[4, 5])?;
     assert_eq!(rt; copied.as_slice(), [4, 5].as_slice());
-    Ok(())
-}
-
-#[test]
-fn which_texts_are_names(rt: HostRuntime) -> Result<(), Fail> {
-    for text in ["a", "Z", "_", "r0", "upper_CASE_9", "__"] {
-        assert!(rt; is_name(text.as_bytes()), "{text}");
-    }
-    for text in ["", "0a", "9", "a-b", "a b", " a", "a.b", "é", "a:"] {
-        assert!(rt; !is_name(text.as_bytes()), "{text}");
-    }
-    let longest = "abcdefghijklmnopqrstuvwxyzabcdefghijklmnopqrstuvwxyzabcdefghijkl";
-    let longer = "abcdefghijklmnopqrstuvwxyzabcdefghijklmnopqrstuvwxyzabcdefghijklm";
-    assert!(rt; is_name(longest.as_bytes()) && !is_name(longer.as_bytes()));
-    Ok(())
-}
-
-#[test]
-fn spelled_numbers(rt: HostRuntime) {
-    assert_eq!(rt; number(b"0x3802c1"), Ok(0x38_02C1));
-    assert_eq!(rt; number(b"1_000"), Err(Cause::BadNumber));
-    assert_eq!(rt;
-        number(b"0x100000000000000000000000000000000"),
-        Err(Cause::TooWide)
-    );
-}
-
-#[test]
-fn tokens_of_a_text(rt: HostRuntime) -> Result<(), Fail> {
-    let found = tokens(rt.alloc(), b"\n br=0x1F ; a note")
-        .ok()
-        .ok_or("tokens")?;
-    assert_eq!(rt; found.len(), 3);
-    let number = Token {
-        kind: Kind::Number(31),
-        line: 2,
-        column: 5,
-        start: 5,
-        end: 9,
-    };
-    assert_eq!(rt; found[2], number);
     Ok(())
 }

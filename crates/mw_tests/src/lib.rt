@@ -7,19 +7,11 @@ mod cases;
 #[cfg(test)]
 mod computed_questions;
 #[cfg(test)]
-mod counters;
-#[cfg(test)]
 mod descriptions;
-#[cfg(test)]
-mod expressions;
 #[cfg(test)]
 mod generated;
 #[cfg(test)]
-mod machines;
-#[cfg(test)]
 mod microprograms;
-#[cfg(test)]
-mod questions;
 #[cfg(test)]
 mod starts;
 #[cfg(test)]
