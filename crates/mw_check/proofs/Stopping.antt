@@ -1,6 +1,6 @@
 -- Why a search stops, by why its fork does.
 use Rattle.std.proofs.Common.{◌≡◌, ◌≢◌, ℕ, List, refl, sym, ap, ◌∙◌, subst}
-use Rattle.mw_cycle.specs.declared.decided.Decided.{Decided}
+use Rattle.mw_term.specs.declared.decided.Decided.{Decided}
 use Rattle.mw_rel.specs.Begin.{Begin}
 use Rattle.mw_rel.specs.Case.{IsBefore, IsCase}
 use Rattle.mw_rel.specs.Job.{Job, IsJob}

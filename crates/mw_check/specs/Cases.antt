@@ -1,7 +1,7 @@
 -- The cases of a boundary in their order, and how many there are.
 use Rattle.std.specs.Prelude.{◌≡◌, ◌⊎◌, ℕ, ◌≤◌, List, length, All, Contains}
 use Rattle.std.specs.List.{AllPairs}
-use Rattle.mw_cycle.specs.declared.decided.Decided.{Decided}
+use Rattle.mw_term.specs.declared.decided.Decided.{Decided}
 use Rattle.mw_rel.specs.Case.{IsBefore, IsCase, IsStartAt, cycles_of}
 use Rattle.mw_rel.specs.Job.{Job}
 use Rattle.mw_rel.specs.Start.{Start}

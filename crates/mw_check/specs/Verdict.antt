@@ -1,6 +1,6 @@
 -- What the answers to a job mean.
 use Rattle.std.specs.Prelude.{◌≡◌, ℕ, ◌<◌, ◌≤◌, List, All, length, None, slice_get, Some}
-use Rattle.mw_cycle.specs.declared.decided.Decided.{Decided}
+use Rattle.mw_term.specs.declared.decided.Decided.{Decided}
 use Rattle.mw_rel.specs.Case.{IsBefore, IsCase, IsStartAt}
 use Rattle.mw_rel.specs.Certified.{Certified}
 use Rattle.mw_rel.specs.Differs.{difference_of}

@@ -1,6 +1,6 @@
 // Whether a job is certified.
 ghost use Rattle.std.specs.Prelude.{◌≡◌, ◌≢◌, ◌<◌, ℕ, List, length, IfOk, IfErr, IfSome, OnOk, None};
-ghost use Rattle.mw_cycle.specs.declared.decided.Decided.{Decided};
+ghost use Rattle.mw_term.specs.declared.decided.Decided.{Decided};
 ghost use Rattle.mw_rel.specs.Certified.{Certified};
 ghost use Rattle.mw_rel.specs.Views.{job_of};
 ghost use Rattle.mw_fork.specs.declared.budget.Budget.{Budget as BudgetOf};

@@ -2,7 +2,7 @@
 use Rattle.std.proofs.Common.{◌≡◌, ℕ, zero, suc, ◌+◌, List, ◌++◌, ap, ap₂, sym, ◌∙◌, add-zero, append_assoc, arith}
 use Rattle.std.proofs.lemmas.List.{append-nil}
 use Rattle.mw_board.specs.declared.parts.BoardParts.{BoardParts}
-use Rattle.mw_cycle.specs.declared.decided.Decided.{Decided}
+use Rattle.mw_term.specs.declared.decided.Decided.{Decided}
 use Rattle.mw_cycle.specs.Decided.{decided_of, bits_of_cycle, bits_of_cycles}
 use Rattle.mw_cycle.specs.Environment.{Environment, given_at, rest_at}
 use Rattle.mw_cycle.specs.Run.{BoardRun, run_of}

@@ -4,9 +4,9 @@ use Rattle.std.specs.Prelude.{◌≡◌, ℕ, zero, ◌+◌, suc, List, [], ◌�
 use Rattle.std.specs.List.{list_any}
 use Rattle.mw_base.specs.Words.{bit_of}
 use Rattle.mw_board.specs.declared.parts.BoardParts.{BoardParts}
-use Rattle.mw_term.specs.declared.kinds.DecidedKind.{DecidedKind}
-use Rattle.mw_term.specs.declared.kinds.DecidedKind.TheVariants.{Pass, CounterZero, Next}
-use Rattle.mw_cycle.specs.declared.decided.Decided.{Decided}
+use Rattle.mw_term.specs.declared.decided.DecidedKind.{DecidedKind}
+use Rattle.mw_term.specs.declared.decided.DecidedKind.TheVariants.{Pass, CounterZero, Next}
+use Rattle.mw_term.specs.declared.decided.Decided.{Decided}
 use Rattle.mw_cycle.specs.declared.microword.Microword.{Microword}
 use Rattle.mw_cycle.specs.declared.state.CycleIn.{CycleIn}
 use Rattle.mw_cycle.specs.Cycle.{microword_at, answer_of, pass_of, next_address}

@@ -3,16 +3,6 @@ ghost use Rattle.std.specs.Prelude.{◌≡◌};
 ghost use Rattle.mw_cycle.specs.Decided.{decides_counter, decides_pass};
 
 use crate::microword::Microword;
-use mw_term::DecidedKind;
-
-/// A bit that a run has to know to go on, with its value.
-#[derive(Clone, Copy, Debug, PartialEq, Eq)]
-pub struct Decided {
-    /// What the bit says.
-    pub kind: DecidedKind,
-    /// Whether it is 1.
-    pub value: bool,
-}
 
 impl Microword {
     /// Whether pass is decided: the test is enabled, and the instruction of the Am2910 reads it.

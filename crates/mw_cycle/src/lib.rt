@@ -14,7 +14,6 @@ mod one_cycle;
 mod state;
 
 pub use datapath::{Datapath, Whole};
-pub use decided::Decided;
 pub use elements::{Element, element_of};
 pub use environment::{Clock, Env};
 pub use laws::{

@@ -2,7 +2,7 @@
 use Rattle.std.proofs.Common.{◌≡◌, ℕ, List, [], ◌∷◌, ◌++◌, ap, append-nil, refl, subst, sym, ◌∙◌}
 use Rattle.std.specs.Prelude.{Bool, Option}
 use Rattle.std.proofs.lemmas.List.{map-append}
-use Rattle.mw_cycle.specs.declared.decided.Decided.{Decided}
+use Rattle.mw_term.specs.declared.decided.Decided.{Decided}
 use Rattle.mw_rel.specs.Begin.{Begin}
 use Rattle.mw_rel.specs.Case.{IsCase}
 use Rattle.mw_rel.specs.Job.{Job, IsJob}

@@ -1,11 +1,11 @@
 -- What is left of the word list, as the board of a run goes on.
 use Rattle.std.proofs.Common.{◌≡◌, ℕ, ◌+◌, ◌-◌, ◌<◌, List, [], ◌∷◌, ◌++◌, append-nil, ap, sym, ◌∙◌, arith, refl}
 use Rattle.std.specs.Prelude.{suc, Bool, true, false, Option, None, if◌then◌else◌}
-use Rattle.mw_cycle.specs.declared.decided.Decided.{Decided}
+use Rattle.mw_term.specs.declared.decided.Decided.{Decided}
 use Rattle.mw_cycle.specs.Boundary.{is_named}
 use Rattle.mw_cycle.specs.CycleWords.{Come}
 use Rattle.mw_cycle.specs.Decided.{decided}
-use Rattle.mw_term.specs.declared.kinds.DecidedKind.{DecidedKind}
+use Rattle.mw_term.specs.declared.decided.DecidedKind.{DecidedKind}
 use Rattle.mw_term.specs.MemoryRead.{Held}
 use Rattle.mw_symboard.specs.Along.{Ends, StopsAt, left_by, standing_in, words_left}
 use Rattle.mw_symboard.specs.declared.reading.Reading.{Reading}

@@ -4,12 +4,12 @@ use Rattle.std.specs.Prelude.{Bool, false, Option, Some, None, map}
 use Rattle.std.specs.Option.{unwrap_or}
 use Rattle.std.proofs.lemmas.List.{map-append}
 use Rattle.mw_cycle.specs.BoardTerms.{Standing}
-use Rattle.mw_cycle.specs.declared.decided.Decided.{Decided}
+use Rattle.mw_term.specs.declared.decided.Decided.{Decided}
 use Rattle.mw_cycle.specs.Decided.{decided}
 use Rattle.mw_macro.specs.Machine.{Description}
 use Rattle.mw_macro.specs.Statements.{Acts}
 use Rattle.mw_macro.specs.StepWords.{Come, Underway, acts_words, begun_words, step_words}
-use Rattle.mw_term.specs.declared.kinds.DecidedKind.TheVariants.{Branch}
+use Rattle.mw_term.specs.declared.decided.DecidedKind.TheVariants.{Branch}
 use Rattle.mw_term.specs.declared.kinds.WordKind.TheVariants.{Line}
 use Rattle.mw_term.specs.declared.word.Word.{Word}
 use Rattle.mw_term.specs.MemoryRead.{Held}

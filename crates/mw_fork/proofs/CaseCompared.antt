@@ -7,7 +7,7 @@ use Rattle.std.proofs.lemmas.Grind.{same_number_lists}
 use Rattle.std.proofs.lemmas.List.{take_all}
 use Rattle.std.proofs.lemmas.Option.{get_or_from_slice_get, slice_get_within}
 use Rattle.mw_cycle.specs.BoardTerms.{Standing}
-use Rattle.mw_cycle.specs.declared.decided.Decided.{Decided}
+use Rattle.mw_term.specs.declared.decided.Decided.{Decided}
 use Rattle.mw_macro.specs.DescribedStep.{AreInputs}
 use Rattle.mw_macro.specs.StepWords.{Underway}
 use Rattle.mw_term.specs.Assigned.{Given, Numbers, given_by}

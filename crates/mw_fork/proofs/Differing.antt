@@ -10,7 +10,7 @@ use Rattle.mw_base.specs.declared.event.Event.TheVariants as events
 use Rattle.mw_board.specs.Elements.{element_count}
 use Rattle.mw_cycle.specs.Boundary.{numbers}
 use Rattle.mw_cycle.specs.BoardTerms.{term_of_part}
-use Rattle.mw_cycle.specs.declared.decided.Decided.{Decided}
+use Rattle.mw_term.specs.declared.decided.Decided.{Decided}
 use Rattle.mw_cycle.specs.Elements.{element_of}
 use Rattle.mw_cycle.specs.Run.{BoardRun}
 use Rattle.mw_expr.specs.Values.{value}

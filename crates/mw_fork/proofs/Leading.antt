@@ -1,7 +1,7 @@
 -- Where a fork turns its bits to, by where it stands.
 use Rattle.std.proofs.Common.{◌≡◌, ℕ, List, [], subst, sym, ◌∙◌}
 use Rattle.std.specs.Prelude.{Bool, Option, Some, None}
-use Rattle.mw_cycle.specs.declared.decided.Decided.{Decided}
+use Rattle.mw_term.specs.declared.decided.Decided.{Decided}
 use Rattle.mw_symmach.specs.Turns.{Stepping}
 use Rattle.mw_rel.specs.Case.{IsBefore, IsCase}
 use Rattle.mw_rel.specs.Job.{Job, IsJob}

@@ -8,11 +8,11 @@ use Rattle.mw_macro.specs.DescribedStep.{ended, step_of}
 use Rattle.mw_macro.specs.State.{MachineState}
 use Rattle.mw_macro.specs.Statements.{nothing}
 use Rattle.mw_macro.specs.StepWords.{begun_words}
-use Rattle.mw_cycle.specs.declared.decided.Decided.{Decided}
+use Rattle.mw_term.specs.declared.decided.Decided.{Decided}
 use Rattle.mw_cycle.specs.Decided.{decided}
 use Rattle.mw_term.specs.Assigned.{Given}
-use Rattle.mw_term.specs.declared.kinds.DecidedKind.{DecidedKind}
-use Rattle.mw_term.specs.declared.kinds.DecidedKind.TheVariants.{Branch}
+use Rattle.mw_term.specs.declared.decided.DecidedKind.{DecidedKind}
+use Rattle.mw_term.specs.declared.decided.DecidedKind.TheVariants.{Branch}
 use Rattle.mw_term.specs.declared.kinds.WordKind.TheVariants.{Input, Line}
 use Rattle.mw_term.specs.declared.word.Word.{Word}
 use Rattle.mw_term.specs.Functions.{Function}

@@ -2,7 +2,7 @@
 use Rattle.std.proofs.Common.{◌≡◌, ℕ, zero, List, [], ◌∷◌, ◌++◌, ap, sym, subst, ◌∙◌, arith, refl}
 use Rattle.std.specs.Prelude.{Contains, IsSome, false, slice_index_or}
 use Rattle.std.proofs.lemmas.List.Elements.{All-contains, Contains-append_right}
-use Rattle.mw_cycle.specs.declared.decided.Decided.{Decided}
+use Rattle.mw_term.specs.declared.decided.Decided.{Decided}
 use Rattle.mw_term.specs.Assigned.{Numbers}
 use Rattle.mw_term.specs.Cofactors.{Agree, AreSame, HasAtMostCofactors, HasMoreCofactors}
 use Rattle.mw_term.specs.Functions.{Function, made, never}

@@ -4,7 +4,7 @@ use Rattle.std.proofs.Common.{length-drop, slice_index, ap, sym, subst, ◌∙�
 use Rattle.std.specs.Prelude.{Bool, if◌then◌else◌, Option, Some, None}
 use Rattle.std.proofs.lemmas.Bool.{cases_lt}
 use Rattle.std.proofs.lemmas.List.{get_or-take}
-use Rattle.mw_term.specs.declared.kinds.DecidedKind.{DecidedKind}
+use Rattle.mw_term.specs.declared.decided.DecidedKind.{DecidedKind}
 use Rattle.mw_term.specs.declared.kinds.WordKind.{WordKind}
 use Rattle.mw_term.specs.declared.kinds.WordKind.TheVariants.{Base, Input, Line, Noise, Probe}
 use Rattle.mw_term.specs.declared.word.Word.{Word}

@@ -8,7 +8,7 @@ use Rattle.mw_board.specs.declared.parts.BoardParts.{BoardParts}
 use Rattle.mw_board.specs.Elements.{element_count}
 use Rattle.mw_cycle.specs.Boundary.{numbers}
 use Rattle.mw_cycle.specs.BoardTerms.{Parts, term_of_part}
-use Rattle.mw_cycle.specs.declared.decided.Decided.{Decided}
+use Rattle.mw_term.specs.declared.decided.Decided.{Decided}
 use Rattle.mw_cycle.specs.Elements.{element, element_of}
 use Rattle.mw_cycle.specs.Run.{BoardRun}
 use Rattle.mw_cycle.specs.State.{BoardState, Fits}

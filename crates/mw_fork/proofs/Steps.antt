@@ -10,7 +10,7 @@ use Rattle.mw_macro.specs.Machine.{Description}
 use Rattle.mw_macro.specs.Statements.{Act, assign, write, put, take_in, choose, Acts, nothing, next}
 use Rattle.mw_macro.specs.StepWords.{Come, Underway, act_words, acts_words, condition_words, going, then_behind}
 use Rattle.mw_macro.specs.StepWords.{then_by, with_list}
-use Rattle.mw_term.specs.declared.kinds.DecidedKind.{DecidedKind}
+use Rattle.mw_term.specs.declared.decided.DecidedKind.{DecidedKind}
 use Rattle.mw_term.specs.declared.kinds.WordKind.{WordKind}
 use Rattle.mw_term.specs.declared.kinds.WordKind.TheVariants.{Base, Input, Probe}
 use Rattle.mw_term.specs.declared.word.Word.{Word}

@@ -2,7 +2,7 @@
 use Rattle.std.specs.Prelude.{◌≡◌, ◌≢◌, ℕ, ◌<◌, ◌-◌, List, length, map, false, Option, Some, None, slice_index}
 use Rattle.std.specs.Prelude.{slice_index_or}
 use Rattle.mw_base.specs.Words.{num}
-use Rattle.mw_cycle.specs.declared.decided.Decided.{Decided}
+use Rattle.mw_term.specs.declared.decided.Decided.{Decided}
 use Rattle.mw_cycle.specs.Environment.{Environment}
 use Rattle.mw_rel.specs.Begin.{Begin, IsCompleted, free_elements}
 use Rattle.mw_rel.specs.Case.{IsStartAt, case_of}

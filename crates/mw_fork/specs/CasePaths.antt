@@ -1,9 +1,9 @@
 -- Paths of decided bits, and the cases of the starts that take them.
 use Rattle.std.specs.Prelude.{◌≡◌, ℕ, List, length, Bool, true, Some, slice_get, ◌==◌}
-use Rattle.mw_cycle.specs.declared.decided.Decided.{Decided}
+use Rattle.mw_term.specs.declared.decided.Decided.{Decided}
 use Rattle.mw_cycle.specs.Decided.{decided}
 use Rattle.mw_term.specs.Assigned.{Given}
-use Rattle.mw_term.specs.declared.kinds.DecidedKind.{DecidedKind}
+use Rattle.mw_term.specs.declared.decided.DecidedKind.{DecidedKind}
 use Rattle.mw_term.specs.Functions.{Function}
 use Rattle.mw_term.specs.Values.{term_value}
 use Rattle.mw_symboard.specs.Seen.{AreFirst}

@@ -1,6 +1,6 @@
 -- Where both sides of a case have ended, on terms.
 use Rattle.std.specs.Prelude.{◌≡◌, ℕ, List, [], Bool, true, false, Option, Some, None, slice_index_or}
-use Rattle.mw_cycle.specs.declared.decided.Decided.{Decided}
+use Rattle.mw_term.specs.declared.decided.Decided.{Decided}
 use Rattle.mw_macro.specs.DescribedStep.{ended, step_of}
 use Rattle.mw_rel.specs.CaseWords.{case_words, whole, with_comparisons}
 use Rattle.mw_rel.specs.ComparisonWords.{compared_in}

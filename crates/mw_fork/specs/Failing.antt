@@ -1,6 +1,6 @@
 -- What is found of the starts of a case that differ.
 use Rattle.std.specs.Prelude.{◌≡◌, ◌≢◌, ℕ, List, Contains, None}
-use Rattle.mw_cycle.specs.declared.decided.Decided.{Decided}
+use Rattle.mw_term.specs.declared.decided.Decided.{Decided}
 use Rattle.mw_rel.specs.Case.{IsStartAt, case_of}
 use Rattle.mw_rel.specs.CaseWords.{case_words}
 use Rattle.mw_rel.specs.ComparisonWords.{Comparison}

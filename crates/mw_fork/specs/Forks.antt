@@ -1,6 +1,6 @@
 -- What a fork gives: the feasible cases of a boundary, one after another.
 use Rattle.std.specs.Prelude.{◌≡◌, ◌≢◌, ℕ, ◌<◌, ◌≤◌, List, [], length, Bool}
-use Rattle.mw_cycle.specs.declared.decided.Decided.{Decided}
+use Rattle.mw_term.specs.declared.decided.Decided.{Decided}
 use Rattle.mw_rel.specs.Case.{IsBefore, IsCase, IsStartAt, case_of, cycles_of, is_late}
 use Rattle.mw_rel.specs.Job.{IsJob, Job}
 use Rattle.mw_rel.specs.Start.{Start}

@@ -1,6 +1,6 @@
 -- What is kept from case to case, and which cases it stands for.
 use Rattle.std.specs.Prelude.{◌≡◌, ◌⊎◌, List, [], ◌∷◌, ◌++◌, length, ℕ, true, false}
-use Rattle.mw_cycle.specs.declared.decided.Decided.{Decided}
+use Rattle.mw_term.specs.declared.decided.Decided.{Decided}
 use Rattle.mw_cycle.specs.Decided.{decided}
 use Rattle.mw_rel.specs.Case.{IsFeasiblePrefix}
 use Rattle.mw_rel.specs.Job.{Job}

@@ -1,6 +1,6 @@
 -- Where a run stands in the word list of its case.
 use Rattle.std.specs.Prelude.{◌≡◌, ℕ, ◌+◌, ◌-◌, ◌++◌, List, Bool, if◌then◌else◌}
-use Rattle.mw_cycle.specs.declared.decided.Decided.{Decided}
+use Rattle.mw_term.specs.declared.decided.Decided.{Decided}
 use Rattle.mw_cycle.specs.Boundary.{is_named}
 use Rattle.mw_macro.specs.StepWords.{Underway}
 use Rattle.mw_symboard.specs.Along.{standing_in, words_left}

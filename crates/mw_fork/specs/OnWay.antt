@@ -1,12 +1,12 @@
 -- A run on its way through a case.
 use Rattle.std.specs.Prelude.{◌≡◌, ℕ, ◌<◌, ◌++◌, ◌∷◌, List, [], map, Bool, true, false, Option, None, slice_index_or}
-use Rattle.mw_cycle.specs.declared.decided.Decided.{Decided}
+use Rattle.mw_term.specs.declared.decided.Decided.{Decided}
 use Rattle.mw_cycle.specs.Decided.{decided}
 use Rattle.mw_macro.specs.StepWords.{Underway}
 use Rattle.mw_term.specs.Assigned.{Given}
 use Rattle.mw_term.specs.Cofactors.{Agree}
-use Rattle.mw_term.specs.declared.kinds.DecidedKind.{DecidedKind}
-use Rattle.mw_term.specs.declared.kinds.DecidedKind.TheVariants.{Branch}
+use Rattle.mw_term.specs.declared.decided.DecidedKind.{DecidedKind}
+use Rattle.mw_term.specs.declared.decided.DecidedKind.TheVariants.{Branch}
 use Rattle.mw_term.specs.Functions.{Function, always}
 use Rattle.mw_dd.specs.Nodes.{function_of}
 use Rattle.mw_symmem.specs.declared.turn.Turn.{Turn}

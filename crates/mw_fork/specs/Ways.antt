@@ -1,8 +1,8 @@
 -- The decided bits that are kept from case to case.
 use Rattle.std.specs.Prelude.{ℕ, List, [], ◌∷◌, ◌++◌, length, map, take, Bool, true, false, not, ◌&&◌, ◌==◌}
 use Rattle.std.specs.Prelude.{if◌then◌else◌, Option, Some, None}
-use Rattle.mw_term.specs.declared.kinds.DecidedKind.{DecidedKind}
-use Rattle.mw_cycle.specs.declared.decided.Decided.{Decided}
+use Rattle.mw_term.specs.declared.decided.DecidedKind.{DecidedKind}
+use Rattle.mw_term.specs.declared.decided.Decided.{Decided}
 use Rattle.mw_cycle.specs.Decided.{decided}
 use Rattle.mw_fork.specs.declared.way.Kept.{Kept}
 use Rattle.mw_fork.specs.declared.way.Feasible.{Feasible}

@@ -2,8 +2,8 @@
 ghost use Rattle.std.specs.Prelude.{◌≡◌};
 ghost use Rattle.mw_fork.specs.declared.fault.ForkFault.TheVariants.{NoMemory as no_memory};
 
-use crate::prefix::Prefix;
 use mw_base::NoMemory;
+use mw_term::Prefix;
 
 /// What is over its budget.
 #[derive(Debug, Drop)]

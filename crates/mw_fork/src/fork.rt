@@ -1,7 +1,7 @@
 // The feasible cases of a boundary, one after another.
 ghost use Rattle.std.specs.Prelude.{◌≡◌, ◌≢◌, ◌+◌, ◌<◌, ◌≤◌, ℕ, List, [], length, IfOk, IfErr, IfSome, IsOk, OnOk};
 ghost use Rattle.std.specs.Prelude.{None, true, false};
-ghost use Rattle.mw_cycle.specs.declared.decided.Decided.{Decided};
+ghost use Rattle.mw_term.specs.declared.decided.Decided.{Decided};
 ghost use Rattle.mw_term.specs.declared.kinds.WordKind.TheVariants.{Probe};
 ghost use Rattle.mw_term.specs.WordList.{term_of};
 ghost use Rattle.mw_rel.specs.Case.{IsBefore, IsCase};
@@ -27,7 +27,6 @@ use crate::begin::begin_of;
 use crate::budget::Budget;
 use crate::comparing::first_failing;
 use crate::fault::{ForkFault, Over};
-use crate::prefix::Prefix;
 use crate::run::Run;
 use crate::segment::segment;
 use crate::step::step;
@@ -36,6 +35,7 @@ use crate::way::Way;
 use mw_base::NoMemory;
 use mw_rel::{Begin, Job};
 use mw_symmach::SymMach;
+use mw_term::Prefix;
 use std::alloc::Global;
 use std::marker::Model;
 

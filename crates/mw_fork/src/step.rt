@@ -12,7 +12,7 @@ ghost use Rattle.mw_symboard.specs.Turns.{Symbolic};
 ghost use Rattle.mw_symmach.specs.Turns.{Asks, is_asked};
 ghost use Rattle.mw_symmach.specs.Walks.{underway_of};
 ghost use Rattle.mw_rel.specs.Views.{job_of};
-ghost use Rattle.mw_cycle.specs.declared.decided.Decided.{Decided};
+ghost use Rattle.mw_term.specs.declared.decided.Decided.{Decided};
 ghost use Rattle.mw_fork.specs.declared.paths.Paths as diagrams;
 ghost use Rattle.mw_fork.specs.declared.way.Kept.{Kept};
 ghost use Rattle.mw_fork.specs.OnWay.{HasMetCase, HasMetSegment, HavePaths, IsOnStep, IsRunOf, IsTurnedOnStep};

@@ -4,10 +4,8 @@ ghost use Rattle.std.specs.Prelude.{None, IfOk, OnOk, OnErr, IfSome};
 ghost use Rattle.mw_fork.specs.declared.way.Kept as keeps;
 ghost use Rattle.mw_fork.specs.Ways.{bits_of, first_of, kept_with, met_of, turned, turned_last, way_of};
 
-use crate::prefix::Prefix;
 use mw_base::NoMemory;
-use mw_cycle::Decided;
-use mw_term::DecidedKind;
+use mw_term::{Decided, DecidedKind, Prefix};
 use std::alloc::Global;
 use std::marker::Model;
 

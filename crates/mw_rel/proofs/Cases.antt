@@ -5,7 +5,7 @@ use Rattle.std.specs.Option.{is_none, unwrap_or}
 use Rattle.std.proofs.lemmas.Bool.{cases_lt}
 use Rattle.std.proofs.lemmas.List.{append_assoc, append-nil}
 use Rattle.std.proofs.lemmas.Option.{get_or_from_slice_get, slice_get_within}
-use Rattle.mw_cycle.specs.declared.decided.Decided.{Decided}
+use Rattle.mw_term.specs.declared.decided.Decided.{Decided}
 use Rattle.mw_cycle.specs.Boundary.{is_named, first_boundary, first_segment, IsNextBoundary}
 use Rattle.mw_cycle.specs.Decided as runs
 use Rattle.mw_cycle.specs.Environment.{given_at}

@@ -1,6 +1,6 @@
 -- The operations of a word list at a word and a bit.
 use Rattle.std.specs.Prelude.{◌≡◌, ℕ, List, ◌++◌, Bool, Contains, Some, slice_get}
-use Rattle.mw_cycle.specs.declared.decided.Decided.{Decided}
+use Rattle.mw_term.specs.declared.decided.Decided.{Decided}
 use Rattle.mw_rel.specs.CaseWords.{case_words}
 use Rattle.mw_rel.specs.ComparisonWords.{Comparison}
 use Rattle.mw_rel.specs.Job.{Job}

@@ -1,6 +1,6 @@
 -- Worked cases on the small board, spelled by hand, as values on which the definitions compute.
 use Rattle.std.specs.Prelude.{ℕ, List, [], ◌∷◌, codes, length, ◌==◌}
-use Rattle.mw_cycle.specs.declared.decided.Decided.{Decided}
+use Rattle.mw_term.specs.declared.decided.Decided.{Decided}
 use Rattle.mw_cycle.specs.Decided.{decided}
 use Rattle.mw_expr.specs.Tree.{Tree, element, part}
 use Rattle.mw_macro.specs.Machine.{Description}
@@ -8,7 +8,7 @@ use Rattle.mw_macro.specs.Statements.{Act, choose, assign, nothing, acts_of}
 use Rattle.mw_rel.specs.Case.{case_of}
 use Rattle.mw_rel.specs.Examples.{machine_with, sum_into, small_job, start_with}
 use Rattle.mw_rel.specs.Job.{Job}
-use Rattle.mw_term.specs.declared.kinds.DecidedKind.TheVariants.{Next}
+use Rattle.mw_term.specs.declared.decided.DecidedKind.TheVariants.{Next}
 
 -- the bits of an address, spelled from the highest down
 abbrev pub goes_to : (digits : List ℕ) → List Decided

@@ -1,6 +1,6 @@
 -- Laws of the cases of a boundary.
 use Rattle.std.specs.Prelude.{◌≡◌, ◌≢◌, ◌⊎◌, ℕ, ◌+◌, ◌<◌, ◌≤◌, List, [], ◌∷◌, ◌++◌, true, false, if◌then◌else◌, Some, None}
-use Rattle.mw_cycle.specs.declared.decided.Decided.{Decided}
+use Rattle.mw_term.specs.declared.decided.Decided.{Decided}
 use Rattle.mw_cycle.specs.Boundary.{is_named}
 use Rattle.mw_rel.specs.Case.{bits_of_cycles, cycles_of, is_late, bits_of_step, case_of, IsStartAt, IsCase, IsFeasiblePrefix, IsBefore, IsProperPrefix}
 use Rattle.mw_rel.specs.Certified.{board_run, at_cycle}

@@ -1,7 +1,7 @@
 -- What is over a budget, and what isn't.
 use Rattle.std.specs.Prelude.{◌≡◌, ◌≢◌, ℕ, ◌<◌, List, ◌∷◌, ◌++◌, length, Bool, IsSome}
 use Rattle.std.specs.List.{All, AllPairs}
-use Rattle.mw_cycle.specs.declared.decided.Decided.{Decided}
+use Rattle.mw_term.specs.declared.decided.Decided.{Decided}
 use Rattle.mw_rel.specs.BitOperations.{IsOperation}
 use Rattle.mw_rel.specs.Case.{IsCase, IsFeasiblePrefix}
 use Rattle.mw_rel.specs.CaseWords.{case_words}

@@ -1,6 +1,6 @@
 -- Which starts of a case are looked for to find one that differs.
 use Rattle.std.specs.Prelude.{◌≡◌, ℕ, List, [], ◌∷◌, ◌++◌, All}
-use Rattle.mw_cycle.specs.declared.decided.Decided.{Decided}
+use Rattle.mw_term.specs.declared.decided.Decided.{Decided}
 use Rattle.mw_rel.specs.CaseWords.{case_words}
 use Rattle.mw_rel.specs.ComparisonWords.{Comparison}
 use Rattle.mw_rel.specs.Job.{Job}

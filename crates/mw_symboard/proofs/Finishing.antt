@@ -13,7 +13,7 @@ use Rattle.mw_cycle.specs.Microword.{IsMicroword}
 use Rattle.mw_cycle.specs.Cycle.{nets_of}
 use Rattle.mw_cycle.specs.Run.{clock_after}
 use Rattle.mw_term.specs.declared.kinds.WordKind.{WordKind}
-use Rattle.mw_term.specs.declared.kinds.DecidedKind.{DecidedKind}
+use Rattle.mw_term.specs.declared.decided.DecidedKind.{DecidedKind}
 use Rattle.mw_term.specs.Assigned.{Given}
 use Rattle.mw_term.specs.MemoryRead.{Held, held}
 use Rattle.mw_term.specs.Table.{Table}

@@ -8,7 +8,7 @@ use Rattle.mw_base.specs.Words.{num}
 use Rattle.mw_board.specs.declared.bit.DFrom.{DFrom}
 use Rattle.mw_board.specs.declared.bit.DFrom.TheVariants as sources
 use Rattle.mw_board.specs.declared.parts.BoardParts.{BoardParts}
-use Rattle.mw_cycle.specs.declared.decided.Decided.{Decided}
+use Rattle.mw_term.specs.declared.decided.Decided.{Decided}
 use Rattle.mw_cycle.specs.declared.microword.Microword.{Microword}
 use Rattle.mw_cycle.specs.BoardTerms.{Standing}
 use Rattle.mw_cycle.specs.CycleWords.{Come, along_address, along_leaving, along_pass, cycle_words, done, stopped}
@@ -19,8 +19,8 @@ use Rattle.mw_cycle.specs.LeavingWords.{leaving_words}
 use Rattle.mw_cycle.specs.ReadingWords.{HasRead, Reading, reading_words, zero_words}
 use Rattle.mw_seq.specs.Instruction.{effect_of, instruction_of}
 use Rattle.mw_term.specs.declared.event.SymEvent.{SymEvent}
-use Rattle.mw_term.specs.declared.kinds.DecidedKind.{DecidedKind}
-use Rattle.mw_term.specs.declared.kinds.DecidedKind.TheVariants.{Pass}
+use Rattle.mw_term.specs.declared.decided.DecidedKind.{DecidedKind}
+use Rattle.mw_term.specs.declared.decided.DecidedKind.TheVariants.{Pass}
 use Rattle.mw_term.specs.declared.op.Op.TheVariants.{Part}
 use Rattle.mw_term.specs.MemoryRead.{Held, held}
 use Rattle.mw_term.specs.WordList.{WordList, Ended, ended, with_word}

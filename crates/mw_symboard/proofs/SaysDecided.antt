@@ -9,7 +9,7 @@ use Rattle.mw_base.specs.Words.{bit_of, differ, num}
 use Rattle.mw_base.proofs.Carries.{num_below}
 use Rattle.mw_board.specs.declared.parts.BoardParts.{BoardParts}
 use Rattle.mw_board.specs.Store.{word_at}
-use Rattle.mw_cycle.specs.declared.decided.Decided.{Decided}
+use Rattle.mw_term.specs.declared.decided.Decided.{Decided}
 use Rattle.mw_cycle.specs.Cycle.{answer_of, bit_value, next_address, pass_of}
 use Rattle.mw_cycle.specs.Decided.{address_bits, counter_bits, decided, decided_of, decides_counter, decides_pass, is_untested, pass_bits}
 use Rattle.mw_cycle.specs.Microword.{IsMicroword, points_of}
@@ -18,7 +18,7 @@ use Rattle.mw_seq.specs.declared.instruction.Instruction.{Instruction}
 use Rattle.mw_seq.specs.declared.instruction.Instruction.TheVariants.{Jz, Cjs, Jmap, Cjp, Push, Jsrp, Cjv, Jrp, Rfct, Rpct, Crtn, Cjpp, Ldct, Loop, Cont, Twb}
 use Rattle.mw_seq.specs.Instruction.{effect_of, instruction_of}
 use Rattle.mw_seq.specs.Sequencer.{effect}
-use Rattle.mw_term.specs.declared.kinds.DecidedKind.TheVariants.{Pass, CounterZero, Next}
+use Rattle.mw_term.specs.declared.decided.DecidedKind.TheVariants.{Pass, CounterZero, Next}
 use Rattle.mw_term.specs.Assigned.{Given}
 use Rattle.mw_term.specs.Table.{Table}
 use Rattle.mw_term.specs.declared.word.Word.{Word}

@@ -14,8 +14,8 @@ use Rattle.mw_seq.specs.declared.instruction.CounterMove.TheVariants as counters
 use Rattle.mw_seq.specs.declared.instruction.Effect.{Effect}
 use Rattle.mw_seq.specs.Instruction.{instruction_of}
 use Rattle.mw_seq.specs.Sequencer.{address, counter_after, effect, next_of}
-use Rattle.mw_term.specs.declared.kinds.DecidedKind.{DecidedKind}
-use Rattle.mw_term.specs.declared.kinds.DecidedKind.TheVariants.{Pass, CounterZero, Next}
+use Rattle.mw_term.specs.declared.decided.DecidedKind.{DecidedKind}
+use Rattle.mw_term.specs.declared.decided.DecidedKind.TheVariants.{Pass, CounterZero, Next}
 use Rattle.mw_term.specs.declared.op.Op.TheVariants.{Con, Eq, Part}
 use Rattle.mw_term.specs.Assigned.{Given}
 use Rattle.mw_term.specs.Table.{Table, IsTable}

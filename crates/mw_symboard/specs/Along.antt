@@ -7,7 +7,7 @@ use Rattle.mw_cycle.specs.CycleWords.{Come, along_address, along_leaving, along_
 use Rattle.mw_cycle.specs.Decided.{decides_pass}
 use Rattle.mw_cycle.specs.EdgeWords.{Stands}
 use Rattle.mw_cycle.specs.ReadingWords as words
-use Rattle.mw_term.specs.declared.kinds.DecidedKind.{DecidedKind}
+use Rattle.mw_term.specs.declared.decided.DecidedKind.{DecidedKind}
 use Rattle.mw_term.specs.MemoryRead.{Held}
 use Rattle.mw_term.specs.Numbered.{IsNumbered}
 use Rattle.mw_term.specs.WordList.{WordList, ended}

@@ -6,7 +6,7 @@ use Rattle.mw_alu.specs.declared.instruction.Destination.TheVariants.{Rama}
 use Rattle.mw_alu.specs.Instruction.{source_of, function_of, destination_of}
 use Rattle.mw_board.specs.declared.parts.BoardParts.{BoardParts}
 use Rattle.mw_board.specs.Depth.{depth_of}
-use Rattle.mw_cycle.specs.declared.decided.Decided.{Decided}
+use Rattle.mw_term.specs.declared.decided.Decided.{Decided}
 use Rattle.mw_cycle.specs.declared.microword.Microword.{Microword}
 use Rattle.mw_cycle.specs.EdgeWords.{or_taken, pushed_word, sp_after, with_pushed, with_taken}
 use Rattle.mw_cycle.specs.ReadingWords.{y_term}

@@ -5,7 +5,7 @@ use Rattle.mw_alu.specs.declared.answer.AluOut.{AluOut}
 use Rattle.mw_board.specs.declared.bit.Bit.{Bit}
 use Rattle.mw_board.specs.declared.parts.BoardParts.{BoardParts}
 use Rattle.mw_board.specs.Store.{word_at}
-use Rattle.mw_cycle.specs.declared.decided.Decided.{Decided}
+use Rattle.mw_term.specs.declared.decided.Decided.{Decided}
 use Rattle.mw_cycle.specs.declared.elements.Element.{Element}
 use Rattle.mw_cycle.specs.declared.microword.Microword.{Microword}
 use Rattle.mw_cycle.specs.Cycle.{d_of, answer_of, early_bit, bit_value, pass_of, next_address, direct_address, state_after}

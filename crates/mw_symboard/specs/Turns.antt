@@ -11,7 +11,7 @@ use Rattle.mw_cycle.specs.declared.environment.Clock.{Clock}
 use Rattle.mw_cycle.specs.Cycle.{nets_of}
 use Rattle.mw_cycle.specs.Decided.{decided, decided_of}
 use Rattle.mw_cycle.specs.Run.{clock_after}
-use Rattle.mw_term.specs.declared.kinds.DecidedKind.{DecidedKind}
+use Rattle.mw_term.specs.declared.decided.DecidedKind.{DecidedKind}
 use Rattle.mw_term.specs.declared.kinds.WordKind.TheVariants.{Line, Noise}
 use Rattle.mw_term.specs.Assigned.{Given}
 use Rattle.mw_term.specs.MemoryRead.{Held, held}

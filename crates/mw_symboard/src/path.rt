@@ -1,8 +1,7 @@
 // The bits decided so far of a cycle.
 ghost use Rattle.std.specs.Prelude.{◌≡◌, ◌++◌, ◌∷◌, ◌<◌, ◌≤◌, [], length, take, slice_get, Some};
 
-use mw_cycle::Decided;
-use mw_term::DecidedKind;
+use mw_term::{Decided, DecidedKind};
 use std::marker::Model;
 
 /// The bits decided so far of a cycle, at most fourteen: pass, counter zero, and twelve of an address.
@@ -14,7 +13,7 @@ pub(crate) struct Path {
 
 impl Model for Path {
     ghost use Rattle.std.specs.Prelude.{List, length, take, ◌≤◌, ◌≡◌};
-    ghost use Rattle.mw_cycle.specs.declared.decided.Decided.{Decided};
+    ghost use Rattle.mw_term.specs.declared.decided.Decided.{Decided};
 
     ghost Value = { List Decided };
 

@@ -12,7 +12,7 @@ use Rattle.mw_macro.specs.Machine.{Description}
 use Rattle.mw_macro.specs.State.{MachineState}
 use Rattle.mw_macro.specs.Statements.{choose, Acts, next, nothing}
 use Rattle.mw_symmem.specs.declared.turn.Turn.TheVariants.{Finished}
-use Rattle.mw_term.specs.declared.kinds.DecidedKind.TheVariants.{Branch}
+use Rattle.mw_term.specs.declared.decided.DecidedKind.TheVariants.{Branch}
 use Rattle.mw_term.specs.Assigned.{Given}
 use Rattle.mw_term.specs.Table.{Table}
 use Rattle.mw_symmem.specs.declared.side.Side.TheVariants.{Machine}

@@ -4,7 +4,7 @@ use Rattle.mw_macro.specs.Branches.{branches_of}
 use Rattle.mw_macro.specs.DescribedStep.{ended, step_of}
 use Rattle.mw_macro.specs.Machine.{Description, IsFormed}
 use Rattle.mw_macro.specs.State.{MachineState}
-use Rattle.mw_term.specs.declared.kinds.DecidedKind.{DecidedKind}
+use Rattle.mw_term.specs.declared.decided.DecidedKind.{DecidedKind}
 use Rattle.mw_term.specs.Assigned.{Given}
 use Rattle.mw_term.specs.Table.{Table}
 use Rattle.mw_term.specs.Values.{term_value}

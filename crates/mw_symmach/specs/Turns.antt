@@ -8,8 +8,8 @@ use Rattle.mw_macro.specs.DescribedStep.{Now, now, after_all, Stepped, ended}
 use Rattle.mw_macro.specs.Machine.{Description}
 use Rattle.mw_macro.specs.State.{MachineState}
 use Rattle.mw_macro.specs.Statements.{Acts, nothing, next}
-use Rattle.mw_term.specs.declared.kinds.DecidedKind.{DecidedKind}
-use Rattle.mw_term.specs.declared.kinds.DecidedKind.TheVariants.{Branch}
+use Rattle.mw_term.specs.declared.decided.DecidedKind.{DecidedKind}
+use Rattle.mw_term.specs.declared.decided.DecidedKind.TheVariants.{Branch}
 use Rattle.mw_term.specs.declared.kinds.WordKind.TheVariants.{Input}
 use Rattle.mw_term.specs.Assigned.{Given}
 use Rattle.mw_term.specs.Table.{Table}

@@ -16,7 +16,7 @@ pub use laws::{
     reads_stay, stays_with_words, stays_with_writes,
 };
 pub use memory::SymMemory;
-pub use mw_term::SymEvent;
+pub use mw_term::{Decided, DecidedKind, Prefix, SymEvent, WordKind};
 pub use side::Side;
 pub use turn::Turn;
 pub use words::Words;

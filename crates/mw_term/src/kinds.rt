@@ -1,17 +1,4 @@
-// The kinds of the bits that a run decides, and of the variable words that it makes.
-
-/// What a decided bit of a run says.
-#[derive(Clone, Copy, Debug, PartialEq, Eq)]
-pub enum DecidedKind {
-    /// Whether the test of a cycle passes.
-    Pass,
-    /// Whether the sequencer's counter is 0 in a cycle.
-    CounterZero,
-    /// A bit, from 11 to 0, of the address of a cycle's successor.
-    Next(u8),
-    /// Whether the condition of an `if` of a described step holds.
-    Branch,
-}
+// The kinds of the variable words that a run makes.
 
 /// What a variable word of a run stands for.
 #[derive(Clone, Copy, Debug, PartialEq, Eq)]

@@ -2,6 +2,7 @@
 #![tactic(auto)]
 
 mod assignment;
+mod decided;
 mod earlier;
 mod event;
 mod kinds;
@@ -12,8 +13,9 @@ mod word;
 mod words;
 
 pub use assignment::Assignment;
+pub use decided::{Decided, DecidedKind, Prefix};
 pub use event::SymEvent;
-pub use kinds::{DecidedKind, WordKind};
+pub use kinds::WordKind;
 pub use laws::{
     counts_are_apart, fixed_are_before, later_has_two, maps_are_short, ops_are_words,
     rows_as_written, rows_make_values, terminal_cases_have_none, terms_are_numbered,

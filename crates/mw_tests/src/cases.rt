@@ -5,7 +5,7 @@ ghost use Rattle.mw_rel.specs.Case.{cycles_of, is_late};
 ghost use Rattle.mw_rel.specs.CaseExamples.{adding_job, asking_job, case_with, counting_job, spinning_job, testing_job};
 ghost use Rattle.mw_rel.specs.CaseExamples.{to_one, to_zero};
 ghost use Rattle.mw_rel.specs.Examples.{start_with};
-ghost use Rattle.mw_term.specs.declared.kinds.DecidedKind.TheVariants.{Branch, CounterZero, Pass};
+ghost use Rattle.mw_term.specs.declared.decided.DecidedKind.TheVariants.{Branch, CounterZero, Pass};
 
 /// What starts decide: the next addresses of their cycles, pass where it is tested and the counter where it is asked
 /// for, and the conditions that the step meets, unless the segment is late.

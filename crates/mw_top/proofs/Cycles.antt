@@ -3,7 +3,7 @@ use Rattle.std.proofs.Common.{◌≡◌, ℕ, suc, ◌+◌, ◌<◌, min, List, 
 use Rattle.std.proofs.Common.{Some, None, refl, subst, arith, length, take, drop}
 use Rattle.std.specs.List.{flat_map, position, position_or_len}
 use Rattle.std.proofs.lemmas.Bool.Decides.{nat_tests}
-use Rattle.mw_cycle.specs.declared.decided.Decided.{Decided}
+use Rattle.mw_term.specs.declared.decided.Decided.{Decided}
 use Rattle.mw_top.specs.PrefixText.{cycle_by_cycle, cycle_text, is_last}
 
 -- the first bits, so many, are those of the first cycle

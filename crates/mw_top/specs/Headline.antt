@@ -4,7 +4,7 @@ use Rattle.mw_asm.specs.declared.assembled.Label.{Label}
 use Rattle.mw_cases.specs.Generated.{IsGenerated}
 use Rattle.mw_check.specs.declared.verdict.Summary.{Summary}
 use Rattle.mw_check.specs.Verdict.{AreSummaries, AreWithinBudget, IsNo, IsUnknown}
-use Rattle.mw_cycle.specs.declared.decided.Decided.{Decided}
+use Rattle.mw_term.specs.declared.decided.Decided.{Decided}
 use Rattle.mw_fork.specs.declared.budget.Budget.{Budget}
 use Rattle.mw_fork.specs.declared.fault.Over.{Over}
 use Rattle.mw_plan.specs.Files.{IsLeft}

@@ -4,9 +4,9 @@ use Rattle.std.specs.Prelude.{not, ◌==◌, if◌then◌else◌, Option, None, 
 use Rattle.std.specs.List.{fold, join_by, onto_first}
 use Rattle.mw_base.specs.Numbers.{padded}
 use Rattle.mw_base.specs.Words.{num}
-use Rattle.mw_cycle.specs.declared.decided.Decided.{Decided}
-use Rattle.mw_term.specs.declared.kinds.DecidedKind.{DecidedKind}
-use Rattle.mw_term.specs.declared.kinds.DecidedKind.TheVariants.{Pass, CounterZero, Next, Branch}
+use Rattle.mw_term.specs.declared.decided.Decided.{Decided}
+use Rattle.mw_term.specs.declared.decided.DecidedKind.{DecidedKind}
+use Rattle.mw_term.specs.declared.decided.DecidedKind.TheVariants.{Pass, CounterZero, Next, Branch}
 
 -- ---- kinds of bits
 

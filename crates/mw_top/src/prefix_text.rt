@@ -9,8 +9,7 @@ ghost use Rattle.mw_top.specs.PrefixText.{prefix_text, values_of};
 mod computed_examples;
 
 use mw_base::{NoMemory, append_padded};
-use mw_cycle::Decided;
-use mw_term::DecidedKind;
+use mw_term::{Decided, DecidedKind};
 use std::alloc::Global;
 
 /// How many bits a next address has.

@@ -11,8 +11,7 @@ ghost use Rattle.mw_rel.specs.Views.{job_of};
 ghost use Rattle.mw_fork.specs.Forks.{IsForkOf};
 
 use super::pairs::read_job;
-use mw_cycle::Decided;
-use mw_fork::{Budget, Case, Fork, ForkFault, Over};
+use mw_fork::{Budget, Case, Decided, Fork, ForkFault, Over};
 use mw_rel::Job;
 use mw_rowfile::named::{number_of, word};
 use mw_rowfile::{Fault, File, wrong};

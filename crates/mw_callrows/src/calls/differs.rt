@@ -4,7 +4,7 @@
 // boundary with a line. `call counter`: the text of the file `s`, read as a counter of the same job and printed again,
 // or its first fault. A boundary stands there by its address.
 ghost use Rattle.std.specs.Prelude.{◌≡◌, ◌<◌, ◌^◌, List, length, true, false, IfOk};
-ghost use Rattle.mw_cycle.specs.declared.decided.Decided.{Decided};
+ghost use Rattle.mw_term.specs.declared.decided.Decided.{Decided};
 ghost use Rattle.mw_rel.specs.Views.{job_of};
 ghost use Rattle.mw_fork.specs.Begins.{IsDiffering};
 ghost use Rattle.mw_fork.specs.Forks.{At, IsForkOf};

@@ -8,7 +8,7 @@ use Rattle.mw_check.specs.declared.verdict.Summary.{Summary}
 use Rattle.mw_check.specs.declared.verdict.Verdict.{Verdict}
 use Rattle.mw_check.specs.declared.verdict.Verdict.TheVariants as verdicts
 use Rattle.mw_check.specs.Verdict.{IsVerdict}
-use Rattle.mw_cycle.specs.declared.decided.Decided.{Decided}
+use Rattle.mw_term.specs.declared.decided.Decided.{Decided}
 use Rattle.mw_fork.specs.declared.budget.Budget.{Budget}
 use Rattle.mw_fork.specs.declared.fault.Over.{Over}
 use Rattle.mw_fork.specs.declared.fault.Over.TheVariants as overs

@@ -2,7 +2,7 @@
 ghost use Rattle.std.specs.Prelude.{◌≡◌, [], ◌∷◌, ◌++◌, codes, false, true};
 ghost use Rattle.mw_cycle.specs.Decided.{address_bits, decided};
 ghost use Rattle.mw_top.specs.PrefixText.{prefix_text};
-ghost use Rattle.mw_term.specs.declared.kinds.DecidedKind.TheVariants.{Branch, CounterZero, Next, Pass};
+ghost use Rattle.mw_term.specs.declared.decided.DecidedKind.TheVariants.{Branch, CounterZero, Next, Pass};
 
 /// A piece for each cycle: pass, counter zero and the next address, and behind the last cycle the step's branch bits.
 fn whole_cycles()

@@ -1,5 +1,5 @@
 use Rattle.std.proofs.Common.{◌-◌, List}
-use Rattle.mw_cycle.specs.declared.decided.Decided.{Decided}
+use Rattle.mw_term.specs.declared.decided.Decided.{Decided}
 use Rattle.mw_rel.specs.Views.{job_of}
 use Rattle.mw_check.specs.Searched.{HasGone}
 use Rattle.mw_check.proofs.certification.search.Given as goal

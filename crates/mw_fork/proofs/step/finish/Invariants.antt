@@ -6,7 +6,7 @@ use Rattle.mw_macro.specs.Counts.{total}
 use Rattle.mw_symboard.specs.Turns.{Symbolic}
 use Rattle.mw_symmach.specs.Turns.{is_asked}
 use Rattle.mw_symmach.specs.Walks.{underway_of}
-use Rattle.mw_cycle.specs.declared.decided.Decided.{Decided}
+use Rattle.mw_term.specs.declared.decided.Decided.{Decided}
 use Rattle.mw_rel.specs.Views.{job_of}
 use Rattle.mw_fork.specs.declared.way.Kept.{Kept}
 use Rattle.mw_fork.specs.OnWay.{HavePaths, IsOnStep}

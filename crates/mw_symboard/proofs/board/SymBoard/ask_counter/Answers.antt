@@ -1,7 +1,7 @@
 use Rattle.std.proofs.Common.{arith, ap, refl, sym, ◌∙◌}
 use Rattle.mw_base.specs.Words.{num}
 use Rattle.mw_cycle.specs.declared.elements.Element.TheVariants.{R}
-use Rattle.mw_term.specs.declared.kinds.DecidedKind.TheVariants.{CounterZero}
+use Rattle.mw_term.specs.declared.decided.DecidedKind.TheVariants.{CounterZero}
 use Rattle.mw_term.specs.declared.op.Op.TheVariants.{Con, Eq}
 use Rattle.mw_symboard.proofs.Fitting.{fits_eq, wide_equal}
 use Rattle.mw_symboard.proofs.Growing.{grew_then, is_later, wide_later}

@@ -1,5 +1,5 @@
 use Rattle.std.proofs.Common.{◌≡◌, ◌+◌, ◌-◌, length, arith, ap, ◌∙◌, suc, sym}
-use Rattle.mw_term.specs.declared.kinds.DecidedKind.TheVariants.{Next}
+use Rattle.mw_term.specs.declared.decided.DecidedKind.TheVariants.{Next}
 use Rattle.mw_symboard.specs.Cycle.{bits_before}
 use Rattle.mw_symboard.specs.Seen.{microword_of}
 use Rattle.mw_symboard.proofs.Fitting.{fits_part, wide_part}

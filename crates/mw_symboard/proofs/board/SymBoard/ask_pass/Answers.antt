@@ -1,6 +1,6 @@
 use Rattle.std.proofs.Common.{arith, ap, refl, sym, ◌∙◌}
 use Rattle.mw_base.specs.Words.{num}
-use Rattle.mw_term.specs.declared.kinds.DecidedKind.TheVariants.{Pass}
+use Rattle.mw_term.specs.declared.decided.DecidedKind.TheVariants.{Pass}
 use Rattle.mw_symboard.proofs.Turning.{asking_keeps, pass_asked}
 use Rattle.mw_symboard.proofs.Going.{pass_stops, pass_goes, asked_one, none_decided, not_leaving, stops_before}
 use Rattle.std.specs.Prelude.{Some}

@@ -3,7 +3,7 @@ use Rattle.mw_check.specs.declared.verdict.Summary.{Summary}
 use Rattle.mw_check.specs.declared.verdict.Verdict.{Verdict}
 use Rattle.mw_check.specs.declared.verdict.Verdict.TheVariants.{Yes, No, Unknown}
 use Rattle.mw_check.specs.Verdict.{AreSummaries, AreWithinBudget, IsNo, IsUnknownByNodes, IsUnknownByPaths, IsVerdict}
-use Rattle.mw_cycle.specs.declared.decided.Decided.{Decided}
+use Rattle.mw_term.specs.declared.decided.Decided.{Decided}
 use Rattle.mw_fork.specs.declared.budget.Budget.{Budget}
 use Rattle.mw_fork.specs.declared.fault.Over.TheVariants as overs
 use Rattle.mw_rel.specs.Certified.{Certified}
