@@ -3,6 +3,7 @@ pub mod Microword
 pub mod State
 pub mod Elements
 pub mod Environment
+pub mod Trimmed
 pub mod Cycle
 pub mod Run
 pub mod Boundary

@@ -3,6 +3,7 @@
 
 mod bits;
 mod control;
+mod copied;
 mod datapath;
 mod decided;
 mod elements;

@@ -5,6 +5,7 @@ use Rattle.std.specs.Prelude.{true, Option, Some, None}
 use Rattle.std.proofs.lemmas.Nat.{pow_pos}
 use Rattle.mw_board.specs.declared.parts.BoardParts.{BoardParts}
 use Rattle.mw_cycle.specs.Environment.{Environment}
+use Rattle.mw_cycle.specs.Trimmed.{IsTrimmed}
 use Rattle.mw_term.specs.declared.kinds.WordKind.{WordKind}
 use Rattle.mw_term.specs.declared.kinds.WordKind.TheVariants.{Element, Input, Line, Noise}
 use Rattle.mw_term.specs.declared.word.Word.{Word}
@@ -21,7 +22,7 @@ use Rattle.mw_rel.specs.Free.{is_free, numbered}
 use Rattle.mw_rel.specs.Job.{Job, IsJob}
 use Rattle.mw_rel.specs.Start.{Start}
 use Rattle.mw_fork.specs.declared.elements.Space.{Space}
-use Rattle.mw_fork.specs.Begins.{IsAssigned, IsChosen, IsTrimmed, kind_value, value_or_zero}
+use Rattle.mw_fork.specs.Begins.{IsAssigned, IsChosen, kind_value, value_or_zero}
 use Rattle.mw_fork.specs.Boundaries.{IsSpace}
 use Rattle.mw_fork.specs.Entries.{entry, is_outside}
 use Rattle.mw_fork.specs.Listed.{list_of_space}

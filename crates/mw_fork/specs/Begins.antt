@@ -1,9 +1,9 @@
 -- The start that an assignment gives, and starts that differ.
-use Rattle.std.specs.Prelude.{◌≡◌, ◌≢◌, ℕ, ◌<◌, ◌-◌, List, length, map, false, Option, Some, None, slice_index}
+use Rattle.std.specs.Prelude.{◌≡◌, ◌≢◌, ℕ, List, map, false, Option, Some, None, slice_index}
 use Rattle.std.specs.Prelude.{slice_index_or}
 use Rattle.mw_base.specs.Words.{num}
 use Rattle.mw_term.specs.declared.decided.Decided.{Decided}
-use Rattle.mw_cycle.specs.Environment.{Environment}
+use Rattle.mw_cycle.specs.Trimmed.{IsTrimmed}
 use Rattle.mw_rel.specs.Begin.{Begin, IsCompleted, free_elements}
 use Rattle.mw_rel.specs.Case.{IsStartAt, case_of}
 use Rattle.mw_rel.specs.Differs.{difference_of}
@@ -29,16 +29,6 @@ value_or_zero t given None = 0
 -- what a list's variable of a kind has under an assignment
 abbrev pub kind_value : Table → WordList → Given → WordKind → ℕ
 kind_value t l given kind = value_or_zero t given (term_of l.words kind)
-
--- a list's last entry isn't 0
-abbrev pub HasNoZeroAtEnd : List ℕ → Type 0
-HasNoZeroAtEnd xs = 0 < length xs → slice_index xs (length xs - 1) ≢ 0
-
--- no list of an environment has a 0 at its end
-pub record IsTrimmed (env : Environment) : Type 0 where
-  pub line : HasNoZeroAtEnd (map num env.line)
-  pub noise : HasNoZeroAtEnd env.noise
-  pub inputs : HasNoZeroAtEnd env.inputs
 
 -- What an assignment gives by a list: the free elements, lines, noise and inputs have the values of their variables,
 -- and the memory that of the oldest base read at an address, and 0 elsewhere.

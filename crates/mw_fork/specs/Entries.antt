@@ -1,6 +1,5 @@
 -- What an environment has for its lines, noise and inputs.
-use Rattle.std.specs.Prelude.{◌≡◌, ◌≢◌, ℕ, ◌<◌, ◌-◌, List, Bool, true, false, if◌then◌else◌, length, slice_index}
-use Rattle.std.specs.Prelude.{slice_index_or}
+use Rattle.std.specs.Prelude.{◌≡◌, ℕ, Bool, true, false, if◌then◌else◌, slice_index, slice_index_or}
 use Rattle.mw_base.specs.Words.{num}
 use Rattle.mw_cycle.specs.Environment.{Environment}
 use Rattle.mw_term.specs.declared.kinds.WordKind.{WordKind}
@@ -25,7 +24,3 @@ is_outside other = false
 abbrev pub HasTaken : (old new : Environment) → WordKind → (value : ℕ) → Type 0
 HasTaken old new kind value = (other : WordKind) → is_outside other ≡ true
     → entry new other ≡ (if same_kind kind other then value else entry old other)
-
--- a list's last item isn't the one that items have which aren't there
-abbrev pub EndsWell : {A : Type 0} → (other : A) → List A → Type 0
-EndsWell other xs = 0 < length xs → slice_index_or xs (length xs - 1) other ≢ other

@@ -1,6 +1,7 @@
 // The start that an assignment gives.
 ghost use Rattle.std.specs.Prelude.{◌≡◌, ◌≢◌, ℕ, ◌<◌, ◌^◌, ◌==◌, if◌then◌else◌, List, [], ◌∷◌, ◌++◌, filter, length};
 ghost use Rattle.std.specs.Prelude.{map, true, Some, IfOk, OnOk, slice_index_or};
+ghost use Rattle.mw_cycle.specs.Trimmed.{EndsWell, IsTrimmed};
 ghost use Rattle.mw_term.specs.declared.kinds.WordKind.{WordKind};
 ghost use Rattle.mw_term.specs.declared.kinds.WordKind.TheVariants.{Element, Line, Noise};
 ghost use Rattle.mw_term.specs.Assigned.{given_by};
@@ -13,8 +14,8 @@ ghost use Rattle.mw_rel.specs.Free.{is_free, numbered};
 ghost use Rattle.mw_rel.specs.Job.{Job as JobParts};
 ghost use Rattle.mw_rel.specs.Start.{Start};
 ghost use Rattle.mw_rel.specs.Views.{job_of};
-ghost use Rattle.mw_fork.specs.Begins.{IsAssigned, IsChosen, IsTrimmed, value_or_zero};
-ghost use Rattle.mw_fork.specs.Entries.{EndsWell, HasTaken, entry, is_outside};
+ghost use Rattle.mw_fork.specs.Begins.{IsAssigned, IsChosen, value_or_zero};
+ghost use Rattle.mw_fork.specs.Entries.{HasTaken, entry, is_outside};
 ghost use Rattle.mw_fork.specs.Listed.{list_of_space};
 ghost use Rattle.mw_fork.specs.OnWay.{ground_in};
 ghost use Rattle.mw_fork.specs.Starts.{IsGround, IsStartOf};

@@ -1,5 +1,5 @@
 -- Lists without the zeros at their ends.
-use Rattle.std.proofs.Common.{◌≡◌, ◌≢◌, ℕ, zero, suc, ◌<◌, List, [], ◌∷◌, map, slice_index, slice_index_or, Bool, true}
+use Rattle.std.proofs.Common.{◌≡◌, ℕ, zero, suc, ◌<◌, List, [], ◌∷◌, map, slice_index, slice_index_or, Bool, true}
 use Rattle.std.proofs.Common.{false, ◌==◌, lit<, refl, ap, ◌∙◌, subst, sym, arith}
 use Rattle.std.specs.Prelude.{All, length}
 use Rattle.std.proofs.Math.Seq.{take-length}
@@ -7,8 +7,9 @@ use Rattle.std.proofs.lemmas.Bool.{eqb-true}
 use Rattle.std.proofs.lemmas.Grind.{get_or_default_zero}
 use Rattle.mw_base.specs.Words.{num}
 use Rattle.mw_cycle.specs.declared.state.CycleIn.{CycleIn}
+use Rattle.mw_cycle.specs.Trimmed.{EndsWell}
 use Rattle.mw_replay.specs.CounterPrinted.{shortened}
-use Rattle.mw_replay.specs.Laws.{EndsInNoZero, NothingIsCut, ZerosGiveNothing}
+use Rattle.mw_replay.specs.Laws.{NothingIsCut, ZerosGiveNothing}
 use Rattle.mw_sim.specs.Given.{before_trimmed, trimmed}
 use Rattle.mw_sim.proofs.Starts.{trimmed_below}
 use Rattle.mw_replay.proofs.Appended.{kept_front}
@@ -89,7 +90,7 @@ zeros_give_nothing env place =
 
 -- ---- with no 0 at its end a list stays
 
-trimmed_stays : (xs : List ℕ) → EndsInNoZero xs → trimmed xs ≡ xs
+trimmed_stays : (xs : List ℕ) → EndsWell 0 xs → trimmed xs ≡ xs
 trimmed_stays xs ends =
     sym (kept_front xs (length xs) (omega arith) (λ i after before. omega arith) ends) ∙ take-length xs
 
@@ -99,10 +100,10 @@ bits_back (true ∷ rest) = ap (λ bits. true ∷ bits) (bits_back rest)
 bits_back (false ∷ rest) = ap (λ bits. false ∷ bits) (bits_back rest)
 
 pub nothing_is_cut : NothingIsCut
-nothing_is_cut env line noise inputs =
+nothing_is_cut env is =
     rw (
-      trimmed_stays (map num env.line) line,
+      trimmed_stays (map num env.line) is.line,
       bits_back env.line,
-      trimmed_stays env.noise noise,
-      trimmed_stays env.inputs inputs,
+      trimmed_stays env.noise is.noise,
+      trimmed_stays env.inputs is.inputs,
     ) refl

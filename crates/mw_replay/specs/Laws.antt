@@ -1,8 +1,8 @@
 -- Laws of counters and replays.
-use Rattle.std.specs.Prelude.{◌≡◌, ◌≢◌, ◌↔◌, ℕ, ◌+◌, ◌-◌, ◌≤◌, ◌<◌, List, length, map, slice_index, Some}
-use Rattle.mw_base.specs.Words.{num}
+use Rattle.std.specs.Prelude.{◌≡◌, ◌↔◌, ℕ, ◌+◌, ◌≤◌, ◌<◌, length, Some}
 use Rattle.mw_cycle.specs.declared.environment.Clock.{Clock}
 use Rattle.mw_cycle.specs.Environment.{Environment, given_at}
+use Rattle.mw_cycle.specs.Trimmed.{IsTrimmed}
 use Rattle.mw_rel.specs.declared.difference.Difference.{Difference}
 use Rattle.mw_rel.specs.Differs.{difference_of, DiffersAt}
 use Rattle.mw_rel.specs.Job.{Job, IsJob}
@@ -43,11 +43,6 @@ abbrev pub ZerosShowNothing : Type 0
 ZerosShowNothing = (job : Job) (start : Start)
     → difference_of job (record start { env = shortened start.env }) ≡ difference_of job start
 
--- a list whose last number, where it has one, isn't 0
-abbrev pub EndsInNoZero : List ℕ → Type 0
-EndsInNoZero xs = 0 < length xs → slice_index xs (length xs - 1) ≢ 0
-
 -- an environment with no 0 at a list's end is the same without the zeros there
 abbrev pub NothingIsCut : Type 0
-NothingIsCut = (env : Environment) → EndsInNoZero (map num env.line) → EndsInNoZero env.noise
-    → EndsInNoZero env.inputs → shortened env ≡ env
+NothingIsCut = (env : Environment) → IsTrimmed env → shortened env ≡ env

@@ -76,17 +76,6 @@ impl Model for Replay {
     ghost invariant = { λ r. HasRoom r.stand };
 }
 
-/// A copy of an environment.
-fn copy_of(alloc: Global, env: &Env) -> Result<Env, NoMemory>
-    ensures { IfOk result (λ copy. copy ≡ env.now) }
-{
-    Ok(Env {
-        line: Vec::from_slice(alloc, &env.line)?,
-        noise: Vec::from_slice(alloc, &env.noise)?,
-        inputs: Vec::from_slice(alloc, &env.inputs)?,
-    })
-}
-
 /// Runs the board's next segment, and lists its events alone; None where it is late.
 fn run_segment<A: Datapath>(
     part: &A,
@@ -276,7 +265,7 @@ impl Replay {
             stand: Stand {
                 boundary: counter.boundary,
                 pair,
-                env: copy_of(alloc, &counter.begin.env)?,
+                env: counter.begin.env.copied(alloc)?,
                 clock: Clock { cycle: 0, taken: 0 },
                 events: Vec::with_capacity(alloc, MOST_CYCLES)?,
                 steps: Vec::with_capacity(alloc, MOST_EVENTS)?,

@@ -54,9 +54,7 @@ shows_it job counter start difference is its shows = record {
 
 -- nothing of it is cut where it is printed
 whole : (job : Job) (counter : Counter) → IsNo job counter → shortened counter.begin.env ≡ counter.begin.env
-whole job counter is =
-    let trimmed = is.least.assigned.trimmed in
-    nothing_is_cut counter.begin.env trimmed.line trimmed.noise trimmed.inputs
+whole job counter is = nothing_is_cut counter.begin.env is.least.assigned.trimmed
 
 -- the difference is one of the job's
 is_of_job : (job : Job) (start : Start) (difference : Difference) → IsJob job → AreOf32Bits difference

@@ -1,9 +1,10 @@
 use Rattle.std.proofs.Common.{◌≡◌, take}
 use Rattle.std.specs.Prelude.{true}
+use Rattle.mw_cycle.specs.Trimmed.{IsTrimmed}
 use Rattle.mw_term.specs.declared.kinds.WordKind.{WordKind}
 use Rattle.mw_term.specs.Assigned.{given_by}
 use Rattle.mw_term.specs.WordList.{term_of}
-use Rattle.mw_fork.specs.Begins.{IsTrimmed, value_or_zero}
+use Rattle.mw_fork.specs.Begins.{value_or_zero}
 use Rattle.mw_fork.specs.Entries.{entry, is_outside}
 use Rattle.mw_fork.proofs.begin.environment.Given as goal
 
