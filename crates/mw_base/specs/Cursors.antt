@@ -1,5 +1,6 @@
 -- What a grammar asks of the tokens of a line.
 use Rattle.std.specs.Prelude.{ℕ, List, drop, slice_get, option_map, Bool, true, false, if◌then◌else◌, Option, Some, None, ok_or, Result, Ok, Err}
+use Rattle.std.specs.Str.{bytes_eq}
 use Rattle.mw_base.specs.declared.cause.Cause.{Cause}
 use Rattle.mw_base.specs.declared.cursor.Dotted.{Dotted}
 use Rattle.mw_base.specs.declared.cursor.Numeral.{Numeral}
@@ -13,7 +14,7 @@ use Rattle.mw_base.specs.declared.symbol.Symbol.{Symbol}
 use Rattle.mw_base.specs.declared.symbol.Symbol.TheVariants as symbols
 use Rattle.mw_base.specs.declared.token.Token.{Token}
 use Rattle.mw_base.specs.Reading.{◌>>=◌}
-use Rattle.mw_base.specs.Symbols.{symbol_of, is_sign}
+use Rattle.mw_base.specs.Symbols.{symbol_of, is_sign, spelled}
 use Rattle.mw_base.specs.TokenLines.{fault_on, end_fault}
 
 -- the tokens of a line from one on, the text in which they stand, and the fault of a line that ends too early
@@ -99,6 +100,12 @@ unfoldable pub place_at : ℕ → Cursor → Result Place TextFault
 place_at n cursor = do
   token ← token_at n cursor
   place_token cursor token (symbol_of cursor.text token)
+
+-- the first token, which has to be this word
+unfoldable pub first_word : List ℕ → Cursor → Result Token TextFault
+first_word word cursor = do
+  first ← token_at 0 cursor
+  if bytes_eq (spelled cursor.text first) word then Ok first else Err (misplaced first cursor)
 
 -- the first tokens, which have to be NAME . NAME
 unfoldable pub element_of : Cursor → Result Dotted TextFault

@@ -1,6 +1,6 @@
 // What a grammar asks of the tokens of a line.
 ghost use Rattle.std.specs.Prelude.{◌≡◌};
-ghost use Rattle.mw_base.specs.Cursors.{Cursor as Seen, at_line, after, misplaced, token_at, symbol_at, has_name, has_sign, name_at, number_at, sign_at, place_at, element_of, end_at};
+ghost use Rattle.mw_base.specs.Cursors.{Cursor as Seen, at_line, after, misplaced, token_at, symbol_at, has_name, has_sign, name_at, number_at, sign_at, place_at, first_word, element_of, end_at};
 ghost use Rattle.mw_base.specs.Symbols.{spelled};
 
 use crate::cause::Cause;
@@ -213,6 +213,23 @@ impl<'a> Cursor<'a> {
             Symbol::Name => Ok(Place::Label(token)),
             Symbol::Number(value) => Ok(Place::Address(Numeral { token, value })),
             _ => Err(self.misplaced(token)),
+        }
+    }
+
+    /// The first token, which has to be this word.
+    ///
+    /// # Errors
+    ///
+    /// The grammar's cause: at the token where it is another word or a sign, at the line's end where there is none.
+    #[tactic(auto, unfolding(crate::specs::Cursors::first_word))]
+    pub fn first_word(&self, word: &[u8]) -> Result<Token, TextFault>
+        ensures { result ≡ first_word word.now self.now }
+    {
+        let first = self.token(0)?;
+        if self.spelled(first) == word {
+            Ok(first)
+        } else {
+            Err(self.misplaced(first))
         }
     }
 

@@ -26,7 +26,7 @@ use Rattle.mw_check.specs.Question.{Asked, asked_of}
 use Rattle.mw_check.specs.QuestionKept.{AreVariables, IsHalf, IsRead, IsKept, TextsAskQuestions}
 use Rattle.mw_check.specs.QuestionText.{Variables, Half, Known, declaring, halved, whole, no_variables, few}
 use Rattle.mw_check.specs.QuestionText.{is_reserved, width_in, with_variable, shape_over, side_of, variable_line}
-use Rattle.mw_check.specs.QuestionText.{left_line, first_line, word_first, right_line, last_line, with_tokens, with_any}
+use Rattle.mw_check.specs.QuestionText.{left_line, first_line, right_line, last_line, with_tokens, with_any}
 use Rattle.mw_check.specs.QuestionText.{with_line, finished, question_of}
 use Rattle.mw_check.proofs.Sides.{side_read}
 
@@ -90,7 +90,7 @@ left_kept v word line next are is =
 right_kept : (h : Half) (line : Cursor) (next : Known) → IsHalf h → right_line h line ≡ Ok next → IsKept next
 unfolding right_line
 right_kept h line next kept is =
-    let one = bind_ok (word_first (codes "right") line) _ next is in
+    let one = bind_ok (first_word (codes "right") line) _ next is in
     let two = bind_ok (side_of h.names h.shape h.left.width one.0 (after 1 line)) _ next one.2 in
     let read = side_read h.names h.shape h.left.width one.0 (after 1 line) two.0 kept.variables two.1 in
     let same = read.even kept.left.bits kept.left.told in

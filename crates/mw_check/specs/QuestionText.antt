@@ -7,7 +7,7 @@ use Rattle.mw_base.specs.declared.cursor.Numeral.{Numeral}
 use Rattle.mw_base.specs.declared.line.Line.{Line}
 use Rattle.mw_base.specs.declared.refusal.TextFault.{TextFault}
 use Rattle.mw_base.specs.declared.token.Token.{Token}
-use Rattle.mw_base.specs.Cursors.{Cursor, at_line, after, misplaced, name_at, number_at, end_at}
+use Rattle.mw_base.specs.Cursors.{Cursor, at_line, after, misplaced, name_at, number_at, first_word, end_at}
 use Rattle.mw_base.specs.FirstFaults.{first_in}
 use Rattle.mw_base.specs.Named.{new_name}
 use Rattle.mw_base.specs.Reading.{◌>>=◌}
@@ -125,16 +125,10 @@ first_line v line = do
       else (if bytes_eq (spelled line.text word) (codes "left") then left_line v word line
       else Err (misplaced word line))
 
--- the first token, which has to be this word
-unfoldable pub word_first : List ℕ → Cursor → Result Token TextFault
-word_first word line = do
-  token ← name_at 0 line
-  if bytes_eq (spelled line.text token) word then Ok token else Err (misplaced token line)
-
 -- right E
 unfoldable pub right_line : Half → Cursor → Result Known TextFault
 right_line h line = do
-  word ← word_first (codes "right") line
+  word ← first_word (codes "right") line
   right ← side_of h.names h.shape h.left.width word (after 1 line)
   Ok (whole (record { names = h.names; shape = h.shape; left = h.left.tree; right = right.tree }))
 

@@ -4,7 +4,7 @@ ghost use Rattle.mw_base.specs.Reading.{Gives};
 ghost use Rattle.mw_base.specs.Steps.{steps};
 ghost use Rattle.mw_check.specs.Question.{asked_of, IsQuestion};
 ghost use Rattle.mw_check.specs.QuestionText.{declaring, no_variables, shape_over, variable_line, left_line};
-ghost use Rattle.mw_check.specs.QuestionText.{first_line, word_first, right_line, last_line, with_tokens, with_line};
+ghost use Rattle.mw_check.specs.QuestionText.{first_line, right_line, last_line, with_tokens, with_line};
 ghost use Rattle.mw_check.specs.QuestionText.{finished, question_of};
 ghost use Rattle.mw_check.specs.QuestionKept.{AreVariables, IsHalf, IsKept, TextsAskQuestions};
 ghost use Rattle.mw_check.specs.QuestionViews.{variables_seen, half_seen, known_seen};
@@ -97,19 +97,6 @@ fn first_line(alloc: Global, variables: Variables, line: &Cursor) -> Result<Know
     }
 }
 
-/// The first token, which has to be this word.
-#[tactic(auto, unfolding(crate::specs::QuestionText::word_first))]
-fn word_first(word: &[u8], line: &Cursor) -> Result<Token, TextFault>
-    ensures { result ≡ word_first word.now line.now }
-{
-    let token = line.name(0)?;
-    if line.spelled(token) == word {
-        Ok(token)
-    } else {
-        Err(line.misplaced(token))
-    }
-}
-
 /// right E: cause 60, then 41 at `right` and the side's own causes, by place.
 #[tactic(auto, unfolding(crate::specs::QuestionText::right_line), using(crate::proofs::Sides::proper))]
 fn right_line(alloc: Global, half: Half, line: &Cursor) -> Result<Known, Refusal>
@@ -117,7 +104,7 @@ fn right_line(alloc: Global, half: Half, line: &Cursor) -> Result<Known, Refusal
     ensures { Gives known_seen result (right_line (half_seen half) line.now) }
 {
     let Half { names, shape, left } = half;
-    let word = word_first(b"right", line).map_err(Refused::At)?;
+    let word = line.first_word(b"right").map_err(Refused::At)?;
     let right = side_of(
         alloc,
         names.as_slice(),

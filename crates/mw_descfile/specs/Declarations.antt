@@ -6,7 +6,7 @@ use Rattle.mw_base.specs.declared.cause.Cause.TheVariants.{TooMany, ValueTooWide
 use Rattle.mw_base.specs.declared.cursor.Numeral.{Numeral}
 use Rattle.mw_base.specs.declared.refusal.TextFault.{TextFault}
 use Rattle.mw_base.specs.declared.token.Token.{Token}
-use Rattle.mw_base.specs.Cursors.{Cursor, misplaced, name_at, number_at, end_at}
+use Rattle.mw_base.specs.Cursors.{Cursor, misplaced, name_at, number_at, first_word, end_at}
 use Rattle.mw_base.specs.Named.{no_names, with_name, new_name}
 use Rattle.mw_base.specs.Reading.{◌>>=◌}
 use Rattle.mw_base.specs.Symbols.{spelled}
@@ -23,16 +23,10 @@ use Rattle.mw_descfile.specs.declared.element.Kind.TheVariants as kinds
 
 -- ---- what a line says
 
--- the first token, which has to be this word
-unfoldable pub word_first : List ℕ → Cursor → Result Token TextFault
-word_first word line = do
-  token ← name_at 0 line
-  if bytes_eq (spelled line.text token) word then Ok token else Err (misplaced token line)
-
 -- memory A W
 unfoldable pub sizes_of : Cursor → Result Sizes TextFault
 sizes_of line = do
-  word ← word_first (codes "memory") line
+  word ← first_word (codes "memory") line
   address ← number_at 1 line
   width ← number_at 2 line
   end ← end_at 3 line

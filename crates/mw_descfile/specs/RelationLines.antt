@@ -6,7 +6,7 @@ use Rattle.mw_base.specs.declared.cursor.Numeral.{Numeral}
 use Rattle.mw_base.specs.declared.refusal.TextFault.{TextFault}
 use Rattle.mw_base.specs.declared.sign.Sign.TheVariants.{Equals, Dot}
 use Rattle.mw_base.specs.declared.token.Token.{Token}
-use Rattle.mw_base.specs.Cursors.{Cursor, after, token_at, has_sign, number_at, sign_at, place_at, element_of, end_at}
+use Rattle.mw_base.specs.Cursors.{Cursor, after, token_at, has_sign, number_at, sign_at, place_at, first_word, element_of, end_at}
 use Rattle.mw_base.specs.Reading.{◌>>=◌}
 use Rattle.mw_base.specs.Symbols.{spelled, symbol_of, is_sign}
 use Rattle.mw_expr.specs.Grammar.{number_of}
@@ -16,13 +16,12 @@ use Rattle.mw_descfile.specs.declared.relation_line.BlockWord.{BlockWord}
 use Rattle.mw_descfile.specs.declared.relation_line.BlockWord.TheVariants as words
 use Rattle.mw_descfile.specs.declared.scope.Scope.{Scope}
 use Rattle.mw_descfile.specs.declared.uses.Use.{Use}
-use Rattle.mw_descfile.specs.Declarations.{word_first}
 use Rattle.mw_descfile.specs.Expressions.{written_of}
 
 -- boundary PLACE BOUND
 unfoldable pub beginning_of : Cursor → Result Beginning TextFault
 beginning_of line = do
-  word ← word_first (codes "boundary") line
+  word ← first_word (codes "boundary") line
   place ← place_at 1 line
   bound ← number_at 2 line
   end ← end_at 3 line

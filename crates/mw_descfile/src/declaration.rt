@@ -1,6 +1,6 @@
 // What a line of a machine before its statements says.
 ghost use Rattle.std.specs.Prelude.{◌≡◌};
-ghost use Rattle.mw_descfile.specs.Declarations.{word_first, sizes_of, heading_of, element_of, step_of, declaration_of};
+ghost use Rattle.mw_descfile.specs.Declarations.{sizes_of, heading_of, element_of, step_of, declaration_of};
 
 use crate::element::Kind;
 use mw_base::{Cursor, Numeral, TextFault, Token};
@@ -32,25 +32,12 @@ pub(crate) enum Declaration {
     Step,
 }
 
-/// The first token, which has to be this word.
-#[tactic(auto, unfolding(crate::specs::Declarations::word_first))]
-pub(crate) fn word_first(word: &[u8], line: &Cursor) -> Result<Token, TextFault>
-    ensures { result ≡ word_first word.now line.now }
-{
-    let token = line.name(0)?;
-    if line.spelled(token) == word {
-        Ok(token)
-    } else {
-        Err(line.misplaced(token))
-    }
-}
-
 /// memory A W.
 #[tactic(auto, unfolding(crate::specs::Declarations::sizes_of))]
 pub(crate) fn sizes_of(line: &Cursor) -> Result<Sizes, TextFault>
     ensures { result ≡ sizes_of line.now }
 {
-    word_first(b"memory", line)?;
+    line.first_word(b"memory")?;
     let address = line.number(1)?;
     let word = line.number(2)?;
     line.end(3)?;

@@ -5,7 +5,6 @@ ghost use Rattle.mw_descfile.specs.RelationLines.{beginning_of, stack_pointer_of
 ghost use Rattle.mw_descfile.specs.RelationLines.{block_word_in, told_of};
 ghost use Rattle.mw_descfile.specs.RelationViews.{told_seen};
 
-use crate::declaration::word_first;
 use crate::scope::Scope;
 use crate::uses::{Use, uses_of};
 use mw_base::{Cursor, Dotted, Numeral, Place, Refusal, Refused, Sign, TextFault, Token};
@@ -48,7 +47,7 @@ pub(crate) enum Told {
 pub(crate) fn beginning_of(line: &Cursor) -> Result<Beginning, TextFault>
     ensures { result ≡ beginning_of line.now }
 {
-    let word = word_first(b"boundary", line)?;
+    let word = line.first_word(b"boundary")?;
     let place = line.place(1)?;
     let bound = line.number(2)?;
     line.end(3)?;

@@ -13,7 +13,7 @@ use Rattle.mw_base.specs.declared.place.Place.{Place}
 use Rattle.mw_base.specs.declared.place.Place.TheVariants.{Address}
 use Rattle.mw_base.specs.declared.token.Kind.TheVariants.{Name, Number}
 use Rattle.mw_base.specs.declared.token.Token.{Token}
-use Rattle.mw_base.specs.Cursors.{at_line, end_at, place_at}
+use Rattle.mw_base.specs.Cursors.{at_line, end_at, first_word, place_at}
 use Rattle.mw_base.specs.Numbers.{hex}
 use Rattle.mw_base.specs.Places.{address_of}
 use Rattle.mw_base.specs.Reading.{◌>>=◌}
@@ -26,7 +26,7 @@ use Rattle.mw_rel.specs.Job.{Job, IsJob}
 use Rattle.mw_rel.specs.Relation.{Boundary}
 use Rattle.mw_rel.proofs.Relations.{accepted_are_solved}
 use Rattle.mw_sim.specs.Given.{Given, given_by}
-use Rattle.mw_sim.specs.Start.{blank_lines, first_word, from_first}
+use Rattle.mw_sim.specs.Start.{blank_lines, from_first}
 use Rattle.mw_replay.specs.Counter.{Counter}
 use Rattle.mw_replay.specs.CounterText.{behind_difference, behind_no, boundary_place, counter_in, counter_of}
 use Rattle.mw_replay.specs.CounterText.{counter_with, number_at, number_of, settables_of}

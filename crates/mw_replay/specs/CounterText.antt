@@ -8,7 +8,7 @@ use Rattle.mw_base.specs.declared.place.Place.{Place}
 use Rattle.mw_base.specs.declared.place.Place.TheVariants.{Label as AtLabel, Address}
 use Rattle.mw_base.specs.declared.refusal.TextFault.{TextFault}
 use Rattle.mw_base.specs.declared.token.Token.{Token}
-use Rattle.mw_base.specs.Cursors.{Cursor, at_line, end_at, place_at}
+use Rattle.mw_base.specs.Cursors.{Cursor, at_line, end_at, first_word, place_at}
 use Rattle.mw_base.specs.Places.{address_of}
 use Rattle.mw_base.specs.Reading.{◌>>=◌}
 use Rattle.mw_base.specs.TokenLines.{fault_on, token_lines, text_end}
@@ -24,7 +24,7 @@ use Rattle.mw_sim.specs.declared.given.Owner.TheVariants.{Board, Machine}
 use Rattle.mw_sim.specs.declared.given.Settable.{Settable}
 use Rattle.mw_sim.specs.Given.{Given, given_by}
 use Rattle.mw_asm.specs.Labels.{label_named}
-use Rattle.mw_sim.specs.Start.{environment_with, first_word, from_first}
+use Rattle.mw_sim.specs.Start.{environment_with, from_first}
 use Rattle.mw_replay.specs.Counter.{Counter}
 
 -- ---- what a line may set

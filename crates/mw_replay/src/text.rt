@@ -18,14 +18,14 @@ use mw_base::{
     text_end,
 };
 use mw_rel::{Begin, Job};
-use mw_sim::{Given, environment_with, first_word, from_first, given_by};
+use mw_sim::{Given, environment_with, from_first, given_by};
 use std::alloc::Global;
 
 /// Whether a line begins with this word.
 fn begins_with(word: &[u8], line: &Cursor) -> bool
     ensures { result ≡ begins_with word.now line.now }
 {
-    first_word(line, word).is_ok()
+    line.first_word(word).is_ok()
 }
 
 /// The lines behind a line `no`, where they begin with one: cause 60 where anything else stands on it.
@@ -62,7 +62,7 @@ fn behind_difference<'a>(text: &[u8], lines: &'a [Line]) -> &'a [Line]
 fn boundary_place(line: &Cursor) -> Result<Place, TextFault>
     ensures { result ≡ boundary_place line.now }
 {
-    first_word(line, b"boundary")?;
+    line.first_word(b"boundary")?;
     let place = line.place(1)?;
     line.end(2)?;
     Ok(place)

@@ -1,16 +1,13 @@
 -- The start of a run that an environment file gives.
-use Rattle.std.specs.Prelude.{ℕ, zero, suc, ◌^◌, List, [], ◌∷◌, ◌++◌, codes, length, drop, map, slice_index, true, if◌then◌else◌, ◌==◌, Option, Result, Ok, Err}
+use Rattle.std.specs.Prelude.{ℕ, zero, suc, ◌^◌, List, [], ◌∷◌, ◌++◌, codes, length, drop, map, slice_index, true, ◌==◌, Option, Result, Ok, Err}
 use Rattle.std.specs.List.{prefix_len}
-use Rattle.std.specs.Str.{bytes_eq}
 use Rattle.mw_base.specs.declared.cause.Cause.TheVariants.{BadSyntax}
 use Rattle.mw_base.specs.declared.line.Line.{Line}
 use Rattle.mw_base.specs.declared.place.Place.{Place}
 use Rattle.mw_base.specs.declared.refusal.TextFault.{TextFault}
-use Rattle.mw_base.specs.declared.token.Token.{Token}
-use Rattle.mw_base.specs.Cursors.{Cursor, at_line, misplaced, token_at, place_at, end_at}
+use Rattle.mw_base.specs.Cursors.{Cursor, at_line, first_word, place_at, end_at}
 use Rattle.mw_base.specs.Places.{address_of}
 use Rattle.mw_base.specs.Reading.{◌>>=◌}
-use Rattle.mw_base.specs.Symbols.{spelled}
 use Rattle.mw_base.specs.TokenLines.{token_lines, text_end}
 use Rattle.mw_board.specs.declared.parts.BoardParts.{BoardParts}
 use Rattle.mw_board.specs.Elements.{Element, elements_of, element_count, stack_pointer_name}
@@ -39,12 +36,6 @@ stack_pointer = record { owner = Board; name = stack_pointer_name; bound = 6; is
 -- what an environment may set: the board's elements, and behind them the stack pointer
 abbrev pub settables_of : BoardParts → List Settable
 settables_of board = map settable (elements_of board) ++ (stack_pointer ∷ [])
-
--- the first token, which has to be this word
-unfoldable pub first_word : List ℕ → Cursor → Result Token TextFault
-first_word word line = do
-  first ← token_at 0 line
-  if bytes_eq (spelled line.text first) word then Ok first else Err (misplaced first line)
 
 -- at PLACE
 unfoldable pub at_of : Cursor → Result Place TextFault

@@ -12,5 +12,5 @@ mod texts;
 pub use given::{Given, Owner, Settable, given_by, two_to, value_below};
 pub use parts::Parts;
 pub use run::{Late, run_cycles, run_to_boundary};
-pub use start::{Start, environment_with, first_word, from_first, read_start};
+pub use start::{Start, environment_with, from_first, read_start};
 pub use texts::{append_event, append_hex_line, append_line};

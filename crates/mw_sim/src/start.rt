@@ -7,13 +7,13 @@ ghost use Rattle.mw_cycle.specs.Elements.{IsValueOf};
 ghost use Rattle.mw_cycle.specs.Environment.{IsEnvironment};
 ghost use Rattle.mw_cycle.specs.State.{Fits};
 ghost use Rattle.mw_sim.specs.Given.{AreBounded, HasSeries, IsGiven, trimmed};
-ghost use Rattle.mw_sim.specs.Start.{settable, settables_of, first_word, at_of, blank_lines, from_first, with_values, state_with, environment_with, start_in, start_of};
+ghost use Rattle.mw_sim.specs.Start.{settable, settables_of, at_of, blank_lines, from_first, with_values, state_with, environment_with, start_in, start_of};
 ghost use Rattle.mw_sim.specs.Views.{given_seen};
 
 use crate::given::{Given, Owner, Settable, given_by, two_to};
 use mw_asm::{Assembled, Label, address_of};
 use mw_base::{
-    Cause, Cursor, Line, Name, NoMemory, Place, Refusal, Refused, TextFault, Token, lines, text_end,
+    Cause, Cursor, Line, Name, NoMemory, Place, Refusal, Refused, TextFault, lines, text_end,
 };
 use mw_board::Board;
 use mw_cycle::{Env, State};
@@ -59,11 +59,7 @@ impl Start {
                 seq: state.seq,
                 memory: Vec::from_slice(alloc, &state.memory)?,
             },
-            env: Env {
-                line: Vec::from_slice(alloc, &env.line)?,
-                noise: Vec::from_slice(alloc, &env.noise)?,
-                inputs: Vec::from_slice(alloc, &env.inputs)?,
-            },
+            env: env.copied(alloc)?,
         })
     }
 }
@@ -111,29 +107,12 @@ fn settables_of(alloc: Global, board: &Board) -> Result<Vec<Settable>, NoMemory>
     Ok(elements)
 }
 
-/// The first token of a line, which has to be this word.
-///
-/// # Errors
-///
-/// The cause of the line's grammar: at its first token, or at its end where it has none.
-#[tactic(auto, unfolding(crate::specs::Start::first_word))]
-pub fn first_word(line: &Cursor, word: &[u8]) -> Result<Token, TextFault>
-    ensures { result ≡ first_word word.now line.now }
-{
-    let first = line.token(0)?;
-    if line.spelled(first) == word {
-        Ok(first)
-    } else {
-        Err(line.misplaced(first))
-    }
-}
-
 /// at PLACE: cause 60.
 #[tactic(auto, unfolding(crate::specs::Start::at_of))]
 fn at_of(line: &Cursor) -> Result<Place, TextFault>
     ensures { result ≡ at_of line.now }
 {
-    first_word(line, b"at")?;
+    line.first_word(b"at")?;
     let place = line.place(1)?;
     line.end(2)?;
     Ok(place)
