@@ -1,6 +1,7 @@
 pub mod Check
 pub mod Depth
 pub mod Elements
+pub mod Examples
 pub mod Following
 pub mod Keys
 pub mod Order

@@ -9,10 +9,7 @@ use Rattle.mw_board.specs.declared.control.Control.TheVariants.{Field, Fixed}
 use Rattle.mw_board.specs.declared.control.Points.{Points}
 use Rattle.mw_board.specs.declared.field.NamedField.{NamedField}
 use Rattle.mw_board.specs.declared.parts.BoardParts.{BoardParts}
-
--- a field of the microword: its name, its lowest bit, and how many bits it has
-abbrev pub field : List ℕ → ℕ → ℕ → NamedField
-field name low width = record { name = name; field = record { low = low; width = width } }
+use Rattle.mw_board.specs.Examples.{field}
 
 -- the fields, in byte order of their names
 unfoldable pub generated_fields : List NamedField

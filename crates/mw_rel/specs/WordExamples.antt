@@ -1,12 +1,13 @@
 -- Worked lists of words: of two starts, and of comparisons.
 use Rattle.std.specs.Prelude.{ℕ, ◌-◌, List, [], ◌∷◌, ◌++◌, codes, map, take, Option}
+use Rattle.mw_board.specs.Examples.{small_board}
 use Rattle.mw_cycle.specs.Boundary.{numbers}
 use Rattle.mw_expr.specs.declared.expr.Pair2.TheVariants.{Sub}
 use Rattle.mw_expr.specs.declared.shape.Shape.{Shape}
 use Rattle.mw_expr.specs.Tree.{element, pair, memory}
 use Rattle.mw_rel.specs.ComparisonWords as compares
 use Rattle.mw_rel.specs.ComparisonWords.{Sides, Subject, Comparison, Compared, compared_in, comparison_words}
-use Rattle.mw_rel.specs.Examples.{small_board, machine_with, sum_into, boundary_with}
+use Rattle.mw_rel.specs.Examples.{machine_with, sum_into, boundary_with}
 use Rattle.mw_rel.specs.Job.{shape_of}
 use Rattle.mw_rel.specs.Lines.{Line}
 use Rattle.mw_rel.specs.Relation.{Boundary}

@@ -1,7 +1,8 @@
 use Rattle.std.proofs.Common.{refl}
 use Rattle.mw_board.specs.Depth.{depth_of}
 use Rattle.mw_board.specs.Elements.{elements_of}
-use Rattle.mw_rel.specs.Examples.{small_fields, small_points, small_board, machine_with}
+use Rattle.mw_board.specs.Examples.{small_fields, small_points, small_board}
+use Rattle.mw_rel.specs.Examples.{machine_with}
 use Rattle.mw_rel.specs.Job.{shape_of}
 use Rattle.mw_rel.specs.StartWords.{start_words}
 use Rattle.mw_term.specs.WordList.{memory_read_words}
