@@ -10,6 +10,7 @@ mod labels;
 mod listed;
 mod microprogram;
 mod names;
+mod program;
 mod second_pass;
 mod statement;
 
@@ -17,3 +18,4 @@ pub use assembled::{Assembled, Label};
 pub use labels::address_of;
 pub use listed::listing;
 pub use microprogram::assemble;
+pub use program::Program;

@@ -2,7 +2,7 @@
 use Rattle.mw_rel.specs.Job.{Job}
 use Rattle.mw_replay.specs.Counter.{Counter}
 use Rattle.mw_sim.specs.Start.{Start}
-use Rattle.mw_top.specs.declared.commands.microprogram.Program.{Program}
+use Rattle.mw_asm.specs.declared.program.Program.{Program}
 
 -- a job, and the start of it that is compared
 pub record Comparison : Type 0 where

@@ -11,7 +11,8 @@ ghost use Rattle.mw_rel.specs.Job.{AreForEachOther};
 ghost use Rattle.mw_rel.specs.Views.{job_of, relation_of};
 
 use super::machines::machine_in;
-use super::programmed::{Programmed, read_programmed};
+use super::programmed::read_programmed;
+use mw_asm::Program;
 use mw_cycle::Env;
 use mw_descfile::read_relation;
 use mw_macro::Machine;
@@ -35,7 +36,7 @@ pub(super) fn text_of<'a>(files: &'a [File], name: &str) -> Result<&'a [u8], Fau
 /// The relation of a file between a board with its microprogram and a machine.
 fn related(
     alloc: Global,
-    micro: &Programmed,
+    micro: &Program,
     machine: &Machine,
     files: &[File],
     name: &str,
@@ -51,10 +52,10 @@ fn related(
 }
 
 /// The job of these parts.
-fn joined(micro: Programmed, machine: Machine, relation: Relation) -> Result<Job, Fault>
+fn joined(micro: Program, machine: Machine, relation: Relation) -> Result<Job, Fault>
     requires { AreForEachOther micro.board (description_of machine) (relation_of relation) }
 {
-    let Programmed { board, made } = micro;
+    let Program { board, made } = micro;
     match Job::new(board, made.store, machine, relation) {
         Ok(job) => Ok(job),
         Err(_) => Err(wrong("the job is refused")),
@@ -64,7 +65,7 @@ fn joined(micro: Programmed, machine: Machine, relation: Relation) -> Result<Job
 /// The job of these parts and of the relation of a file.
 fn job_with(
     alloc: Global,
-    micro: Programmed,
+    micro: Program,
     machine: Machine,
     files: &[File],
     name: &str,

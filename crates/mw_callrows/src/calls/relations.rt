@@ -5,8 +5,9 @@ ghost use Rattle.std.specs.Prelude.{◌<◌, ◌^◌, length};
 
 use super::machines::machine_in;
 use super::pairs::text_of;
-use super::programmed::{Programmed, read_programmed};
+use super::programmed::read_programmed;
 use super::trees::push_tree;
+use mw_asm::Program;
 use mw_base::{Name, Refusal};
 use mw_board::Board;
 use mw_descfile::read_relation;
@@ -109,12 +110,7 @@ pub(super) fn refused(alloc: Global, refusal: Refusal) -> Result<Vec<u8>, Fault>
 }
 
 /// The same between a board with its microprogram and a machine.
-fn between(
-    alloc: Global,
-    micro: &Programmed,
-    machine: &Machine,
-    text: &[u8],
-) -> Result<Vec<u8>, Fault>
+fn between(alloc: Global, micro: &Program, machine: &Machine, text: &[u8]) -> Result<Vec<u8>, Fault>
     requires { length text.now < 2 ^ 32 }
 {
     match read_relation(alloc, &micro.board, &micro.made, machine, text) {
@@ -124,7 +120,7 @@ fn between(
 }
 
 /// The same between a board with its microprogram and the machine of the file `k`.
-fn of_micro(alloc: Global, micro: &Programmed, files: &[File]) -> Result<Vec<u8>, Fault> {
+fn of_micro(alloc: Global, micro: &Program, files: &[File]) -> Result<Vec<u8>, Fault> {
     let text = text_of(files, "text")?;
     let machine = machine_in(alloc, files, "k")?;
     between(alloc, micro, &machine, text)

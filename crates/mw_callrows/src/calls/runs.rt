@@ -5,7 +5,8 @@
 ghost use Rattle.mw_cycle.specs.Environment.{IsEnvironment};
 ghost use Rattle.mw_cycle.specs.State.{Fits};
 
-use super::programmed::{Programmed, read_programmed};
+use super::programmed::read_programmed;
+use mw_asm::Program;
 use mw_base::{Event, append_hex};
 use mw_board::Board;
 use mw_cycle::{Clock, Datapath, State, Whole};
@@ -103,7 +104,7 @@ struct Asked {
 fn simulated<A: Datapath>(
     alloc: Global,
     part: &A,
-    programmed: &Programmed,
+    programmed: &Program,
     start: Start,
     asked: Asked,
 ) -> Result<Vec<u8>, Fault>
@@ -111,7 +112,7 @@ fn simulated<A: Datapath>(
     requires env_in { IsEnvironment programmed.now.board start.env }
 {
     let Start { mut state, env } = start;
-    let Programmed { board, made } = programmed;
+    let Program { board, made } = programmed;
     let begun = Clock { cycle: 0, taken: 0 };
     let mut events = Vec::with_capacity(alloc, asked.limit as usize)?;
     let mut report = Vec::new(alloc);
@@ -138,7 +139,7 @@ fn simulated<A: Datapath>(
 }
 
 /// The start of a run, printed as an environment.
-fn printed(alloc: Global, programmed: &Programmed, start: Start) -> Result<Vec<u8>, Fault>
+fn printed(alloc: Global, programmed: &Program, start: Start) -> Result<Vec<u8>, Fault>
     requires { Fits programmed.now.board start.state }
 {
     let mut report = Vec::new(alloc);

@@ -5,7 +5,7 @@ use Rattle.mw_asm.specs.Microprogram.{store_of}
 use Rattle.mw_boardfile.specs.Board.{board_of}
 use Rattle.mw_plan.specs.Plan.{Plan, done, ◌>>=◌, next_by}
 use Rattle.mw_top.specs.declared.commands.Work.{Work}
-use Rattle.mw_top.specs.declared.commands.microprogram.Program.{Program}
+use Rattle.mw_asm.specs.declared.program.Program.{Program}
 use Rattle.mw_top.specs.declared.commands.Work.TheVariants.{Assembly}
 use Rattle.mw_top.specs.declared.fault.Fault.{Fault}
 use Rattle.mw_top.specs.declared.fault.Fault.TheVariants.{Board, Text}

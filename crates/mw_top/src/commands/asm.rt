@@ -5,11 +5,11 @@ ghost use Rattle.mw_plan.specs.Steps.{Ends};
 ghost use Rattle.mw_top.specs.Commands.Asm.{asm_plan, IsListing};
 
 use super::Work;
-use super::microprogram::{Program, read_microprogram};
+use super::microprogram::read_microprogram;
 use crate::fault::Fault;
 use crate::outcome::Outcome;
 use crate::status::Status;
-use mw_asm::listing;
+use mw_asm::{Program, listing};
 use mw_base::NoMemory;
 use mw_outside::Shelf;
 use mw_plan::{Files, Stop};

@@ -16,9 +16,9 @@ ghost use Rattle.mw_top.specs.declared.commands.Work.{Work};
 ghost use Rattle.mw_top.specs.declared.fault.Fault.{Fault};
 
 use super::Work;
-use super::microprogram::{Program, read_microprogram};
+use super::microprogram::read_microprogram;
 use crate::fault::Fault;
-use mw_asm::{Assembled, Label};
+use mw_asm::{Assembled, Label, Program};
 use mw_base::{Items, Refusal};
 use mw_descfile::{read_machine, read_relation};
 use mw_macro::Machine;

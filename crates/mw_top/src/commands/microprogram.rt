@@ -1,5 +1,6 @@
 // The first two files of each command: a board file, and a microprogram for its board.
 ghost use Rattle.std.specs.Prelude.{◌≡◌, ◌+◌, ◌≤◌, OnOk, OnErr, length};
+ghost use Rattle.mw_asm.specs.declared.program.Program.{Program};
 ghost use Rattle.mw_asm.specs.Microprogram.{store_of};
 ghost use Rattle.mw_boardfile.specs.Board.{board_of};
 ghost use Rattle.mw_outside.specs.Views.{IsLater, ShelfView, shelf_shown};
@@ -7,27 +8,16 @@ ghost use Rattle.mw_plan.specs.Files.{IsLeft};
 ghost use Rattle.mw_plan.specs.Plan.{Plan, first_by};
 ghost use Rattle.mw_plan.specs.Steps.{Follows};
 ghost use Rattle.mw_top.specs.declared.commands.Work.{Work};
-ghost use Rattle.mw_top.specs.declared.commands.microprogram.Program.{Program};
 ghost use Rattle.mw_top.specs.declared.fault.Fault.{Fault};
 ghost use Rattle.mw_top.specs.declared.fault.Fault.TheVariants as faults;
 
 use super::Work;
 use crate::fault::Fault;
-use mw_asm::{Assembled, assemble};
-use mw_board::Board;
+use mw_asm::{Program, assemble};
 use mw_boardfile::read_board;
 use mw_outside::Shelf;
 use mw_plan::{Files, Stop};
 use std::alloc::Global;
-
-/// A board, and what a microprogram is assembled to for it.
-#[derive(Drop)]
-pub(crate) struct Program {
-    /// The board.
-    pub(crate) board: Board,
-    /// What its microprogram is assembled to.
-    pub(crate) made: Assembled,
-}
 
 /// Reads the board, and assembles the microprogram for it.
 pub(super) fn read_microprogram<S: Shelf>(

@@ -10,8 +10,9 @@ ghost use Rattle.mw_top.specs.declared.commands.Work.{Work};
 ghost use Rattle.mw_top.specs.declared.fault.Fault.{Fault};
 
 use super::Work;
-use super::microprogram::{Program, read_microprogram};
+use super::microprogram::read_microprogram;
 use crate::fault::Fault;
+use mw_asm::Program;
 use mw_outside::Shelf;
 use mw_plan::{Files, Stop};
 use mw_sim::{Start, read_start};

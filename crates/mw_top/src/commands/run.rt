@@ -12,13 +12,13 @@ ghost use Rattle.mw_sim.specs.Texts.{event_line};
 ghost use Rattle.mw_top.specs.RunText.{run_from, run_text};
 
 use super::Work;
-use super::microprogram::Program;
 use super::prepared::{Prepared, read_prepared};
 use crate::fault::Fault;
 use crate::outcome::Outcome;
 use crate::report::append_decimal_line;
 use crate::state_text::append_state;
 use crate::status::Status;
+use mw_asm::Program;
 use mw_base::{Event, NoMemory};
 use mw_board::{Board, Store};
 use mw_cycle::{Clock, Datapath, Env, State, Whole};

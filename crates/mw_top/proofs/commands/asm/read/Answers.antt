@@ -5,7 +5,7 @@ use Rattle.mw_plan.specs.Plan.{Plan, done}
 use Rattle.mw_plan.proofs.Steps.{at_first, all_left, stops, ends}
 use Rattle.mw_top.specs.declared.commands.Work.{Work}
 use Rattle.mw_top.specs.declared.commands.Work.TheVariants.{Assembly}
-use Rattle.mw_top.specs.declared.commands.microprogram.Program.{Program}
+use Rattle.mw_asm.specs.declared.program.Program.{Program}
 use Rattle.mw_top.specs.declared.fault.Fault.{Fault}
 use Rattle.mw_top.specs.Commands.Asm.{asm_plan}
 use Rattle.mw_top.proofs.commands.asm.read.Goals as goal

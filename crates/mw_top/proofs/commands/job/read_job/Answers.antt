@@ -10,7 +10,7 @@ use Rattle.mw_plan.proofs.Reading.{later_still}
 use Rattle.mw_rel.specs.Job.{Job, job_with}
 use Rattle.mw_rel.specs.Relation.{Relation}
 use Rattle.mw_top.specs.declared.commands.Work.{Work}
-use Rattle.mw_top.specs.declared.commands.microprogram.Program.{Program}
+use Rattle.mw_asm.specs.declared.program.Program.{Program}
 use Rattle.mw_top.specs.declared.fault.Fault.{Fault}
 use Rattle.mw_top.specs.declared.fault.Fault.TheVariants.{Text}
 use Rattle.mw_top.proofs.commands.job.read_job.Goals as goal

@@ -5,7 +5,7 @@ use Rattle.mw_plan.specs.Plan.{Plan, first_by}
 use Rattle.mw_plan.proofs.Reading.{later_still}
 use Rattle.mw_sim.specs.Start.{Start, start_of}
 use Rattle.mw_top.specs.declared.commands.Work.{Work}
-use Rattle.mw_top.specs.declared.commands.microprogram.Program.{Program}
+use Rattle.mw_asm.specs.declared.program.Program.{Program}
 use Rattle.mw_top.specs.declared.fault.Fault.{Fault}
 use Rattle.mw_top.specs.declared.fault.Fault.TheVariants.{Text}
 use Rattle.mw_top.specs.Work.{Prepared}
