@@ -5,12 +5,12 @@ use Rattle.mw_macro.specs.Right.{IsBetween}
 use Rattle.mw_rel.specs.Job.{Job}
 use Rattle.mw_cases.specs.Described.{generated_machine}
 use Rattle.mw_cases.specs.Generated.{IsGenerated}
-use Rattle.mw_cases.specs.Operations.{operation_count, operations_before, instruction_of}
+use Rattle.mw_cases.specs.Operations.{all_operations, operation_count, operations_before, instruction_of}
 use Rattle.mw_cases.specs.Steps.{after_operations, instruction_in, counted}
 
 -- whatever the number, the 256 instructions have 640 operations together
 abbrev pub OperationsAre640 : Type 0
-OperationsAre640 = (number : ℕ) → operations_before number 256 ≡ 640
+OperationsAre640 = (number : ℕ) → operations_before number 256 ≡ all_operations
 
 -- and each of them has one to four
 abbrev pub OperationsAreFew : Type 0

@@ -46,6 +46,10 @@ unfoldable pub operations_before : (number i : ℕ) → ℕ
 operations_before number zero = 0
 operations_before number (suc i) = operations_before number i + operation_count number i
 
+-- how many all 256 instructions have together, whatever the number
+abbrev pub all_operations : ℕ
+all_operations = 640
+
 -- operation j of instruction i, in the order of the instructions and then of their operations
 unfoldable pub operation_at : (number i j : ℕ) → Operation
 operation_at number i j = operation_of (value_after number (operations_before number i + j + 1))

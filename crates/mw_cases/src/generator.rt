@@ -5,7 +5,7 @@ ghost use Rattle.mw_rel.specs.Views.{job_of};
 ghost use Rattle.mw_cases.specs.Board.{generated_board};
 ghost use Rattle.mw_cases.specs.Described.{generated_machine};
 ghost use Rattle.mw_cases.specs.Generated.{IsGenerated};
-ghost use Rattle.mw_cases.specs.Operations.{operation_count};
+ghost use Rattle.mw_cases.specs.Operations.{all_operations, operation_count};
 ghost use Rattle.mw_cases.specs.Related.{generated_relation};
 ghost use Rattle.mw_cases.specs.Words.{choices_at, addressing, loading, mapping, operating_at};
 
@@ -48,7 +48,7 @@ fn job(alloc: Global, instructions: &Instructions) -> Result<Job, NoMemory>
 ///
 /// Memory ran out.
 pub fn generate(alloc: Global, number: u16) -> Result<Made, NoMemory>
-    ensures operations { IfOk result (λ made. made.operations ≡ 640) }
+    ensures operations { IfOk result (λ made. made.operations ≡ all_operations) }
     ensures generated { IfOk result (λ made. IsGenerated number (job_of made.job)) }
     ensures board { IfOk result (λ made. (job_of made.job).board ≡ generated_board) }
     // The words at addresses 0, 1 and 2.

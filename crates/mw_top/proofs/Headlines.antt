@@ -2,6 +2,7 @@
 use Rattle.std.proofs.Common.{◌≡◌, ℕ, List, [], ◌∷◌, ◌++◌, true, Some, refl, sym, ap, ◌∙◌, subst, arith}
 use Rattle.std.specs.Prelude.{◌≢◌, Contains}
 use Rattle.std.proofs.lemmas.List.{append-nil}
+use Rattle.mw_cases.specs.Operations.{all_operations}
 use Rattle.mw_cases.proofs.Unique.{jobs_are_one}
 use Rattle.mw_check.specs.declared.verdict.Verdict.{Verdict}
 use Rattle.mw_check.specs.declared.verdict.Verdict.TheVariants as verdicts
@@ -78,7 +79,7 @@ generated_work request work status report is answer =
     subst (λ (w : Work). IsAnswer request w status report) same answer
 
 -- no number of operations follows another answer than yes
-none_after : (status : Status) → status ≢ Done → operations_text status 640 ≡ []
+none_after : (status : Status) → status ≢ Done → operations_text status all_operations ≡ []
 none_after Done other = absurd (other refl)
 none_after Differs other = refl
 none_after Unknown other = refl
@@ -124,7 +125,7 @@ work_by Generate is call request contents work status report left answer =
       job_is = its.generated;
       lines = its.certification;
       answer = its.certified;
-      yes = λ done. its.report_is ∙ ap (λ (s : Status). its.certification ++ operations_text s 640) done;
+      yes = λ done. its.report_is ∙ ap (λ (s : Status). its.certification ++ operations_text s all_operations) done;
       others = λ other. its.report_is ∙ ap (λ (text : List ℕ). its.certification ++ text) (none_after status other)
           ∙ append-nil its.certification;
     }

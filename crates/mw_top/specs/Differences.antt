@@ -10,9 +10,7 @@ AreOf32Bits (Event n) = n < 2 ^ 32
 AreOf32Bits (Memory a) = a < 2 ^ 32
 AreOf32Bits other = Unit {0}
 
--- an element that a difference names is one of the job's, and the number of an event or an address has at most 32 bits
+-- an element that a difference names is one of the job's, and any other number of it has at most 32 bits
 abbrev pub IsDifferenceOf : Job → Difference → Type 0
-IsDifferenceOf job (Event n) = n < 2 ^ 32
 IsDifferenceOf job (Element e) = e < length job.relation.shape.widths
-IsDifferenceOf job (Memory a) = a < 2 ^ 32
-IsDifferenceOf job other = Unit {0}
+IsDifferenceOf job other = AreOf32Bits other

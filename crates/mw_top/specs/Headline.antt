@@ -2,6 +2,7 @@
 use Rattle.std.specs.Prelude.{◌≡◌, ℕ, List, [], ◌∷◌, ◌++◌, Bool, true, false, Contains, Ok, Some}
 use Rattle.mw_asm.specs.declared.assembled.Label.{Label}
 use Rattle.mw_cases.specs.Generated.{IsGenerated}
+use Rattle.mw_cases.specs.Operations.{all_operations}
 use Rattle.mw_check.specs.declared.verdict.Summary.{Summary}
 use Rattle.mw_check.specs.Verdict.{AreSummaries, AreWithinBudget, IsNo, IsUnknown}
 use Rattle.mw_term.specs.declared.decided.Decided.{Decided}
@@ -37,7 +38,7 @@ is_certifying other = false
 
 -- what stands behind the boundaries of a yes: of a generated job, how many operations it has
 abbrev pub after_yes : Command → List ℕ
-after_yes Generate = operations_text statuses.Done 640
+after_yes Generate = operations_text statuses.Done all_operations
 after_yes other = []
 
 -- the words ask to certify
