@@ -27,6 +27,7 @@ pub mod LinesCompared
 pub mod LongerRows
 pub mod MemoryCompared
 pub mod MetSegment
+pub mod Named
 pub mod Numbered
 pub mod OnRun
 pub mod OnStep

@@ -1,15 +1,14 @@
 // The comparison of both sides of a case, on terms.
-ghost use Rattle.std.specs.Prelude.{◌≡◌, ◌↔◌, ◌<◌, ◌≤◌, ◌+◌, ◌^◌, ◌==◌, Bool, ℕ, List, All, IfErr, IfOk, IfSome, None};
-ghost use Rattle.std.specs.Prelude.{OnOk, Some, find, length, slice_get, take, true};
+ghost use Rattle.std.specs.Prelude.{◌≡◌, ◌↔◌, ◌<◌, ◌≤◌, ◌+◌, ◌^◌, Bool, ℕ, List, All, IfErr, IfOk, IfSome, None};
+ghost use Rattle.std.specs.Prelude.{OnOk, Some, length, slice_get, take, true};
 ghost use Rattle.mw_macro.specs.Counts.{reads};
-ghost use Rattle.mw_rel.specs.Certified.{boundary_at};
 ghost use Rattle.mw_rel.specs.ComparisonWords.{Compared, Sides, Subject, are_alike, with_comparison, with_events};
 ghost use Rattle.mw_rel.specs.ComparisonWords.{with_line};
 ghost use Rattle.mw_rel.specs.ComparisonWords.{with_lines, with_memory};
 ghost use Rattle.mw_rel.specs.Lines as rel_line;
 ghost use Rattle.mw_rel.specs.Lines.{reads_of};
 ghost use Rattle.mw_rel.specs.Rules.{IsLineOf};
-ghost use Rattle.mw_rel.specs.Seen.{boundaries_of, boundary_of, line_of, lines_of};
+ghost use Rattle.mw_rel.specs.Seen.{line_of, lines_of};
 ghost use Rattle.mw_rel.specs.Views.{job_of};
 ghost use Rattle.mw_term.specs.Assigned.{Given, given_by};
 ghost use Rattle.mw_term.specs.Cofactors.{Agree};
@@ -39,12 +38,13 @@ use crate::decide::stop_of;
 use crate::elements::Space;
 use crate::fork::Traced;
 use crate::paths::Paths;
+use crate::reached::boundary_at;
 use crate::run::Run;
 use crate::stop::Stop;
 use mw_base::NoMemory;
 use mw_blast::over_have_numbers;
 use mw_macro::words_are_numbered;
-use mw_rel::{Boundary, Job, Line, words_of_cases_are_numbered};
+use mw_rel::{Job, Line, words_of_cases_are_numbered};
 use mw_symboard::{SymBoard, words_of_cycles_are_numbered};
 use mw_symmach::{SymMach, expr_term};
 use mw_symmem::{Side, SymEvent};
@@ -359,28 +359,6 @@ fn elements_at_end(
         elements.push(step.register((number - count) as u32))?;
     }
     Ok(elements)
-}
-
-/// The boundary of some at a control address, if there is one.
-fn found_at(boundaries: &[Boundary], address: u16) -> Option<&Boundary>
-    ensures some { IfSome result (λ boundary. find (λ b. b.address == address) (boundaries_of boundaries.now)
-        ≡ Some (boundary_of boundary.now)) }
-    ensures none { result ≡ None → find (λ b. b.address == address) (boundaries_of boundaries.now) ≡ None }
-{
-    for boundary in boundaries {
-        if boundary.address == address {
-            return Some(boundary);
-        }
-    }
-    None
-}
-
-/// The boundary at a control address, if there is one.
-fn boundary_at(job: &Job, address: u16) -> Option<&Boundary>
-    ensures some { IfSome result (λ boundary. boundary_at (job_of job.now) address ≡ Some (boundary_of boundary.now)) }
-    ensures none { result ≡ None → boundary_at (job_of job.now) address ≡ None }
-{
-    found_at(job.relation.boundaries(), address)
 }
 
 /// Compares the events, the lines of the boundary reached, and the memory.

@@ -11,6 +11,7 @@ mod elements;
 mod fault;
 mod fork;
 mod paths;
+mod reached;
 mod run;
 mod segment;
 mod step;

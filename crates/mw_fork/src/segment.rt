@@ -1,9 +1,6 @@
 // The segment of a case.
-ghost use Rattle.std.specs.Prelude.{◌≡◌, ◌<◌, ◌≤◌, ℕ, List, None, IfErr, IfOk, IfSome, OnOk, map};
+ghost use Rattle.std.specs.Prelude.{◌≡◌, ◌<◌, ◌≤◌, ℕ, List, None, IfErr, IfOk, IfSome, OnOk};
 ghost use Rattle.std.specs.Option.{is_none, unwrap_or};
-ghost use Rattle.mw_cycle.specs.Boundary.{is_named};
-ghost use Rattle.mw_rel.specs.Seen.{boundaries_of};
-ghost use Rattle.mw_rel.specs.Start.{addresses_of};
 ghost use Rattle.mw_rel.specs.Views.{job_of};
 ghost use Rattle.mw_rel.specs.Free.{numbered};
 ghost use Rattle.mw_fork.specs.declared.way.Kept.{Kept};
@@ -11,30 +8,12 @@ ghost use Rattle.mw_fork.specs.OnWay.{HasMetSegment, HavePaths, IsOnRun, IsRunOf
 ghost use Rattle.mw_fork.specs.Runs.{IsIdle};
 ghost use Rattle.mw_fork.specs.Segments.{HasReached, IsLate};
 
+use crate::reached::is_boundary;
 use crate::run::Run;
 use crate::stop::Stop;
 use crate::way::Way;
-use mw_rel::{Boundary, Job};
+use mw_rel::Job;
 use std::alloc::Global;
-
-/// Whether a control address is that of one of these boundaries.
-fn is_among(boundaries: &[Boundary], address: u16) -> bool
-    ensures { result ≡ is_named (map (λ boundary. boundary.address) (boundaries_of boundaries.now)) address }
-{
-    for boundary in boundaries {
-        if boundary.address == address {
-            return true;
-        }
-    }
-    false
-}
-
-/// Whether a control address is that of a boundary.
-fn is_boundary(job: &Job, address: u16) -> bool
-    ensures { result ≡ is_named (addresses_of (job_of job.now)) address }
-{
-    is_among(job.relation.boundaries(), address)
-}
 
 /// Makes cycles up to a boundary: how many, or nothing where the bound's number of cycles passes without one.
 pub(crate) fn segment(

@@ -2,7 +2,7 @@ use Rattle.std.proofs.Common.{◌≡◌, drop}
 use Rattle.std.specs.Prelude.{◌==◌, find}
 use Rattle.mw_rel.specs.Relation.{Boundary}
 use Rattle.mw_rel.specs.Seen.{boundaries_of}
-use Rattle.mw_fork.proofs.comparing.found_at.Given as goal
+use Rattle.mw_fork.proofs.reached.found_at.Given as goal
 
 abbrev pub invariant-loop-boundary : goal.invariant-loop-boundary
 invariant-loop-boundary l =

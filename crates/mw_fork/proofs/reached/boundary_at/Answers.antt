@@ -2,7 +2,7 @@ use Rattle.std.proofs.Common.{◌≡◌, List, subst}
 use Rattle.std.specs.Prelude.{◌==◌, IfSome, None, Some, find}
 use Rattle.mw_rel.specs.Relation.{Boundary}
 use Rattle.mw_rel.specs.Seen.{boundary_of}
-use Rattle.mw_fork.proofs.comparing.boundary_at.Goals as goal
+use Rattle.mw_fork.proofs.reached.boundary_at.Goals as goal
 
 pub returns-clause-some : goal.returns-clause-some
 returns-clause-some c =
