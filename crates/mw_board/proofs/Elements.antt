@@ -76,6 +76,23 @@ count_is board =
     sym (length-map (elements_of board) (λ (e : Element). e.name)) ∙ ap length (names_are board) ∙ length-append names_before (flipflops ++ names_behind_of board) in
     omega (arith, all, both, before, whole)
 
+-- the stack has words, and they are few
+pub words_some : (board : BoardParts) → 1 ≤ depth_of board
+unfolding depth_of
+words_some board = omega arith
+
+pub words_few : (board : BoardParts) → depth_of board ≤ 9
+unfolding depth_of
+words_few board = omega arith
+
+-- behind the flip-flops are two counters, and each word of the stack
+pub behind_count : (board : BoardParts) → length (names_behind_of board) ≡ 2 + depth_of board
+unfolding depth_of
+behind_count board = refl
+
+pub count_of : (board : BoardParts) → element_count board ≡ 21 + length board.flipflop + depth_of board
+count_of board = omega (arith, count_is board, behind_count board)
+
 -- ---- widths
 
 -- an element of a width
