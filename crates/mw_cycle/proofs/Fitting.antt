@@ -24,7 +24,7 @@ zero_below n i w = let some = pow_pos w in rw (all_zero n i) (omega arith)
 
 -- the cleared state
 pub cleared_fits : (board : BoardParts) → Fits board (cleared board)
-unfolding cleared depth_of
+unfolding cleared
 cleared_fits board =
     let word = pow_pos board.width in
     let address = pow_pos board.address in
@@ -37,7 +37,7 @@ cleared_fits board =
       mar = omega arith;
       ir = omega arith;
       flips = omega arith;
-      seq = record { pc = omega arith; r = omega arith; words = λ i. zero_below 5 i 12; size = refl; sp = omega arith };
+      seq = record { pc = omega arith; r = omega arith; words = λ i. zero_below (depth_of board) i 12; size = grind (arith, common_steps); sp = omega arith };
       size = grind (arith, common_steps);
       memory = λ i. zero_below (2 ^ board.address) i board.width;
     }

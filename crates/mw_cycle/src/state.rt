@@ -69,27 +69,32 @@ fn have_bits(words: &[u32], bits: u8) -> bool
 
 impl State {
     ghost use Rattle.mw_seq.specs.Sequencer.{IsSequencer};
+    ghost use Rattle.mw_board.specs.Depth.{depth_of};
     ghost use Rattle.mw_cycle.specs.State.{Fits, are_words, is_sized, cleared};
 
-    #[tactic(auto, unfolding(crate::specs::State::cleared, mw_board::specs::Depth::depth_of))]
-    fn cleared(alloc: Global, board: &Board) -> Result<State, NoMemory>
-        ensures { IfOk result (λ state. state ≡ cleared board.now) }
+    /// The state of a board in which everything is 0, but with these words in the memory.
+    #[tactic(auto, unfolding(crate::specs::State::cleared))]
+    pub fn with_memory(board: &Board, memory: Vec<u32>) -> State
+        ensures { result ≡ record (cleared board.now) { memory = memory.items } }
     {
-        Ok(State {
+        State {
             at: 0,
             regs: [0; 16],
             q: 0,
             mar: 0,
             ir: 0,
             flips: 0,
-            seq: Seq {
-                pc: 0,
-                r: 0,
-                stack: [0; 5],
-                sp: 0,
-            },
-            memory: vec![in alloc; 0; 1 << board.parts().address]?,
-        })
+            seq: Seq::cleared(board.depth()),
+            memory,
+        }
+    }
+
+    #[tactic(auto, unfolding(crate::specs::State::cleared))]
+    fn cleared(alloc: Global, board: &Board) -> Result<State, NoMemory>
+        ensures { IfOk result (λ state. state ≡ cleared board.now) }
+    {
+        let memory = vec![in alloc; 0; 1 << board.parts().address]?;
+        Ok(State::with_memory(board, memory))
     }
 
     /// The state of a board in which everything is 0.
@@ -121,8 +126,10 @@ impl State {
     #[tactic(auto, unfolding(crate::specs::State::is_sized))]
     fn is_sized(&self, board: &Board) -> bool
         ensures exact { result ≡ is_sized board.now self.now }
-        ensures sequencer { IsSequencer 5 self.now.seq }
+        ensures sequencer { IsSequencer (depth_of board.now) self.now.seq }
     {
+        // A call for the proof: its clause `known` says that a board's stack has as many words as a sequencer's.
+        let _ = board.depth();
         let parts = board.parts();
         let flipflops = parts.flipflop.as_slice().len() as u8;
         has_bits(u32::from(self.at), 12)
@@ -132,7 +139,6 @@ impl State {
     }
 
     /// Whether the state fits a board: each part is in its range, and the memory has each of its words.
-    #[tactic(auto, unfolding(mw_board::specs::Depth::depth_of))]
     pub fn fits(&self, board: &Board) -> bool
         ensures { IsTrue result ↔ Fits board.now self.now }
     {
