@@ -1,5 +1,5 @@
 // What a board keeps from cycle to cycle, what a cycle is given, and what it makes.
-ghost use Rattle.std.specs.Prelude.{◌≡◌, ◌≤◌, ◌^◌, ◌==◌, ◌↔◌, IfOk, IsTrue, length, nat_lt};
+ghost use Rattle.std.specs.Prelude.{◌≡◌, ℕ, ◌<◌, ◌≤◌, ◌^◌, ◌==◌, ◌↔◌, IfOk, IsTrue, length, nat_lt, slice_index};
 ghost use Rattle.std.specs.List.{list_all};
 
 use mw_base::{Event, NoMemory};
@@ -72,13 +72,12 @@ impl State {
     ghost use Rattle.mw_board.specs.Depth.{depth_of};
     ghost use Rattle.mw_cycle.specs.State.{Fits, are_words, is_sized, cleared};
 
-    /// The state of a board in which everything is 0, but with these words in the memory.
     #[tactic(auto, unfolding(crate::specs::State::cleared))]
-    pub fn with_memory(board: &Board, memory: Vec<u32>) -> State
-        ensures { result ≡ record (cleared board.now) { memory = memory.items } }
+    fn cleared(board: &Board, at: u16, memory: Vec<u32>) -> State
+        ensures { result ≡ record (cleared board.now) { at = at; memory = memory.items } }
     {
         State {
-            at: 0,
+            at,
             regs: [0; 16],
             q: 0,
             mar: 0,
@@ -89,12 +88,21 @@ impl State {
         }
     }
 
+    /// The state of a board at a control address, with these words in the memory; all else is 0.
+    pub fn begun(board: &Board, at: u16, memory: Vec<u32>) -> State
+        ensures exact { result ≡ record (cleared board.now) { at = at; memory = memory.items } }
+        ensures fits { at < 2 ^ 12 → length memory.items ≡ 2 ^ board.now.address
+            → ((a : ℕ) → slice_index memory.items a < 2 ^ board.now.width) → Fits board.now result }
+    {
+        State::cleared(board, at, memory)
+    }
+
     #[tactic(auto, unfolding(crate::specs::State::cleared))]
-    fn cleared(alloc: Global, board: &Board) -> Result<State, NoMemory>
+    fn zeroed(alloc: Global, board: &Board) -> Result<State, NoMemory>
         ensures { IfOk result (λ state. state ≡ cleared board.now) }
     {
         let memory = vec![in alloc; 0; 1 << board.parts().address]?;
-        Ok(State::with_memory(board, memory))
+        Ok(State::begun(board, 0, memory))
     }
 
     /// The state of a board in which everything is 0.
@@ -106,7 +114,7 @@ impl State {
         ensures exact { IfOk result (λ state. state ≡ cleared board.now) }
         ensures fits { IfOk result (λ state. Fits board.now state) }
     {
-        Ok(State::cleared(alloc, board)?)
+        Ok(State::zeroed(alloc, board)?)
     }
 
     /// Whether each word has the board's width.
