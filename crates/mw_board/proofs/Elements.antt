@@ -9,7 +9,7 @@ use Rattle.std.proofs.lemmas.Option.{slice_get-map, slice_get_past}
 use Rattle.mw_board.specs.declared.flipflop.FlipFlop.{FlipFlop}
 use Rattle.mw_board.specs.declared.parts.BoardParts.{BoardParts}
 use Rattle.mw_board.specs.Depth.{depth_of}
-use Rattle.mw_board.specs.Elements.{Element, register_names, address_register_name, instruction_register_name, names_before, names_behind_of, of_width, elements_of, element_count, element_name, element_width, element_number}
+use Rattle.mw_board.specs.Elements.{Element, register_names, address_register_name, instruction_register_name, names_before, names_behind, names_behind_of, of_width, elements_of, element_count, element_name, element_width, element_number}
 
 -- ---- lists one after the other
 
@@ -75,6 +75,30 @@ count_is board =
     let whole : element_count board ≡ length names_before + length (flipflops ++ names_behind_of board) =
     sym (length-map (elements_of board) (λ (e : Element). e.name)) ∙ ap length (names_are board) ∙ length-append names_before (flipflops ++ names_behind_of board) in
     omega (arith, all, both, before, whole)
+
+-- the least and the most words that a stack has
+pub words_least : (board : BoardParts) → 5 ≤ depth_of board
+unfolding depth_of
+words_least board = omega arith
+
+pub words_few : (board : BoardParts) → depth_of board ≤ 5
+unfolding depth_of
+words_few board = omega arith
+
+-- behind the flip-flops are two counters, and each word of the stack
+pub behind_count : (board : BoardParts) → length (names_behind_of board) ≡ 2 + depth_of board
+unfolding depth_of
+behind_count board = refl
+
+-- a name there stands in the table of such names
+pub behind_listed : (board : BoardParts) (n : ℕ) (name : List ℕ) → slice_get (names_behind_of board) n ≡ Some name
+    → slice_get names_behind n ≡ Some name
+unfolding depth_of
+behind_listed board n name at = at
+
+-- how many elements there are
+pub count_of : (board : BoardParts) → element_count board ≡ 21 + length board.flipflop + depth_of board
+count_of board = omega (arith, count_is board, behind_count board)
 
 -- ---- widths
 

@@ -78,7 +78,8 @@ impl Board {
     /// How many words the sequencer's stack has.
     #[tactic(auto, unfolding(crate::specs::Depth::depth_of))]
     pub fn depth(&self) -> u8
-        ensures { result ≡ depth_of self.now }
+        ensures exact { result ≡ depth_of self.now }
+        ensures known { result ≡ 5 }
     {
         5
     }

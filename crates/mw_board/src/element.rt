@@ -2,7 +2,7 @@
 ghost use Rattle.std.specs.Prelude.{◌≡◌, map, slice_get, option_map};
 ghost use Rattle.std.specs.List.{position};
 ghost use Rattle.std.specs.Str.{bytes_eq};
-ghost use Rattle.mw_board.specs.Elements.{is_reserved, element_count, element_name, element_width, element_number, names_behind_of};
+ghost use Rattle.mw_board.specs.Elements.{is_reserved, element_count, element_name, element_width, element_number, names_behind_of, stack_pointer_name};
 
 use crate::board::Board;
 use crate::flipflop::FlipFlop;
@@ -70,6 +70,13 @@ impl Board {
         ensures { map (λ name. name.now) result.now ≡ names_behind_of self.now }
     {
         &BEHIND[..2 + usize::from(self.depth())]
+    }
+
+    /// The name of the stack pointer, which has no number among the elements.
+    pub fn stack_pointer_name(&self) -> &'static [u8]
+        ensures { result.now ≡ stack_pointer_name }
+    {
+        STACK_POINTER[0]
     }
 
     /// How many elements it has: what a name of a relation, an environment or a script can stand for. Each has a number, from 0: the

@@ -22,25 +22,34 @@ all_zero n i = elim (cases_lt i n) [
 zero_below : (n i w : ℕ) → slice_index (replicate n 0) i < 2 ^ w
 zero_below n i w = let some = pow_pos w in rw (all_zero n i) (omega arith)
 
--- the cleared state
-pub cleared_fits : (board : BoardParts) → Fits board (cleared board)
-unfolding cleared depth_of
-cleared_fits board =
+-- the cleared state, at an address and with a memory of its own
+pub begun_fits : (board : BoardParts) (at : ℕ) (memory : List ℕ) → at < 2 ^ 12 → length memory ≡ 2 ^ board.address
+    → ((a : ℕ) → slice_index memory a < 2 ^ board.width)
+    → Fits board (record (cleared board) { at = at; memory = memory })
+unfolding cleared
+begun_fits board at memory low size words =
     let word = pow_pos board.width in
     let address = pow_pos board.address in
     let flips = pow_pos (length board.flipflop) in
     record {
-      at = omega arith;
+      at = low;
       sixteen = refl;
       regs = λ i. zero_below 16 i board.width;
       q = omega arith;
       mar = omega arith;
       ir = omega arith;
       flips = omega arith;
-      seq = record { pc = omega arith; r = omega arith; words = λ i. zero_below 5 i 12; size = refl; sp = omega arith };
-      size = grind (arith, common_steps);
-      memory = λ i. zero_below (2 ^ board.address) i board.width;
+      seq = record { pc = omega arith; r = omega arith; words = λ i. zero_below (depth_of board) i 12; size = grind (arith, common_steps); sp = omega arith };
+      size = size;
+      memory = words;
     }
+
+pub cleared_fits : (board : BoardParts) → Fits board (cleared board)
+unfolding cleared
+cleared_fits board =
+    let low : 0 < 2 ^ 12 = omega arith in
+    let size : length (replicate (2 ^ board.address) 0) ≡ 2 ^ board.address = grind (arith, common_steps) in
+    begun_fits board 0 (replicate (2 ^ board.address) 0) low size (λ i. zero_below (2 ^ board.address) i board.width)
 
 -- words that pass the test are words
 words_are : (w : ℕ) (words : List ℕ) → list_all (λ word. nat_lt word (2 ^ w)) words ≡ true → (i : ℕ) → slice_index words i < 2 ^ w

@@ -11,7 +11,7 @@ use Rattle.mw_seq.specs.Sequencer.{Sequencer, IsSequencer}
 use Rattle.mw_board.specs.declared.parts.BoardParts.{BoardParts}
 use Rattle.mw_board.specs.Depth.{depth_of}
 use Rattle.mw_board.specs.Elements.{element_count, element_width, names_behind_of}
-use Rattle.mw_board.proofs.Elements.{count_is, width_of_address, width_before, width_of_flipflop, width_behind}
+use Rattle.mw_board.proofs.Elements.{count_of, width_of_address, width_before, width_of_flipflop, width_behind}
 use Rattle.mw_cycle.specs.declared.elements.Element.{Element}
 use Rattle.mw_cycle.specs.declared.elements.Element.TheVariants.{Register, Q, Mar, Ir, FlipFlop, Pc, R, StackWord}
 use Rattle.mw_cycle.proofs.Edge.{chosen_below, words_below, same_length}
@@ -66,9 +66,8 @@ apart board m n other = λ same. other (sym (number_is board m) ∙ ap (number_o
 
 -- the element with a number of the board is one of it
 pub is_element : (board : BoardParts) (n : ℕ) → n < element_count board → IsElement board (element_of board n)
-unfolding depth_of
 is_element board n there =
-    let count = count_is board in
+    let count = count_of board in
     by_number board n (IsElement board) (λ h. h) (λ h. tt) (λ h. tt) (λ h. tt)
     (λ h k. omega arith) (λ h. tt) (λ h. tt) (λ h. omega arith)
 

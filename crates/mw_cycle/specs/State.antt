@@ -1,7 +1,7 @@
 -- The state of a board, and when it fits one.
 use Rattle.std.specs.Prelude.{◌≡◌, ℕ, ◌<◌, ◌^◌, List, length, replicate, slice_index, Bool, nat_lt, ◌==◌, ◌&&◌}
 use Rattle.std.specs.List.{list_all}
-use Rattle.mw_seq.specs.Sequencer.{Sequencer, IsSequencer}
+use Rattle.mw_seq.specs.Sequencer.{Sequencer, IsSequencer, cleared_sequencer}
 use Rattle.mw_board.specs.declared.parts.BoardParts.{BoardParts}
 use Rattle.mw_board.specs.Depth.{depth_of}
 
@@ -55,6 +55,6 @@ cleared board = record {
   mar = 0;
   ir = 0;
   flips = 0;
-  seq = record { pc = 0; r = 0; stack = replicate (depth_of board) 0; sp = 0 };
+  seq = cleared_sequencer (depth_of board);
   memory = replicate (2 ^ board.address) 0;
 }

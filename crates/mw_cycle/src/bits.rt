@@ -25,7 +25,7 @@ pub(crate) fn flip(state: &State, number: u8) -> bool
 }
 
 /// A bit that stands before F is made; the bits of F are false here.
-#[tactic(auto, unfolding(crate::specs::Cycle::early_bit, mw_board::specs::Depth::depth_of))]
+#[tactic(auto, unfolding(crate::specs::Cycle::early_bit))]
 pub(crate) fn early_bit(board: &Board, chosen: Bit, state: &State, given: CycleIn) -> bool
     requires { IsBit board.now.width (length board.now.flipflop) chosen }
     ensures { result ≡ early_bit board.now chosen state.now given }
@@ -36,7 +36,7 @@ pub(crate) fn early_bit(board: &Board, chosen: Bit, state: &State, given: CycleI
         Bit::QLow => bit(state.q, 0),
         Bit::QHigh => bit(state.q, top),
         Bit::Line => given.line,
-        Bit::Full => state.seq.full(),
+        Bit::Full => state.seq.sp == board.depth(),
         Bit::Ir(number) => bit(state.ir, number),
         Bit::Flip(number) => flip(state, number),
         _ => false,

@@ -72,7 +72,6 @@ fn with_flip(flips: u16, number: u8, bit: u16) -> u16
 
 impl State {
     /// The value of an element.
-    #[tactic(auto, unfolding(mw_board::specs::Depth::depth_of))]
     fn value_of(&self, board: &Board, element: Element) -> u32
         requires fits { Fits board.now self.now }
         requires valid { IsElement board.now element }
@@ -90,12 +89,11 @@ impl State {
             Element::FlipFlop(number) => u32::from(number_of(flip(self, number))),
             Element::Pc => u32::from(seq.pc),
             Element::R => u32::from(seq.r),
-            Element::StackWord(number) => u32::from(seq.stack[usize::from(number)]),
+            Element::StackWord(number) => u32::from(seq.word(number)),
         }
     }
 
     /// Gives an element a value.
-    #[tactic(auto, unfolding(mw_board::specs::Depth::depth_of))]
     fn set_value(&mut self, board: &Board, element: Element, value: u32)
         requires fits { Fits board.now self.old }
         requires valid { IsElement board.now element }
@@ -113,7 +111,7 @@ impl State {
             Element::FlipFlop(number) => self.flips = with_flip(self.flips, number, value as u16),
             Element::Pc => self.seq.pc = value as u16,
             Element::R => self.seq.r = value as u16,
-            Element::StackWord(number) => self.seq.stack[usize::from(number)] = value as u16,
+            Element::StackWord(number) => self.seq.set_word(number, value as u16),
         }
     }
 

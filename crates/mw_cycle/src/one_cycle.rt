@@ -200,7 +200,7 @@ fn writes<A: Datapath>(
 }
 
 /// The edge: all that is written is written from what was there before it. Answers the next address.
-#[tactic(auto, unfolding(crate::specs::Cycle::edge, crate::specs::Cycle::next_address, mw_board::specs::Depth::depth_of))]
+#[tactic(auto, unfolding(crate::specs::Cycle::edge, crate::specs::Cycle::next_address))]
 fn take_edge(
     board: &Board,
     microword: &Microword,

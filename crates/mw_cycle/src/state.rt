@@ -1,5 +1,5 @@
 // What a board keeps from cycle to cycle, what a cycle is given, and what it makes.
-ghost use Rattle.std.specs.Prelude.{◌≡◌, ◌≤◌, ◌^◌, ◌==◌, ◌↔◌, IfOk, IsTrue, length, nat_lt};
+ghost use Rattle.std.specs.Prelude.{◌≡◌, ℕ, ◌<◌, ◌≤◌, ◌^◌, ◌==◌, ◌↔◌, IfOk, IsTrue, length, nat_lt, slice_index};
 ghost use Rattle.std.specs.List.{list_all};
 
 use mw_base::{Event, NoMemory};
@@ -69,27 +69,40 @@ fn have_bits(words: &[u32], bits: u8) -> bool
 
 impl State {
     ghost use Rattle.mw_seq.specs.Sequencer.{IsSequencer};
+    ghost use Rattle.mw_board.specs.Depth.{depth_of};
     ghost use Rattle.mw_cycle.specs.State.{Fits, are_words, is_sized, cleared};
 
-    #[tactic(auto, unfolding(crate::specs::State::cleared, mw_board::specs::Depth::depth_of))]
-    fn cleared(alloc: Global, board: &Board) -> Result<State, NoMemory>
-        ensures { IfOk result (λ state. state ≡ cleared board.now) }
+    #[tactic(auto, unfolding(crate::specs::State::cleared))]
+    fn cleared(board: &Board, at: u16, memory: Vec<u32>) -> State
+        ensures { result ≡ record (cleared board.now) { at = at; memory = memory.items } }
     {
-        Ok(State {
-            at: 0,
+        State {
+            at,
             regs: [0; 16],
             q: 0,
             mar: 0,
             ir: 0,
             flips: 0,
-            seq: Seq {
-                pc: 0,
-                r: 0,
-                stack: [0; 5],
-                sp: 0,
-            },
-            memory: vec![in alloc; 0; 1 << board.parts().address]?,
-        })
+            seq: Seq::cleared(board.depth()),
+            memory,
+        }
+    }
+
+    /// The state of a board at a control address, with these words in the memory; all else is 0.
+    pub fn begun(board: &Board, at: u16, memory: Vec<u32>) -> State
+        ensures exact { result ≡ record (cleared board.now) { at = at; memory = memory.items } }
+        ensures fits { at < 2 ^ 12 → length memory.items ≡ 2 ^ board.now.address
+            → ((a : ℕ) → slice_index memory.items a < 2 ^ board.now.width) → Fits board.now result }
+    {
+        State::cleared(board, at, memory)
+    }
+
+    #[tactic(auto, unfolding(crate::specs::State::cleared))]
+    fn zeroed(alloc: Global, board: &Board) -> Result<State, NoMemory>
+        ensures { IfOk result (λ state. state ≡ cleared board.now) }
+    {
+        let memory = vec![in alloc; 0; 1 << board.parts().address]?;
+        Ok(State::begun(board, 0, memory))
     }
 
     /// The state of a board in which everything is 0.
@@ -101,7 +114,7 @@ impl State {
         ensures exact { IfOk result (λ state. state ≡ cleared board.now) }
         ensures fits { IfOk result (λ state. Fits board.now state) }
     {
-        Ok(State::cleared(alloc, board)?)
+        Ok(State::zeroed(alloc, board)?)
     }
 
     /// Whether each word has the board's width.
@@ -121,8 +134,10 @@ impl State {
     #[tactic(auto, unfolding(crate::specs::State::is_sized))]
     fn is_sized(&self, board: &Board) -> bool
         ensures exact { result ≡ is_sized board.now self.now }
-        ensures sequencer { IsSequencer 5 self.now.seq }
+        ensures sequencer { IsSequencer (depth_of board.now) self.now.seq }
     {
+        // A call for the proof: its clause `known` says that a board's stack has as many words as a sequencer's.
+        let _ = board.depth();
         let parts = board.parts();
         let flipflops = parts.flipflop.as_slice().len() as u8;
         has_bits(u32::from(self.at), 12)
@@ -132,7 +147,6 @@ impl State {
     }
 
     /// Whether the state fits a board: each part is in its range, and the memory has each of its words.
-    #[tactic(auto, unfolding(mw_board::specs::Depth::depth_of))]
     pub fn fits(&self, board: &Board) -> bool
         ensures { IsTrue result ↔ Fits board.now self.now }
     {

@@ -1,5 +1,5 @@
 -- The state of an Am2910 and one step of it, with a stack of depth words (AMD Am2900 Family Data Book, Am2910).
-use Rattle.std.specs.Prelude.{◌≡◌, ℕ, ◌+◌, ◌-◌, ◌%◌, ◌^◌, ◌<◌, ◌≤◌, List, Bool, if◌then◌else◌, ◌==◌, nat_lt, length, slice_index, slice_set}
+use Rattle.std.specs.Prelude.{◌≡◌, ℕ, ◌+◌, ◌-◌, ◌%◌, ◌^◌, ◌<◌, ◌≤◌, List, Bool, if◌then◌else◌, ◌==◌, nat_lt, length, replicate, slice_index, slice_set}
 use Rattle.mw_base.specs.Words.{num}
 use Rattle.mw_seq.specs.declared.instruction.AddressFrom.{AddressFrom}
 use Rattle.mw_seq.specs.declared.instruction.AddressFrom.TheVariants.{Zero, Pc, D, R, F}
@@ -26,6 +26,10 @@ pub record IsSequencer (depth : ℕ) (s : Sequencer) : Type 0 where
   pub size : length s.stack ≡ depth
   pub sp : s.sp ≤ depth
 
+-- everything is 0, and the stack has depth words
+abbrev pub cleared_sequencer : ℕ → Sequencer
+cleared_sequencer depth = record { pc = 0; r = 0; stack = replicate depth 0; sp = 0 }
+
 -- each word is on the stack
 abbrev pub is_full : ℕ → Sequencer → Bool
 is_full depth s = s.sp == depth
@@ -40,12 +44,20 @@ pushed depth s =
     if nat_lt s.sp depth then record s { stack = slice_set s.stack s.sp s.pc; sp = s.sp + 1 }
     else record s { stack = slice_set s.stack (depth - 1) s.pc }
 
--- the stack after a move: popping and clearing leave the words as they are, and an empty stack stays empty
+-- a pop leaves the words as they are, and an empty stack stays empty
+abbrev pub popped : Sequencer → Sequencer
+popped s = record s { sp = s.sp - 1 }
+
+-- a stack is emptied by its pointer, and its words stay as they are
+abbrev pub emptied : Sequencer → Sequencer
+emptied s = record s { sp = 0 }
+
+-- the stack after a move
 unfoldable pub stack_after : StackMove → ℕ → Sequencer → Sequencer
 stack_after Held depth s = s
 stack_after Pushed depth s = pushed depth s
-stack_after Popped depth s = record s { sp = s.sp - 1 }
-stack_after Cleared depth s = record s { sp = 0 }
+stack_after Popped depth s = popped s
+stack_after Cleared depth s = emptied s
 
 -- the register/counter after a move
 abbrev pub counter_after : CounterMove → ℕ → ℕ → ℕ

@@ -1,7 +1,7 @@
 // The state of the sequencer, and one step of it.
-ghost use Rattle.std.specs.Prelude.{◌≡◌, ◌+◌, ◌-◌, ◌<◌, ◌^◌, ◌==◌};
+ghost use Rattle.std.specs.Prelude.{◌≡◌, ◌+◌, ◌-◌, ◌<◌, ◌^◌, ◌==◌, length, slice_index, slice_set};
 ghost use Rattle.mw_seq.specs.declared.sequencer.TheConstants.{DEPTH};
-ghost use Rattle.mw_seq.specs.Sequencer.{IsSequencer, is_full, top, pushed, stack_after, counter_after, address, next_of, step_of};
+ghost use Rattle.mw_seq.specs.Sequencer.{IsSequencer, is_full, cleared_sequencer, top, pushed, popped, emptied, stack_after, counter_after, address, next_of, step_of};
 
 use crate::instruction::{AddressFrom, CounterMove, Instruction, StackMove};
 use std::marker::Model;
@@ -17,7 +17,7 @@ pub struct Seq {
     /// The register/counter.
     pub r: u16,
     /// The stack's words, the oldest first.
-    pub stack: [u16; 5],
+    pub stack: [u16; DEPTH as usize],
     /// The stack pointer: how many of the words are on the stack. The top is word `sp - 1`.
     pub sp: u8,
 }
@@ -50,12 +50,45 @@ fn counted(counter: CounterMove, d: u16, r: u16) -> u16
 }
 
 impl Seq {
+    /// The state in which everything is 0, with a stack of `depth` words: so many as each stack has, [`DEPTH`].
+    pub fn cleared(depth: u8) -> Seq
+        requires known { depth ≡ 5 }
+        ensures exact { result ≡ cleared_sequencer depth }
+        ensures fits { IsSequencer depth result }
+    {
+        Seq {
+            pc: 0,
+            r: 0,
+            stack: [0; DEPTH as usize],
+            sp: 0,
+        }
+    }
+
     /// Whether each word of the stack is on it.
     pub fn full(&self) -> bool
         ensures exact { result ≡ is_full 5 self.now }
         ensures valid { IsSequencer 5 self.now }
     {
         self.sp == DEPTH
+    }
+
+    /// The word of the stack at a place, from the oldest.
+    pub fn word(&self, place: u8) -> u16
+        requires there { place < length self.now.stack }
+        ensures exact { result ≡ slice_index self.now.stack place }
+        ensures below { result < 2 ^ 12 }
+    {
+        self.stack[usize::from(place)]
+    }
+
+    /// Gives the word of the stack at a place a value.
+    pub fn set_word(&mut self, place: u8, word: u16)
+        requires there { place < length self.old.stack }
+        requires word_in { word < 2 ^ 12 }
+        ensures exact { self.new ≡ record self.old { stack = slice_set self.old.stack place word } }
+        ensures fits { IsSequencer (length self.old.stack) self.new }
+    {
+        self.stack[usize::from(place)] = word;
     }
 
     /// F: the top word of the stack, or the noise where there is none.
@@ -84,6 +117,20 @@ impl Seq {
         }
     }
 
+    /// Takes the top word off the stack; an empty stack stays empty.
+    fn pop(&mut self)
+        ensures { self.new ≡ popped self.old }
+    {
+        self.sp = self.sp.saturating_sub(1);
+    }
+
+    /// Takes each word off the stack.
+    fn clear(&mut self)
+        ensures { self.new ≡ emptied self.old }
+    {
+        self.sp = 0;
+    }
+
     #[tactic(auto, unfolding(crate::specs::Sequencer::stack_after))]
     fn move_stack(&mut self, stack: StackMove)
         ensures { self.new ≡ stack_after stack DEPTH self.old }
@@ -91,8 +138,8 @@ impl Seq {
         match stack {
             StackMove::Held => {}
             StackMove::Pushed => self.push(),
-            StackMove::Popped => self.sp = self.sp.saturating_sub(1),
-            StackMove::Cleared => self.sp = 0,
+            StackMove::Popped => self.pop(),
+            StackMove::Cleared => self.clear(),
         }
     }
 
@@ -119,8 +166,9 @@ impl Seq {
         requires d_in { d < 2 ^ 12 }
         ensures next { result ≡ next_of ins pass d noise self.old }
         ensures below { result < 2 ^ 12 }
-        ensures exact { self.new ≡ step_of 5 ins pass d ci rld noise self.old }
-        ensures fits { IsSequencer 5 self.new }
+        ensures exact { self.new ≡ step_of (length self.old.stack) ins pass d ci rld noise self.old }
+        ensures fits { IsSequencer (length self.old.stack) self.new }
+        ensures valid { IsSequencer 5 self.old }
     {
         let effect = Instruction::of(ins).effect(pass, self.r == 0);
         let next = self.address(effect.next, d, noise);

@@ -1,5 +1,5 @@
 -- What an environment may set, and what is made of it.
-use Rattle.std.proofs.Common.{◌≡◌, ◌≢◌, ℕ, zero, suc, ◌+◌, ◌^◌, ◌<◌, ◌≤◌, Bool, true, false, cond, ◌==◌, List, [], ◌∷◌, ◌++◌, length, map, get_or, take, slice_get, slice_index, inl, inr, Option, Some, None, IfSome, option_map, lit<, lit≤, refl, sym, ap, ◌∙◌, subst, arith}
+use Rattle.std.proofs.Common.{◌≡◌, ◌≢◌, ℕ, zero, suc, ◌+◌, ◌^◌, ◌<◌, ◌≤◌, Bool, true, false, cond, ◌==◌, List, [], ◌∷◌, ◌++◌, length, map, get_or, take, slice_get, slice_index, inl, inr, Option, Some, None, IfSome, option_map, lit≤, refl, sym, ap, ◌∙◌, subst, arith}
 use Rattle.std.specs.List.{All}
 use Rattle.std.specs.Option.{option_to_list}
 use Rattle.std.proofs.Math.Pow.{pow_mono}
@@ -9,9 +9,10 @@ use Rattle.std.proofs.lemmas.List.{length-append, length-map, take_all}
 use Rattle.std.proofs.lemmas.List.Elements.{All-nil, All-cons, All-map, All-push}
 use Rattle.std.proofs.lemmas.Nat.{pow_pos}
 use Rattle.mw_board.specs.declared.parts.BoardParts.{BoardParts}
+use Rattle.mw_board.specs.Depth.{depth_of}
 use Rattle.mw_board.specs.Elements.{Element, elements_of, element_count, element_width}
 use Rattle.mw_board.specs.Valid.{IsBoard}
-use Rattle.mw_board.proofs.Elements.{no_width}
+use Rattle.mw_board.proofs.Elements.{no_width, words_few}
 use Rattle.mw_cycle.specs.declared.elements.Element.{Element as Kind}
 use Rattle.mw_cycle.specs.declared.elements.Element.TheVariants.{Register, Q, Mar, Ir, FlipFlop, Pc, R, StackWord}
 use Rattle.mw_cycle.specs.Elements.{IsValueOf, bits_of, element_of}
@@ -67,7 +68,7 @@ settables_more board n old new was more = more ∙ rw was (taken_more settable (
 
 pub settables_all : (board : BoardParts) (n : ℕ) (old new : List Settable)
     → old ≡ map settable (take n (elements_of board)) → element_count board ≤ n
-    → new ≡ old ++ (stack_pointer ∷ []) → new ≡ settables_of board
+    → new ≡ old ++ (stack_pointer board ∷ []) → new ≡ settables_of board
 settables_all board n old new was past more = more ∙ rw (was, take_all n (elements_of board) past) refl
 
 -- what is so of each element of a board, by number, is so of what lines may set
@@ -85,11 +86,14 @@ some_width n None few = tt
 pub settables_bounded : (board : BoardParts) → IsBoard board → AreBounded (settables_of board)
 settables_bounded board is =
     let fits = λ (element : Settable). (0 < element.bound) × (element.bound ≤ 2 ^ 32) in
+    let deep = words_few board in
+    let short : 10 ≤ 2 ^ 32 = lit≤ tt in
     let few = all_by_number (λ (element : Element). element.width ≤ 32) (elements_of board)
     (λ n. some_width n (slice_get (elements_of board) n) (λ w width. width_few board n w is width)) in
-    All-push fits (map settable (elements_of board)) stack_pointer
+    All-push fits (map settable (elements_of board)) (stack_pointer board)
     (All-map fits settable (elements_of board) (λ n d within.
-    (pow_pos (get_or (elements_of board) n d).width, pow_mono (few n d within)))) (lit< tt, lit≤ tt)
+    (pow_pos (get_or (elements_of board) n d).width, pow_mono (few n d within))))
+    (omega arith, omega (arith, deep, short))
 
 -- the bound of an element, and of the stack pointer
 bound_is : (xs : List Element) (rest : List Settable) (n v : ℕ) → n < length xs
@@ -101,19 +105,19 @@ bound_is (x ∷ xs) rest (suc n) v within small = bound_is xs rest n v (omega ar
 
 pub value_in : (board : BoardParts) (n v : ℕ) → n < element_count board
     → v < bound_of (slice_get (settables_of board) n) → IsValueOf board n v
-value_in board n v within small = bound_is (elements_of board) (stack_pointer ∷ []) n v within small
+value_in board n v within small = bound_is (elements_of board) (stack_pointer board ∷ []) n v within small
 
-pointer_bound : (xs : List Element) (v : ℕ)
-    → v < bound_of (slice_get (map settable xs ++ (stack_pointer ∷ [])) (length xs)) → v < 6
-pointer_bound [] v small = small
-pointer_bound (x ∷ xs) v small = pointer_bound xs v small
+pointer_bound : (board : BoardParts) (xs : List Element) (v : ℕ)
+    → v < bound_of (slice_get (map settable xs ++ (stack_pointer board ∷ [])) (length xs)) → v < depth_of board + 1
+pointer_bound board [] v small = small
+pointer_bound board (x ∷ xs) v small = pointer_bound board xs v small
 
 pub pointer_in : (board : BoardParts) (v : ℕ) → v < bound_of (slice_get (settables_of board) (element_count board))
-    → v < 6
-pointer_in board v small = pointer_bound (elements_of board) v small
+    → v < depth_of board + 1
+pointer_in board v small = pointer_bound board (elements_of board) v small
 
 pub settable_count : (board : BoardParts) → length (settables_of board) ≡ element_count board + 1
-settable_count board = length-append (map settable (elements_of board)) (stack_pointer ∷ [])
+settable_count board = length-append (map settable (elements_of board)) (stack_pointer board ∷ [])
     ∙ ap (λ n. n + 1) (length-map (elements_of board) settable)
 
 -- ---- lists without the zeros at their end

@@ -1,5 +1,5 @@
 -- The start of a run that an environment file gives.
-use Rattle.std.specs.Prelude.{ℕ, zero, suc, ◌^◌, List, [], ◌∷◌, ◌++◌, codes, length, drop, map, slice_index, true, ◌==◌, Option, Result, Ok, Err}
+use Rattle.std.specs.Prelude.{ℕ, zero, suc, ◌+◌, ◌^◌, List, [], ◌∷◌, ◌++◌, codes, length, drop, map, slice_index, true, ◌==◌, Option, Result, Ok, Err}
 use Rattle.std.specs.List.{prefix_len}
 use Rattle.mw_base.specs.declared.cause.Cause.TheVariants.{BadSyntax}
 use Rattle.mw_base.specs.declared.line.Line.{Line}
@@ -10,6 +10,7 @@ use Rattle.mw_base.specs.Places.{address_of}
 use Rattle.mw_base.specs.Reading.{◌>>=◌}
 use Rattle.mw_base.specs.TokenLines.{token_lines, text_end}
 use Rattle.mw_board.specs.declared.parts.BoardParts.{BoardParts}
+use Rattle.mw_board.specs.Depth.{depth_of}
 use Rattle.mw_board.specs.Elements.{Element, elements_of, element_count, stack_pointer_name}
 use Rattle.mw_cycle.specs.State.{BoardState, cleared}
 use Rattle.mw_cycle.specs.Elements.{with_element}
@@ -29,13 +30,13 @@ pub record Start : Type 0 where
 abbrev pub settable : Element → Settable
 settable element = record { owner = Board; name = element.name; bound = 2 ^ element.width; is_free = true }
 
--- the stack pointer, which is at most 5
-abbrev pub stack_pointer : Settable
-stack_pointer = record { owner = Board; name = stack_pointer_name; bound = 6; is_free = true }
+-- the stack pointer, which counts the words of the stack
+abbrev pub stack_pointer : BoardParts → Settable
+stack_pointer board = record { owner = Board; name = stack_pointer_name; bound = depth_of board + 1; is_free = true }
 
 -- what an environment may set: the board's elements, and behind them the stack pointer
 abbrev pub settables_of : BoardParts → List Settable
-settables_of board = map settable (elements_of board) ++ (stack_pointer ∷ [])
+settables_of board = map settable (elements_of board) ++ (stack_pointer board ∷ [])
 
 -- at PLACE
 unfoldable pub at_of : Cursor → Result Place TextFault

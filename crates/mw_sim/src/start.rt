@@ -2,12 +2,13 @@
 ghost use Rattle.std.specs.Prelude.{◌≡◌, ℕ, ◌+◌, ◌<◌, ◌≤◌, ◌^◌, ◌++◌, ◌==◌, IfOk, OnOk, length, map, slice_get, slice_index, take};
 ghost use Rattle.std.specs.Option.{option_to_list};
 ghost use Rattle.mw_base.specs.Reading.{Gives};
+ghost use Rattle.mw_board.specs.Depth.{depth_of};
 ghost use Rattle.mw_board.specs.Elements.{element_count, elements_of};
 ghost use Rattle.mw_cycle.specs.Elements.{IsValueOf};
 ghost use Rattle.mw_cycle.specs.Environment.{IsEnvironment};
 ghost use Rattle.mw_cycle.specs.State.{Fits};
 ghost use Rattle.mw_sim.specs.Given.{AreBounded, HasSeries, IsGiven, trimmed};
-ghost use Rattle.mw_sim.specs.Start.{settable, settables_of, at_of, blank_lines, from_first, with_values, state_with, environment_with, start_in, start_of};
+ghost use Rattle.mw_sim.specs.Start.{settable, stack_pointer, settables_of, at_of, blank_lines, from_first, with_values, with_pointer, state_with, environment_with, start_in, start_of};
 ghost use Rattle.mw_sim.specs.Views.{given_seen};
 
 use crate::given::{Given, Owner, Settable, given_by, two_to};
@@ -17,7 +18,6 @@ use mw_base::{
 };
 use mw_board::Board;
 use mw_cycle::{Env, State};
-use mw_seq::Seq;
 use std::alloc::Global;
 use std::marker::Model;
 
@@ -87,6 +87,18 @@ fn push_element(
     Ok(())
 }
 
+/// The stack pointer, as a line may set it.
+fn stack_pointer(alloc: Global, board: &Board) -> Result<Settable, NoMemory>
+    ensures { IfOk result (λ element. element ≡ stack_pointer board.now) }
+{
+    Ok(Settable {
+        owner: Owner::Board,
+        name: Name::new(alloc, board.stack_pointer_name())?,
+        bound: u64::from(board.depth()) + 1,
+        is_free: true,
+    })
+}
+
 /// What an environment may set: the board's elements, and behind them the stack pointer.
 fn settables_of(alloc: Global, board: &Board) -> Result<Vec<Settable>, NoMemory>
     ensures exact { IfOk result (λ elements. elements.items ≡ settables_of board.now) }
@@ -98,12 +110,7 @@ fn settables_of(alloc: Global, board: &Board) -> Result<Vec<Settable>, NoMemory>
     for number in 0..board.element_count() {
         push_element(alloc, &mut elements, board, number)?;
     }
-    elements.push(Settable {
-        owner: Owner::Board,
-        name: Name::new(alloc, b"sp")?,
-        bound: 6,
-        is_free: true,
-    })?;
+    elements.push(stack_pointer(alloc, board)?)?;
     Ok(elements)
 }
 
@@ -219,8 +226,20 @@ pub fn environment_with(alloc: Global, board: &Board, given: &Given) -> Result<E
     })
 }
 
+/// Gives the stack pointer the value behind those of the board's elements.
+#[tactic(auto, using(mw_board::proofs::Elements::words_few))]
+fn set_pointer(board: &Board, state: &mut State, values: &[u32])
+    requires fits { Fits board.now state.old }
+    requires there { element_count board.now < length values.now }
+    requires value_in { slice_index values.now (element_count board.now) < depth_of board.now + 1 }
+    ensures exact { state.new ≡ with_pointer (slice_index values.now (element_count board.now)) state.old }
+    ensures fits { Fits board.now state.new }
+{
+    state.seq.sp = values[board.element_count()] as u8;
+}
+
 /// The state at a control address that has what is given.
-#[tactic(auto, unfolding(crate::specs::Start::state_with, mw_cycle::specs::State::cleared, mw_board::specs::Depth::depth_of))]
+#[tactic(auto, unfolding(crate::specs::Start::state_with), using(crate::proofs::Starts::value_in, crate::proofs::Starts::pointer_in, crate::proofs::Starts::settable_count))]
 fn state_with(board: &Board, address: u16, given: Given) -> State
     requires low { address < 4096 }
     requires given { IsGiven board.now (settables_of board.now) (given_seen given) }
@@ -228,23 +247,9 @@ fn state_with(board: &Board, address: u16, given: Given) -> State
     ensures fits { Fits board.now result }
 {
     let Given { values, memory, .. } = given;
-    let mut state = State {
-        at: address,
-        regs: [0; 16],
-        q: 0,
-        mar: 0,
-        ir: 0,
-        flips: 0,
-        seq: Seq {
-            pc: 0,
-            r: 0,
-            stack: [0; 5],
-            sp: 0,
-        },
-        memory,
-    };
+    let mut state = State::begun(board, address, memory);
     set_elements(board, &mut state, &values);
-    state.seq.sp = values[board.element_count()] as u8;
+    set_pointer(board, &mut state, &values);
     state
 }
 

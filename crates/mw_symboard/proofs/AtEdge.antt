@@ -3,6 +3,7 @@ use Rattle.std.proofs.Common.{◌≡◌, ℕ, ◌<◌, ◌≤◌, ◌==◌, List
 use Rattle.std.proofs.lemmas.Bool.Decides.{nat_tests}
 use Rattle.mw_board.specs.declared.parts.BoardParts.{BoardParts}
 use Rattle.mw_board.specs.Depth.{depth_of}
+use Rattle.mw_board.proofs.Elements.{words_least}
 use Rattle.mw_cycle.specs.declared.elements.Element.{Element}
 use Rattle.mw_cycle.specs.declared.elements.Element.TheVariants.{Register, Q, Mar, Ir, FlipFlop, Pc, R, StackWord}
 use Rattle.mw_cycle.specs.Elements.{IsElement, bits_of}
@@ -63,8 +64,7 @@ some_later told tnew w (Some v) later is = later v is
 
 -- a stack has a word
 pub depth_some : (board : BoardParts) → 1 ≤ depth_of board
-unfolding depth_of
-depth_some board = omega arith
+depth_some board = omega (arith, words_least board)
 
 -- the stack pointer stays within the stack
 pub sp_within : (move : StackMove) (depth sp : ℕ) → sp ≤ depth → sp_after move depth sp ≤ depth

@@ -4,6 +4,7 @@ use Rattle.std.specs.Prelude.{None}
 use Rattle.mw_board.specs.declared.parts.BoardParts.{BoardParts}
 use Rattle.mw_board.specs.Depth.{depth_of}
 use Rattle.mw_board.specs.Elements.{element_count}
+use Rattle.mw_board.proofs.Elements.{count_of}
 use Rattle.mw_cycle.specs.declared.elements.Element.{Element}
 use Rattle.mw_cycle.specs.declared.elements.Element.TheVariants.{Register, Q, Mar, Ir, FlipFlop, Pc, R, StackWord}
 use Rattle.mw_cycle.specs.Elements.{IsElement, bits_of, element_of, pc_number}
@@ -15,7 +16,6 @@ use Rattle.mw_symboard.specs.Kinds.{AreInputs}
 use Rattle.mw_symboard.specs.Turns.{AreNoLater, IsSymbolic, Symbolic}
 use Rattle.mw_symboard.specs.Parts.{AreElements, AreParts}
 use Rattle.mw_cycle.specs.BoardTerms.{Parts, term_of_part}
-use Rattle.mw_symboard.proofs.PartElements.{count_of}
 
 -- the number of an element
 pub number_of : BoardParts → Element → ℕ

@@ -3,17 +3,10 @@ use Rattle.std.proofs.Common.{◌≡◌, ℕ, ◌+◌, ◌-◌, ◌<◌, ◌≤�
 use Rattle.mw_board.specs.declared.parts.BoardParts.{BoardParts}
 use Rattle.mw_board.specs.Depth.{depth_of}
 use Rattle.mw_board.specs.Elements.{element_count}
-use Rattle.mw_board.proofs.Elements.{count_is}
+use Rattle.mw_board.proofs.Elements.{count_of}
 use Rattle.mw_cycle.specs.Elements.{element_of, pc_number}
 use Rattle.mw_cycle.proofs.Values.{by_number}
 use Rattle.mw_cycle.specs.BoardTerms.{Parts, term_of_part}
-
--- how many elements there are
-pub count_of : (board : BoardParts) → element_count board ≡ 21 + length board.flipflop + depth_of board
-unfolding depth_of
-count_of board =
-    let count = count_is board in
-    omega arith
 
 sum_is : (n k : ℕ) → k ≤ n → k + (n - k) ≡ n
 sum_is n k past = omega (arith, past)

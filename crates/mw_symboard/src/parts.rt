@@ -88,7 +88,6 @@ impl Parts {
     }
 
     /// The term of an element of the board.
-    #[tactic(auto, unfolding(mw_board::specs::Depth::depth_of))]
     pub(crate) fn term(&self, board: &Board, element: Element) -> Term
         requires there { IsElement board.now element }
         requires regs { length self.now.regs ≡ 16 }

@@ -13,7 +13,7 @@ returns-clause-exact c =
     let past : element_count c.args.board.now ≤ c.loop-number.number = rw c.element_count-number-end.ensures at
     c.loop-number-test.false in
     settables_all c.args.board.now c.loop-number.number c.loop-number.elements.items _ c.loop-number.invariant past
-    (rw c.in_ok-new.ensures at c.in_ok-push.ensures.items)
+    (rw c.in_ok-stack_pointer.ensures at c.in_ok-push.ensures.items)
 
 pub returns-clause-bounded : goal.returns-clause-bounded
 returns-clause-bounded c =
@@ -22,5 +22,5 @@ returns-clause-bounded c =
     let all : c.push.new.self.items
     ≡ settables_of c.args.board.now = settables_all c.args.board.now c.loop-number.number
     c.loop-number.elements.items _ c.loop-number.invariant past
-    (rw c.in_ok-new.ensures at c.in_ok-push.ensures.items) in
+    (rw c.in_ok-stack_pointer.ensures at c.in_ok-push.ensures.items) in
     rw all (settables_bounded c.args.board.now c.parts.ensures.valid)

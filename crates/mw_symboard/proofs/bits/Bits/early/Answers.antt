@@ -72,7 +72,7 @@ returns-in-One-clause-listed c =
 
 pub returns-in-Full-clause-listed : goal.returns-in-Full-clause-listed
 returns-in-Full-clause-listed c =
-    let full = c.from.ensures ∙ ap (λ depth. num (c.args.sp == depth)) c.depth.ensures in
+    let full = c.from.ensures ∙ ap (λ depth. num (c.args.sp == depth)) c.depth.ensures.exact in
     constant_bit c.constant-in-Full.result c.from.result (early_words c.args.board.now c.args.parts.now c.args.sp c.args.line c.args.bit) c.args.terms.now c.constant-in-Full.new.terms c.args.words.now c.args.self.now
     (λ l. ap (λ n. bit_ended c.args.self.now (with_constant n 1 l)) full
     ∙ sym (ap (λ (bit : Bit). early_words c.args.board.now c.args.parts.now c.args.sp c.args.line bit c.args.self.now l) c.in-Full.is))

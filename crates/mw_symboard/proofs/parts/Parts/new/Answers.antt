@@ -1,7 +1,8 @@
 use Rattle.std.proofs.Common.{◌≡◌, ◌∙◌, ◌+◌, ◌<◌, length, slice_index, ap, arith, rules}
 use Rattle.std.proofs.lemmas.List.{get_or_read}
 use Rattle.mw_board.specs.Depth.{depth_of}
-use Rattle.mw_symboard.proofs.PartElements.{count_of, parts_are}
+use Rattle.mw_board.proofs.Elements.{count_of}
+use Rattle.mw_symboard.proofs.PartElements.{parts_are}
 use Rattle.mw_symboard.proofs.parts.Parts.new.Goals as goal
 
 pub copied-requires : goal.copied-requires
