@@ -1,8 +1,13 @@
 -- The outside of a run.
-use Rattle.std.specs.Prelude.{ℕ, ◌<◌, ◌^◌, List, Bool, false, drop, slice_index, slice_index_or}
+use Rattle.std.specs.Prelude.{◌≡◌, ℕ, ◌<◌, ◌^◌, List, [], ◌∷◌, ◌++◌, Bool, false, ◌==◌, if◌then◌else◌, drop, map}
+use Rattle.std.specs.Prelude.{slice_index, slice_index_or, slice_set}
+use Rattle.mw_base.specs.Words.{num}
 use Rattle.mw_board.specs.declared.parts.BoardParts.{BoardParts}
 use Rattle.mw_cycle.specs.declared.environment.Clock.{Clock}
+use Rattle.mw_cycle.specs.declared.series.Series.{Series}
+use Rattle.mw_cycle.specs.declared.series.Series.TheVariants.{Inputs, Line, Noise}
 use Rattle.mw_cycle.specs.declared.state.CycleIn.{CycleIn}
+use Rattle.mw_cycle.specs.Series.{width_of}
 
 -- the interrupt bit per cycle, the noise word per cycle, and the input words by number taken; past its end each list is 0
 pub record Environment : Type 0 where
@@ -38,3 +43,73 @@ rest_at env place = record {
 -- what is left of an environment is again one
 abbrev pub RestsAreEnvironments : Type 0
 RestsAreEnvironments = (board : BoardParts) (env : Environment) (place : Clock) → IsEnvironment board env → IsEnvironment board (rest_at env place)
+
+-- ---- list by list
+
+-- the values of a list, as numbers
+abbrev pub values_of : Environment → Series → List ℕ
+values_of env Inputs = env.inputs
+values_of env Line = map num env.line
+values_of env Noise = env.noise
+
+-- the environment whose lists have these values
+abbrev pub with_lists : (Series → List ℕ) → Environment
+with_lists values = record {
+  line = map (λ value. value == 1) (values Line);
+  noise = values Noise;
+  inputs = values Inputs;
+}
+
+-- an environment that has nothing but 0
+abbrev pub no_values : Environment
+no_values = with_lists (λ series. [])
+
+-- with values behind those of a list
+abbrev pub with_values : Series → List ℕ → Environment → Environment
+with_values Inputs values env = record env { inputs = env.inputs ++ values }
+with_values Line values env = record env { line = env.line ++ map (λ value. value == 1) values }
+with_values Noise values env = record env { noise = env.noise ++ values }
+
+-- with another value at a number of a list
+abbrev pub with_value : Series → (number value : ℕ) → Environment → Environment
+with_value Inputs number value env = record env { inputs = slice_set env.inputs number value }
+with_value Line number value env = record env { line = slice_set env.line number (value == 1) }
+with_value Noise number value env = record env { noise = slice_set env.noise number value }
+
+-- how far a run has come in a list: the input words go by their number, and the others by cycle
+abbrev pub place_in : Series → Clock → ℕ
+place_in Inputs clock = clock.taken
+place_in other clock = clock.cycle
+
+-- an item before those that are left without the zeros at their end
+abbrev pub before_trimmed : ℕ → List ℕ → List ℕ
+before_trimmed x [] = if x == 0 then [] else x ∷ []
+before_trimmed x (y ∷ rest) = x ∷ y ∷ rest
+
+-- a list without the zeros at its end
+unfoldable pub trimmed : List ℕ → List ℕ
+trimmed [] = []
+trimmed (x ∷ rest) = before_trimmed x (trimmed rest)
+
+-- an environment without the zeros at its lists' ends
+abbrev pub shortened : Environment → Environment
+shortened env = with_lists (λ series. trimmed (values_of env series))
+
+-- each value of an environment has the width of its list
+abbrev pub ValuesHaveWidths : Type 0
+ValuesHaveWidths = (board : BoardParts) (env : Environment) (series : Series) (i : ℕ) → IsEnvironment board env
+    → slice_index (values_of env series) i < 2 ^ width_of board.width series
+
+-- an environment is what its lists make
+abbrev pub ListsAreAll : Type 0
+ListsAreAll = (env : Environment) → with_lists (values_of env) ≡ env
+
+-- what is left of an environment is what is left of each list
+abbrev pub RestsAreOfLists : Type 0
+RestsAreOfLists = (env : Environment) (place : Clock) (series : Series)
+    → values_of (rest_at env place) series ≡ drop (place_in series place) (values_of env series)
+
+-- an environment without the zeros at its lists' ends is again one
+abbrev pub ShortenedAreEnvironments : Type 0
+ShortenedAreEnvironments = (board : BoardParts) (env : Environment) → IsEnvironment board env
+    → IsEnvironment board (shortened env)

@@ -2,6 +2,7 @@ pub mod Control
 pub mod Microword
 pub mod State
 pub mod Elements
+pub mod Series
 pub mod Environment
 pub mod Trimmed
 pub mod Cycle

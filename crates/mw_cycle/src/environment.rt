@@ -1,9 +1,14 @@
 // The outside of a run: the interrupt line, the undefined bits and the input words.
-ghost use Rattle.std.specs.Prelude.{◌≡◌, ◌<◌, slice_index_or};
-ghost use Rattle.mw_cycle.specs.Environment.{Environment, given_at};
+ghost use Rattle.std.specs.Prelude.{◌≡◌, ◌∷◌, [], ◌<◌, ◌≤◌, ◌^◌, IfOk, OnOk, length};
+ghost use Rattle.std.specs.Prelude.{slice_index, slice_index_or, take};
+ghost use Rattle.mw_cycle.specs.Environment.{Environment, given_at, no_values, shortened, trimmed, values_of};
+ghost use Rattle.mw_cycle.specs.Environment.{with_value, with_values};
+ghost use Rattle.mw_cycle.specs.Series.{width_of};
 
+use crate::series::Series;
 use crate::state::CycleIn;
-use mw_base::Event;
+use mw_base::{Event, NoMemory};
+use std::alloc::Global;
 use std::marker::Model;
 
 /// How far a run has come.
@@ -16,7 +21,7 @@ pub struct Clock {
 }
 
 impl Clock {
-    ghost use Rattle.std.specs.Prelude.{◌+◌, ◌^◌};
+    ghost use Rattle.std.specs.Prelude.{◌+◌};
     ghost use Rattle.mw_cycle.specs.Run.{clock_after};
 
     /// The place after a cycle with this event, if any.
@@ -74,5 +79,107 @@ impl Env {
             line: item_or(&self.line, clock.cycle, false),
             input: item_or(&self.inputs, clock.taken, 0),
         }
+    }
+
+    /// One that has nothing but 0.
+    pub fn nothing(alloc: Global) -> Env
+        ensures { result ≡ no_values }
+    {
+        Env {
+            line: Vec::new(alloc),
+            noise: Vec::new(alloc),
+            inputs: Vec::new(alloc),
+        }
+    }
+
+    /// Another that is the same.
+    ///
+    /// # Errors
+    ///
+    /// Memory ran out.
+    pub fn copied(&self, alloc: Global) -> Result<Env, NoMemory>
+        ensures { IfOk result (λ env. env ≡ self.now) }
+    {
+        Ok(Env {
+            line: Vec::from_slice(alloc, &self.line)?,
+            noise: Vec::from_slice(alloc, &self.noise)?,
+            inputs: Vec::from_slice(alloc, &self.inputs)?,
+        })
+    }
+
+    /// How many values a list has.
+    pub fn length(&self, series: Series) -> usize
+        ensures { result ≡ length (values_of self.now series) }
+    {
+        match series {
+            Series::Inputs => self.inputs.len(),
+            Series::Line => self.line.len(),
+            Series::Noise => self.noise.len(),
+        }
+    }
+
+    /// The value of a list with a number.
+    pub fn value(&self, series: Series, number: usize) -> u32
+        ensures { result ≡ slice_index (values_of self.now series) number }
+    {
+        match series {
+            Series::Inputs => item_or(&self.inputs, number as u64, 0),
+            Series::Line => u32::from(item_or(&self.line, number as u64, false)),
+            Series::Noise => u32::from(item_or(&self.noise, number as u64, 0)),
+        }
+    }
+
+    /// How many values a list has without the zeros at its end.
+    pub fn kept(&self, series: Series) -> usize
+        ensures exact { take result (values_of self.now series) ≡ trimmed (values_of self.now series) }
+        ensures within { result ≤ length (values_of self.now series) }
+    {
+        let mut kept = self.length(series);
+        while kept > 0 && self.value(series, kept - 1) == 0 {
+            kept -= 1;
+        }
+        kept
+    }
+
+    /// Appends a value to a list.
+    ///
+    /// # Errors
+    ///
+    /// Memory ran out.
+    pub fn push(&mut self, series: Series, value: u32) -> Result<(), NoMemory>
+        requires { value < 2 ^ width_of 32 series }
+        ensures { OnOk result (self.new ≡ with_values series (value ∷ []) self.old) }
+    {
+        match series {
+            Series::Inputs => self.inputs.push(value)?,
+            Series::Line => self.line.push(value == 1)?,
+            Series::Noise => self.noise.push(value as u16)?,
+        }
+        Ok(())
+    }
+
+    /// Changes the value of a list with a number.
+    pub fn set(&mut self, series: Series, number: usize, value: u32)
+        requires there { number < length (values_of self.old series) }
+        requires small { value < 2 ^ width_of 32 series }
+        ensures { self.new ≡ with_value series number value self.old }
+    {
+        match series {
+            Series::Inputs => self.inputs[number] = value,
+            Series::Line => self.line[number] = value == 1,
+            Series::Noise => self.noise[number] = value as u16,
+        }
+    }
+
+    /// Takes the zeros off its lists' ends.
+    pub fn shorten(&mut self)
+        ensures { self.new ≡ shortened self.old }
+    {
+        let inputs = self.kept(Series::Inputs);
+        let line = self.kept(Series::Line);
+        let noise = self.kept(Series::Noise);
+        self.inputs.truncate(inputs);
+        self.line.truncate(line);
+        self.noise.truncate(noise);
     }
 }

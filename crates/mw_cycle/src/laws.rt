@@ -1,6 +1,7 @@
 // Laws of runs, of their decided bits, of their boundaries and of their environments.
 ghost use Rattle.mw_cycle.specs.Decided.{BitsGoOn};
-ghost use Rattle.mw_cycle.specs.Environment.{RestsAreEnvironments};
+ghost use Rattle.mw_cycle.specs.Environment.{ListsAreAll, RestsAreEnvironments, RestsAreOfLists};
+ghost use Rattle.mw_cycle.specs.Environment.{ShortenedAreEnvironments, ValuesHaveWidths};
 ghost use Rattle.mw_cycle.specs.Run.{RunsGoOn};
 ghost use Rattle.mw_cycle.specs.Boundary.{BoundariesGoOn, SegmentsEndAtBoundaries};
 
@@ -29,4 +30,24 @@ pub fn boundaries_go_on()
 /// The law of what is left: at each place, what is left of an environment is again one.
 pub fn rests_are_environments()
     ensures { RestsAreEnvironments }
+{}
+
+/// The law of widths: each value of an environment has the width of its list.
+pub fn values_have_widths()
+    ensures { ValuesHaveWidths }
+{}
+
+/// The law of what is left of lists: what is left of an environment at a place is what is left of each list.
+pub fn rests_are_of_lists()
+    ensures { RestsAreOfLists }
+{}
+
+/// The law of lists: an environment is what its lists make.
+pub fn lists_are_all()
+    ensures { ListsAreAll }
+{}
+
+/// The law of zeros at the end: without those at its lists' ends an environment is again one.
+pub fn shortened_are_environments()
+    ensures { ShortenedAreEnvironments }
 {}

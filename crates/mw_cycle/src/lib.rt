@@ -12,14 +12,17 @@ mod flipflops;
 mod laws;
 mod microword;
 mod one_cycle;
+mod series;
 mod state;
 
 pub use datapath::{Datapath, Whole};
 pub use elements::{Element, element_of};
 pub use environment::{Clock, Env};
 pub use laws::{
-    bits_go_on, boundaries_go_on, rests_are_environments, runs_go_on, segments_end_at_boundaries,
+    bits_go_on, boundaries_go_on, lists_are_all, rests_are_environments, rests_are_of_lists,
+    runs_go_on, segments_end_at_boundaries, shortened_are_environments, values_have_widths,
 };
 pub use microword::Microword;
 pub use one_cycle::cycle;
+pub use series::Series;
 pub use state::{CycleIn, Nets, State};

@@ -1,0 +1,199 @@
+-- Environments list by list.
+use Rattle.std.proofs.Common.{◌≡◌, ◌≢◌, ℕ, zero, suc, ◌+◌, ◌-◌, ◌^◌, ◌<◌, ◌≤◌, Bool, true, false, cond, ◌==◌, lit<}
+use Rattle.std.proofs.Common.{List, [], ◌∷◌, ◌++◌, length, map, take, slice_index, append_assoc, append-nil}
+use Rattle.std.proofs.Common.{length-append, refl, sym, ap, ◌∙◌, subst, arith}
+use Rattle.std.proofs.lemmas.Bool.Decides.{nat_tests}
+use Rattle.std.proofs.lemmas.List.{drop-map, length-map, map-append, take-map}
+use Rattle.std.proofs.lemmas.Nat.{pow_pos}
+use Rattle.mw_base.specs.Words.{num}
+use Rattle.mw_board.specs.declared.parts.BoardParts.{BoardParts}
+use Rattle.mw_cycle.specs.declared.series.Series.{Series}
+use Rattle.mw_cycle.specs.declared.series.Series.TheVariants.{Inputs, Line, Noise}
+use Rattle.mw_cycle.specs.Series.{width_of}
+use Rattle.mw_cycle.specs.Environment.{Environment, IsEnvironment, before_trimmed, no_values, shortened}
+use Rattle.mw_cycle.specs.Environment.{trimmed, values_of, with_values}
+use Rattle.mw_cycle.specs.Environment.{ListsAreAll, RestsAreOfLists, ShortenedAreEnvironments, ValuesHaveWidths}
+
+-- ---- bits as numbers
+
+pub bits_below : (bits : List Bool) (n : ℕ) → slice_index (map num bits) n < 2
+bits_below [] n = lit< tt
+bits_below (true ∷ rest) zero = lit< tt
+bits_below (false ∷ rest) zero = lit< tt
+bits_below (bit ∷ rest) (suc n) = bits_below rest n
+
+pub bits_back : (bits : List Bool) → map (λ bit. bit == 1) (map num bits) ≡ bits
+bits_back [] = refl
+bits_back (true ∷ rest) = ap (λ bits. true ∷ bits) (bits_back rest)
+bits_back (false ∷ rest) = ap (λ bits. false ∷ bits) (bits_back rest)
+
+-- ---- lists without the zeros at their end
+
+-- nothing is taken of nothing
+take-nil : {A : Type 0} (n : ℕ) → take {A = A} n [] ≡ []
+take-nil zero = refl
+take-nil (suc n) = refl
+
+-- all numbers but 0 stand in the front of this length
+pub record IsFront (xs : List ℕ) (kept n : ℕ) : Type 0 where
+  pub within : kept ≤ n
+  pub last : (k : ℕ) → kept ≡ suc k → slice_index xs k ≢ 0
+  pub rest : (i : ℕ) → kept ≤ i → i < n → slice_index xs i ≡ 0
+
+-- a number that isn't 0 fails the test
+nonzero_test : (x : ℕ) → x ≢ 0 → (x == 0) ≡ false
+nonzero_test x other = grind (arith, nat_tests)
+
+-- what is put before numbers below a bound is below it
+cond_below : (bound x : ℕ) (b : Bool) → 0 < bound → x < bound → (n : ℕ) → slice_index (cond b [] (x ∷ [])) n < bound
+cond_below bound x true some here n = some
+cond_below bound x false some here zero = here
+cond_below bound x false some here (suc n) = some
+
+before_below : (bound x : ℕ) (rest : List ℕ) → 0 < bound → x < bound → ((n : ℕ) → slice_index rest n < bound)
+    → (n : ℕ) → slice_index (before_trimmed x rest) n < bound
+before_below bound x [] some here each n = cond_below bound x (x == 0) some here n
+before_below bound x (y ∷ rest) some here each zero = here
+before_below bound x (y ∷ rest) some here each (suc n) = each n
+
+-- a number before those that are left
+put_before : (x k : ℕ) (xs : List ℕ) → k ≤ length xs → (k ≡ 0 → x ≢ 0)
+    → before_trimmed x (take k xs) ≡ x ∷ take k xs
+put_before x zero xs within other =
+    let tested : (x == 0) ≡ false = nonzero_test x (other refl) in
+    rw tested refl
+put_before x (suc k) [] within other = absurd (omega arith)
+put_before x (suc k) (y ∷ ys) within other = refl
+
+-- the front is what is left without the zeros
+pub front_is : (xs : List ℕ) (kept : ℕ) → IsFront xs kept (length xs) → take kept xs ≡ trimmed xs
+unfolding trimmed
+front_is [] kept is = take-nil kept
+front_is (x ∷ xs) zero is =
+    let none : x ≡ 0 = is.rest 0 (omega arith) (omega arith) in
+    let later = front_is xs zero (record {
+      within = omega arith;
+      last = λ k e. absurd cc;
+      rest = λ i after within.
+          is.rest (suc i) (omega arith) (omega arith);
+    }) in
+    rw (sym later, none) refl
+front_is (x ∷ xs) (suc k) is =
+    let fewer : k ≤ length xs = omega (arith, is.within) in
+    let later = front_is xs k (record {
+      within = fewer;
+      last = λ j e. is.last (suc j) (ap suc e);
+      rest = λ i after
+          within. is.rest (suc i) (omega arith) (omega arith);
+    }) in
+    rw (sym later) (sym (put_before x k xs fewer (λ e. is.last 0 (ap suc e))))
+
+-- the front of a list up to its last number that isn't 0
+pub kept_front : (xs : List ℕ) (kept : ℕ) → kept ≤ length xs
+    → ((i : ℕ) → kept ≤ i → i < length xs → slice_index xs i ≡ 0) → (0 < kept → slice_index xs (kept - 1) ≢ 0)
+    → take kept xs ≡ trimmed xs
+kept_front xs kept within rest last = front_is xs kept (record {
+  within = within;
+  last = λ k is.
+      let place : kept - 1 ≡ k = omega arith in
+      subst (λ i. slice_index xs i ≢ 0) place (last (omega arith));
+  rest = rest;
+})
+
+-- the numbers of a front are the list's
+pub trimmed_below : (bound : ℕ) (xs : List ℕ) → 0 < bound → ((n : ℕ) → slice_index xs n < bound) → (n : ℕ)
+    → slice_index (trimmed xs) n < bound
+unfolding trimmed
+trimmed_below bound [] some each n = some
+trimmed_below bound (x ∷ xs) some each n = before_below bound x (trimmed xs) some (each 0)
+    (trimmed_below bound xs some (λ k. each (suc k))) n
+
+-- ---- lists of environments
+
+pub values_have_widths : ValuesHaveWidths
+values_have_widths board env Inputs i is = is.inputs i
+values_have_widths board env Line i is = bits_below env.line i
+values_have_widths board env Noise i is = is.noise i
+
+pub lists_are_all : ListsAreAll
+lists_are_all env = rw (bits_back env.line) refl
+
+pub rests_are_of_lists : RestsAreOfLists
+rests_are_of_lists env place Inputs = refl
+rests_are_of_lists env place Line = sym (drop-map num place.cycle env.line)
+rests_are_of_lists env place Noise = refl
+
+pub shortened_are_environments : ShortenedAreEnvironments
+shortened_are_environments board env is = record {
+  noise = trimmed_below (2 ^ 14) env.noise (lit< tt) is.noise;
+  inputs = trimmed_below (2 ^ board.width) env.inputs (pow_pos board.width) is.inputs;
+}
+
+-- bits of the front that has their numbers but the zeros at the end
+bits_kept : (bits : List Bool) (kept : ℕ) → take kept (map num bits) ≡ trimmed (map num bits)
+    → take kept bits ≡ map (λ bit. bit == 1) (trimmed (map num bits))
+bits_kept bits kept is =
+    sym (bits_back (take kept bits)) ∙ ap (map (λ bit. bit == 1)) (sym (take-map num kept bits) ∙ is)
+
+abbrev pub lists_are : List Bool → (noise inputs : List ℕ) → Environment
+lists_are line noise inputs = record { line = line; noise = noise; inputs = inputs }
+
+-- the fronts of lists that have all but the zeros at the ends
+pub fronts_are : (env : Environment) (line noise inputs : ℕ)
+    → take line (values_of env Line) ≡ trimmed (values_of env Line)
+    → take noise (values_of env Noise) ≡ trimmed (values_of env Noise)
+    → take inputs (values_of env Inputs) ≡ trimmed (values_of env Inputs)
+    → lists_are (take line env.line) (take noise env.noise) (take inputs env.inputs) ≡ shortened env
+fronts_are env line noise inputs one two three = rw (bits_kept env.line line one, two, three) refl
+
+-- ---- values behind those of a list
+
+pub behind_length : (series : Series) (values : List ℕ) (env : Environment)
+    → length (values_of (with_values series values env) series) ≡ length (values_of env series) + length values
+behind_length Inputs values env = length-append env.inputs values
+behind_length Line values env =
+    length-map (env.line ++ map (λ value. value == 1) values) num
+    ∙ length-append env.line (map (λ value. value == 1) values)
+    ∙ ap (λ n. n + length (map (λ value. value == 1) values)) (sym (length-map env.line num))
+    ∙ ap (λ n. length (map num env.line) + n) (length-map values (λ value. value == 1))
+behind_length Noise values env = length-append env.noise values
+
+pub behind_again : (series : Series) (first second : List ℕ) (env : Environment)
+    → with_values series second (with_values series first env) ≡ with_values series (first ++ second) env
+behind_again Inputs first second env =
+    ap (λ xs. let made : Environment = record env { inputs = xs } in made) (append_assoc env.inputs first second)
+behind_again Line first second env =
+    ap (λ xs. let made : Environment = record env { line = xs } in made)
+    (append_assoc env.line (map (λ value. value == 1) first) (map (λ value. value == 1) second)
+    ∙ ap (λ xs. env.line ++ xs) (sym (map-append (λ value. value == 1) first second)))
+behind_again Noise first second env =
+    ap (λ xs. let made : Environment = record env { noise = xs } in made) (append_assoc env.noise first second)
+
+pub none_behind : (series : Series) (env : Environment) → with_values series [] env ≡ env
+none_behind Inputs env = rw (append-nil env.inputs) refl
+none_behind Line env = rw (append-nil env.line) refl
+none_behind Noise env = rw (append-nil env.noise) refl
+
+-- a number behind those of a list
+push_below : (bound : ℕ) (xs : List ℕ) (v : ℕ) → ((i : ℕ) → slice_index xs i < bound) → v < bound → (i : ℕ)
+    → slice_index (xs ++ (v ∷ [])) i < bound
+push_below bound [] v each here zero = here
+push_below bound [] v each here (suc i) = each zero
+push_below bound (x ∷ xs) v each here zero = each zero
+push_below bound (x ∷ xs) v each here (suc i) = push_below bound xs v (λ j. each (suc j)) here i
+
+pub behind_is : (board : BoardParts) (series : Series) (value : ℕ) (env : Environment)
+    → value < 2 ^ width_of board.width series → IsEnvironment board env
+    → IsEnvironment board (with_values series (value ∷ []) env)
+behind_is board Inputs value env small is = record {
+  noise = is.noise;
+  inputs = push_below (2 ^ board.width) env.inputs value is.inputs small;
+}
+behind_is board Line value env small is = record { noise = is.noise; inputs = is.inputs }
+behind_is board Noise value env small is = record {
+  noise = push_below (2 ^ 14) env.noise value is.noise small;
+  inputs = is.inputs;
+}
+
+pub none_is : (board : BoardParts) → IsEnvironment board no_values
+none_is board = record { noise = λ i. lit< tt; inputs = λ i. pow_pos board.width }

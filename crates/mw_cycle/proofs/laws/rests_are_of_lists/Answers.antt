@@ -1,0 +1,5 @@
+use Rattle.mw_cycle.proofs.Lists.{rests_are_of_lists}
+use Rattle.mw_cycle.proofs.laws.rests_are_of_lists.Goals as goal
+
+pub returns : goal.returns
+returns c = rests_are_of_lists

@@ -1,0 +1,90 @@
+// The lists of an environment: what texts call them, how wide their values are, and the variables that stand for these.
+ghost use Rattle.std.specs.Prelude.{◌≡◌, ◌≤◌};
+ghost use Rattle.mw_cycle.specs.Series.{all_series, by_cycle, keyword_of, kind_of, series_named, value_named, width_of};
+
+use mw_term::WordKind;
+
+/// A list of an environment: what isn't in it is 0.
+#[derive(Clone, Copy, Debug, PartialEq, Eq)]
+pub enum Series {
+    /// The input words, by their number.
+    Inputs,
+    /// The interrupt line, by cycle.
+    Line,
+    /// The undefined bits, by cycle.
+    Noise,
+}
+
+/// All lists, in the order of texts: the input words, and behind them those that go by cycle.
+const ALL: [Series; 3] = [Series::Inputs, Series::Line, Series::Noise];
+
+impl Series {
+    /// All lists, in the order of texts.
+    pub fn all() -> &'static [Series]
+        ensures { result.now ≡ all_series }
+    {
+        &ALL
+    }
+
+    /// Those that go by cycle, in the order of texts.
+    pub fn by_cycle() -> &'static [Series]
+        ensures { result.now ≡ by_cycle }
+    {
+        &ALL[1..]
+    }
+
+    /// What texts call it.
+    pub fn keyword(self) -> &'static [u8]
+        ensures { result.now ≡ keyword_of self }
+    {
+        match self {
+            Series::Inputs => b"inputs",
+            Series::Line => b"line",
+            Series::Noise => b"noise",
+        }
+    }
+
+    /// How many bits a value of it has, where an input word has so many.
+    pub fn width(self, input: u8) -> u8
+        requires { input ≤ 32 }
+        ensures exact { result ≡ width_of input self }
+        ensures most { result ≤ 32 }
+    {
+        match self {
+            Series::Inputs => input,
+            Series::Line => 1,
+            Series::Noise => 14,
+        }
+    }
+
+    /// The list that texts call so.
+    #[tactic(auto, unfolding(crate::specs::Series::series_named))]
+    pub fn named(name: &[u8]) -> Option<Series>
+        ensures { result ≡ series_named name.now }
+    {
+        ALL.iter().copied().find(|series| name == series.keyword())
+    }
+
+    /// The variable of its value with a number.
+    pub fn kind(self, number: u32) -> WordKind
+        ensures { result ≡ kind_of self number }
+    {
+        match self {
+            Series::Inputs => WordKind::Input(number),
+            Series::Line => WordKind::Line(number),
+            Series::Noise => WordKind::Noise(number),
+        }
+    }
+
+    /// The list and the number of the value that a variable stands for, where it is one of an environment.
+    pub fn of_kind(kind: WordKind) -> Option<(Series, u32)>
+        ensures { result ≡ value_named kind }
+    {
+        match kind {
+            WordKind::Input(number) => Some((Series::Inputs, number)),
+            WordKind::Line(number) => Some((Series::Line, number)),
+            WordKind::Noise(number) => Some((Series::Noise, number)),
+            _ => None,
+        }
+    }
+}
