@@ -16,7 +16,7 @@ mod steps;
 mod tokens;
 mod trees;
 
-use mw_rowfile::{Fault, File, contents, wrong};
+use mw_rowfile::{Fault, File, contents, text_in, wrong};
 use mw_symrows::symbolic;
 use std::alloc::Global;
 
@@ -33,7 +33,7 @@ pub fn made(alloc: Global, words: &[String], files: &[File]) -> Result<Vec<u8>, 
         "pair" => pairs::read(alloc, given, files),
         "plain" => plain::read(alloc, files),
         "number" => numbers::read(alloc, given),
-        "diagrams" => diagrams::read(alloc, contents(files, "text")?),
+        "diagrams" => diagrams::read(alloc, text_in(files, "text")?),
         "alu" => parts::alu_table(alloc, given),
         "slice" => parts::slice_table(alloc, given),
         "described" => steps::run(alloc, given, files),

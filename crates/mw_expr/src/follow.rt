@@ -299,11 +299,7 @@ fn number_in(symbol: Symbol) -> Option<u128>
 fn this_follows(sign: Sign, symbol: Symbol, next: State) -> Option<State>
     ensures { option_map known result ≡ this_follows sign symbol (known next) }
 {
-    if symbol.is_sign(sign) {
-        Some(next)
-    } else {
-        None
-    }
+    symbol.is_sign(sign).then_some(next)
 }
 
 /// What a name after the dot of an element leaves to follow.

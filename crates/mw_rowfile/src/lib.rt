@@ -14,5 +14,5 @@ pub mod texts;
 
 pub use fault::{Fault, wrong};
 pub use reader::rows_of;
-pub use row::{Change, End, File, Row, RowFiles, Rows, Set, Work, contents, contents_in};
+pub use row::{Change, End, File, Row, RowFiles, Rows, Set, Work, contents, contents_in, text_in};
 pub use runner::{Worker, run};

@@ -122,3 +122,24 @@ pub fn contents<'a>(files: &'a [File], name: &str) -> Result<&'a [u8], Fault> {
         None => Err(wrong("the call reads a file that isn't there")),
     }
 }
+
+/// These bytes as a text.
+///
+/// # Errors
+///
+/// They are none.
+pub(crate) fn as_text(bytes: &[u8]) -> Result<&str, Fault> {
+    match str::from_utf8(bytes) {
+        Ok(text) => Ok(text),
+        Err(_) => Err(wrong("a file that is no text")),
+    }
+}
+
+/// The contents of the file that a call reads, as a text.
+///
+/// # Errors
+///
+/// There is no file of this name, or it is no text.
+pub fn text_in<'a>(files: &'a [File], name: &str) -> Result<&'a str, Fault> {
+    as_text(contents(files, name)?)
+}

@@ -1,7 +1,7 @@
 // Runs rows.
-use crate::fault::{Fault, wrong};
+use crate::fault::Fault;
 use crate::reader::rows_of;
-use crate::row::{Change, End, File, Row, RowFiles, Rows, Work};
+use crate::row::{Change, End, File, Row, RowFiles, Rows, Work, as_text};
 use std::alloc::Global;
 use std::env::{self, Env};
 use std::fs::{self, Files};
@@ -29,14 +29,6 @@ fn is_under(keys: &[String], line: &str) -> bool {
     false
 }
 
-/// Bytes that are to be a text.
-fn text_of(bytes: &[u8]) -> Result<&str, Fault> {
-    match str::from_utf8(bytes) {
-        Ok(text) => Ok(text),
-        Err(_) => Err(wrong("a file that is changed is a text")),
-    }
-}
-
 /// A file's contents with a change.
 fn changed(
     alloc: Global,
@@ -45,12 +37,12 @@ fn changed(
     turned: bool,
 ) -> Result<Vec<u8>, Fault> {
     let mut lines = Vec::new(alloc);
-    for line in text_of(contents)?.lines() {
+    for line in as_text(contents)?.lines() {
         if !is_under(&change.without, line) {
             lines.push(line)?;
         }
     }
-    for line in text_of(&change.lines)?.lines() {
+    for line in as_text(&change.lines)?.lines() {
         lines.push(line)?;
     }
     if turned {

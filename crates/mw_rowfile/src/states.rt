@@ -3,7 +3,7 @@ ghost use Rattle.std.specs.Prelude.{◌<◌};
 
 use crate::fault::{Fault, wrong};
 use crate::named::{address, bit_of, hexadecimal, number_of, sequencer_of, set_word, word};
-use crate::row::{File, contents};
+use crate::row::{File, contents, text_in};
 use crate::spelled::words_of;
 use mw_base::Items;
 use mw_board::{Board, Store};
@@ -13,10 +13,7 @@ use std::alloc::Global;
 
 /// The words of a file.
 pub fn file_words(alloc: Global, files: &[File], name: &str) -> Result<Vec<String>, Fault> {
-    match str::from_utf8(contents(files, name)?) {
-        Ok(text) => words_of(alloc, text),
-        Err(_) => Err(wrong("a file that is no text")),
-    }
+    words_of(alloc, text_in(files, name)?)
 }
 
 /// The board of a file.

@@ -197,10 +197,7 @@ fn push_line(
 /// # Errors
 ///
 /// A line that isn't right, and want of memory.
-pub fn read(alloc: Global, text: &[u8]) -> Result<Vec<u8>, Fault> {
-    let Ok(text) = str::from_utf8(text) else {
-        return Err(wrong("no text"));
-    };
+pub fn read(alloc: Global, text: &str) -> Result<Vec<u8>, Fault> {
     let mut diagrams = Diagrams::new(alloc)?;
     let mut report = Vec::new(alloc);
     for line in text.lines() {

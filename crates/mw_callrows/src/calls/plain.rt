@@ -19,7 +19,7 @@ use mw_macro::Machine;
 use mw_rel::{Boundary, Job, Line, Relation, shape_of};
 use mw_rowfile::named::{address, hexadecimal, word};
 use mw_rowfile::states::board_of;
-use mw_rowfile::{Fault, File, contents, wrong};
+use mw_rowfile::{Fault, File, text_in, wrong};
 use std::alloc::Global;
 
 /// The number of an element, or another of 32 bits.
@@ -97,10 +97,7 @@ fn read_boundary(alloc: Global, text: &str) -> Result<Boundary, Fault> {
 }
 
 /// The boundaries of a text.
-fn read_boundaries(alloc: Global, text: &[u8]) -> Result<Vec<Boundary>, Fault> {
-    let Ok(text) = str::from_utf8(text) else {
-        return Err(wrong("no text"));
-    };
+fn read_boundaries(alloc: Global, text: &str) -> Result<Vec<Boundary>, Fault> {
     let mut boundaries = Vec::new(alloc);
     for line in text.lines() {
         boundaries.push(read_boundary(alloc, line)?)?;
@@ -216,7 +213,7 @@ fn refusal_in(
     alloc: Global,
     board: Board,
     machine: Machine,
-    text: &[u8],
+    text: &str,
 ) -> Result<Option<Cause>, Fault> {
     match read_boundaries(alloc, text) {
         Ok(boundaries) => refusal(alloc, board, machine, boundaries),
@@ -226,7 +223,7 @@ fn refusal_in(
 
 /// Why there is no job of a board and of these files.
 fn refusal_with(alloc: Global, board: Board, files: &[File]) -> Result<Option<Cause>, Fault> {
-    let text = contents(files, "text")?;
+    let text = text_in(files, "text")?;
     match machine_in(alloc, files, "k") {
         Ok(machine) => refusal_in(alloc, board, machine, text),
         Err(fault) => Err(fault),
