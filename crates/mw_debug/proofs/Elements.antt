@@ -1,23 +1,17 @@
 -- The elements of a script are few, and so are their bits.
-use Rattle.std.proofs.Common.{◌≡◌, ℕ, ◌^◌, ◌<◌, ◌≤◌, length, refl, arith, lit≤}
+use Rattle.std.proofs.Common.{ℕ, ◌^◌, ◌<◌, ◌≤◌, arith, lit≤}
 use Rattle.std.proofs.Math.Pow.{pow_mono}
 use Rattle.mw_board.specs.declared.parts.BoardParts.{BoardParts}
-use Rattle.mw_board.specs.Depth.{depth_of}
-use Rattle.mw_board.specs.Elements.{element_count, names_behind_of}
+use Rattle.mw_board.specs.Elements.{element_count}
 use Rattle.mw_board.specs.Valid.{IsBoard}
-use Rattle.mw_board.proofs.Elements.{count_is}
-
--- the names behind the flip-flops
-few_behind : (board : BoardParts) → length (names_behind_of board) ≡ 7
-unfolding depth_of
-few_behind board = refl
+use Rattle.mw_board.proofs.Elements.{count_of, words_few}
 
 -- their numbers have 32 bits
 pub few_elements : (board : BoardParts) (number : ℕ) → IsBoard board → number ≤ element_count board
     → number < 2 ^ 32
 few_elements board number is within =
-    let below : number < 43 = omega (arith, count_is board, few_behind board, is.few_flipflops, within) in
-    let more : 43 ≤ 2 ^ 32 = lit≤ tt in
+    let below : number < 47 = omega (arith, count_of board, words_few board, is.few_flipflops, within) in
+    let more : 47 ≤ 2 ^ 32 = lit≤ tt in
     omega (arith, below, more)
 
 -- of so few bits there are no more values

@@ -8,18 +8,12 @@ use mw_board::Board;
 use mw_cycle::State;
 use mw_sim::two_to;
 
-/// The name of the stack pointer.
-const STACK_POINTER: &[u8] = b"sp";
-
-/// The least number that is no value of the stack pointer.
-const POINTER_BOUND: u64 = 6;
-
 /// The number of the element with a name, if there is one.
 fn number_of_name(board: &Board, name: &[u8]) -> Option<usize>
     ensures exact { result ≡ number_of_name board.now name.now }
     ensures kept { IfSome result (λ number. IsElement board.now number) }
 {
-    if name == STACK_POINTER {
+    if name == board.stack_pointer_name() {
         Some(board.element_count())
     } else {
         board.element_number(name)
@@ -42,7 +36,7 @@ pub(crate) fn number_of(board: &Board, owner: &[u8], name: &[u8]) -> Option<usiz
 pub(crate) fn name_of(board: &Board, number: usize) -> &[u8]
     ensures { result.now ≡ name_of board.now number }
 {
-    board.element_name(number).unwrap_or(STACK_POINTER)
+    board.element_name(number).unwrap_or(board.stack_pointer_name())
 }
 
 /// The least number that is no value of the element with a number.
@@ -54,7 +48,7 @@ pub(crate) fn bound_of(board: &Board, number: usize) -> u64
     let _ = board.parts();
     match board.element_width(number) {
         Some(width) => two_to(width),
-        None => POINTER_BOUND,
+        None => u64::from(board.depth()) + 1,
     }
 }
 

@@ -4,7 +4,7 @@ use Rattle.std.specs.Prelude.{Option, Some, None, ok_or, is_none, not, nat_le, n
 use Rattle.std.specs.List.{All}
 use Rattle.std.proofs.lemmas.Bool.{and_parts}
 use Rattle.std.proofs.lemmas.Bool.Decides.{nat_tests}
-use Rattle.std.proofs.lemmas.List.Elements.{All-nil, All-cons, All-append}
+use Rattle.std.proofs.lemmas.List.Elements.{All-nil, All-cons, All-append, All-weaker}
 use Rattle.mw_base.specs.declared.cause.Cause.TheVariants.{BadSyntax, TooMany, ValueTooWide, Twice, UnknownElement}
 use Rattle.mw_base.specs.declared.cause.Cause.TheVariants.{NoStackPointer, NoBoundary, ShapesDiffer}
 use Rattle.mw_base.specs.declared.cursor.Dotted.{Dotted}
@@ -23,6 +23,7 @@ use Rattle.mw_asm.specs.declared.assembled.Label.{Label}
 use Rattle.mw_asm.specs.Labels.{label_named}
 use Rattle.mw_board.specs.declared.parts.BoardParts.{BoardParts}
 use Rattle.mw_board.specs.Depth.{depth_of}
+use Rattle.mw_board.proofs.Elements.{words_least}
 use Rattle.mw_expr.specs.Placed.{Placed}
 use Rattle.mw_macro.specs.Machine.{Description}
 use Rattle.mw_rel.specs.Job.{shape_of, memories_agree, AreForEachOther}
@@ -164,11 +165,14 @@ pub record IsMatched (board : BoardParts) (machine : Description) (relation : Re
 ended : (board : BoardParts) (machine : Description) (fault : TextFault) (known : Known) (block : Option Block)
     (relation : Relation) → AreLow known → finished (shape_of board machine) fault known.boundaries block ≡ Ok relation
     → AreForEachOther board machine relation
-unfolding EndsLow depth_of
+unfolding EndsLow
 ended board machine fault known None relation all is =
     let both = if_ok (nat_lt 0 (length known.boundaries)) (related known.boundaries (shape_of board machine)) relation
     (last_fault None NoBoundary) is in
-    subst (AreForEachOther board machine) both.1 (record { shape = refl; pointers = all.boundaries })
+    let within : (b : Boundary) → EndsLow b → b.sp ≤ depth_of board = λ b low. omega (arith, low, words_least board) in
+    let pointers = All-weaker EndsLow (λ (b : Boundary). b.sp ≤ depth_of board) within known.boundaries
+    all.boundaries in
+    subst (AreForEachOther board machine) both.1 (record { shape = refl; pointers = pointers })
 ended board machine fault known (Some block) relation all is = absurd cc
 
 pub matched : (board : BoardParts) (labels : List Label) (machine : Description) (text : List ℕ) (relation : Relation)

@@ -8,11 +8,10 @@ use Rattle.std.proofs.lemmas.List.{length-map}
 use Rattle.std.proofs.lemmas.List.Elements.{All-nil, All-cons, All-append}
 use Rattle.mw_board.specs.declared.flipflop.FlipFlop.{FlipFlop}
 use Rattle.mw_board.specs.declared.parts.BoardParts.{BoardParts}
-use Rattle.mw_board.specs.Depth.{depth_of}
 use Rattle.mw_board.specs.Elements.{Element, register_names, address_register_name, instruction_register_name}
 use Rattle.mw_board.specs.Elements.{names_behind_of, of_width, elements_of, element_count}
 use Rattle.mw_board.specs.Valid.{IsBoard}
-use Rattle.mw_board.proofs.Elements.{count_is}
+use Rattle.mw_board.proofs.Elements.{count_of, words_few}
 use Rattle.mw_expr.specs.Grammar.{is_dotted}
 use Rattle.mw_macro.specs.Machine.{Description}
 use Rattle.mw_macro.specs.Right.{IsBetween, IsMachine}
@@ -84,14 +83,10 @@ registers_wide (suc n) (w ∷ ws) all = All-cons IsWidth w (take n ws) (all 0 (o
     (registers_wide n ws (λ i below. all (suc i) (omega (arith, below))))
 
 -- there are few elements
-behind_few : (board : BoardParts) → length (names_behind_of board) ≡ 7
-unfolding depth_of
-behind_few board = refl
-
 elements_few : (board : BoardParts) → IsBoard board → element_count board ≤ 42
 elements_few board is =
-    let count = count_is board in
-    let last = behind_few board in
+    let count = count_of board in
+    let last = words_few board in
     let flips = is.few_flipflops in
     omega (arith, count, last, flips)
 

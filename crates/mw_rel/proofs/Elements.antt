@@ -8,9 +8,8 @@ use Rattle.std.proofs.lemmas.Option.{slice_get-map, unwrap_or-slice_get}
 use Rattle.std.proofs.Math.Seq.{take-nil}
 use Rattle.mw_base.specs.Words.{num, bit_of}
 use Rattle.mw_board.specs.declared.parts.BoardParts.{BoardParts}
-use Rattle.mw_board.specs.Depth.{depth_of}
-use Rattle.mw_board.specs.Elements.{Element, elements_of, element_count, element_width, names_behind_of}
-use Rattle.mw_board.proofs.Elements.{count_is}
+use Rattle.mw_board.specs.Elements.{Element, elements_of, element_count, element_width}
+use Rattle.mw_board.proofs.Elements.{count_of, words_few}
 use Rattle.mw_cycle.specs.Boundary.{numbers}
 use Rattle.mw_cycle.specs.declared.elements.Element.{Element as What}
 use Rattle.mw_cycle.specs.declared.elements.Element.TheVariants.{Register, Q, Mar, Ir, FlipFlop, Pc, R, StackWord}
@@ -124,14 +123,6 @@ values_are board s registers values n size all each =
 
 -- ---- the widths of a job's elements
 
-behind_few : (board : BoardParts) → length (names_behind_of board) ≡ 7
-unfolding depth_of
-behind_few board = refl
-
--- how many elements a board has
-pub count_few : (board : BoardParts) → element_count board ≡ 26 + length board.flipflop
-count_few board = omega (arith, count_is board, behind_few board)
-
 -- those of both sides
 pub widths_count : (job : Job) → IsJob job
     → length job.relation.shape.widths ≡ element_count job.board + job.machine.registers
@@ -151,7 +142,14 @@ widths_count job is =
 
 pub widths_few : (job : Job) → IsJob job → length job.relation.shape.widths ≤ 170
 widths_few job is =
-    omega (arith, widths_count job is, count_few job.board, is.board.few_flipflops, is.machine.right.registers)
+    omega (
+      arith,
+      widths_count job is,
+      count_of job.board,
+      words_few job.board,
+      is.board.few_flipflops,
+      is.machine.right.registers,
+    )
 
 -- ---- values of a pair whose states fit are words
 

@@ -7,12 +7,11 @@ use Rattle.std.proofs.lemmas.Nat.Bits.{same_from_bits_below}
 use Rattle.mw_base.specs.Words.{num, bit_of}
 use Rattle.mw_seq.specs.Sequencer.{Sequencer}
 use Rattle.mw_board.specs.declared.parts.BoardParts.{BoardParts}
-use Rattle.mw_board.specs.Depth.{depth_of}
 use Rattle.mw_board.specs.Elements.{element_count}
+use Rattle.mw_board.proofs.Elements.{count_of}
 use Rattle.mw_cycle.specs.Elements.{pc_number, element, value_of}
 use Rattle.mw_cycle.specs.State.{BoardState, Fits}
 use Rattle.mw_cycle.proofs.Values.{by_number}
-use Rattle.mw_rel.proofs.Elements.{count_few}
 
 -- ---- what has a number
 
@@ -98,22 +97,21 @@ same_regs board s t one other alike =
     same_number_lists s.regs t.regs (one.sixteen ∙ sym other.sixteen)
     (λ n within.
     let below : n < 16 = omega (arith, one.sixteen) in
-    sym (register_at board s n below) ∙ alike n (omega (arith, count_few board)) ∙ register_at board t n below)
+    sym (register_at board s n below) ∙ alike n (omega (arith, count_of board)) ∙ register_at board t n below)
 
 same_flips : (board : BoardParts) (s t : BoardState) → Fits board s → Fits board t → AreAlike board s t
     → s.flips ≡ t.flips
 same_flips board s t one other alike =
     same_from_bits_below (length board.flipflop) s.flips t.flips one.flips other.flips
     (λ k below. same_bit (s.flips / 2 ^ k) (t.flips / 2 ^ k) (same_num _ _ (sym (flip_at board s k below)
-    ∙ alike (19 + k) (omega (arith, count_few board)) ∙ flip_at board t k below)))
+    ∙ alike (19 + k) (omega (arith, count_of board)) ∙ flip_at board t k below)))
 
 same_stack : (board : BoardParts) (s t : BoardState) → Fits board s → Fits board t → AreAlike board s t
     → s.seq.stack ≡ t.seq.stack
-unfolding depth_of
 same_stack board s t one other alike =
     same_number_lists s.seq.stack t.seq.stack (one.seq.size ∙ sym other.seq.size)
     (λ k within. sym (word_at board s k)
-    ∙ alike (pc_number board + 2 + k) (omega (arith, count_few board, one.seq.size)) ∙ word_at board t k)
+    ∙ alike (pc_number board + 2 + k) (omega (arith, count_of board, one.seq.size)) ∙ word_at board t k)
 
 abbrev sequencer : (pc r : ℕ) → List ℕ → ℕ → Sequencer
 sequencer pc r stack sp = record { pc = pc; r = r; stack = stack; sp = sp }
@@ -130,9 +128,8 @@ same_sequencer a b pc r stack sp = ap₂ (λ x y. sequencer x y a.stack a.sp) pc
 pub same_state : (board : BoardParts) (s t : BoardState) → Fits board s → Fits board t → s.at ≡ t.at
     → s.seq.sp ≡ t.seq.sp
     → s.memory ≡ t.memory → AreAlike board s t → s ≡ t
-unfolding depth_of
 same_state board s t one other at sp memory alike =
-    let count = count_few board in
+    let count = count_of board in
     let q = sym (q_at board s) ∙ alike 16 (omega (arith, count)) ∙ q_at board t in
     let mar = sym (mar_at board s) ∙ alike 17 (omega (arith, count)) ∙ mar_at board t in
     let ir = sym (ir_at board s) ∙ alike 18 (omega (arith, count)) ∙ ir_at board t in

@@ -17,13 +17,12 @@ use Rattle.mw_board.specs.declared.parts.BoardParts.{BoardParts}
 use Rattle.mw_board.specs.Check.{at_flipflop, at_key, check_of, fields_check, flipflop_check, flipflops_check}
 use Rattle.mw_board.specs.Check.{flipflops_from, in_load, list_check, lists_check, map_check, number_16, placed}
 use Rattle.mw_board.specs.Check.{points_check, sizes_check}
-use Rattle.mw_board.specs.Depth.{depth_of}
 use Rattle.mw_board.specs.Elements.{element_count, element_name, is_reserved, names_before, names_behind}
 use Rattle.mw_board.specs.Elements.{names_behind_of}
 use Rattle.mw_board.specs.Keys.{control_key, flipflop_key, name_key}
 use Rattle.mw_board.specs.Rules.{Verdict, all_of, ask, control_rule, flipflop_name_rule, flipflops_rule}
 use Rattle.mw_board.specs.Rules.{is_flipflop_name, load_rule}
-use Rattle.mw_board.proofs.Elements.{count_is, name_is}
+use Rattle.mw_board.proofs.Elements.{behind_listed, count_is, name_is}
 use Rattle.mw_macro.specs.Rules.{are_free, is_reserved as is_keyword}
 
 -- ---- lists of names
@@ -252,7 +251,7 @@ free_of name free =
     (one.0, (or_none (list_any (bytes_eq name) names_behind) _ one.1).0)
 
 pub board_once : (board : BoardParts) → check_of board ≡ Ok tt → Once (board_names board)
-unfolding depth_of board_names
+unfolding board_names
 board_once board is =
     let from = flips_kept board is in
     let flips = names_of board.flipflop in
@@ -261,25 +260,31 @@ board_once board is =
     let before_flips : Apart flips names_before =
     λ i j name at. nowhere names_before name (free_of name (new i name at).free).0 j in
     let flips_behind : Apart flips behind =
-    λ i j name at. nowhere behind name (free_of name (new i name at).free).1 j in
+    λ i j name at there. nowhere names_behind name (free_of name (new i name at).free).1 j
+    (behind_listed board j name there) in
     let ends : Apart names_before behind =
-    λ i j name at.
-    nowhere behind name
-    (not_true (list_any (bytes_eq name) behind)
-    (all_each (λ name. not (list_any (bytes_eq name) behind)) names_before refl i name at)) j in
+    λ i j name at there.
+    nowhere names_behind name
+    (not_true (list_any (bytes_eq name) names_behind)
+    (all_each (λ name. not (list_any (bytes_eq name) names_behind)) names_before refl i name at)) j
+    (behind_listed board j name there) in
+    let behind_once : Once behind =
+    λ i j name before first second. free_once names_behind refl i j name before (behind_listed board i name first)
+    (behind_listed board j name second) in
     once_both names_before (flips ++ behind) (free_once names_before refl)
     (once_both flips behind (flips_once board.width board.fields (length board.flipflop) [] 0 board.flipflop from)
-    (free_once behind refl) flips_behind)
+    behind_once flips_behind)
     (apart_both names_before flips behind (turned flips names_before before_flips) ends)
 
 pub board_spelled : (board : BoardParts) → check_of board ≡ Ok tt → Each is_name (board_names board)
-unfolding depth_of board_names is_name
+unfolding board_names is_name
 board_spelled board is =
     let new = flips_new board.width board.fields (length board.flipflop) [] 0 board.flipflop (flips_kept board is) in
+    let behind : Each is_name (names_behind_of board) =
+    λ i name at. all_each is_name names_behind refl i name (behind_listed board i name at) in
     each_both is_name names_before (names_of board.flipflop ++ names_behind_of board)
     (all_each is_name names_before refl)
-    (each_both is_name (names_of board.flipflop) (names_behind_of board) (λ i name at. (new i name at).spelled)
-    (all_each is_name (names_behind_of board) refl))
+    (each_both is_name (names_of board.flipflop) (names_behind_of board) (λ i name at. (new i name at).spelled) behind)
 
 pub board_name : (board : BoardParts) (number : ℕ) → element_name board number ≡ slice_get (board_names board) number
 unfolding board_names names_of

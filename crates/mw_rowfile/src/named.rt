@@ -1,7 +1,8 @@
 // Numbers by name, as `pc=200 sp=2`: hexadecimal.
-ghost use Rattle.std.specs.Prelude.{◌<◌, ◌≤◌, ◌^◌, IfOk};
+ghost use Rattle.std.specs.Prelude.{◌≡◌, ◌<◌, ◌≤◌, ◌^◌, IfOk};
 
 use crate::fault::{Fault, wrong};
+pub use mw_seq::DEPTH;
 use mw_seq::Seq;
 
 /// The text behind `NAME=` in the word of this name.
@@ -93,37 +94,36 @@ fn listed(text: &str, place: usize) -> Result<u16, Fault>
             let number = hexadecimal(part)?;
             address(number)
         }
-        None => Err(wrong("five addresses are wanted")),
+        None => Err(wrong("an address of the stack is missing")),
     }
 }
 
-/// The stack pointer of a name.
-fn pointer_of(words: &[String]) -> Result<u8, Fault>
-    ensures { IfOk result (λ pointer. pointer ≤ 5) }
+/// The stack pointer of a name, of a stack of so many words.
+fn pointer_of(words: &[String], depth: u8) -> Result<u8, Fault>
+    ensures { IfOk result (λ pointer. pointer ≤ depth) }
 {
     let number = number_of(words, "sp")?;
-    if number <= 5 {
+    if number <= u64::from(depth) {
         Ok(number as u8)
     } else {
         Err(wrong("no stack pointer"))
     }
 }
 
-/// The sequencer of `pc=`, `r=`, `sp=` and `stack=`, whose five words stand with commas between, the oldest first.
-pub fn sequencer_of(words: &[String]) -> Result<Seq, Fault> {
-    let pc = address_of(words, "pc")?;
-    let r = address_of(words, "r")?;
-    let sp = pointer_of(words)?;
+/// The sequencer of `pc=`, `r=`, `sp=` and `stack=`, whose `depth` words stand with commas between, the oldest first.
+pub fn sequencer_of(words: &[String], depth: u8) -> Result<Seq, Fault>
+    requires known { depth ≡ 5 }
+{
+    let mut seq = Seq::cleared(depth);
+    seq.pc = address_of(words, "pc")?;
+    seq.r = address_of(words, "r")?;
+    seq.sp = pointer_of(words, depth)?;
     let text = text_of(words, "stack")?;
-    let first = listed(text, 0)?;
-    let second = listed(text, 1)?;
-    let third = listed(text, 2)?;
-    let fourth = listed(text, 3)?;
-    let fifth = listed(text, 4)?;
-    Ok(Seq {
-        pc,
-        r,
-        stack: [first, second, third, fourth, fifth],
-        sp,
-    })
+    for place in 0..depth {
+        let word = listed(text, usize::from(place))?;
+        // A call for the proof: its clause `valid` says how many words each sequencer's stack has.
+        let _ = seq.full();
+        seq.set_word(place, word);
+    }
+    Ok(seq)
 }

@@ -86,7 +86,7 @@ pub fn state_of(alloc: Global, board: &Board, files: &[File]) -> Result<State, F
             None => return Err(wrong("a part of a state is NAME=NUMBER")),
         }
     }
-    match sequencer_of(&words) {
+    match sequencer_of(&words, board.depth()) {
         Ok(seq) => {
             state.seq = seq;
             Ok(state)

@@ -21,17 +21,26 @@ pub fn push_refusal(alloc: Global, report: &mut Vec<u8>, refusal: Refusal) -> Re
     Ok(())
 }
 
-/// A sequencer: `pc=`, `r=`, `sp=` and `stack=`, whose five words have commas between, the oldest first.
+/// Addresses with commas between.
+fn addresses(alloc: Global, addresses: &[u16]) -> Result<String, AllocError> {
+    let mut text = String::new(alloc);
+    for (place, address) in addresses.iter().enumerate() {
+        let comma = if place == 0 { "" } else { "," };
+        let named = format!(in alloc; "{comma}{address:x}")?;
+        text.push_str(&named)?;
+    }
+    Ok(text)
+}
+
+/// A sequencer: `pc=`, `r=`, `sp=` and `stack=`, whose words have commas between, the oldest first.
 ///
 /// # Errors
 ///
 /// Want of memory.
 pub fn sequencer(alloc: Global, seq: Seq) -> Result<String, AllocError> {
     let Seq { pc, r, stack, sp } = seq;
-    let [first, second, third, fourth, fifth] = stack;
-    format!(in alloc;
-        "pc={pc:x} r={r:x} sp={sp} stack={first:x},{second:x},{third:x},{fourth:x},{fifth:x}"
-    )
+    let words = addresses(alloc, &stack)?;
+    format!(in alloc; "pc={pc:x} r={r:x} sp={sp} stack={words}")
 }
 
 /// Which words of a state a list has.
