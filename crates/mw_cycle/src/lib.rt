@@ -3,7 +3,6 @@
 
 mod bits;
 mod control;
-mod copied;
 mod datapath;
 mod decided;
 mod elements;
