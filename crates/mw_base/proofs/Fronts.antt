@@ -24,12 +24,12 @@ unfolding sign_of
 spelled_so bytes sign is = (bytes_eq-Decides (bytes_of sign) bytes).0 (found_passes (λ sign. bytes_eq (bytes_of sign) bytes) signs sign is)
 
 -- what the sign at the front of a line is there
-pub record StandsAt (line : List ℕ) (sign : Sign) : Type 0 where
+pub record BeginsWithSign (line : List ℕ) (sign : Sign) : Type 0 where
   pub front : take (length (bytes_of sign)) line ≡ bytes_of sign
   pub spelled : sign_of (bytes_of sign) ≡ Some sign
   pub within : length (bytes_of sign) ≤ length line
 
-stands : (n : ℕ) (line : List ℕ) (sign : Sign) → sign_of (take n line) ≡ Some sign → StandsAt line sign
+stands : (n : ℕ) (line : List ℕ) (sign : Sign) → sign_of (take n line) ≡ Some sign → BeginsWithSign line sign
 stands n line sign is =
     let bytes = spelled_so (take n line) sign is in
     let size : length (take n line) ≡ min n (length line) = length-take n line in
@@ -41,9 +41,9 @@ stands n line sign is =
 
 either : (line : List ℕ) (sign : Sign) (two one : Option Sign) → sign_of (take 2 line) ≡ two
     → sign_of (take 1 line) ≡ one
-    → option_or two one ≡ Some sign → StandsAt line sign
+    → option_or two one ≡ Some sign → BeginsWithSign line sign
 either line sign (Some other) one first second is = stands 2 line sign (first ∙ is)
 either line sign None one first second is = stands 1 line sign (second ∙ is)
 
-pub stands_at_front : (line : List ℕ) (sign : Sign) → sign_at line ≡ Some sign → StandsAt line sign
+pub stands_at_front : (line : List ℕ) (sign : Sign) → sign_at line ≡ Some sign → BeginsWithSign line sign
 stands_at_front line sign is = either line sign (sign_of (take 2 line)) (sign_of (take 1 line)) refl refl is

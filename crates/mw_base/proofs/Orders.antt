@@ -8,8 +8,8 @@ use Rattle.mw_base.specs.Pieces.{Spells}
 use Rattle.mw_base.specs.Tokens.{InOrder, slice}
 use Rattle.mw_base.proofs.Stretches.{rest_of, rest_is}
 
-abbrev IsWithin : ℕ → Token → Type 0
-IsWithin place token = (token.start < token.end) × (token.end ≤ place)
+abbrev EndsBefore : ℕ → Token → Type 0
+EndsBefore place token = (token.start < token.end) × (token.end ≤ place)
 
 -- a place further on
 pub in_order_on : (text : List ℕ) (place next : ℕ) (tokens : List Token) → InOrder text place tokens → place ≤ next
@@ -29,7 +29,7 @@ pub in_order_push : (text : List ℕ) (place next : ℕ) (front tokens : List To
 in_order_push text place next front tokens token old after some fits spells =
     let kept = in_order_on text place next (front ++ tokens) old (omega arith) in
     rw (← append_assoc front tokens (token ∷ [])) (record {
-      within = All-push (IsWithin next) (front ++ tokens) token kept.within (some, fits);
+      within = All-push (EndsBefore next) (front ++ tokens) token kept.within (some, fits);
       apart = all_pairs_push (λ (first second : Token). first.end ≤ second.start) (front ++ tokens) token old.apart
           (λ k d below. let here = old.within k d below in omega arith);
       spelled = All-push (λ (token : Token). Spells (slice text token.start token.end) token.kind) (front ++ tokens) token old.spelled spells;

@@ -1,6 +1,6 @@
 // Why a file is refused.
 ghost use Rattle.std.specs.Prelude.{◌≡◌};
-ghost use Rattle.mw_base.specs.Causes.{number_of};
+ghost use Rattle.mw_base.specs.Causes.{cause_number};
 
 /// The cause of a refusal. Users see its number, which never changes.
 #[derive(Clone, Copy, Debug, PartialEq, Eq)]
@@ -82,7 +82,7 @@ pub enum Cause {
 impl Cause {
     /// The number that reports print.
     pub fn number(self) -> u8
-        ensures { result ≡ number_of self }
+        ensures { result ≡ cause_number self }
     {
         match self {
             Cause::BadByte => 1,

@@ -4,7 +4,7 @@
 
 ghost use Rattle.std.specs.Prelude.{◌≡◌};
 ghost use Rattle.std.specs.Process.{exit_status};
-ghost use Rattle.mw_top.specs.Status.{number_of};
+ghost use Rattle.mw_top.specs.Status.{status_number};
 
 use mw_base::NoMemory;
 use mw_outside::{FolderShelf, ScreenSink};
@@ -30,7 +30,7 @@ fn words<R: Env + AllocGlobal>(rt: &R) -> Result<Vec<String>, NoMemory> {
 
 /// The code that the process ends with.
 fn exit_code(status: Status) -> ExitCode
-    ensures { exit_status result ≡ number_of status }
+    ensures { exit_status result ≡ status_number status }
 {
     ExitCode::from(status.number())
 }

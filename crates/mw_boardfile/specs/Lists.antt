@@ -3,7 +3,7 @@ use Rattle.std.specs.Prelude.{ℕ, ◌+◌, List, [], ◌∷◌, length, Bool, f
 use Rattle.toml.specs.Data.{Data}
 use Rattle.mw_base.specs.declared.cause.Cause.{Cause}
 use Rattle.mw_base.specs.declared.cause.Cause.TheVariants.{BadNumber, TooWide, WrongKind, BadValue}
-use Rattle.mw_base.specs.Causes.{number_of}
+use Rattle.mw_base.specs.Causes.{cause_number}
 use Rattle.mw_base.specs.Reading.{◌>>=◌}
 use Rattle.mw_board.specs.declared.control.Control.{Control}
 use Rattle.mw_board.specs.declared.field.NamedField.{NamedField}
@@ -19,7 +19,7 @@ first_place test n (first ∷ rest) = if test first then Some n else first_place
 -- reading gives this cause
 abbrev pub is_refused : {A : Type 0} → Cause → Result A Cause → Bool
 is_refused cause (Ok x) = false
-is_refused cause (Err other) = number_of other == number_of cause
+is_refused cause (Err other) = cause_number other == cause_number cause
 
 -- no entry is refused for this cause; else the first that is
 unfoldable pub none_refused : {A : Type 0} → (Data → Result A Cause) → Cause → ℕ → List Data → Result (Unit {0}) Fault

@@ -10,7 +10,7 @@ use Rattle.mw_cases.specs.declared.operation.Operation.{Operation}
 use Rattle.mw_cases.specs.Board.{generated_board}
 use Rattle.mw_cases.specs.Generated.{IsGenerated}
 use Rattle.mw_cases.specs.Operations.{operation_at, operation_count, instruction_of}
-use Rattle.mw_cases.specs.Words.{choices_of, choices_at, operating, operating_at, StandsAt}
+use Rattle.mw_cases.specs.Words.{choices_of, choices_at, operating, operating_at, IsWordAt}
 use Rattle.mw_cases.proofs.Values.{instruction_length, operation_is}
 
 -- ---- words of instructions
@@ -42,7 +42,7 @@ fills = refl
 
 -- the word at an address stands there
 pub stands : (number : ℕ) (job : Job) → IsGenerated number job → (address : ℕ) → address < 1040
-    → StandsAt number address (word_at generated_board job.store address)
+    → IsWordAt number address (word_at generated_board job.store address)
 stands number job is address below = rw fills (is.store.words address below)
 
 pub chooses_at : (number : ℕ) (job : Job) → IsGenerated number job → (i j : ℕ) → i < 256 → j < operation_count number i

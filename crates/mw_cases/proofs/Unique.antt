@@ -25,7 +25,7 @@ use Rattle.mw_seq.specs.Instruction.{instruction_of as sequence_of}
 use Rattle.mw_cases.specs.Board.{generated_fields, generated_board, first_address, unmasked}
 use Rattle.mw_cases.specs.Laws.{JobsAreOne}
 use Rattle.mw_cases.specs.Operations.{operation_count}
-use Rattle.mw_cases.specs.Words.{Choices, choices_of, StandsAt, IsStore}
+use Rattle.mw_cases.specs.Words.{Choices, choices_of, IsWordAt, IsStore}
 use Rattle.mw_cases.proofs.Packed.{source_at, function_at, destination_at}
 
 -- ---- the codes of what is chosen
@@ -211,7 +211,7 @@ words_are_one w v w_below v_below same =
 -- ---- the words of a number
 
 -- one word stands at an address
-module _ (number address w v : ℕ) (one : StandsAt number address w) (other : StandsAt number address v) where
+module _ (number address w v : ℕ) (one : IsWordAt number address w) (other : IsWordAt number address v) where
   by_choices : choices_of generated_board w ≡ choices_of generated_board v → w ≡ v
   by_choices same = words_are_one w v one.below other.below same
 

@@ -168,7 +168,7 @@ pub record Chooses (word : ℕ) (choices : Choices) : Type 0 where
   pub chosen : choices_of generated_board word ≡ choices
 
 -- what stands at an address, for a number: the fetch from address 0 on, each operation of each instruction, and else 0
-pub record StandsAt (number address word : ℕ) : Type 0 where
+pub record IsWordAt (number address word : ℕ) : Type 0 where
   pub below : word < 2 ^ 38
   pub addressing : address ≡ 0 → choices_of generated_board word ≡ addressing
   pub loading : address ≡ 1 → choices_of generated_board word ≡ loading
@@ -181,4 +181,4 @@ pub record StandsAt (number address word : ℕ) : Type 0 where
 -- the microwords for a number
 pub record IsStore (number : ℕ) (store : List ℕ) : Type 0 where
   pub count : length store ≡ 1040
-  pub words : (address : ℕ) → address < 1040 → StandsAt number address (slice_index store address)
+  pub words : (address : ℕ) → address < 1040 → IsWordAt number address (slice_index store address)

@@ -4,7 +4,7 @@ ghost use Rattle.std.specs.Prelude.{IfSome};
 ghost use Rattle.mw_cases.specs.Board.{generated_board, first_address};
 ghost use Rattle.mw_cases.specs.Operations.{IsOperation};
 ghost use Rattle.mw_cases.specs.Words.{choices_of, choices_in, function_for, operating};
-ghost use Rattle.mw_cases.specs.Words.{IsWord, StandsAt, IsStore};
+ghost use Rattle.mw_cases.specs.Words.{IsWord, IsWordAt, IsStore};
 
 use crate::instructions::{INSTRUCTIONS, Instructions};
 use crate::operation::{Kind, Operation};
@@ -114,7 +114,7 @@ fn operation_word(operations: &[Operation], place: usize) -> u128
 /// The word before the instructions.
 fn fetch_word(address: u16) -> u128
     requires { address < 16 }
-    ensures { (number : ℕ) → StandsAt number address result }
+    ensures { (number : ℕ) → IsWordAt number address result }
 {
     match address {
         0 => ADDRESSING.packed(),
@@ -127,7 +127,7 @@ fn fetch_word(address: u16) -> u128
 /// The word at an address.
 fn word_at(instructions: &Instructions, address: u16) -> u128
     requires { address < 1040 }
-    ensures { StandsAt instructions.now.number address result }
+    ensures { IsWordAt instructions.now.number address result }
 {
     if address < FIRST {
         return fetch_word(address);

@@ -11,7 +11,7 @@ use Rattle.mw_term.specs.Cofactors.{Agree}
 use Rattle.mw_term.specs.Functions.{Function, always}
 use Rattle.mw_term.specs.Rows.{bit}
 use Rattle.mw_term.specs.Table.{Table}
-use Rattle.mw_term.specs.WordList.{number_of}
+use Rattle.mw_term.specs.WordList.{word_number}
 use Rattle.mw_dd.specs.Diagrams.{IsFirst}
 use Rattle.mw_dd.specs.declared.nodes.Node.{Node}
 use Rattle.mw_dd.specs.Nodes.{function_of}
@@ -98,24 +98,24 @@ first_difference q f numbers holds first =
 pub cause_answer : (q : Asked) (fault : BlastFault) (t : Table) (words : List Word) (end budget : ℕ)
     → IsListOf q t words end
     → IsCause t end budget fault → (e : Equality)
-    → ((term : ℕ) × (j : ℕ) × (word : ℕ) × (fault ≡ blast.Over term j) × (number_of words term ≡ Some word)
+    → ((term : ℕ) × (j : ℕ) × (word : ℕ) × (fault ≡ blast.Over term j) × (word_number words term ≡ Some word)
     × (e ≡ equality.Unknown word j))
     → IsAnswer q budget e
 cause_answer q fault t words end budget list cause e is =
     let over = rw is.3 at cause in
     rw is.5 (record {
       term = is.0;
-      its = ap (λ ws. number_of ws is.0) (sym list.list) ∙ is.4;
+      its = ap (λ ws. word_number ws is.0) (sym list.list) ∙ is.4;
       over = subst (λ (x : Table). IsOver x is.0 is.1 budget) list.table over.1;
     })
 
 -- what is over has a number
 pub cause_numbered : (q : Asked) (fault : BlastFault) (t : Table) (words : List Word) (end budget : ℕ)
     → IsListOf q t words end → IsCause t end budget fault → (term j : ℕ) → fault ≡ blast.Over term j
-    → IsSome (number_of words term)
+    → IsSome (word_number words term)
 cause_numbered q fault t words end budget list cause term j over =
     let named = rw over at cause in
-    subst (λ ws. IsSome (number_of ws term)) (sym list.list)
+    subst (λ ws. IsSome (word_number ws term)) (sym list.list)
     (over_has_number q term j budget (subst (λ (x : Table). IsOver x term j budget) list.table named.1))
 
 -- ---- the bit itself

@@ -5,7 +5,7 @@ use Rattle.mw_macro.proofs.Numbered.{numbered_expression}
 use Rattle.mw_term.specs.declared.kinds.WordKind.TheVariants.{Element}
 use Rattle.mw_term.specs.declared.op.Op.TheVariants.{Eq}
 use Rattle.mw_term.specs.Numbered.{IsNumbered}
-use Rattle.mw_term.specs.WordList.{WordList, number_of, with_variable}
+use Rattle.mw_term.specs.WordList.{WordList, word_number, with_variable}
 use Rattle.mw_term.proofs.Numbered.{numbered_at_first, numbered_variable, numbered_word}
 use Rattle.mw_blast.specs.Causes.{IsOver}
 use Rattle.mw_blast.proofs.Numbers.{over_have_numbers}
@@ -40,6 +40,6 @@ not_none (Some n) some is = absurd cc
 
 -- so it has a number
 pub over_has_number : (q : Asked) (term j budget : ℕ) → IsOver (table_for q) term j budget
-    → IsSome (number_of (words_of q).words term)
+    → IsSome (word_number (words_of q).words term)
 over_has_number q term j budget over =
     over_have_numbers [] (words_of q) term j budget (numbered_question q) over

@@ -20,10 +20,10 @@ use Rattle.mw_base.specs.Symbols.{spelled}
 use Rattle.mw_base.specs.TokenLines.{fault_on, text_end, token_lines}
 use Rattle.mw_base.proofs.Results.{ok_of, ok_is, bind_ok, if_ok}
 use Rattle.mw_base.proofs.Steps.{steps_keep}
-use Rattle.mw_expr.specs.Grammar.{number_of}
+use Rattle.mw_expr.specs.Grammar.{number_by_name}
 use Rattle.mw_check.specs.declared.question.Question.{Question}
 use Rattle.mw_check.specs.Question.{Asked, asked_of}
-use Rattle.mw_check.specs.QuestionKept.{AreVariables, IsHalf, IsRead, IsKept, TextsAskQuestions}
+use Rattle.mw_check.specs.QuestionKept.{AreVariables, IsHalf, IsRead, IsKnownQuestion, TextsAskQuestions}
 use Rattle.mw_check.specs.QuestionText.{Variables, Half, Known, declaring, halved, whole, no_variables, few}
 use Rattle.mw_check.specs.QuestionText.{is_reserved, width_in, with_variable, shape_over, side_of, variable_line}
 use Rattle.mw_check.specs.QuestionText.{left_line, first_line, right_line, last_line, with_tokens, with_any}
@@ -32,7 +32,7 @@ use Rattle.mw_check.proofs.Sides.{side_read}
 
 -- ---- variables
 
-pub none_kept : IsKept (declaring no_variables)
+pub none_kept : IsKnownQuestion (declaring no_variables)
 none_kept = record { few = omega arith; counted = refl; widths = All-nil _; address = refl; word = refl }
 
 variable_kept : (text : List ℕ) (name : Token) (width : Numeral) (v next : Variables)
@@ -42,7 +42,7 @@ variable_kept : (text : List ℕ) (name : Token) (width : Numeral) (v next : Var
 unfolding with_variable
 variable_kept text name width v next are is =
     let one = bind_ok (few v.names name) _ next is in
-    let two = bind_ok (new_name text (number_of v.names) (is_reserved (spelled text name)) name) _ next one.2 in
+    let two = bind_ok (new_name text (number_by_name v.names) (is_reserved (spelled text name)) name) _ next one.2 in
     let three = bind_ok (width_in width) _ next two.2 in
     let made = ok_is {F = TextFault} _ next three.2 in
     let room = (if_ok (nat_lt (length v.names) 64) tt one.0 (fault_on name TooMany) one.1).0 in
@@ -66,7 +66,7 @@ variable_kept text name width v next are is =
     })
 
 variable_line_kept : (v : Variables) (line : Cursor) (next : Known) → AreVariables v.names (shape_over v.widths)
-    → variable_line v line ≡ Ok next → IsKept next
+    → variable_line v line ≡ Ok next → IsKnownQuestion next
 unfolding variable_line
 variable_line_kept v line next are is =
     let one = bind_ok (name_at 1 line) _ next is in
@@ -74,27 +74,27 @@ variable_line_kept v line next are is =
     let three = bind_ok (end_at 3 line) _ next two.2 in
     let four = bind_ok (with_variable line.text one.0 two.0 v) (λ more. ok_of {F = TextFault} (declaring more)) next
     three.2 in
-    subst IsKept (ok_is {F = TextFault} (declaring four.0) next four.2)
+    subst IsKnownQuestion (ok_is {F = TextFault} (declaring four.0) next four.2)
     (variable_kept line.text one.0 two.0 v four.0 are four.1)
 
 -- ---- sides
 
 left_kept : (v : Variables) (word : Token) (line : Cursor) (next : Known) → AreVariables v.names (shape_over v.widths)
-    → left_line v word line ≡ Ok next → IsKept next
+    → left_line v word line ≡ Ok next → IsKnownQuestion next
 unfolding left_line
 left_kept v word line next are is =
     let one = bind_ok (side_of v.names (shape_over v.widths) None word (after 1 line)) _ next is in
     let read = side_read v.names (shape_over v.widths) None word (after 1 line) one.0 are one.1 in
-    subst IsKept (ok_is {F = TextFault} _ next one.2) (record { variables = are; left = read.wide })
+    subst IsKnownQuestion (ok_is {F = TextFault} _ next one.2) (record { variables = are; left = read.wide })
 
-right_kept : (h : Half) (line : Cursor) (next : Known) → IsHalf h → right_line h line ≡ Ok next → IsKept next
+right_kept : (h : Half) (line : Cursor) (next : Known) → IsHalf h → right_line h line ≡ Ok next → IsKnownQuestion next
 unfolding right_line
 right_kept h line next kept is =
     let one = bind_ok (first_word (codes "right") line) _ next is in
     let two = bind_ok (side_of h.names h.shape h.left.width one.0 (after 1 line)) _ next one.2 in
     let read = side_read h.names h.shape h.left.width one.0 (after 1 line) two.0 kept.variables two.1 in
     let same = read.even kept.left.bits kept.left.told in
-    subst IsKept (ok_is {F = TextFault} _ next two.2) (record {
+    subst IsKnownQuestion (ok_is {F = TextFault} _ next two.2) (record {
       variables = kept.variables;
       question = record {
         counted = kept.variables.counted;
@@ -115,7 +115,7 @@ of_words false true x y fault next is first second = second is
 of_words false false x y fault next is first second = absurd cc
 
 first_kept : (v : Variables) (line : Cursor) (next : Known) → AreVariables v.names (shape_over v.widths)
-    → first_line v line ≡ Ok next → IsKept next
+    → first_line v line ≡ Ok next → IsKnownQuestion next
 unfolding first_line
 first_kept v line next are is =
     let one = bind_ok (name_at 0 line) _ next is in
@@ -123,29 +123,29 @@ first_kept v line next are is =
     (variable_line v line) (left_line v one.0 line) (misplaced one.0 line) next one.2
     (variable_line_kept v line next are) (left_kept v one.0 line next are)
 
-last_kept : (q : Asked) (line : Cursor) (next : Known) → IsRead q → last_line q line ≡ Ok next → IsKept next
+last_kept : (q : Asked) (line : Cursor) (next : Known) → IsRead q → last_line q line ≡ Ok next → IsKnownQuestion next
 unfolding last_line
 last_kept q line next kept is =
     let one = bind_ok (end_at 0 line) (λ end. ok_of {F = TextFault} (whole q)) next is in
-    subst IsKept (ok_is {F = TextFault} (whole q) next one.2) kept
+    subst IsKnownQuestion (ok_is {F = TextFault} (whole q) next one.2) kept
 
-tokens_kept : (known next : Known) (line : Cursor) → IsKept known → with_tokens known line ≡ Ok next → IsKept next
+tokens_kept : (known next : Known) (line : Cursor) → IsKnownQuestion known → with_tokens known line ≡ Ok next → IsKnownQuestion next
 tokens_kept (declaring v) next line kept is = first_kept v line next kept is
 tokens_kept (halved h) next line kept is = right_kept h line next kept is
 tokens_kept (whole q) next line kept is = last_kept q line next kept is
 
-any_kept : (text : List ℕ) (known next : Known) (line : Line) (tokens : List Token) → IsKept known
-    → with_any text known line tokens ≡ Ok next → IsKept next
-any_kept text known next line [] kept is = subst IsKept (ok_is {F = TextFault} known next is) kept
+any_kept : (text : List ℕ) (known next : Known) (line : Line) (tokens : List Token) → IsKnownQuestion known
+    → with_any text known line tokens ≡ Ok next → IsKnownQuestion next
+any_kept text known next line [] kept is = subst IsKnownQuestion (ok_is {F = TextFault} known next is) kept
 any_kept text known next line (token ∷ rest) kept is = tokens_kept known next (at_line text line BadSyntax) kept is
 
 pub line_kept : (text : List ℕ) (known next : Known) (line : Line) → with_line text known line ≡ Ok next
-    → IsKept known → IsKept next
+    → IsKnownQuestion known → IsKnownQuestion next
 line_kept text known next line is kept = any_kept text known next line line.tokens kept is
 
 -- ---- whole texts
 
-finished_read : (known : Known) (fault : TextFault) (q : Asked) → IsKept known → finished known fault ≡ Ok q → IsRead q
+finished_read : (known : Known) (fault : TextFault) (q : Asked) → IsKnownQuestion known → finished known fault ≡ Ok q → IsRead q
 finished_read (declaring v) fault q kept is = absurd cc
 finished_read (halved h) fault q kept is = absurd cc
 finished_read (whole asked) fault q kept is = subst IsRead (ok_is {F = TextFault} asked q is) kept
@@ -157,7 +157,7 @@ texts_ask_questions text q is =
     let two = bind_ok (steps (with_line text) (declaring no_variables) one.0)
     (λ known. finished known (text_end one.0 BadSyntax)) q one.2 in
     finished_read two.0 (text_end one.0 BadSyntax) q
-    (steps_keep IsKept (with_line text) (λ before after line. line_kept text before after line) (declaring no_variables)
+    (steps_keep IsKnownQuestion (with_line text) (λ before after line. line_kept text before after line) (declaring no_variables)
     two.0 one.0 two.1 none_kept)
     two.2
 

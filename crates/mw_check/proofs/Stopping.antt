@@ -14,8 +14,8 @@ use Rattle.mw_fork.specs.Begins.{IsDiffering, IsLeast}
 use Rattle.mw_fork.specs.Forks.{At, Fork, IsNextCase, IsToCome, OneIsToCome}
 use Rattle.mw_replay.specs.Counter.{Counter}
 use Rattle.mw_replay.specs.CounterPrinted.{AreShort}
-use Rattle.mw_check.specs.declared.certification.Stop.{Stop}
-use Rattle.mw_check.specs.declared.certification.Stop.TheVariants.{Differs, Over, NoMemory}
+use Rattle.mw_check.specs.declared.certification.SearchStop.{SearchStop}
+use Rattle.mw_check.specs.declared.certification.SearchStop.TheVariants.{Differs, Over, NoMemory}
 use Rattle.mw_check.specs.declared.verdict.Summary.{Summary}
 use Rattle.mw_check.specs.Searched.{HasGone, StopsSearch}
 use Rattle.mw_check.specs.Verdict.{IsNo, NoneDiffersBefore}
@@ -23,7 +23,7 @@ use Rattle.mw_check.proofs.Counters.{counter_of_start}
 use Rattle.mw_check.proofs.Gone.{none_before_given, none_before_next, over_nodes, over_paths}
 
 -- a stop is the fork's fault, and no start that differs
-pub record IsStopOf (fault : ForkFault) (stop : Stop) : Type 0 where
+pub record IsStopOf (fault : ForkFault) (stop : SearchStop) : Type 0 where
   pub over : (over : WhatIsOver) → stop ≡ Over over → fault ≡ faults.Over over
   pub differs : (counter : Counter) → stop ≢ Differs counter
 
@@ -45,7 +45,7 @@ pub record IsFaultAtNext (job : Job) (fork : Fork) (fault : ForkFault) : Type 0 
       → IsCase job boundary other → IsBefore other prefix → ¬ IsToCome fork.at other
 
 pub stops_at_next : (job : Job) (number : ℕ) (budget : Budget) (fork : Fork) (summary : Summary)
-    (cases : List (List Decided)) (fault : ForkFault) (stop : Stop) → IsStopOf fault stop → IsFaultAtNext job fork fault
+    (cases : List (List Decided)) (fault : ForkFault) (stop : SearchStop) → IsStopOf fault stop → IsFaultAtNext job fork fault
     → HasGone job number budget fork summary cases → NoneDiffersBefore job number → StopsSearch job budget stop
 stops_at_next job number budget fork summary cases fault (Differs counter) of is gone none =
     absurd (of.differs counter refl)
@@ -86,7 +86,7 @@ at_once : (a b : List Decided) → At a ≡ At b → a ≡ b
 at_once a b same = cc
 
 pub stops_at_last : (job : Job) (number : ℕ) (budget : Budget) (old new : Fork) (summary : Summary)
-    (cases : List (List Decided)) (bits : List Decided) (fault : ForkFault) (stop : Stop) → IsStopOf fault stop
+    (cases : List (List Decided)) (bits : List Decided) (fault : ForkFault) (stop : SearchStop) → IsStopOf fault stop
     → IsFaultAtLast job new fault → IsGivenTo job number budget old new bits
     → HasGone job number budget old summary cases → NoneDiffersBefore job number → StopsSearch job budget stop
 stops_at_last job number budget old new summary cases bits fault (Differs counter) of is given gone none =

@@ -3,7 +3,7 @@ use Rattle.std.specs.Prelude.{◌≡◌, ℕ, ◌+◌, ◌%◌, ◌^◌, List, [
 use Rattle.mw_expr.specs.Values.{AreWords}
 use Rattle.mw_term.specs.Assigned.{Given}
 use Rattle.mw_dd.specs.Diagrams.{IsNoLater}
-use Rattle.mw_term.specs.WordList.{number_of}
+use Rattle.mw_term.specs.WordList.{word_number}
 use Rattle.mw_blast.specs.Causes.{IsOver}
 use Rattle.mw_check.specs.declared.equality.Equality.{Equality}
 use Rattle.mw_check.specs.declared.equality.Equality.TheVariants.{Yes, No, Unknown}
@@ -30,7 +30,7 @@ pub record IsFirstDifference (q : Asked) (values : List ℕ) : Type 0 where
 -- an operation of the word of this number, in the question's list, is over a budget at this bit
 pub record IsOverBudget (q : Asked) (word bit budget : ℕ) : Type 0 where
   pub term : ℕ
-  pub its : number_of (words_of q).words term ≡ Some word
+  pub its : word_number (words_of q).words term ≡ Some word
   pub over : IsOver (table_for q) term bit budget
 
 -- what an answer says of a question that was asked within a budget

@@ -32,10 +32,10 @@ pub record IsRead (q : Asked) : Type 0 where
   pub question : IsQuestion q
 
 -- what is known
-abbrev pub IsKept : Known → Type 0
-IsKept (declaring v) = AreVariables v.names (shape_over v.widths)
-IsKept (halved h) = IsHalf h
-IsKept (whole q) = IsRead q
+abbrev pub IsKnownQuestion : Known → Type 0
+IsKnownQuestion (declaring v) = AreVariables v.names (shape_over v.widths)
+IsKnownQuestion (halved h) = IsHalf h
+IsKnownQuestion (whole q) = IsRead q
 
 -- what is read of a text is a question
 abbrev pub TextsAskQuestions : Type 0

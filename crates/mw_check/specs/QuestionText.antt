@@ -16,7 +16,7 @@ use Rattle.mw_base.specs.Symbols.{spelled}
 use Rattle.mw_base.specs.TokenLines.{fault_on, text_end, token_lines}
 use Rattle.mw_expr.specs.declared.shape.Shape.{Shape}
 use Rattle.mw_expr.specs.Faults.{broken, faults, is_other, seen_width}
-use Rattle.mw_expr.specs.Grammar.{meaning_of, number_of, tree_of}
+use Rattle.mw_expr.specs.Grammar.{meaning_of, number_by_name, tree_of}
 use Rattle.mw_expr.specs.Placed.{Placed}
 use Rattle.mw_expr.specs.Plain.{plain}
 use Rattle.mw_expr.specs.Tree.{Tree}
@@ -70,7 +70,7 @@ width_in number =
 unfoldable pub with_variable : List ℕ → Token → Numeral → Variables → Result Variables TextFault
 with_variable text name width v = do
   room ← few v.names name
-  is_new ← new_name text (number_of v.names) (is_reserved (spelled text name)) name
+  is_new ← new_name text (number_by_name v.names) (is_reserved (spelled text name)) name
   bits ← width_in width
   Ok (record { names = v.names ++ spelled text name ∷ []; widths = v.widths ++ bits ∷ [] })
 

@@ -9,8 +9,8 @@ use Rattle.mw_rel.specs.Start.{Start}
 use Rattle.mw_fork.specs.declared.budget.Budget.{Budget}
 use Rattle.mw_fork.specs.Failing.{ComparisonsAreWithin, NoneDiffersOf}
 use Rattle.mw_fork.specs.Forks.{Fork, IsForkOf, IsToCome}
-use Rattle.mw_check.specs.declared.certification.Stop.{Stop}
-use Rattle.mw_check.specs.declared.certification.Stop.TheVariants.{Differs, Over, NoMemory}
+use Rattle.mw_check.specs.declared.certification.SearchStop.{SearchStop}
+use Rattle.mw_check.specs.declared.certification.SearchStop.TheVariants.{Differs, Over, NoMemory}
 use Rattle.mw_check.specs.declared.verdict.Summary.{Summary}
 use Rattle.mw_check.specs.Verdict.{IsNo, IsSummary, IsUnknown, IsWithinBudget, NoneDiffersAt}
 
@@ -69,7 +69,7 @@ AreSearched job budget summaries = (number : ℕ) (summary : Summary) → slice_
     → IsSearched job number budget summary
 
 -- why a search goes no further
-abbrev pub StopsSearch : Job → Budget → Stop → Type 0
+abbrev pub StopsSearch : Job → Budget → SearchStop → Type 0
 StopsSearch job budget (Differs counter) = IsNo job counter
 StopsSearch job budget (Over over) = IsUnknown job budget over
 StopsSearch job budget NoMemory = Unit {0}

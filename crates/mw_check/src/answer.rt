@@ -8,7 +8,7 @@ ghost use Rattle.mw_term.specs.Assigned.{given_by};
 ghost use Rattle.mw_term.specs.Cofactors.{Agree};
 ghost use Rattle.mw_term.specs.Functions.{always};
 ghost use Rattle.mw_term.specs.Table.{table_of, IsTable};
-ghost use Rattle.mw_term.specs.WordList.{number_of};
+ghost use Rattle.mw_term.specs.WordList.{word_number};
 ghost use Rattle.mw_dd.specs.Diagrams.{IsFirst};
 ghost use Rattle.mw_dd.specs.Nodes.{IsDd, function_of};
 ghost use Rattle.mw_check.specs.declared.equality.Equality.TheVariants as equality;
@@ -155,9 +155,9 @@ fn bits_within(
 ///
 /// Memory ran out.
 fn unknown(words: &Words, fault: BlastFault) -> Result<Equality, NoMemory>
-    requires { (term bit : ℕ) → fault ≡ blast.Over term bit → IsSome (number_of words.now term) }
+    requires { (term bit : ℕ) → fault ≡ blast.Over term bit → IsSome (word_number words.now term) }
     ensures { IfOk result (λ e. (term : ℕ) × (bit : ℕ) × (word : ℕ) × (fault ≡ blast.Over term bit)
-        × (number_of words.now term ≡ Some word) × (e ≡ equality.Unknown word bit)) }
+        × (word_number words.now term ≡ Some word) × (e ≡ equality.Unknown word bit)) }
 {
     match fault {
         BlastFault::Over(term, bit) => {

@@ -10,7 +10,7 @@ ghost use Rattle.mw_fork.specs.declared.fault.Over.TheVariants as overs;
 ghost use Rattle.mw_fork.specs.Forks.{IsForkOf};
 ghost use Rattle.mw_replay.specs.Counter.{Counter as CounterOf};
 ghost use Rattle.mw_replay.specs.CounterPrinted.{AreShort};
-ghost use Rattle.mw_check.specs.declared.certification.Stop.TheVariants as stops;
+ghost use Rattle.mw_check.specs.declared.certification.SearchStop.TheVariants as stops;
 ghost use Rattle.mw_check.specs.declared.verdict.Summary.{Summary as SummaryOf};
 ghost use Rattle.mw_check.specs.declared.verdict.Verdict.TheVariants as verdicts;
 ghost use Rattle.mw_check.specs.Searched.{AreSearched, HasGone, IsSearched, IsOneMore, StopsSearch};
@@ -30,7 +30,7 @@ const MOST_ENTRIES: usize = 65_536;
 
 /// Why a search goes no further.
 #[derive(Debug, Drop)]
-pub(crate) enum Stop {
+pub(crate) enum SearchStop {
     /// A start differs.
     Differs(Counter),
     /// Something is over the budget.
@@ -39,30 +39,30 @@ pub(crate) enum Stop {
     NoMemory,
 }
 
-impl From<NoMemory> for Stop {
+impl From<NoMemory> for SearchStop {
     ghost from_gives = { λ _ stop. stop ≡ stops.NoMemory };
 
-    fn from(_: NoMemory) -> Stop {
-        Stop::NoMemory
+    fn from(_: NoMemory) -> SearchStop {
+        SearchStop::NoMemory
     }
 }
 
-impl<T: Drop> From<AllocFailed<T>> for Stop {
+impl<T: Drop> From<AllocFailed<T>> for SearchStop {
     ghost from_gives = { λ _ stop. stop ≡ stops.NoMemory };
 
-    fn from(_: AllocFailed<T>) -> Stop {
-        Stop::NoMemory
+    fn from(_: AllocFailed<T>) -> SearchStop {
+        SearchStop::NoMemory
     }
 }
 
 /// Why a fork goes no further, as a search does.
-fn stop_of(fault: ForkFault) -> Stop
+fn stop_of(fault: ForkFault) -> SearchStop
     ensures over { (over : OverOf) → result ≡ stops.Over over → fault ≡ faults.Over over }
     ensures differs { (counter : CounterOf) → result ≢ stops.Differs counter }
 {
     match fault {
-        ForkFault::Over(over) => Stop::Over(over),
-        ForkFault::NoMemory => Stop::NoMemory,
+        ForkFault::Over(over) => SearchStop::Over(over),
+        ForkFault::NoMemory => SearchStop::NoMemory,
     }
 }
 
@@ -90,7 +90,7 @@ fn next_cycles(
     job: &Job,
     boundary: usize,
     fork: &mut Fork,
-) -> Result<Option<u32>, Stop>
+) -> Result<Option<u32>, SearchStop>
     requires of { IsForkOf (job_of job.now) fork.old }
     ensures more { IfOk result
         (λ o. IfSome o (λ cycles. (budget : BudgetOf) (summary : SummaryOf) (cases : List (List Decided))
@@ -114,13 +114,13 @@ fn next_cycles(
     };
     match fork.differs(alloc, job) {
         Ok(None) => Ok(Some(case.cycles)),
-        Ok(Some(begin)) => Err(Stop::Differs(counter_at(boundary, begin)?)),
+        Ok(Some(begin)) => Err(SearchStop::Differs(counter_at(boundary, begin)?)),
         Err(fault) => Err(stop_of(fault)),
     }
 }
 
 /// Goes through the cases of a boundary.
-fn search(alloc: Global, job: &Job, boundary: usize, budget: Budget) -> Result<Summary, Stop>
+fn search(alloc: Global, job: &Job, boundary: usize, budget: Budget) -> Result<Summary, SearchStop>
     requires there { boundary < length (job_of job.now).relation.boundaries }
     ensures searched { IfOk result (IsSearched (job_of job.now) boundary budget) }
     ensures stops { IfErr result (λ stop. NoneDiffersBefore (job_of job.now) boundary
@@ -142,7 +142,7 @@ fn search(alloc: Global, job: &Job, boundary: usize, budget: Budget) -> Result<S
 }
 
 /// Goes through the boundaries, in the order of the relation.
-fn search_all(alloc: Global, job: &Job, budget: Budget) -> Result<Vec<Summary>, Stop>
+fn search_all(alloc: Global, job: &Job, budget: Budget) -> Result<Vec<Summary>, SearchStop>
     ensures searched { IfOk result (λ summaries. AreSearched (job_of job.now) budget summaries.items) }
     ensures count { IfOk result (λ summaries. length summaries.items ≡ length (job_of job.now).relation.boundaries) }
     ensures stops { IfErr result (StopsSearch (job_of job.now) budget) }
@@ -188,8 +188,8 @@ pub fn certify(alloc: Global, job: &Job, budget: Budget) -> Result<Verdict, NoMe
     let _ = job.shape();
     match search_all(alloc, job, budget) {
         Ok(summaries) => Ok(Verdict::Yes(Items::from_vec(summaries))),
-        Err(Stop::Differs(counter)) => Ok(Verdict::No(counter)),
-        Err(Stop::Over(over)) => Ok(Verdict::Unknown(over)),
-        Err(Stop::NoMemory) => Err(NoMemory),
+        Err(SearchStop::Differs(counter)) => Ok(Verdict::No(counter)),
+        Err(SearchStop::Over(over)) => Ok(Verdict::Unknown(over)),
+        Err(SearchStop::NoMemory) => Err(NoMemory),
     }
 }

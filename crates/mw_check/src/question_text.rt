@@ -6,7 +6,7 @@ ghost use Rattle.mw_check.specs.Question.{asked_of, IsQuestion};
 ghost use Rattle.mw_check.specs.QuestionText.{declaring, no_variables, shape_over, variable_line, left_line};
 ghost use Rattle.mw_check.specs.QuestionText.{first_line, right_line, last_line, with_tokens, with_line};
 ghost use Rattle.mw_check.specs.QuestionText.{finished, question_of};
-ghost use Rattle.mw_check.specs.QuestionKept.{AreVariables, IsHalf, IsKept, TextsAskQuestions};
+ghost use Rattle.mw_check.specs.QuestionKept.{AreVariables, IsHalf, IsKnownQuestion, TextsAskQuestions};
 ghost use Rattle.mw_check.specs.QuestionViews.{variables_seen, half_seen, known_seen};
 
 use crate::question::Question;
@@ -132,7 +132,7 @@ fn last_line(question: Question, line: &Cursor) -> Result<Known, Refusal>
 
 /// What is known after a line that isn't blank.
 fn with_tokens(alloc: Global, known: Known, line: &Cursor) -> Result<Known, Refusal>
-    requires kept { IsKept (known_seen known) }
+    requires kept { IsKnownQuestion (known_seen known) }
     ensures { Gives known_seen result (with_tokens (known_seen known) line.now) }
 {
     match known {
@@ -144,7 +144,7 @@ fn with_tokens(alloc: Global, known: Known, line: &Cursor) -> Result<Known, Refu
 
 /// What is known after a line; a blank one says nothing.
 fn with_line(alloc: Global, text: &[u8], known: Known, line: &Line) -> Result<Known, Refusal>
-    requires kept { IsKept (known_seen known) }
+    requires kept { IsKnownQuestion (known_seen known) }
     ensures { Gives known_seen result (with_line text.now (known_seen known) line.now) }
 {
     match line.tokens.as_slice() {

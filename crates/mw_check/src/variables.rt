@@ -3,7 +3,7 @@ ghost use Rattle.std.specs.Prelude.{◌≡◌, ◌++◌, ◌∷◌, [], OnOk};
 ghost use Rattle.mw_base.specs.Named.{new_name};
 ghost use Rattle.mw_base.specs.Reading.{Gives};
 ghost use Rattle.mw_base.specs.Symbols.{spelled};
-ghost use Rattle.mw_expr.specs.Grammar.{number_of};
+ghost use Rattle.mw_expr.specs.Grammar.{number_by_name};
 ghost use Rattle.mw_check.specs.QuestionText.{no_variables, few, is_reserved, width_in, with_variable};
 ghost use Rattle.mw_check.specs.QuestionViews.{variables_seen};
 
@@ -35,8 +35,8 @@ fn is_reserved(name: &[u8]) -> bool
 }
 
 /// The number of the variable of this name, if there is one.
-fn number_of(names: &[Name], name: &[u8]) -> Option<usize>
-    ensures { result ≡ number_of names.now name.now }
+fn number_by_name(names: &[Name], name: &[u8]) -> Option<usize>
+    ensures { result ≡ number_by_name names.now name.now }
 {
     names.iter().position(|other| other.as_slice() == name)
 }
@@ -77,11 +77,11 @@ impl Variables {
     /// Whether a name is a new one: cause 31 or 33 at it.
     #[tactic(auto, unfolding(mw_base::specs::Named::new_name))]
     fn check_new(&self, text: &[u8], name: Token) -> Result<(), TextFault>
-        ensures { result ≡ new_name text.now (number_of (variables_seen self.now).names)
+        ensures { result ≡ new_name text.now (number_by_name (variables_seen self.now).names)
             (is_reserved (spelled text.now name)) name }
     {
         let bytes = spelled(text, name);
-        if number_of(&self.names, bytes).is_some() || is_reserved(bytes) {
+        if number_by_name(&self.names, bytes).is_some() || is_reserved(bytes) {
             Err(fault_on(name, Cause::Twice))
         } else if bytes.len() <= LONGEST_NAME {
             Ok(())

@@ -44,25 +44,25 @@ by_number board n P register q mar ir flip pc r word =
     word (grind (arith, nat_tests)))))))))
 
 -- the number of an element
-number_of : BoardParts → Element → ℕ
-number_of board (Register n) = n
-number_of board Q = 16
-number_of board Mar = 17
-number_of board Ir = 18
-number_of board (FlipFlop n) = 19 + n
-number_of board Pc = pc_number board
-number_of board R = pc_number board + 1
-number_of board (StackWord n) = pc_number board + 2 + n
+number_of_element : BoardParts → Element → ℕ
+number_of_element board (Register n) = n
+number_of_element board Q = 16
+number_of_element board Mar = 17
+number_of_element board Ir = 18
+number_of_element board (FlipFlop n) = 19 + n
+number_of_element board Pc = pc_number board
+number_of_element board R = pc_number board + 1
+number_of_element board (StackWord n) = pc_number board + 2 + n
 
-number_is : (board : BoardParts) (n : ℕ) → number_of board (element_of board n) ≡ n
-unfolding number_of
+number_is : (board : BoardParts) (n : ℕ) → number_of_element board (element_of board n) ≡ n
+unfolding number_of_element
 number_is board n =
-    by_number board n (λ e. number_of board e ≡ n) (λ h. refl) (λ h. omega arith) (λ h. omega arith) (λ h. omega arith)
+    by_number board n (λ e. number_of_element board e ≡ n) (λ h. refl) (λ h. omega arith) (λ h. omega arith) (λ h. omega arith)
     (λ h k. omega arith) (λ h. sym h) (λ h. sym h) (λ h. omega arith)
 
 -- two numbers that differ are those of two elements
 pub apart : (board : BoardParts) (m n : ℕ) → m ≢ n → element_of board m ≢ element_of board n
-apart board m n other = λ same. other (sym (number_is board m) ∙ ap (number_of board) same ∙ number_is board n)
+apart board m n other = λ same. other (sym (number_is board m) ∙ ap (number_of_element board) same ∙ number_is board n)
 
 -- the element with a number of the board is one of it
 pub is_element : (board : BoardParts) (n : ℕ) → n < element_count board → IsElement board (element_of board n)

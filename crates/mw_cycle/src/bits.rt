@@ -10,7 +10,7 @@ use mw_base::bit;
 use mw_board::{Bit, Board};
 
 /// A bit as the number 0 or 1.
-pub(crate) fn number_of(bit: bool) -> u16
+pub(crate) fn bit_number(bit: bool) -> u16
     ensures { result ≡ num bit }
 {
     u16::from(bit)

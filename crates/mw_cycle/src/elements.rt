@@ -6,7 +6,7 @@ ghost use Rattle.mw_board.specs.Elements.{element_count};
 ghost use Rattle.mw_cycle.specs.State.{Fits};
 ghost use Rattle.mw_cycle.specs.Elements.{IsElement, IsValueOf, bits_of, element, element_of, value_of, with_element, with_flip, with_value};
 
-use crate::bits::{flip, number_of};
+use crate::bits::{bit_number, flip};
 use crate::state::State;
 use mw_board::Board;
 
@@ -86,7 +86,7 @@ impl State {
             Element::Q => self.q,
             Element::Mar => self.mar,
             Element::Ir => self.ir,
-            Element::FlipFlop(number) => u32::from(number_of(flip(self, number))),
+            Element::FlipFlop(number) => u32::from(bit_number(flip(self, number))),
             Element::Pc => u32::from(seq.pc),
             Element::R => u32::from(seq.r),
             Element::StackWord(number) => u32::from(seq.word(number)),

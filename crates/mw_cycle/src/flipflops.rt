@@ -4,7 +4,7 @@ ghost use Rattle.mw_base.specs.Words.{bit_of};
 ghost use Rattle.mw_board.specs.Valid.{IsFlipFlop, IsLoad};
 ghost use Rattle.mw_cycle.specs.Cycle.{loaded, flip_of, flips_after};
 
-use crate::bits::{bit_value, carry_net, flip, number_of};
+use crate::bits::{bit_number, bit_value, carry_net, flip};
 use crate::microword::Microword;
 use crate::state::{CycleIn, State};
 use mw_alu::AluOut;
@@ -31,7 +31,7 @@ fn loaded(
 }
 
 /// What a flip-flop takes, which has this number.
-fn taken(
+fn flip_of(
     board: &Board,
     microword: &Microword,
     number: u8,
@@ -63,8 +63,8 @@ pub(crate) fn flips_after(
     let mut flips = 0;
     for (n, flipflop) in flipflops.iter().enumerate() {
         let number = n as u8;
-        let takes = taken(board, microword, number, flipflop, answer, state, given);
-        flips += number_of(takes) << number;
+        let takes = flip_of(board, microword, number, flipflop, answer, state, given);
+        flips += bit_number(takes) << number;
     }
     flips
 }

@@ -8,7 +8,7 @@ ghost use Rattle.mw_cycle.specs.State.{Fits};
 ghost use Rattle.mw_cycle.specs.Cycle.{from_source, masked, d_of, operands_of, answer_of, pass_of, map_of, direct_address, next_address};
 ghost use Rattle.mw_cycle.specs.Cycle.{pins_of, writes_of, flips_after, edge, event_of, state_after, nets_of};
 
-use crate::bits::{bit_value, carry_net, early_bit, flip, number_of, overflow_net};
+use crate::bits::{bit_number, bit_value, carry_net, early_bit, flip, overflow_net};
 use crate::control::{in_field, low_bits, run_of_bits};
 use crate::datapath::Datapath;
 use crate::flipflops::flips_after;
@@ -62,7 +62,7 @@ fn from_source(board: &Board, word: u128, from: DFrom, state: &State, given: Cyc
         DFrom::Mar => state.mar,
         DFrom::Input => given.input,
         DFrom::Field(number) => low_bits(u128::from(in_field(board, number, word)), width),
-        DFrom::Flip(number) => u32::from(number_of(flip(state, number))),
+        DFrom::Flip(number) => u32::from(bit_number(flip(state, number))),
     }
 }
 

@@ -14,12 +14,12 @@ use Rattle.mw_dd.proofs.Order.{not_before-trans, after_later, before_after}
 use Rattle.mw_dd.proofs.Values.{value-node, value-zero, value-one}
 
 -- a node is a constant, or stands in the list
-pub data Place (nodes : List Node) (x : ℕ) : Type 0 where
-  is_false : x ≡ 0 → Place nodes x
-  is_true : x ≡ 1 → Place nodes x
-  is_node : (k : ℕ) (n : Node) → x ≡ k + 2 → slice_get nodes k ≡ Some n → Place nodes x
+pub data NodeCase (nodes : List Node) (x : ℕ) : Type 0 where
+  is_false : x ≡ 0 → NodeCase nodes x
+  is_true : x ≡ 1 → NodeCase nodes x
+  is_node : (k : ℕ) (n : Node) → x ≡ k + 2 → slice_get nodes k ≡ Some n → NodeCase nodes x
 
-pub place_of : (nodes : List Node) (x : ℕ) → IsDd nodes x → Place nodes x
+pub place_of : (nodes : List Node) (x : ℕ) → IsDd nodes x → NodeCase nodes x
 place_of nodes zero h = is_false refl
 place_of nodes (suc zero) h = is_true refl
 place_of nodes (suc (suc k)) h = elim (slice_get_cases nodes k).1 [
@@ -76,7 +76,7 @@ module _ (nodes : List Node) (r : IsReduced nodes) (place : Variable) (a b : Giv
   abbrev Alike : ℕ → Type 0
   Alike bound = (x : ℕ) → x < bound → IsDd nodes x → IsFrom nodes place x → value_at a nodes x ≡ value_at b nodes x
 
-  alike_at : (bound x : ℕ) → Alike bound → x < suc bound → IsDd nodes x → IsFrom nodes place x → Place nodes x
+  alike_at : (bound x : ℕ) → Alike bound → x < suc bound → IsDd nodes x → IsFrom nodes place x → NodeCase nodes x
       → value_at a nodes x ≡ value_at b nodes x
   alike_at bound x ih h t from (is_false e) = rw e (value-zero a nodes ∙ sym (value-zero b nodes))
   alike_at bound x ih h t from (is_true e) = rw e (value-one a nodes ∙ sym (value-one b nodes))

@@ -9,7 +9,7 @@ use Rattle.mw_term.specs.Cofactors.{with_fixed}
 use Rattle.mw_dd.specs.declared.nodes.Node.{Node}
 use Rattle.mw_dd.specs.Nodes.{value_at, function_of, IsDd, IsReduced, after}
 use Rattle.mw_dd.proofs.Values.{value-one}
-use Rattle.mw_dd.proofs.From.{Place, is_false, is_true, is_node, place_of, only}
+use Rattle.mw_dd.proofs.From.{NodeCase, is_false, is_true, is_node, place_of, only}
 use Rattle.mw_dd.proofs.Unique.{low_is, high_is, nowhere}
 use Rattle.mw_dd.proofs.Walks.{some_number}
 
@@ -42,7 +42,7 @@ module _ (nodes : List Node) (r : IsReduced nodes) where
             by_low k n at (ih n.low (omega (arith, i.low, h)) (omega (arith, i.low, within)) (some_number n.low some))
       ]
 
-  holds_at : (bound x : ℕ) → HoldBelow bound → x < suc bound → 0 < x → Place nodes x → Holds x
+  holds_at : (bound x : ℕ) → HoldBelow bound → x < suc bound → 0 < x → NodeCase nodes x → Holds x
   holds_at bound x ih h some (is_false e) = absurd (omega (arith, e, some))
   holds_at bound x ih h some (is_true e) =
       (nowhere nodes r, ap (value_at (nowhere nodes r) nodes) e ∙ value-one (nowhere nodes r) nodes)

@@ -10,7 +10,7 @@ use Rattle.mw_dd.specs.Nodes.{value_at, function_of, IsDd, IsFrom, IsReduced, af
 use Rattle.mw_dd.specs.Diagrams.{IsCanonical}
 use Rattle.mw_dd.proofs.Order.{later_after, order_cases}
 use Rattle.mw_dd.proofs.Values.{value-high, value-low, value-zero, value-one}
-use Rattle.mw_dd.proofs.From.{Place, is_false, is_true, is_node, place_of, from_constant, from_node, same_fixed, only}
+use Rattle.mw_dd.proofs.From.{NodeCase, is_false, is_true, is_node, place_of, from_constant, from_node, same_fixed, only}
 use Rattle.mw_dd.proofs.From.{fixed_only}
 
 -- a node by its parts
@@ -85,7 +85,7 @@ module _ (nodes : List Node) (r : IsReduced nodes) where
   nowhere = λ word. 0
 
   one_at : (bound x y : ℕ) → OneBelow bound → x < suc bound → y < suc bound → IsDd nodes x → IsDd nodes y
-      → SameFunction x y → Place nodes x → Place nodes y → x ≡ y
+      → SameFunction x y → NodeCase nodes x → NodeCase nodes y → x ≡ y
   one_at bound x y ih h g t u same (is_false e) (is_false f) = omega (arith, e, f)
   one_at bound x y ih h g t u same (is_true e) (is_true f) = omega (arith, e, f)
   one_at bound x y ih h g t u same (is_false e) (is_true f) =

@@ -34,7 +34,7 @@ fn raises(node: &Node) -> bool
 }
 
 /// The branch of a node that the first assignment takes: the low one, unless it holds never.
-fn taken(
+fn first_branch(
     nodes: &Table<Node>,
     alloc: Global,
     assignment: &mut Assignment,
@@ -69,7 +69,7 @@ pub(crate) fn first_assignment(
     let mut assignment = Assignment::new(alloc);
     let mut at = x;
     while at.position() >= 2 {
-        at = taken(nodes, alloc, &mut assignment, at)?;
+        at = first_branch(nodes, alloc, &mut assignment, at)?;
     }
     Ok(assignment)
 }

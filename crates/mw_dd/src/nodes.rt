@@ -108,7 +108,7 @@ fn half(nodes: &Table<Node>, x: Dd, variable: Variable, side: bool) -> Dd
 }
 
 /// The earlier of a variable and that of a node.
-fn first(nodes: &Table<Node>, variable: Variable, x: Dd) -> Variable
+fn earlier_variable(nodes: &Table<Node>, variable: Variable, x: Dd) -> Variable
     requires { IsDd nodes.now x }
     ensures own { (result ≡ variable) ⊎ HasVariable nodes.now x result }
     ensures no_later { is_before variable result ≡ false }
@@ -132,8 +132,8 @@ pub(crate) fn top(nodes: &Table<Node>, t: Triple) -> Variable
     ensures { IsTop nodes.now t result }
 {
     let variable = inner(nodes, t.f).variable;
-    let variable = first(nodes, variable, t.g);
-    first(nodes, variable, t.h)
+    let variable = earlier_variable(nodes, variable, t.g);
+    earlier_variable(nodes, variable, t.h)
 }
 
 /// Three nodes where their first variable has a value.

@@ -15,8 +15,8 @@ number_of_name board name =
     if bytes_eq name stack_pointer_name then Some (element_count board) else element_number board name
 
 -- the number of OWNER.NAME: all elements are the board's
-abbrev pub number_of : BoardParts → List ℕ → List ℕ → Option ℕ
-number_of board owner name = if bytes_eq owner (codes "b") then number_of_name board name else None
+abbrev pub number_by_owner : BoardParts → List ℕ → List ℕ → Option ℕ
+number_by_owner board owner name = if bytes_eq owner (codes "b") then number_of_name board name else None
 
 -- the name of the element with a number
 abbrev pub name_of : BoardParts → ℕ → List ℕ

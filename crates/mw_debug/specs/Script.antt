@@ -16,7 +16,7 @@ use Rattle.mw_base.specs.TokenLines.{fault_on, token_lines}
 use Rattle.mw_asm.specs.declared.assembled.Label.{Label}
 use Rattle.mw_asm.specs.Labels.{label_named}
 use Rattle.mw_board.specs.declared.parts.BoardParts.{BoardParts}
-use Rattle.mw_sim.specs.Given.{value_below}
+use Rattle.mw_sim.specs.Settings.{value_below}
 use Rattle.mw_debug.specs.declared.command.Command.{Command}
 use Rattle.mw_debug.specs.declared.command.Command.TheVariants as commands
 use Rattle.mw_debug.specs.declared.reading.Counted.{Counted}
@@ -25,7 +25,7 @@ use Rattle.mw_debug.specs.declared.script.Act.TheVariants as acts
 use Rattle.mw_debug.specs.declared.script.Entry.{Entry}
 use Rattle.mw_debug.specs.declared.script.Script.{Script}
 use Rattle.mw_debug.specs.Commands.{command_of}
-use Rattle.mw_debug.specs.Elements.{number_of, bound_of}
+use Rattle.mw_debug.specs.Elements.{number_by_owner, bound_of}
 
 -- a count of cycles or of entries, which is 1 to 10,000
 unfoldable pub count_of : Numeral → Result ℕ TextFault
@@ -36,7 +36,7 @@ count_of numeral =
 -- the number of an element, which has to be one of the board
 unfoldable pub element_number_of : BoardParts → List ℕ → Dotted → Result ℕ TextFault
 element_number_of board text element =
-    ok_or (number_of board (spelled text element.owner) (spelled text element.name))
+    ok_or (number_by_owner board (spelled text element.owner) (spelled text element.name))
     (fault_on element.owner NoSuchElement)
 
 -- until: the address, given those of the labels, and how many cycles there are at most

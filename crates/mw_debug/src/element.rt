@@ -1,7 +1,7 @@
 // The elements of a script: those of the board, and behind them the stack pointer.
 ghost use Rattle.std.specs.Prelude.{◌≡◌, ◌<◌, ◌≤◌, ◌^◌, IfSome};
 ghost use Rattle.mw_cycle.specs.State.{Fits};
-ghost use Rattle.mw_debug.specs.Elements.{number_of_name, number_of, name_of, bound_of, value_in, state_with};
+ghost use Rattle.mw_debug.specs.Elements.{number_of_name, number_by_owner, name_of, bound_of, value_in, state_with};
 ghost use Rattle.mw_debug.specs.Kept.{IsElement};
 
 use mw_board::Board;
@@ -21,8 +21,8 @@ fn number_of_name(board: &Board, name: &[u8]) -> Option<usize>
 }
 
 /// The number of OWNER.NAME, if it is an element of the board.
-pub(crate) fn number_of(board: &Board, owner: &[u8], name: &[u8]) -> Option<usize>
-    ensures exact { result ≡ number_of board.now owner.now name.now }
+pub(crate) fn number_by_owner(board: &Board, owner: &[u8], name: &[u8]) -> Option<usize>
+    ensures exact { result ≡ number_by_owner board.now owner.now name.now }
     ensures kept { IfSome result (λ number. IsElement board.now number) }
 {
     if owner == b"b".as_slice() {
@@ -36,7 +36,9 @@ pub(crate) fn number_of(board: &Board, owner: &[u8], name: &[u8]) -> Option<usiz
 pub(crate) fn name_of(board: &Board, number: usize) -> &[u8]
     ensures { result.now ≡ name_of board.now number }
 {
-    board.element_name(number).unwrap_or(board.stack_pointer_name())
+    board
+        .element_name(number)
+        .unwrap_or(board.stack_pointer_name())
 }
 
 /// The least number that is no value of the element with a number.

@@ -9,7 +9,7 @@ ghost use Rattle.mw_debug.specs.Script.{act_of, count_of, counted_of, cycles_ask
 ghost use Rattle.mw_debug.specs.Views.{reading_seen};
 
 use crate::command::{Command, command_of};
-use crate::element::{bound_of, number_of};
+use crate::element::{bound_of, number_by_owner};
 use crate::labels::names_of;
 use crate::script::{Act, Entry, Script};
 use mw_asm::Assembled;
@@ -66,7 +66,7 @@ fn element_number_of(board: &Board, text: &[u8], element: Dotted) -> Result<u32,
     // A call for the proof: its clause `valid` says that the elements of every board are few.
     let _ = board.parts();
     let Dotted { owner, name } = element;
-    match number_of(board, spelled(text, owner), spelled(text, name)) {
+    match number_by_owner(board, spelled(text, owner), spelled(text, name)) {
         Some(number) => Ok(number as u32),
         None => Err(fault_on(owner, Cause::NoSuchElement)),
     }

@@ -35,13 +35,13 @@ use Rattle.mw_rel.specs.Lines.{Line, stands_in, reads_of}
 use Rattle.mw_rel.specs.Relation.{Boundary, IsFormedLine, IsFormedBoundary}
 use Rattle.mw_rel.specs.Rules.{are_once, is_even, reads_no_left}
 use Rattle.mw_descfile.specs.declared.scope.Scope.{Scope}
-use Rattle.mw_descfile.specs.declared.block.Given.{Given as KeptGiven}
+use Rattle.mw_descfile.specs.declared.block.PlacedLine.{PlacedLine as KeptPlacedLine}
 use Rattle.mw_descfile.specs.declared.uses.Use.{Use}
-use Rattle.mw_descfile.specs.Boundaries.{Given, Block, with_stack_pointer, with_equation, is_left, twice_left}
+use Rattle.mw_descfile.specs.Boundaries.{PlacedLine, Block, with_stack_pointer, with_equation, is_left, twice_left}
 use Rattle.mw_descfile.specs.Boundaries.{used_left, line_faults, unsolved, solved_unless, closed_block}
 use Rattle.mw_descfile.specs.Declarations.{ranged}
 use Rattle.mw_descfile.specs.Expressions.{asked, whole_of, asked_whole}
-use Rattle.mw_descfile.specs.KeptRelation.{IsScope, is_among, IsGiven, lines_in, IsEnded, IsOpen}
+use Rattle.mw_descfile.specs.KeptRelation.{IsScope, is_among, IsPlacedLine, lines_in, IsEnded, IsOpen}
 use Rattle.mw_descfile.specs.RelationLines.{dotted_number, uses_of}
 use Rattle.mw_descfile.specs.RelationViews.{given_seen}
 use Rattle.mw_descfile.specs.Statements.{allowed}
@@ -79,7 +79,7 @@ reads_both : (xs ys : List Line) → reads_of (xs ++ ys) ≡ reads_of xs + reads
 reads_both [] ys = omega arith
 reads_both (x ∷ xs) ys = let both = reads_both xs ys in omega (arith, both)
 
-lines_both : (xs ys : List Given) → lines_in (xs ++ ys) ≡ lines_in xs ++ lines_in ys
+lines_both : (xs ys : List PlacedLine) → lines_in (xs ++ ys) ≡ lines_in xs ++ lines_in ys
 lines_both [] ys = refl
 lines_both (x ∷ xs) ys = ap (λ (rest : List Line). x.line ∷ rest) (lines_both xs ys)
 
@@ -133,7 +133,7 @@ equation_kept text scope element sign value tokens before block next kept read i
     let level : nat_le (depth (plain value)) 64 ≡ true = grind (arith, nat_tests, shallow) in
     let wide = width_is s (plain value) h.0.w h.0.known h.0.wide level in
     let inside = number_below text scope element left kept two.1 in
-    let g : Given = record {
+    let g : PlacedLine = record {
       line = record { left = left; right = whole.tree };
       name = element.owner;
       uses = uses_of text scope.names tokens;
@@ -146,7 +146,7 @@ equation_kept text scope element sign value tokens before block next kept read i
     let even : is_even s g.line ≡ true = rw (h.1, wide) same in
     let stands_there = λ (e : ℕ) (stands : stands_in e g.line.right ≡ true).
     stands_in_tokens m e tokens value kept.dotted (is_read_by_rule m _ value read.1) small (rw h.1 at stands) in
-    let given : IsGiven s g = record { formed = formed; even = even; found = stands_there } in
+    let given : IsPlacedLine s g = record { formed = formed; even = even; found = stands_there } in
     let sum = h.2 in
     let before_reads = is_open.reads in
     let more_reads : reads_of (lines_in (block.lines ++ g ∷ [])) ≡ reads_of (lines_in block.lines) + reads whole.tree =
@@ -164,8 +164,8 @@ equation_kept text scope element sign value tokens before block next kept read i
       most = is_open.most;
       few = few;
       reads = omega (arith, sum, before_reads, more_reads);
-      lines = All-append (IsGiven s) block.lines (g ∷ []) is_open.lines (All-cons (IsGiven s) g [] given
-          (All-nil (IsGiven s)));
+      lines = All-append (IsPlacedLine s) block.lines (g ∷ []) is_open.lines (All-cons (IsPlacedLine s) g [] given
+          (All-nil (IsPlacedLine s)));
     })
 
 pub stack_pointer_kept : (s : Shape) (word : Token) (value : Numeral) (before : List Boundary) (block next : Block)
@@ -189,12 +189,12 @@ stack_pointer_kept s word value before block next is_open is =
 
 -- no element is left of two lines
 
-left_more : (before : List Given) (g : Given) (n : ℕ) → is_left before n ≡ true → is_left (before ++ g ∷ []) n ≡ true
-left_more before g n is = list_any-append (λ (h : Given). h.line.left == n) before (g ∷ [])
+left_more : (before : List PlacedLine) (g : PlacedLine) (n : ℕ) → is_left before n ≡ true → is_left (before ++ g ∷ []) n ≡ true
+left_more before g n is = list_any-append (λ (h : PlacedLine). h.line.left == n) before (g ∷ [])
     ∙ first_is (is_left before n) (is_left (g ∷ []) n) is
 
-left_last : (before : List Given) (g : Given) → is_left (before ++ g ∷ []) g.line.left ≡ true
-left_last before g = list_any-append (λ (h : Given). h.line.left == g.line.left) before (g ∷ [])
+left_last : (before : List PlacedLine) (g : PlacedLine) → is_left (before ++ g ∷ []) g.line.left ≡ true
+left_last before g = list_any-append (λ (h : PlacedLine). h.line.left == g.line.left) before (g ∷ [])
     ∙ second_is (is_left before g.line.left) (is_left (g ∷ []) g.line.left)
     (first_is (g.line.left == g.line.left) false (eq-eqb g.line.left g.line.left refl))
 
@@ -203,11 +203,11 @@ no_fault_if true fault is = absurd cc
 no_fault_if false fault is = refl
 
 -- the lefts of some lines
-abbrev lefts : List Given → List ℕ
+abbrev lefts : List PlacedLine → List ℕ
 lefts lines = map (λ (line : Line). line.left) (lines_in lines)
 
 -- an element that is left of a line before is left of none behind
-none_behind : (all before rest : List Given) (n : ℕ) → unsolved all before rest ≡ [] → is_left before n ≡ true
+none_behind : (all before rest : List PlacedLine) (n : ℕ) → unsolved all before rest ≡ [] → is_left before n ≡ true
     → list_any (λ other. other == n) (lefts rest) ≡ false
 none_behind all before [] n is left = refl
 none_behind all before (g ∷ rest) n is left =
@@ -219,7 +219,7 @@ none_behind all before (g ∷ rest) n is left =
     (sym (eqb-true g.line.left n same)) left) not_left) in
     rw differs (none_behind all (before ++ g ∷ []) rest n later (left_more before g n left))
 
-once : (all before rest : List Given) → unsolved all before rest ≡ [] → are_once (lefts rest) ≡ true
+once : (all before rest : List PlacedLine) → unsolved all before rest ≡ [] → are_once (lefts rest) ≡ true
 once all before [] is = refl
 once all before (g ∷ rest) is =
     let later = nil_back (line_faults all before g) _ is in
@@ -229,7 +229,7 @@ once all before (g ∷ rest) is =
 
 -- no left element stands on the right of a line
 
-no_use : (all : List Given) (uses : List Use) (n : ℕ) → flat_map (used_left all) uses ≡ [] → is_left all n ≡ true
+no_use : (all : List PlacedLine) (uses : List Use) (n : ℕ) → flat_map (used_left all) uses ≡ [] → is_left all n ≡ true
     → is_among uses n ≡ false
 no_use all [] n is left = refl
 no_use all (u ∷ rest) n is left =
@@ -240,13 +240,13 @@ no_use all (u ∷ rest) n is left =
     apart (is_left all u.number) (subst (λ k. is_left all k ≡ true) (sym (eqb-true u.number n same)) left) not_left) in
     rw differs (no_use all rest n later left)
 
-reads_none : (s : Shape) (all front others : List Given) (g : Given) → all ≡ front ++ others → IsGiven s g
+reads_none : (s : Shape) (all front others : List PlacedLine) (g : PlacedLine) → all ≡ front ++ others → IsPlacedLine s g
     → flat_map (used_left all) g.uses ≡ []
     → list_all (λ (other : Line). not (stands_in other.left g.line.right)) (lines_in others) ≡ true
 reads_none s all front [] g is given free = refl
 reads_none s all front (o ∷ rest) g is given free =
     let at : is_left all o.line.left ≡ true =
-    rw is (list_any-append (λ (h : Given). h.line.left == o.line.left) front (o ∷ rest)
+    rw is (list_any-append (λ (h : PlacedLine). h.line.left == o.line.left) front (o ∷ rest)
     ∙ second_is (is_left front o.line.left) (is_left (o ∷ rest) o.line.left)
     (first_is (o.line.left == o.line.left) (is_left rest o.line.left) (eq-eqb o.line.left o.line.left refl))) in
     let none = no_use all g.uses o.line.left free at in
@@ -255,19 +255,19 @@ reads_none s all front (o ∷ rest) g is given free =
     and_from (not (stands_in o.line.left g.line.right)) _ (turned _ unread)
     (reads_none s all (front ++ o ∷ []) rest g (is ∙ sym (append_assoc front (o ∷ []) rest)) given free)
 
-free : (s : Shape) (all before rest : List Given) → All (IsGiven s) rest → unsolved all before rest ≡ []
+free : (s : Shape) (all before rest : List PlacedLine) → All (IsPlacedLine s) rest → unsolved all before rest ≡ []
     → list_all (reads_no_left (lines_in all)) (lines_in rest) ≡ true
 free s all before [] given is = refl
 free s all before (g ∷ rest) given is =
     let uses = nil_back (twice_left before g) _ (nil_front (line_faults all before g) _ is) in
     let later = nil_back (line_faults all before g) _ is in
     and_from (reads_no_left (lines_in all) g.line) _
-    (reads_none s all [] all g refl (All-head (IsGiven s) g rest given) uses)
-    (free s all (before ++ g ∷ []) rest (All-tail (IsGiven s) g rest given) later)
+    (reads_none s all [] all g refl (All-head (IsPlacedLine s) g rest given) uses)
+    (free s all (before ++ g ∷ []) rest (All-tail (IsPlacedLine s) g rest given) later)
 
 -- ---- the first fault, line by line
 
-pub use_more : (all : List Given) (uses : List Use) (first next total : Option TextFault) (n : ℕ) (u : Use)
+pub use_more : (all : List PlacedLine) (uses : List Use) (first next total : Option TextFault) (n : ℕ) (u : Use)
     → drop n uses ≡ u ∷ drop (n + 1) uses → next ≡ first_in first (used_left all u)
     → first_in first (flat_map (used_left all) (drop n uses)) ≡ total
     → first_in next (flat_map (used_left all) (drop (n + 1) uses)) ≡ total
@@ -275,7 +275,7 @@ use_more all uses first next total n u at is so_far =
     rw is (sym (first_in_append first (used_left all u) (flat_map (used_left all) (drop (n + 1) uses)))
     ∙ rw at at so_far)
 
-pub line_more : (all ys : List Given) (first next total : Option TextFault) (n : ℕ) (g : Given)
+pub line_more : (all ys : List PlacedLine) (first next total : Option TextFault) (n : ℕ) (g : PlacedLine)
     → drop n ys ≡ g ∷ drop (n + 1) ys → take (n + 1) ys ≡ take n ys ++ g ∷ []
     → next ≡ first_in first (line_faults all (take n ys) g)
     → first_in first (unsolved all (take n ys) (drop n ys)) ≡ total
@@ -285,7 +285,7 @@ line_more all ys first next total n g at taken is so_far =
     (unsolved all (take n ys ++ g ∷ []) (drop (n + 1) ys))) ∙ rw at at so_far)
 
 -- the same for lines that the code keeps
-pub line_at : (lines : List KeptGiven) (first next total : Option TextFault) (n : ℕ) (x : KeptGiven) → n < length lines
+pub line_at : (lines : List KeptPlacedLine) (first next total : Option TextFault) (n : ℕ) (x : KeptPlacedLine) → n < length lines
     → x ≡ get_or lines n x
     → next ≡ first_in first (line_faults (map given_seen lines) (map given_seen (take n lines)) (given_seen x))
     → first_in first (unsolved (map given_seen lines) (take n (map given_seen lines)) (drop n (map given_seen lines)))
@@ -299,22 +299,22 @@ line_at lines first next total n x within at is so_far =
     let same : get_or ys n (given_seen x) ≡ given_seen x = get_or-map given_seen lines n x (given_seen x) within
     ∙ ap given_seen (sym at) in
     line_more ys ys first next total n (given_seen x) (item_next ys n (given_seen x) inside (sym same))
-    (take_more ys n (given_seen x) inside ∙ ap (λ (y : Given). take n ys ++ y ∷ []) same)
+    (take_more ys n (given_seen x) inside ∙ ap (λ (y : PlacedLine). take n ys ++ y ∷ []) same)
     (rw (take-map given_seen n lines) is) so_far
 
 -- its lines
 
-all_even : (s : Shape) (lines : List Given) → All (IsGiven s) lines → list_all (is_even s) (lines_in lines) ≡ true
+all_even : (s : Shape) (lines : List PlacedLine) → All (IsPlacedLine s) lines → list_all (is_even s) (lines_in lines) ≡ true
 all_even s [] given = refl
-all_even s (g ∷ rest) given = and_from (is_even s g.line) _ (All-head (IsGiven s) g rest given).even
-    (all_even s rest (All-tail (IsGiven s) g rest given))
+all_even s (g ∷ rest) given = and_from (is_even s g.line) _ (All-head (IsPlacedLine s) g rest given).even
+    (all_even s rest (All-tail (IsPlacedLine s) g rest given))
 
-all_formed : (s : Shape) (lines : List Given) → All (IsGiven s) lines → All (IsFormedLine s) (lines_in lines)
+all_formed : (s : Shape) (lines : List PlacedLine) → All (IsPlacedLine s) lines → All (IsFormedLine s) (lines_in lines)
 all_formed s [] given = All-nil (IsFormedLine s)
 all_formed s (g ∷ rest) given = All-cons (IsFormedLine s) g.line (lines_in rest)
-    (All-head (IsGiven s) g rest given).formed (all_formed s rest (All-tail (IsGiven s) g rest given))
+    (All-head (IsPlacedLine s) g rest given).formed (all_formed s rest (All-tail (IsPlacedLine s) g rest given))
 
-count : (lines : List Given) → length (lines_in lines) ≡ length lines
+count : (lines : List PlacedLine) → length (lines_in lines) ≡ length lines
 count [] = refl
 count (g ∷ rest) = let same = count rest in omega (arith, same)
 

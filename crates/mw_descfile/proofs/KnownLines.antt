@@ -24,7 +24,7 @@ use Rattle.mw_descfile.specs.declared.declaration.Heading.TheVariants as heading
 use Rattle.mw_descfile.specs.declared.element.Kind.{Kind}
 use Rattle.mw_descfile.specs.Declarations.{Declared, sizes_of, heading_of, element_of, step_of, declaration_after}
 use Rattle.mw_descfile.specs.Declarations.{declaration_of, with_sizes, with_declared}
-use Rattle.mw_descfile.specs.Kept.{AreSpelled, IsDeclared, IsKept}
+use Rattle.mw_descfile.specs.Kept.{AreSpelled, IsDeclared, IsKnownMachine}
 use Rattle.mw_descfile.specs.Machine.{Known, nothing, declaring, stating, with_declaration, with_tokens, with_any}
 use Rattle.mw_descfile.specs.Machine.{with_line}
 use Rattle.mw_descfile.specs.Stating.{begun, with_stated}
@@ -109,37 +109,37 @@ was_declared line said all is =
 
 declaration_kept : (text : List ℕ) (d : Declared) (said : Declaration) (next : Known) → IsDeclared d
     → WasDeclared text said
-    → with_declaration text d said ≡ Ok next → IsKept next
+    → with_declaration text d said ≡ Ok next → IsKnownMachine next
 declaration_kept text d (Element kind name width) next kept was is =
     let one = bind_ok (with_declared text kind name width d) (λ more. ok_of {F = TextFault} (declaring more)) next is in
-    subst IsKept (ok_is {F = TextFault} (declaring one.0) next one.2)
+    subst IsKnownMachine (ok_is {F = TextFault} (declaring one.0) next one.2)
     (declared_kept text kind name width d one.0 kept was one.1)
-declaration_kept text d Step next kept was is = subst IsKept (ok_is {F = TextFault} (stating (begun d)) next is)
+declaration_kept text d Step next kept was is = subst IsKnownMachine (ok_is {F = TextFault} (stating (begun d)) next is)
     (begun_kept d kept)
 
 -- ---- any line
 
-tokens_kept : (text : List ℕ) (known next : Known) (line : Line) → AreSpelled text line.tokens → IsKept known
+tokens_kept : (text : List ℕ) (known next : Known) (line : Line) → AreSpelled text line.tokens → IsKnownMachine known
     → with_tokens text known line ≡ Ok next
-    → IsKept next
+    → IsKnownMachine next
 unfolding with_tokens
 tokens_kept text nothing next line all kept is =
     let one = bind_ok (sizes_of (at_line text line BadSyntax)) _ next is in
     let two = bind_ok (with_sizes one.0) (λ d. ok_of {F = TextFault} (declaring d)) next one.2 in
-    subst IsKept (ok_is {F = TextFault} (declaring two.0) next two.2) (sizes_kept one.0 two.0 two.1)
+    subst IsKnownMachine (ok_is {F = TextFault} (declaring two.0) next two.2) (sizes_kept one.0 two.0 two.1)
 tokens_kept text (declaring d) next line all kept is =
     let one = bind_ok (declaration_of (at_line text line BadSyntax)) (λ said. with_declaration text d said) next is in
     declaration_kept text d one.0 next kept (was_declared (at_line text line BadSyntax) one.0 all one.1) one.2
 tokens_kept text (stating s) next line all kept is =
     let one = bind_ok (with_stated text s line) (λ more. ok_of {F = TextFault} (stating more)) next is in
-    subst IsKept (ok_is {F = TextFault} (stating one.0) next one.2) (stated_kept text s one.0 line kept one.1)
+    subst IsKnownMachine (ok_is {F = TextFault} (stating one.0) next one.2) (stated_kept text s one.0 line kept one.1)
 
 any_kept : (text : List ℕ) (known next : Known) (line : Line) (tokens : List Token) → AreSpelled text line.tokens
-    → IsKept known
-    → with_any text known line tokens ≡ Ok next → IsKept next
-any_kept text known next line [] all kept is = subst IsKept (ok_is {F = TextFault} known next is) kept
+    → IsKnownMachine known
+    → with_any text known line tokens ≡ Ok next → IsKnownMachine next
+any_kept text known next line [] all kept is = subst IsKnownMachine (ok_is {F = TextFault} known next is) kept
 any_kept text known next line (token ∷ rest) all kept is = tokens_kept text known next line all kept is
 
-pub line_kept : (text : List ℕ) (known next : Known) (line : Line) → AreSpelled text line.tokens → IsKept known
-    → with_line text known line ≡ Ok next → IsKept next
+pub line_kept : (text : List ℕ) (known next : Known) (line : Line) → AreSpelled text line.tokens → IsKnownMachine known
+    → with_line text known line ≡ Ok next → IsKnownMachine next
 line_kept text known next line all kept is = any_kept text known next line line.tokens all kept is

@@ -34,7 +34,7 @@ use Rattle.mw_asm.specs.Labels.{label_named}
 use Rattle.mw_descfile.specs.Boundaries.{Block, place_token, is_taken, bounded, block_of, with_stack_pointer}
 use Rattle.mw_descfile.specs.Boundaries.{with_equation, closed_block}
 use Rattle.mw_descfile.specs.Expressions.{written_of}
-use Rattle.mw_descfile.specs.KeptRelation.{IsScope, IsGiven, IsEnded, IsOpen, IsKept}
+use Rattle.mw_descfile.specs.KeptRelation.{IsScope, IsPlacedLine, IsEnded, IsOpen, IsKnownRelation}
 use Rattle.mw_descfile.specs.Relation.{Known, with_told, with_tokens, with_any, with_line}
 use Rattle.mw_descfile.specs.RelationLines.{beginning_of, uses_of, Told, sp_line, equation_line, end_line}
 use Rattle.mw_descfile.specs.RelationLines.{stack_pointer_of, equation_of, end_of, block_word_in, told_after, told_of}
@@ -99,7 +99,7 @@ block_begun s text labels before said block is =
       most = bound.1;
       few = omega arith;
       reads = refl;
-      lines = All-nil (IsGiven s);
+      lines = All-nil (IsPlacedLine s);
     })
 
 -- ---- a line of a boundary
@@ -187,12 +187,12 @@ once_more (x ∷ rest) b once apart =
     turned false is = refl
 
 told_kept : (text : List ℕ) (scope : Scope) (known next : Known) (block : Block) (told : Told) → IsScope scope
-    → IsKept scope.shape known → IsOpen scope.shape known.boundaries block → WasTold text scope told
-    → with_told text scope known.boundaries block told ≡ Ok next → IsKept scope.shape next
+    → IsKnownRelation scope.shape known → IsOpen scope.shape known.boundaries block → WasTold text scope told
+    → with_told text scope known.boundaries block told ≡ Ok next → IsKnownRelation scope.shape next
 unfolding with_told
 told_kept text scope known next block (sp_line word value) over kept is_open was is =
     let one = bind_ok (with_stack_pointer word value block) _ next is in
-    subst (IsKept scope.shape)
+    subst (IsKnownRelation scope.shape)
     (ok_is {F = TextFault} (record { boundaries = known.boundaries; block = Some one.0 }) next
     one.2) (record {
       few = kept.few;
@@ -202,7 +202,7 @@ told_kept text scope known next block (sp_line word value) over kept is_open was
     })
 told_kept text scope known next block (equation_line element sign value uses) over kept is_open was is =
     let one = bind_ok (with_equation text scope element sign value uses block) _ next is in
-    subst (IsKept scope.shape)
+    subst (IsKnownRelation scope.shape)
     (ok_is {F = TextFault} (record { boundaries = known.boundaries; block = Some one.0 }) next
     one.2) (record {
       few = kept.few;
@@ -216,7 +216,7 @@ told_kept text scope known next block (end_line word) over kept is_open was is =
     let ended = closed_kept scope.shape known.boundaries block word one.0 is_open one.1 in
     let room = is_open.room in
     let count = length-append known.boundaries (one.0 ∷ []) in
-    subst (IsKept scope.shape)
+    subst (IsKnownRelation scope.shape)
     (ok_is {F = TextFault} (record { boundaries = known.boundaries ++ one.0 ∷ []; block = None })
     next one.2) (record {
       few = omega (arith, room, count);
@@ -227,13 +227,13 @@ told_kept text scope known next block (end_line word) over kept is_open was is =
     })
 
 tokens_kept : (text : List ℕ) (labels : List Label) (scope : Scope) (known next : Known) (block : Option Block)
-    (line : Line) → known.block ≡ block → IsScope scope → IsKept scope.shape known
-    → with_tokens text labels scope known.boundaries block line ≡ Ok next → IsKept scope.shape next
+    (line : Line) → known.block ≡ block → IsScope scope → IsKnownRelation scope.shape known
+    → with_tokens text labels scope known.boundaries block line ≡ Ok next → IsKnownRelation scope.shape next
 unfolding with_tokens
 tokens_kept text labels scope known next None line same over kept is =
     let one = bind_ok (beginning_of (at_line text line BadSyntax)) _ next is in
     let two = bind_ok (block_of text labels known.boundaries one.0) _ next one.2 in
-    subst (IsKept scope.shape)
+    subst (IsKnownRelation scope.shape)
     (ok_is {F = TextFault} (record { boundaries = known.boundaries; block = Some two.0 }) next
     two.2) (record {
       few = kept.few;
@@ -248,16 +248,16 @@ tokens_kept text labels scope known next (Some block) line same over kept is =
     (was_told scope cursor one.0 one.1) one.2
 
 any_kept : (text : List ℕ) (labels : List Label) (scope : Scope) (known next : Known) (line : Line)
-    (tokens : List Token) → IsScope scope → IsKept scope.shape known
-    → with_any text labels scope known line tokens ≡ Ok next → IsKept scope.shape next
+    (tokens : List Token) → IsScope scope → IsKnownRelation scope.shape known
+    → with_any text labels scope known line tokens ≡ Ok next → IsKnownRelation scope.shape next
 any_kept text labels scope known next line [] over kept is =
-    subst (IsKept scope.shape) (ok_is {F = TextFault} known next is) kept
+    subst (IsKnownRelation scope.shape) (ok_is {F = TextFault} known next is) kept
 any_kept text labels scope known next line (token ∷ rest) over kept is =
     tokens_kept text labels scope known next known.block line refl over kept is
 
 pub line_kept : (text : List ℕ) (labels : List Label) (scope : Scope) (known next : Known) (line : Line)
-    → IsScope scope → IsKept scope.shape known → with_line text labels scope known line ≡ Ok next
-    → IsKept scope.shape next
+    → IsScope scope → IsKnownRelation scope.shape known → with_line text labels scope known line ≡ Ok next
+    → IsKnownRelation scope.shape next
 line_kept text labels scope known next line over kept is =
     any_kept text labels scope known next line line.tokens over kept is
 
@@ -274,10 +274,10 @@ all_formed s [] all = All-nil (IsFormedBoundary s)
 all_formed s (b ∷ rest) all = All-cons (IsFormedBoundary s) b rest (All-head (IsEnded s) b rest all).formed
     (all_formed s rest (All-tail (IsEnded s) b rest all))
 
-pub formed : (s : Shape) (known : Known) → IsKept s known → IsFormed (related known.boundaries s)
+pub formed : (s : Shape) (known : Known) → IsKnownRelation s known → IsFormed (related known.boundaries s)
 formed s known kept = record { few = kept.few; boundaries = all_formed s known.boundaries kept.ended }
 
-pub accepted : (s : Shape) (known : Known) → IsKept s known → nat_lt 0 (length known.boundaries) ≡ true
+pub accepted : (s : Shape) (known : Known) → IsKnownRelation s known → nat_lt 0 (length known.boundaries) ≡ true
     → refusal_of (related known.boundaries s) ≡ None
 unfolding refusal_of
 accepted s known kept some =

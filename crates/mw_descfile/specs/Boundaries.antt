@@ -28,7 +28,7 @@ use Rattle.mw_descfile.specs.RelationLines.{dotted_number}
 use Rattle.mw_descfile.specs.Statements.{allowed}
 
 -- a line as it was given: what it says, the token of its left element, and the elements that stand on its right
-pub record Given : Type 0 where
+pub record PlacedLine : Type 0 where
   pub line : Line
   pub name : Token
   pub uses : List Use
@@ -40,7 +40,7 @@ pub record Block : Type 0 where
   pub bound : ℕ
   pub sp : Option ℕ
   pub reads_left : ℕ
-  pub lines : List Given
+  pub lines : List PlacedLine
 
 -- ---- its beginning
 
@@ -94,23 +94,23 @@ with_equation text scope element sign value uses block = do
 -- ---- its end
 
 -- an element is left of one of some lines
-abbrev pub is_left : List Given → ℕ → Bool
-is_left lines number = list_any (λ (g : Given). g.line.left == number) lines
+abbrev pub is_left : List PlacedLine → ℕ → Bool
+is_left lines number = list_any (λ (g : PlacedLine). g.line.left == number) lines
 
 -- the fault of a line whose left element is left of one before it
-abbrev pub twice_left : List Given → Given → List TextFault
+abbrev pub twice_left : List PlacedLine → PlacedLine → List TextFault
 twice_left before g = if is_left before g.line.left then fault_on g.name LeftTwice ∷ [] else []
 
 -- the fault of a use of an element that is left of one of the lines
-abbrev pub used_left : List Given → Use → List TextFault
+abbrev pub used_left : List PlacedLine → Use → List TextFault
 used_left all use_here = if is_left all use_here.number then fault_on use_here.name LeftUsedOnRight ∷ [] else []
 
 -- the faults of a line among all of a boundary, behind those before it
-abbrev pub line_faults : List Given → List Given → Given → List TextFault
+abbrev pub line_faults : List PlacedLine → List PlacedLine → PlacedLine → List TextFault
 line_faults all before g = twice_left before g ++ flat_map (used_left all) g.uses
 
 -- the faults of lines among all of a boundary, behind those before them
-abbrev pub unsolved : List Given → List Given → List Given → List TextFault
+abbrev pub unsolved : List PlacedLine → List PlacedLine → List PlacedLine → List TextFault
 unsolved all before [] = []
 unsolved all before (g ∷ rest) = line_faults all before g ++ unsolved all (before ++ g ∷ []) rest
 
@@ -124,4 +124,4 @@ unfoldable pub closed_block : Block → Token → Result Boundary TextFault
 closed_block block word = do
   solved ← solved_unless (first_in None (unsolved block.lines [] block.lines))
   sp ← ok_or block.sp (fault_on word NoStackPointer)
-  Ok (record { address = block.address; bound = block.bound; sp = sp; lines = map (λ (g : Given). g.line) block.lines })
+  Ok (record { address = block.address; bound = block.bound; sp = sp; lines = map (λ (g : PlacedLine). g.line) block.lines })

@@ -72,7 +72,7 @@ pub record IsStated (s : Stated) : Type 0 where
   pub right : (fault : Fault) → have_fault fault s.over.scope.shape 64 (acts_of (closed s.acts s.open_ifs)) ≡ false
 
 -- what is known
-abbrev pub IsKept : Known → Type 0
-IsKept nothing = Unit {0}
-IsKept (declaring d) = IsDeclared d
-IsKept (stating s) = IsStated s
+abbrev pub IsKnownMachine : Known → Type 0
+IsKnownMachine nothing = Unit {0}
+IsKnownMachine (declaring d) = IsDeclared d
+IsKnownMachine (stating s) = IsStated s

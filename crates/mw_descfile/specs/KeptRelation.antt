@@ -9,7 +9,7 @@ use Rattle.mw_rel.specs.Relation.{Boundary, IsFormedLine, IsFormedBoundary}
 use Rattle.mw_rel.specs.Rules.{addresses_are_once, is_even, are_even, lefts_are_once, rights_are_free, is_bounded}
 use Rattle.mw_descfile.specs.declared.scope.Scope.{Scope}
 use Rattle.mw_descfile.specs.declared.uses.Use.{Use}
-use Rattle.mw_descfile.specs.Boundaries.{Given, Block, is_taken}
+use Rattle.mw_descfile.specs.Boundaries.{PlacedLine, Block, is_taken}
 use Rattle.mw_descfile.specs.Relation.{Known}
 
 -- what expressions are over: a shape, and a name of two parts for each of its elements
@@ -24,14 +24,14 @@ is_among uses number = list_any (λ (u : Use). u.number == number) uses
 
 -- a line that was given: formed as it has to be, its right side as wide as its left one, and each element that stands
 -- there among those that were found
-pub record IsGiven (s : Shape) (g : Given) : Type 0 where
+pub record IsPlacedLine (s : Shape) (g : PlacedLine) : Type 0 where
   pub formed : IsFormedLine s g.line
   pub even : is_even s g.line ≡ true
   pub found : (number : ℕ) → stands_in number g.line.right ≡ true → is_among g.uses number ≡ true
 
 -- the lines that were given, without where they stand
-abbrev pub lines_in : List Given → List Line
-lines_in lines = map (λ (g : Given). g.line) lines
+abbrev pub lines_in : List PlacedLine → List Line
+lines_in lines = map (λ (g : PlacedLine). g.line) lines
 
 -- a boundary that has ended
 pub record IsEnded (s : Shape) (boundary : Boundary) : Type 0 where
@@ -50,10 +50,10 @@ pub record IsOpen (s : Shape) (before : List Boundary) (block : Block) : Type 0 
   pub most : block.bound ≤ 500
   pub few : length block.lines ≤ 256
   pub reads : reads_of (lines_in block.lines) + block.reads_left ≡ 64
-  pub lines : All (IsGiven s) block.lines
+  pub lines : All (IsPlacedLine s) block.lines
 
 -- what is known
-pub record IsKept (s : Shape) (known : Known) : Type 0 where
+pub record IsKnownRelation (s : Shape) (known : Known) : Type 0 where
   pub few : length known.boundaries ≤ 64
   pub once : addresses_are_once known.boundaries ≡ true
   pub ended : All (IsEnded s) known.boundaries

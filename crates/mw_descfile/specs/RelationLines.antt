@@ -9,7 +9,7 @@ use Rattle.mw_base.specs.declared.token.Token.{Token}
 use Rattle.mw_base.specs.Cursors.{Cursor, after, token_at, has_sign, number_at, sign_at, place_at, first_word, element_of, end_at}
 use Rattle.mw_base.specs.Reading.{◌>>=◌}
 use Rattle.mw_base.specs.Symbols.{spelled, symbol_of, is_sign}
-use Rattle.mw_expr.specs.Grammar.{number_of}
+use Rattle.mw_expr.specs.Grammar.{number_by_name}
 use Rattle.mw_expr.specs.Placed.{Placed}
 use Rattle.mw_descfile.specs.declared.relation_line.Beginning.{Beginning}
 use Rattle.mw_descfile.specs.declared.relation_line.BlockWord.{BlockWord}
@@ -29,7 +29,7 @@ beginning_of line = do
 
 -- the number of the element OWNER . NAME, if there is one
 abbrev pub dotted_number : List ℕ → List (List ℕ) → Token → Token → Option ℕ
-dotted_number text names owner name = number_of names (spelled text owner ++ 46 ∷ spelled text name)
+dotted_number text names owner name = number_by_name names (spelled text owner ++ 46 ∷ spelled text name)
 
 -- the use of an element, at its first token, if there is such an element
 abbrev pub use_at : Token → Option ℕ → List Use

@@ -6,7 +6,7 @@ use Rattle.mw_descfile.specs.declared.block as blocks
 use Rattle.mw_descfile.specs.declared.relation as relations
 use Rattle.mw_descfile.specs.declared.relation_line.Told.{Told as KeptTold}
 use Rattle.mw_descfile.specs.declared.relation_line.Told.TheVariants as kept
-use Rattle.mw_descfile.specs.Boundaries.{Given, Block}
+use Rattle.mw_descfile.specs.Boundaries.{PlacedLine, Block}
 use Rattle.mw_descfile.specs.Relation.{Known}
 use Rattle.mw_descfile.specs.RelationLines.{Told, sp_line, equation_line, end_line}
 
@@ -17,7 +17,7 @@ told_seen (kept.Equation element sign value uses) = equation_line element sign (
 told_seen (kept.End word) = end_line word
 
 -- a line as it was given
-abbrev pub given_seen : blocks.Given.Given → Given
+abbrev pub given_seen : blocks.PlacedLine.PlacedLine → PlacedLine
 given_seen g = record { line = line_of g.line; name = g.name; uses = g.uses.items }
 
 -- a boundary that is open

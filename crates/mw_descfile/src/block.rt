@@ -6,7 +6,7 @@ ghost use Rattle.mw_base.specs.Reading.{Gives};
 ghost use Rattle.mw_expr.specs.Text.{IsShape};
 ghost use Rattle.mw_expr.specs.Written.{written};
 ghost use Rattle.mw_rel.specs.Seen.{boundary_of, boundaries_of, lines_of};
-ghost use Rattle.mw_descfile.specs.Boundaries.{Given as SeenGiven, place_token, is_taken, bounded, block_of};
+ghost use Rattle.mw_descfile.specs.Boundaries.{PlacedLine as SeenPlacedLine, place_token, is_taken, bounded, block_of};
 ghost use Rattle.mw_descfile.specs.Boundaries.{with_stack_pointer, with_equation, is_left, twice_left, used_left};
 ghost use Rattle.mw_descfile.specs.Boundaries.{line_faults, unsolved, closed_block};
 ghost use Rattle.mw_descfile.specs.RelationViews.{given_seen, block_seen};
@@ -36,7 +36,7 @@ const MOST_READS: usize = 64;
 
 /// A line as it was given.
 #[derive(Drop)]
-pub(crate) struct Given {
+pub(crate) struct PlacedLine {
     /// What it says.
     pub line: Line,
     /// The first token of its left element.
@@ -57,7 +57,7 @@ pub(crate) struct Block {
     /// How many more memory reads there may be.
     pub reads_left: usize,
     /// Its lines so far.
-    pub lines: Vec<Given>,
+    pub lines: Vec<PlacedLine>,
 }
 
 /// What can be, or this fault.
@@ -101,7 +101,7 @@ fn bounded(number: Numeral) -> Result<u32, TextFault>
 }
 
 /// Whether an element is left of one of some lines.
-fn is_left(lines: &[Given], number: usize) -> bool
+fn is_left(lines: &[PlacedLine], number: usize) -> bool
     ensures { result ≡ is_left (map given_seen lines.now) number }
 {
     for given in lines {
@@ -113,7 +113,11 @@ fn is_left(lines: &[Given], number: usize) -> bool
 }
 
 /// The first of what was the first before and of the fault of a line whose left element is left of one before it.
-fn first_twice(first: Option<TextFault>, before: &[Given], given: &Given) -> Option<TextFault>
+fn first_twice(
+    first: Option<TextFault>,
+    before: &[PlacedLine],
+    given: &PlacedLine,
+) -> Option<TextFault>
     ensures { result ≡ first_in first (twice_left (map given_seen before.now) (given_seen given.now)) }
 {
     let mut first = first;
@@ -124,7 +128,7 @@ fn first_twice(first: Option<TextFault>, before: &[Given], given: &Given) -> Opt
 }
 
 /// The first of what was the first before and of the fault of a use of a left element.
-fn first_used(first: Option<TextFault>, all: &[Given], found: &Use) -> Option<TextFault>
+fn first_used(first: Option<TextFault>, all: &[PlacedLine], found: &Use) -> Option<TextFault>
     ensures { result ≡ first_in first (used_left (map given_seen all.now) found.now) }
 {
     let mut first = first;
@@ -135,7 +139,7 @@ fn first_used(first: Option<TextFault>, all: &[Given], found: &Use) -> Option<Te
 }
 
 /// The same for all uses of a line.
-fn first_of_uses(before: Option<TextFault>, all: &[Given], uses: &[Use]) -> Option<TextFault>
+fn first_of_uses(before: Option<TextFault>, all: &[PlacedLine], uses: &[Use]) -> Option<TextFault>
     ensures { result ≡ first_in before (flat_map (used_left (map given_seen all.now)) uses.now) }
 {
     let mut first = before;
@@ -148,9 +152,9 @@ fn first_of_uses(before: Option<TextFault>, all: &[Given], uses: &[Use]) -> Opti
 /// The first of what was the first before and of the faults of a line.
 fn first_of_line(
     first: Option<TextFault>,
-    all: &[Given],
-    before: &[Given],
-    given: &Given,
+    all: &[PlacedLine],
+    before: &[PlacedLine],
+    given: &PlacedLine,
 ) -> Option<TextFault>
     ensures { result ≡ first_in first (line_faults (map given_seen all.now) (map given_seen before.now)
         (given_seen given.now)) }
@@ -159,7 +163,7 @@ fn first_of_line(
 }
 
 /// The first fault of all lines of a boundary, if there is one: cause 50 or 51.
-fn first_unsolved(lines: &[Given]) -> Option<TextFault>
+fn first_unsolved(lines: &[PlacedLine]) -> Option<TextFault>
     ensures { result ≡ first_in None (unsolved (map given_seen lines.now) [] (map given_seen lines.now)) }
 {
     let mut first = None;
@@ -171,9 +175,9 @@ fn first_unsolved(lines: &[Given]) -> Option<TextFault>
 
 /// Appends lines, without where they were given. There are at most 256, so the stack isn't deep.
 #[tactic(auto, using(crate::proofs::Pushed::last_line))]
-fn push_lines(lines: &mut Vec<Line>, mut given: Vec<Given>) -> Result<(), NoMemory>
+fn push_lines(lines: &mut Vec<Line>, mut given: Vec<PlacedLine>) -> Result<(), NoMemory>
     ensures { OnOk result (lines_of lines.new.items
-        ≡ lines_of lines.old.items ++ map (λ (g : SeenGiven). g.line) (map given_seen given.items)) }
+        ≡ lines_of lines.old.items ++ map (λ (g : SeenPlacedLine). g.line) (map given_seen given.items)) }
 {
     match given.pop() {
         Some(last) => {
@@ -186,9 +190,9 @@ fn push_lines(lines: &mut Vec<Line>, mut given: Vec<Given>) -> Result<(), NoMemo
 }
 
 /// The lines, without where they were given.
-fn plain_lines(alloc: Global, given: Vec<Given>) -> Result<Vec<Line>, NoMemory>
+fn plain_lines(alloc: Global, given: Vec<PlacedLine>) -> Result<Vec<Line>, NoMemory>
     ensures { IfOk result (λ lines. lines_of lines.items
-        ≡ map (λ (g : SeenGiven). g.line) (map given_seen given.items)) }
+        ≡ map (λ (g : SeenPlacedLine). g.line) (map given_seen given.items)) }
 {
     let mut lines = Vec::new(alloc);
     push_lines(&mut lines, given)?;
@@ -268,7 +272,7 @@ impl Block {
         let width = scope.width_of(left);
         let whole = scope.whole_of(alloc, self.reads_left, width, sign, value)?;
         self.reads_left = whole.left;
-        self.lines.push(Given {
+        self.lines.push(PlacedLine {
             line: Line {
                 left: left as u32,
                 right: whole.expr,

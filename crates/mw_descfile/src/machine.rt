@@ -7,7 +7,7 @@ ghost use Rattle.mw_macro.specs.Machine.{described};
 ghost use Rattle.mw_descfile.specs.Machine.{nothing, with_declaration, with_tokens, with_any, with_line, description};
 ghost use Rattle.mw_descfile.specs.Machine.{finished, machine_of};
 ghost use Rattle.mw_descfile.specs.Views.{declared_seen, stated_seen, known_seen};
-ghost use Rattle.mw_descfile.specs.Kept.{IsDeclared, IsKept, AreSpelled};
+ghost use Rattle.mw_descfile.specs.Kept.{IsDeclared, IsKnownMachine, AreSpelled};
 
 use crate::declaration::{Declaration, declaration_of, sizes_of};
 use crate::declared::Declared;
@@ -54,7 +54,7 @@ fn with_tokens<'a>(
     known: Known<'a>,
     line: &Line,
 ) -> Result<Known<'a>, Refusal>
-    requires kept { IsKept (known_seen known) }
+    requires kept { IsKnownMachine (known_seen known) }
     ensures { Gives known_seen result (with_tokens text.now (known_seen known.entry) line.now) }
 {
     let cursor = Cursor::new(text, line, Cause::BadSyntax);
@@ -81,7 +81,7 @@ fn with_line<'a>(
     known: Known<'a>,
     line: &Line,
 ) -> Result<Known<'a>, Refusal>
-    requires kept { IsKept (known_seen known) }
+    requires kept { IsKnownMachine (known_seen known) }
     ensures { Gives known_seen result (with_line text.now (known_seen known.entry) line.now) }
 {
     match line.tokens.as_slice() {
@@ -94,7 +94,7 @@ fn with_line<'a>(
 fn known_of<'a>(alloc: Global, text: &'a [u8], lines: &[Line]) -> Result<Known<'a>, Refusal>
     requires spelled { All (λ line. AreSpelled text.now line.tokens) lines.now }
     ensures exact { Gives known_seen result (steps (with_line text.now) nothing lines.now) }
-    ensures kept { IfOk result (λ known. IsKept (known_seen known)) }
+    ensures kept { IfOk result (λ known. IsKnownMachine (known_seen known)) }
 {
     let mut known = Known::Nothing;
     for line in lines {
@@ -105,7 +105,7 @@ fn known_of<'a>(alloc: Global, text: &'a [u8], lines: &[Line]) -> Result<Known<'
 
 /// The machine of what is known at the end of a text, where that is this fault if something is missing.
 fn finished(known: Known, fault: TextFault) -> Result<Machine, Refusal>
-    requires kept { IsKept (known_seen known) }
+    requires kept { IsKnownMachine (known_seen known) }
     ensures { Gives description_of result (finished (known_seen known.entry) fault) }
 {
     match known {

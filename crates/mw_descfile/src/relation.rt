@@ -10,7 +10,7 @@ ghost use Rattle.mw_macro.specs.Described.{description_of};
 ghost use Rattle.mw_rel.specs.Job.{AreForEachOther, memories_agree, shape_of};
 ghost use Rattle.mw_rel.specs.Seen.{boundaries_of};
 ghost use Rattle.mw_rel.specs.Views.{relation_of as relation_seen};
-ghost use Rattle.mw_descfile.specs.KeptRelation.{IsScope, IsKept};
+ghost use Rattle.mw_descfile.specs.KeptRelation.{IsScope, IsKnownRelation};
 ghost use Rattle.mw_descfile.specs.Relation.{names_of, scope_for, with_told, with_tokens, with_line, relation_with};
 ghost use Rattle.mw_descfile.specs.Relation.{finished, relation_of};
 ghost use Rattle.mw_descfile.specs.RelationViews.{told_seen, block_seen, known_seen};
@@ -202,7 +202,7 @@ fn known_of(
     requires scope { IsScope scope.now }
     ensures exact { Gives known_seen result (steps (with_line text.now labels.now scope.now)
         (record { boundaries = []; block = None }) lines.now) }
-    ensures kept { IfOk result (λ known. IsKept scope.now.shape (known_seen known)) }
+    ensures kept { IfOk result (λ known. IsKnownRelation scope.now.shape (known_seen known)) }
 {
     let mut known = Known {
         boundaries: Vec::new(alloc),
@@ -234,7 +234,7 @@ fn has_some(boundaries: &[Boundary]) -> bool
 
 /// The relation of some boundaries: cause 53 where there is none.
 fn relation_with(boundaries: Vec<Boundary>, shape: Shape) -> Result<Relation, Refusal>
-    requires kept { IsKept shape (record { boundaries = boundaries_of boundaries.items; block = None }) }
+    requires kept { IsKnownRelation shape (record { boundaries = boundaries_of boundaries.items; block = None }) }
     ensures { Gives relation_seen result (relation_with (boundaries_of boundaries.items) shape) }
 {
     if !has_some(&boundaries) {
@@ -248,7 +248,7 @@ fn relation_with(boundaries: Vec<Boundary>, shape: Shape) -> Result<Relation, Re
 
 /// The relation of what is known at the end of a text, where that is this fault if a boundary is open.
 fn finished(shape: Shape, fault: TextFault, known: Known) -> Result<Relation, Refusal>
-    requires kept { IsKept shape (known_seen known) }
+    requires kept { IsKnownRelation shape (known_seen known) }
     ensures { Gives relation_seen result (finished shape fault (known_seen known).boundaries
         (known_seen known).block) }
 {

@@ -1,7 +1,7 @@
 // The elements of a relation that stand in tokens, each NAME . NAME.
 ghost use Rattle.std.specs.Prelude.{◌≡◌, ◌<◌, IfOk, IfSome, OnOk, ◌++◌, length};
 ghost use Rattle.mw_base.specs.Symbols.{spelled};
-ghost use Rattle.mw_expr.specs.Grammar.{number_of};
+ghost use Rattle.mw_expr.specs.Grammar.{number_by_name};
 ghost use Rattle.mw_descfile.specs.RelationLines.{dotted_number, use_at, use_first, uses_of};
 
 use mw_base::{Cursor, Name, NoMemory, Sign, Token, symbol_of};
@@ -17,8 +17,8 @@ pub(crate) struct Use {
 }
 
 /// The number of the element of a name, if there is one.
-fn number_of(names: &[Name], name: &[u8]) -> Option<usize>
-    ensures exact { result ≡ number_of names.now name.now }
+fn number_by_name(names: &[Name], name: &[u8]) -> Option<usize>
+    ensures exact { result ≡ number_by_name names.now name.now }
     ensures within { IfSome result (λ n. n < length names.now) }
 {
     names.iter().position(|other| other.as_slice() == name)
@@ -38,7 +38,7 @@ pub(crate) fn dotted_number(
     let mut whole = Vec::from_slice(alloc, line.spelled(owner))?;
     whole.push(b'.')?;
     whole.extend_from_slice(line.spelled(name))?;
-    Ok(number_of(names, &whole))
+    Ok(number_by_name(names, &whole))
 }
 
 /// Appends the element with this number at its first token, if there is one.

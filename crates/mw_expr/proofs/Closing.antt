@@ -16,7 +16,7 @@ use Rattle.mw_base.specs.Literals.{digits_number, number_spelled}
 use Rattle.mw_base.specs.Pieces.{Spells}
 use Rattle.mw_base.specs.Signs.{bytes_of, sign_of}
 use Rattle.mw_base.specs.Symbols.{spelled, symbol_of, symbol_of_kind, of_sign}
-use Rattle.mw_expr.specs.Fronts.{IsWithin, longer}
+use Rattle.mw_expr.specs.Fronts.{IsInText, longer}
 use Rattle.mw_expr.specs.Grammar.{Meaning, strength, reduced, follows, tree_from, state}
 use Rattle.mw_expr.specs.Placed.{Placed, constant, complement, pair, choice, part, join, widened, memory, group, parts_of, Open, nothing, complementing, pairing, choosing, otherwise, grouping, joining, widening, reading, Awaits, an_operand, a_dot, a_member, a_bracket, a_parenthesis, a_hash, a_width, a_high, a_colon, a_low, a_close, a_new_width, a_widen_end, a_sign, State}
 use Rattle.mw_expr.proofs.Complete.{step}
@@ -54,7 +54,7 @@ unfolding symbol_of token_behind
 symbol_behind m kind bytes = ap (symbol_of_kind kind) (spelled_behind m kind bytes)
 
 within_behind : (m : Meaning) (kind : Kind) (bytes : List ℕ)
-    → IsWithin (behind m bytes).text (token_behind m kind bytes)
+    → IsInText (behind m bytes).text (token_behind m kind bytes)
 unfolding behind token_behind
 within_behind m kind bytes = (omega arith, omega (arith, length-append m.text (32 ∷ bytes)))
 
@@ -198,7 +198,7 @@ closes_bit m cursor from tree most below =
     (state (a_sign (part from most most tree)) below) tt refl
     (closes_operand _ cursor (part from most most tree) below)
 
-closes_member : (m : Meaning) (cursor : Cursor) (owner : Token) (below : Open) → IsWithin m.text owner
+closes_member : (m : Meaning) (cursor : Cursor) (owner : Token) (below : Open) → IsInText m.text owner
     → Closes m cursor (state (a_member owner) below)
 closes_member m cursor owner below within =
     more_name m cursor (a_member owner) below _ within refl (closes_operand _ cursor _ below)

@@ -6,7 +6,7 @@ use Rattle.mw_base.specs.declared.token.Token.{Token}
 use Rattle.mw_base.specs.Cursors.{Cursor, misplaced}
 use Rattle.mw_base.specs.Reading.{◌>>=◌}
 use Rattle.mw_base.specs.Symbols.{symbol_of}
-use Rattle.mw_expr.specs.Fronts.{IsWithin, longer, IsFront, IsFrontFault, at_token, at_end, FaultsEndFronts}
+use Rattle.mw_expr.specs.Fronts.{IsInText, longer, IsFront, IsFrontFault, at_token, at_end, FaultsEndFronts}
 use Rattle.mw_expr.specs.Grammar.{Meaning, follows, ended, tree_from, tree_of, beginning}
 use Rattle.mw_expr.specs.Placed.{State}
 use Rattle.mw_expr.proofs.Closing.{closes_any}
@@ -45,7 +45,7 @@ no_both : {A F : Type 0} (r : Result A F) (x : A) (fault : F) → r ≡ Ok x →
 no_both (Ok y) x fault ok err = cc
 no_both (Err y) x fault ok err = cc
 
-is_no_front : (m : Meaning) (cursor : Cursor) (front : List Token) (s : State) (token : Token) → IsWithin m.text token
+is_no_front : (m : Meaning) (cursor : Cursor) (front : List Token) (s : State) (token : Token) → IsInText m.text token
     → HasRead m s.awaits → LeadsTo m front s
     → follows m token (symbol_of m.text token) s.awaits s.open_now ≡ None → IsFront m (front ++ token ∷ []) → ⊥
 is_no_front m cursor front s token within read leads is whole =
@@ -59,7 +59,7 @@ is_no_front m cursor front s token within read leads is whole =
     (follows_longer m whole.more token s.awaits s.open_now within read ∙ is) in
     no_both (tree_of longest there) whole.tree (misplaced token there) reads refused
 
-one_further : (m : Meaning) (front : List Token) (s next : State) (token : Token) → IsWithin m.text token
+one_further : (m : Meaning) (front : List Token) (s next : State) (token : Token) → IsInText m.text token
     → HasRead m s.awaits → LeadsTo m front s
     → follows m token (symbol_of m.text token) s.awaits s.open_now ≡ Some next → LeadsTo m (front ++ token ∷ []) next
 one_further m front s next token within read leads is more cursor rest =
@@ -80,7 +80,7 @@ of_refusal None at fault goes_on none is = cc
 -- where these tokens are left, and the state to which those before them lead refuses them
 abbrev pub Further : Meaning → Cursor → TextFault → List Token → Type 0
 Further m cursor fault here = (front : List Token) (s : State) → cursor.tokens ≡ front ++ here
-    → All (IsWithin m.text) here
+    → All (IsInText m.text) here
     → HasRead m s.awaits → LeadsTo m front s → tree_from m cursor s here ≡ Err fault → IsFrontFault m cursor fault
 
 ends_front : (m : Meaning) (cursor : Cursor) (fault : TextFault) → tree_of m cursor ≡ Err fault → (here : List Token)
@@ -93,7 +93,7 @@ ends_front m cursor fault refused [] front s all within read leads is =
 ends_front m cursor fault refused (token ∷ rest) front s all within read leads is =
     on (follows m token (symbol_of m.text token) s.awaits s.open_now) refl (ends_front m cursor fault refused rest)
   where
-    first : IsWithin m.text token
+    first : IsInText m.text token
     first = within zero token (omega arith)
 
     on : (o : Option State) → follows m token (symbol_of m.text token) s.awaits s.open_now ≡ o

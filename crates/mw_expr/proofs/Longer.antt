@@ -12,11 +12,11 @@ use Rattle.mw_base.specs.Symbols.{spelled, symbol_of, symbol_of_kind, is_sign}
 use Rattle.mw_expr.specs.declared.expr.Pair2.{Pair2}
 use Rattle.mw_expr.specs.Grammar.{Meaning, begins, sign_begins, colon_ends, parenthesis_ends, bracket_ends, comma_ends, brace_ends, pair_follows, sign_follows, pair_of, reduced, operand_follows, name_follows, number_in, follows, state, this_follows, element, dotted_element}
 use Rattle.mw_expr.specs.Placed.{Placed, constant, part, widened, Open, choosing, grouping, joining, widening, reading, Awaits, an_operand, a_dot, a_member, a_bracket, a_parenthesis, a_hash, a_width, a_high, a_colon, a_low, a_close, a_new_width, a_widen_end, a_sign, State}
-use Rattle.mw_expr.specs.Fronts.{IsWithin, longer}
+use Rattle.mw_expr.specs.Fronts.{IsInText, longer}
 
 -- ---- a token is spelled as before
 
-pub spelled_longer : (m : Meaning) (more : List ℕ) (token : Token) → IsWithin m.text token
+pub spelled_longer : (m : Meaning) (more : List ℕ) (token : Token) → IsInText m.text token
     → spelled (m.text ++ more) token ≡ spelled m.text token
 spelled_longer m more token within =
     let start : token.start ≤ length m.text = omega (arith, within.0, within.1) in
@@ -25,7 +25,7 @@ spelled_longer m more token within =
     ap (take (token.end - token.start)) (drop-append-le token.start m.text more start)
     ∙ take-append-le (token.end - token.start) (drop token.start m.text) more few
 
-pub symbol_longer : (m : Meaning) (more : List ℕ) (token : Token) → IsWithin m.text token
+pub symbol_longer : (m : Meaning) (more : List ℕ) (token : Token) → IsInText m.text token
     → symbol_of (m.text ++ more) token ≡ symbol_of m.text token
 unfolding symbol_of
 symbol_longer m more token within = ap (symbol_of_kind token.kind) (spelled_longer m more token within)
@@ -34,11 +34,11 @@ symbol_longer m more token within = ap (symbol_of_kind token.kind) (spelled_long
 
 -- a name that was read stands within the text
 abbrev pub HasRead : Meaning → Awaits → Type 0
-HasRead m (a_dot owner) = IsWithin m.text owner
-HasRead m (a_member owner) = IsWithin m.text owner
+HasRead m (a_dot owner) = IsInText m.text owner
+HasRead m (a_member owner) = IsInText m.text owner
 HasRead m other = Unit {0}
 
-operand_longer : (m : Meaning) (more : List ℕ) (token : Token) (symbol : Symbol) (below : Open) → IsWithin m.text token
+operand_longer : (m : Meaning) (more : List ℕ) (token : Token) (symbol : Symbol) (below : Open) → IsInText m.text token
     → begins (longer m more) token symbol below ≡ begins m token symbol below
 operand_longer m more token Name below within = rw (spelled_longer m more token within) refl
 operand_longer m more token (Number value) below within = refl
@@ -46,7 +46,7 @@ operand_longer m more token (Sign s) below within = refl
 operand_longer m more token Other below within = refl
 
 pub follows_longer : (m : Meaning) (more : List ℕ) (token : Token) (awaits : Awaits) (below : Open)
-    → IsWithin m.text token → HasRead m awaits
+    → IsInText m.text token → HasRead m awaits
     → follows (longer m more) token (symbol_of (m.text ++ more) token) awaits below ≡ follows m token
     (symbol_of m.text token) awaits below
 follows_longer m more token an_operand below within read =
@@ -104,7 +104,7 @@ of_opening m signs.OpenParenthesis token below = tt
 of_opening m signs.OpenBrace token below = tt
 of_opening m s token below = tt
 
-of_operand : (m : Meaning) (symbol : Symbol) (token : Token) (below : Open) → IsWithin m.text token
+of_operand : (m : Meaning) (symbol : Symbol) (token : Token) (below : Open) → IsInText m.text token
     → Holds m (begins m token symbol below)
 of_operand m Name token below within =
     let plain = Some (state (a_sign (element m token)) below) in
@@ -164,7 +164,7 @@ of_whole m Name token tree below = tt
 of_whole m (Number value) token tree below = tt
 of_whole m Other token tree below = tt
 
-pub holds : (m : Meaning) (token : Token) (awaits : Awaits) (below : Open) → IsWithin m.text token → HasRead m awaits
+pub holds : (m : Meaning) (token : Token) (awaits : Awaits) (below : Open) → IsInText m.text token → HasRead m awaits
     → Holds m (follows m token (symbol_of m.text token) awaits below)
 holds m token an_operand below within read = of_operand m (symbol_of m.text token) token below within
 holds m token (a_dot owner) below within read =

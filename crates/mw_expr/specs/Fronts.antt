@@ -10,8 +10,8 @@ use Rattle.mw_expr.specs.Placed.{Placed}
 use Rattle.mw_expr.specs.Syntax.{IsExpression}
 
 -- a token stands within a text
-abbrev pub IsWithin : List ℕ → Token → Type 0
-IsWithin text token = (token.start ≤ token.end) × (token.end ≤ length text)
+abbrev pub IsInText : List ℕ → Token → Type 0
+IsInText text token = (token.start ≤ token.end) × (token.end ≤ length text)
 
 -- the same words over a text that goes on
 abbrev pub longer : Meaning → (more : List ℕ) → Meaning
@@ -37,6 +37,6 @@ pub data IsFrontFault (m : Meaning) (cursor : Cursor) (fault : TextFault) : Type
 
 -- each fault of the grammar, where the tokens stand within the text
 abbrev pub FaultsEndFronts : Type 0
-FaultsEndFronts = (m : Meaning) (cursor : Cursor) (fault : TextFault) → All (IsWithin m.text) cursor.tokens
+FaultsEndFronts = (m : Meaning) (cursor : Cursor) (fault : TextFault) → All (IsInText m.text) cursor.tokens
     → tree_of m cursor ≡ Err fault
     → IsFrontFault m cursor fault

@@ -26,16 +26,16 @@ pub record Meaning : Type 0 where
   pub has_memory : Bool
 
 -- the number of the element of this name, if there is one
-abbrev pub number_of : List (List ℕ) → List ℕ → Option ℕ
-number_of names name = position (λ other. bytes_eq other name) names
+abbrev pub number_by_name : List (List ℕ) → List ℕ → Option ℕ
+number_by_name names name = position (λ other. bytes_eq other name) names
 
 -- an element whose name is one token, and one whose name is two tokens with a dot between them
 abbrev pub element : Meaning → Token → Placed
-element m token = named token (number_of m.names (spelled m.text token))
+element m token = named token (number_by_name m.names (spelled m.text token))
 
 -- the element that NAME . NAME is
 abbrev pub dotted_element : Meaning → Token → Token → Placed
-dotted_element m owner name = named owner (number_of m.names (spelled m.text owner ++ 46 ∷ spelled m.text name))
+dotted_element m owner name = named owner (number_by_name m.names (spelled m.text owner ++ 46 ∷ spelled m.text name))
 
 -- how strongly a sign binds
 abbrev pub strength : Pair2 → ℕ

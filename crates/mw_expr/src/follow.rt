@@ -2,7 +2,7 @@
 ghost use Rattle.std.specs.Prelude.{◌≡◌, ℕ, List, ◌∷◌, ◌++◌, Option, option_map, IfOk};
 ghost use Rattle.mw_base.specs.Symbols.{spelled};
 ghost use Rattle.mw_expr.specs.Placed.{placed, opened, awaited, known};
-ghost use Rattle.mw_expr.specs.Grammar.{number_of, pair_of, name_begins, sign_begins, begins, colon_ends, parenthesis_ends, bracket_ends, comma_ends, brace_ends, pair_follows, choice_follows, sign_follows, number_in, name_follows, this_follows, operand_follows, follows, whole, ended, reduced};
+ghost use Rattle.mw_expr.specs.Grammar.{number_by_name, pair_of, name_begins, sign_begins, begins, colon_ends, parenthesis_ends, bracket_ends, comma_ends, brace_ends, pair_follows, choice_follows, sign_follows, number_in, name_follows, this_follows, operand_follows, follows, whole, ended, reduced};
 ghost use Rattle.mw_expr.specs.Words.{meaning_seen};
 
 use crate::expr::Pair2;
@@ -48,8 +48,8 @@ fn pair_of(sign: Sign) -> Option<Pair2>
 }
 
 /// The number of the element of this name, if there is one.
-fn number_of(names: &[Name], name: &[u8]) -> Option<usize>
-    ensures { result ≡ number_of names.now name.now }
+fn number_by_name(names: &[Name], name: &[u8]) -> Option<usize>
+    ensures { result ≡ number_by_name names.now name.now }
 {
     names.iter().position(|other| other.as_slice() == name)
 }
@@ -61,12 +61,12 @@ fn number_of_dotted(
     owner: &[u8],
     name: &[u8],
 ) -> Result<Option<usize>, NoMemory>
-    ensures { IfOk result (λ number. number ≡ number_of names.now (owner.now ++ 46 ∷ name.now)) }
+    ensures { IfOk result (λ number. number ≡ number_by_name names.now (owner.now ++ 46 ∷ name.now)) }
 {
     let mut whole = Vec::from_slice(alloc, owner)?;
     whole.push(b'.')?;
     whole.extend_from_slice(name)?;
-    Ok(number_of(names, whole.as_slice()))
+    Ok(number_by_name(names, whole.as_slice()))
 }
 
 /// What a name leaves to follow where an operand begins.
@@ -86,7 +86,7 @@ fn name_begins(meaning: Meaning, token: Token, name: &[u8], below: Open) -> Opti
     } else {
         let element = Placed::Element(
             token,
-            number_of(meaning.names, spelled(meaning.text, token)),
+            number_by_name(meaning.names, spelled(meaning.text, token)),
         );
         awaiting(Awaits::Sign(element), below)
     }

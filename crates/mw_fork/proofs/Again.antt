@@ -15,16 +15,16 @@ use Rattle.mw_fork.specs.declared.budget.Budget.{Budget}
 use Rattle.mw_fork.specs.declared.elements.Space.{Space}
 use Rattle.mw_fork.specs.declared.fork.Stage.{Stage}
 use Rattle.mw_fork.specs.declared.run.Run.{Run}
-use Rattle.mw_fork.specs.declared.stop.Stop.{Stop}
-use Rattle.mw_fork.specs.declared.stop.Stop.TheVariants.{Over}
+use Rattle.mw_fork.specs.declared.stop.RunStop.{RunStop}
+use Rattle.mw_fork.specs.declared.stop.RunStop.TheVariants.{Over}
 use Rattle.mw_fork.specs.declared.way.Kept.{Kept}
 use Rattle.mw_fork.specs.Begins.{IsAssigned, IsChosen, IsDiffering, IsLeast}
 use Rattle.mw_fork.specs.Failing.{ComparisonStops, ComparisonsAreWithin, IsFound, NoneDiffersOf}
 use Rattle.mw_fork.specs.Forks.{At, Fork, IsForkOf, KeepsFor, Standing, fork_of}
-use Rattle.mw_fork.specs.KeptBits.{AreKept, IsWayFrom}
+use Rattle.mw_fork.specs.KeptBits.{AreKeptBits, IsWayFrom}
 use Rattle.mw_fork.specs.Listed.{list_of_space}
 use Rattle.mw_fork.specs.OnWay.{HasMetCase, ground_in}
-use Rattle.mw_fork.specs.Starts.{IsGround, IsStartOf}
+use Rattle.mw_fork.specs.Starts.{IsGround, StandsForStart}
 use Rattle.mw_fork.specs.Ways.{Way, bits_of, met_of}
 use Rattle.mw_fork.proofs.Ordering.{all_met}
 use Rattle.mw_fork.proofs.Tracing.{case_met}
@@ -87,13 +87,13 @@ met_again job f boundary given budget stage kept last way valid is of here bits 
 pub run_again : (job : Job) (f : Fork) (boundary given : ℕ) (budget : Budget) (stage : Stage) (kept begun : List Kept)
     (last : List Decided) (way : Way) (cycles : ℕ) (late : Bool) (run : Run) (step : Option Stepping) → IsJob job
     → fork_of boundary budget given stage kept ≡ f → IsForkOf job f → f.at ≡ At last → begun ≡ kept
-    → (AreKept job boundary [] begun
+    → (AreKeptBits job boundary [] begun
     → (elements : List ℕ) × HasMetCase job boundary elements begun cycles late way run step)
     → ((elements : List ℕ) × HasMetCase job boundary elements begun cycles late way run step)
     × HasMetAgain job f boundary kept way
 run_again job f boundary given budget stage kept begun last way cycles late run step valid is of here same traced =
     let keeps = kept_at_last job f boundary given budget stage kept last is of here in
-    let met = traced (subst (AreKept job boundary []) (sym same) keeps.2) in
+    let met = traced (subst (AreKeptBits job boundary []) (sym same) keeps.2) in
     let whole = case_met job boundary met.0 begun cycles late way run step valid met.1 in (
       met,
       met_again job f boundary given budget stage kept last way valid is of here
@@ -109,7 +109,7 @@ pub found_differs : (job : Job) (f : Fork) (boundary : ℕ) (kept : List Kept) (
     → IsFound job boundary elements (met_of way) space numbers
     → ((elements : List ℕ) → IsGround job boundary (ground_in space elements)
     → (start : Start) × IsChosen job boundary begin start
-    × IsStartOf job boundary (ground_in space elements) (given_by numbers) start)
+    × StandsForStart job boundary (ground_in space elements) (given_by numbers) start)
     → IsDiffering job f.boundary last begin
 found_differs job f boundary kept way elements space numbers begin last again here found begins =
     let is = begins elements found.stands in
@@ -156,7 +156,7 @@ within_again job f boundary kept way last nodes again here budget within =
     (subst (ComparisonsAreWithin job boundary nodes) (again.met last here) within))
 
 -- an operation that stops the comparison is one of the list of the case given last
-pub found_over : (job : Job) (f : Fork) (boundary nodes : ℕ) (kept : List Kept) (way : Way) (stop : Stop) (number : ℕ)
+pub found_over : (job : Job) (f : Fork) (boundary nodes : ℕ) (kept : List Kept) (way : Way) (stop : RunStop) (number : ℕ)
     (prefix : List Decided) (word j : ℕ) → HasMetAgain job f boundary kept way → f.budget.nodes ≡ nodes
     → ComparisonStops job boundary nodes (met_of way) stop
     → (number ≡ boundary) × (prefix ≡ met_of way) × (stop ≡ Over word j)

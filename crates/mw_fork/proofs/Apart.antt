@@ -25,10 +25,10 @@ use Rattle.mw_term.specs.PathWords.{path_zero}
 use Rattle.mw_term.specs.Rows.{bit}
 use Rattle.mw_term.specs.Table.{Extends, IsTable, Table, op_width, table_of}
 use Rattle.mw_term.specs.Values.{IsTermOf, Keeps, op_value, term_value}
-use Rattle.mw_term.specs.WordList.{Ended, WordList, number_of, plain, with_word}
+use Rattle.mw_term.specs.WordList.{Ended, WordList, word_number, plain, with_word}
 use Rattle.mw_fork.specs.declared.elements.Space.{Space}
-use Rattle.mw_fork.specs.declared.stop.Stop.{Stop}
-use Rattle.mw_fork.specs.declared.stop.Stop.TheVariants as stops
+use Rattle.mw_fork.specs.declared.stop.RunStop.{RunStop}
+use Rattle.mw_fork.specs.declared.stop.RunStop.TheVariants as stops
 use Rattle.mw_fork.specs.Comparing.{AreOneOn, AreTwoAt, FailsFirst, HaveCompared, IsComparedKind, IsComparedOver}
 use Rattle.mw_fork.specs.Comparing.{StopsComparing, word_on}
 use Rattle.mw_fork.specs.Comparing.IsComparedOver.{at_comparison, in_list}
@@ -199,15 +199,15 @@ IsFailingCause t path term nodes fault =
     ⊎ ((named ≡ term) × (j ≡ 0) × HasMoreCofactors (path_zero path (bit t term 0)) nodes)
 
 -- how the fault is told
-pub record IsStopOf (words : List Word) (fault : BlastFault) (stop : Stop) : Type 0 where
+pub record IsStopOf (words : List Word) (fault : BlastFault) (stop : RunStop) : Type 0 where
   pub over : (term j : ℕ) → fault ≡ faults.Over term j
-      → stop ≡ stops.Over (unwrap_or (number_of words term) (length words)) j
+      → stop ≡ stops.Over (unwrap_or (word_number words term) (length words)) j
   pub none : fault ≡ faults.NoMemory → stop ≡ stops.NoMemory
 
-word_of_over : (w j v i : ℕ) (stop : Stop) → stop ≡ stops.Over w j → stop ≡ stops.Over v i → w ≡ v
+word_of_over : (w j v i : ℕ) (stop : RunStop) → stop ≡ stops.Over w j → stop ≡ stops.Over v i → w ≡ v
 word_of_over w j v i stop one other = cc
 
-bit_of_over : (w j v i : ℕ) (stop : Stop) → stop ≡ stops.Over w j → stop ≡ stops.Over v i → j ≡ i
+bit_of_over : (w j v i : ℕ) (stop : RunStop) → stop ≡ stops.Over w j → stop ≡ stops.Over v i → j ≡ i
 bit_of_over w j v i stop one other = cc
 
 over_by : (nodes : ℕ) (new : Space) (map : List ℕ) (path : Function) (subject : Subject) (term named j : ℕ)
@@ -224,7 +224,7 @@ over_by nodes new map path subject term named j same cause = elim cause [
 ]
 
 stops_at : (nodes : ℕ) (new : Space) (map : List ℕ) (path : Function) (subject : Subject) (term : ℕ) (so_far : Compared)
-    (fault : BlastFault) (stop : Stop) (word j : ℕ) → new.terms.map ≡ map → IsTable new.terms
+    (fault : BlastFault) (stop : RunStop) (word j : ℕ) → new.terms.map ≡ map → IsTable new.terms
     → IsFailingCause new.terms path term nodes fault → IsStopOf new.words fault stop → stop ≡ stops.Over word j
     → StopsComparing map nodes new path (compared_at subject term (list_of_space new) so_far) word j
 stops_at nodes new map path subject term so_far (faults.Over named i) stop word j same table cause told is =
@@ -250,7 +250,7 @@ stops_at nodes new map path subject term so_far faults.NoMemory stop word j same
 
 pub compared_over : (nodes : ℕ) (old new : Space) (path : Function) (subject : Subject)
     (a b term : ℕ) (so_far : Compared)
-    (fault : BlastFault) (stop : Stop) (word j : ℕ) → new.memory ≡ old.memory
+    (fault : BlastFault) (stop : RunStop) (word j : ℕ) → new.memory ≡ old.memory
     → IsCompared old.terms new.terms old.words new.words a b term
     → IsFailingCause new.terms path term nodes fault → IsStopOf new.words fault stop → stop ≡ stops.Over word j
     → HaveCompared old.terms.map nodes old path so_far

@@ -27,7 +27,7 @@ use Rattle.mw_fork.specs.Boundaries.{IsSpace}
 use Rattle.mw_fork.specs.Entries.{entry, is_outside}
 use Rattle.mw_fork.specs.Listed.{list_of_space}
 use Rattle.mw_fork.specs.OnWay.{ground_in}
-use Rattle.mw_fork.specs.Starts.{Ground, IsGround, IsStartOf}
+use Rattle.mw_fork.specs.Starts.{Ground, IsGround, StandsForStart}
 use Rattle.mw_fork.proofs.FreeValues.{term_at}
 use Rattle.mw_fork.proofs.Grounds.{start_with}
 use Rattle.mw_fork.proofs.Taking.{free_same, noise_wide, own_found}
@@ -86,7 +86,7 @@ pub start_begun : (job : Job) (number : ℕ) (space : Space) (elements : List �
     → begin.values ≡ map (own_value space.terms space.words given) (free_elements job (numbered job number))
     → IsImage space.memory begin.memory → FitImage space.terms given space.memory.reads begin.memory
     → HasEntries space.terms space.words given begin.env
-    → (start : Start) × IsChosen job number begin start × IsStartOf job number (ground_in space elements) given start
+    → (start : Start) × IsChosen job number begin start × StandsForStart job number (ground_in space elements) given start
 start_begun job number space elements given begin is ground values image fit entries =
     let g = ground_in space elements in
     let outside = environment_of job.board g.table g.words ground.cycles given begin.env ground.space.workspace.table

@@ -10,7 +10,7 @@ use Rattle.mw_rel.specs.Start.{addresses_of}
 use Rattle.mw_fork.specs.declared.run.Run.{Run}
 use Rattle.mw_fork.specs.OnWay.{MadeWithin, SettlesWithin, StaysWithin, Turns}
 use Rattle.mw_fork.specs.Ways.{Way}
-use Rattle.mw_fork.specs.Within.{AreWithin, IsWithin}
+use Rattle.mw_fork.specs.Within.{AreDecidedWithin, IsDecidedWithin}
 use Rattle.mw_fork.proofs.MetSegment.{HasMade, on_made}
 use Rattle.mw_fork.proofs.OnRun.{StaysOnRun, asks_then}
 use Rattle.mw_fork.proofs.Ordering.{no_item}
@@ -37,16 +37,16 @@ last_or_before (i ∷ items) (b ∷ before) rest last x same =
     ]
 
 -- no bits are within each budget
-pub within_none : (job : Job) (number nodes : ℕ) → AreWithin job number nodes []
+pub within_none : (job : Job) (number nodes : ℕ) → AreDecidedWithin job number nodes []
 within_none job number nodes before k rest same = absurd (no_item before k rest same)
 
 -- one more is
-pub within_more : (job : Job) (number nodes : ℕ) (bits : List Decided) (k : Decided) → AreWithin job number nodes bits
-    → IsWithin job number nodes bits k → AreWithin job number nodes (bits ++ k ∷ [])
+pub within_more : (job : Job) (number nodes : ℕ) (bits : List Decided) (k : Decided) → AreDecidedWithin job number nodes bits
+    → IsDecidedWithin job number nodes bits k → AreDecidedWithin job number nodes (bits ++ k ∷ [])
 within_more job number nodes bits k are is before other rest same =
     elim (last_or_before bits before rest k other same) [
-      | inl h ↦ subst (IsWithin job number nodes before) h.1
-          (subst (λ front. IsWithin job number nodes front k) h.0 is)
+      | inl h ↦ subst (IsDecidedWithin job number nodes before) h.1
+          (subst (λ front. IsDecidedWithin job number nodes front k) h.0 is)
       | inr h ↦ are before other h.0 h.1
     ]
 

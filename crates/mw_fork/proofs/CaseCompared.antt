@@ -50,7 +50,7 @@ use Rattle.mw_fork.specs.Ends.{HaveEnded}
 use Rattle.mw_fork.specs.Failing.{IsFound, NoneDiffersOf}
 use Rattle.mw_fork.specs.Listed.{list_of_space}
 use Rattle.mw_fork.specs.OnWay.{HasMetCase, ground_in, path_in}
-use Rattle.mw_fork.specs.Starts.{IsGround, IsStartOf}
+use Rattle.mw_fork.specs.Starts.{IsGround, StandsForStart}
 use Rattle.mw_fork.specs.Ways.{Way, met_of}
 use Rattle.mw_fork.proofs.ComparedAll.{wide_compared}
 use Rattle.mw_fork.proofs.Differing.{AreEven, even_where_nothing, nothing_shown, terms_there, wide_at_end}
@@ -91,7 +91,7 @@ ended_met job number elements from cycles late way run step valid met = record {
 pub on_path : (job : Job) (number : ℕ) (elements : List ℕ) (bits : List Decided) (cycles : ℕ) (space : Space)
     (path : Function) (board : Symbolic) (step : Stepping) (given : Given) (start : Start)
     → IsEnded job number elements bits cycles space path board step
-    → IsStartOf job number (ground_in space elements) given start → case_of job start ≡ bits → path given ≡ true
+    → StandsForStart job number (ground_in space elements) given start → case_of job start ≡ bits → path given ≡ true
 on_path job number elements bits cycles space path board step given start is one of_case =
     is.cases.only given start one
     (subst (AreFirst bits) (sym of_case) (take_all (length bits) bits (omega arith)))
@@ -100,7 +100,7 @@ on_path job number elements bits cycles space path board step given start is one
 come_first : (job : Job) (number : ℕ) (elements : List ℕ) (bits : List Decided) (cycles : ℕ) (space : Space)
     (path : Function) (board : Symbolic) (step : Stepping) (given : Given) (start : Start) → IsJob job
     → IsEnded job number elements bits cycles space path board step
-    → IsStartOf job number (ground_in space elements) given start → path given ≡ true
+    → StandsForStart job number (ground_in space elements) given start → path given ≡ true
     → ComeTo job space given start cycles board step
 come_first job number elements bits cycles space path board step given start valid is one on =
     come_to job number (ground_in space elements) bits is.segment cycles space path board step given
@@ -111,7 +111,7 @@ come_first job number elements bits cycles space path board step given start val
 pub come_compared : (job : Job) (number : ℕ) (elements : List ℕ) (bits : List Decided) (cycles : ℕ) (old new : Space)
     (path : Function) (board : Symbolic) (step : Stepping) (given : Given) (start : Start) → IsJob job
     → IsEnded job number elements bits cycles old path board step → GoesComparing old new → HaveOwnKinds new.words
-    → IsStartOf job number (ground_in new elements) given start → path given ≡ true
+    → StandsForStart job number (ground_in new elements) given start → path given ≡ true
     → ComeTo job new given start cycles board step
 come_compared job number elements bits cycles old new path board step given start valid is goes own one on =
     let before = start_compared job number old new elements given start valid is.stands goes own one in
@@ -211,7 +211,7 @@ pub apart_differs : (job : Job) (number : ℕ) (elements : List ℕ) (bits : Lis
     → HaveOwnKinds new.words → All (IsLineOf job.relation.shape) reached.lines
     → boundary_at job board.place.at ≡ Some reached → path given ≡ true
     → AreApart job.relation.shape new given (terms_at_end job board step) reached.lines board.events step.parts.events
-    → IsStartOf job number (ground_in new elements) given start → difference_of job start ≢ None
+    → StandsForStart job number (ground_in new elements) given start → difference_of job start ≢ None
 apart_differs job number elements bits cycles old new path board step reached given start valid is goes
     own formed there on two
     one none =
@@ -243,7 +243,7 @@ pub unlike_differs : (job : Job) (number : ℕ) (elements : List ℕ) (bits : Li
     → All (IsLineOf job.relation.shape) reached.lines
     → boundary_at job board.place.at ≡ Some reached → path given ≡ true
     → (are_alike board.events step.parts.events ≡ true → board.place.sp ≡ reached.sp → ⊥)
-    → IsStartOf job number (ground_in space elements) given start → difference_of job start ≢ None
+    → StandsForStart job number (ground_in space elements) given start → difference_of job start ≢ None
 unlike_differs job number elements bits cycles space path board step reached given start valid is
     formed there on unlike one
     none =
@@ -339,7 +339,7 @@ pub found_on_path : (job : Job) (number : ℕ) (elements : List ℕ) (bits : Lis
     (numbers : Numbers) → IsGround job number (ground_in space elements) → Agree path (path_of job number bits)
     → HasCase job number (ground_in space elements) path bits
     → case_words job number bits ≡ whole (compared_in (list_of_space space) []) → IsFirst path numbers
-    → ((start : Start) → IsStartOf job number (ground_in space elements) (given_by numbers) start
+    → ((start : Start) → StandsForStart job number (ground_in space elements) (given_by numbers) start
     → path (given_by numbers) ≡ true → difference_of job start ≢ None)
     → IsFound job number elements bits space numbers
 found_on_path job number elements bits space path numbers stands written whole_case words first differs =

@@ -32,10 +32,10 @@ use Rattle.mw_rel.specs.Start.{Start}
 use Rattle.mw_fork.specs.declared.way.Feasible.{Feasible}
 use Rattle.mw_fork.specs.declared.way.Kept.{Kept}
 use Rattle.mw_fork.specs.CasePaths.{IsCasePath, IsNextOfCase}
-use Rattle.mw_fork.specs.KeptBits.{AreKept, AreLeast, IsKept, IsWayFrom}
+use Rattle.mw_fork.specs.KeptBits.{AreKeptBits, AreLeast, IsKeptBit, IsWayFrom}
 use Rattle.mw_fork.specs.Listed.{AsksFor}
 use Rattle.mw_fork.specs.OnWay.{HasDecided, IsOnWay}
-use Rattle.mw_fork.specs.Starts.{Ground, HaveStarts, IsStartOf}
+use Rattle.mw_fork.specs.Starts.{Ground, HaveStarts, StandsForStart}
 use Rattle.mw_fork.specs.Ways.{Way, bits_of, first_of as first_bit, kept_with, met_of, way_of}
 use Rattle.mw_fork.proofs.Ordering.{kept_feasible}
 use Rattle.mw_fork.proofs.WordPaths.{written_next}
@@ -75,7 +75,7 @@ feasible_there job number g bits path given starts cases holds =
 pub record HasAssignment (job : Job) (number : ℕ) (g : Ground) (bits : List Decided) : Type 0 where
   pub given : Given
   pub start : Start
-  pub is : IsStartOf job number g given start
+  pub is : StandsForStart job number g given start
   pub first : AreFirst bits (case_of job start)
 
 -- feasible bits have these
@@ -166,14 +166,14 @@ choice job number g bits path low high kind term feasible starts cases asked by_
 -- ---- bits that are kept
 
 -- one bit more is kept
-kept_one : (job : Job) (number : ℕ) (before : List Decided) (xs : List Kept) (k : Kept) → AreKept job number before xs
-    → IsKept job number (before ++ bits_of xs) k → AreKept job number before (xs ++ k ∷ [])
+kept_one : (job : Job) (number : ℕ) (before : List Decided) (xs : List Kept) (k : Kept) → AreKeptBits job number before xs
+    → IsKeptBit job number (before ++ bits_of xs) k → AreKeptBits job number before (xs ++ k ∷ [])
 kept_one job number before [] k are is =
-    (subst (λ (bits : List Decided). IsKept job number bits k) (append-nil before) is, tt)
+    (subst (λ (bits : List Decided). IsKeptBit job number bits k) (append-nil before) is, tt)
 kept_one job number before (x ∷ xs) k are is = (
   are.0,
   kept_one job number (before ++ x.bit ∷ []) xs k are.1
-      (subst (λ (bits : List Decided). IsKept job number bits k)
+      (subst (λ (bits : List Decided). IsKeptBit job number bits k)
       (sym (append_assoc before (x.bit ∷ []) (bits_of xs))) is),
 )
 
@@ -196,7 +196,7 @@ least_one job number before (x ∷ xs) k are is = (
 
 -- the bits up to one that is kept are feasible
 kept_at : (job : Job) (number : ℕ) (before : List Decided) (xs : List Kept) (n : ℕ) (k : Kept)
-    → AreKept job number before xs → slice_get xs n ≡ Some k
+    → AreKeptBits job number before xs → slice_get xs n ≡ Some k
     → IsFeasiblePrefix job number ((before ++ bits_of (take n xs)) ++ k.bit ∷ [])
 kept_at job number before [] n k are at = absurd cc
 kept_at job number before (x ∷ xs) zero k are at =
@@ -226,7 +226,7 @@ met_next way kept k at =
 -- it can be kept
 first_kept : (job : Job) (number : ℕ) (before : List Decided) (kind : DecidedKind) (zero one : Bool)
     → IsChoice job number before kind (record { zero = zero; one = one }) → IsFeasiblePrefix job number before
-    → IsKept job number before (first_bit kind (record { zero = zero; one = one }))
+    → IsKeptBit job number before (first_bit kind (record { zero = zero; one = one }))
 first_kept job number before kind true one is feasible = record {
   feasible = is.zero refl;
   zero = λ other. refl;

@@ -11,8 +11,8 @@ use Rattle.mw_term.specs.Cofactors.{Agree, AreSame, HasAtMostCofactors}
 use Rattle.mw_term.specs.Functions.{Function, made, never}
 use Rattle.mw_fork.specs.declared.elements.Space.{Space}
 use Rattle.mw_fork.specs.declared.paths.Paths.{Paths}
-use Rattle.mw_fork.specs.declared.stop.Stop.{Stop}
-use Rattle.mw_fork.specs.declared.stop.Stop.TheVariants as stops
+use Rattle.mw_fork.specs.declared.stop.RunStop.{RunStop}
+use Rattle.mw_fork.specs.declared.stop.RunStop.TheVariants as stops
 use Rattle.mw_fork.specs.Comparing.{FailsFirst, GoesComparing, HaveCompared, IsComparedKind, IsComparedOver}
 use Rattle.mw_fork.specs.Comparing.{StopsComparing, word_on}
 use Rattle.mw_fork.specs.Comparing.IsComparedOver.{at_comparison, in_list}
@@ -159,7 +159,7 @@ Leads nodes old new path a b Fit all =
     × (all sides so_far ≡ with_comparison subject a b next)
 
 pub leads_none : (nodes : ℕ) (old mid new : Space) (path : Function) (a b : ℕ) (Fit : Sides → Type 0)
-    (all : Sides → Compared → Compared) (r : Result (Option Numbers) Stop) → mid.terms.map ≡ old.terms.map
+    (all : Sides → Compared → Compared) (r : Result (Option Numbers) RunStop) → mid.terms.map ≡ old.terms.map
     → Leads nodes old mid path a b Fit all
     → IfOk r (λ o. o ≡ None → (subject : Subject) (so_far : Compared)
     → HaveCompared mid.terms.map nodes mid path so_far
@@ -174,7 +174,7 @@ leads_none nodes old mid new path a b Fit all (Ok o) same leads says = λ none s
     (says none at.0 at.1 (subst (λ (map : List ℕ). HaveCompared map nodes mid path at.1) (sym same) at.2)))
 
 pub leads_found : (nodes : ℕ) (old mid new : Space) (path : Function) (a b : ℕ) (Fit : Sides → Type 0)
-    (all : Sides → Compared → Compared) (r : Result (Option Numbers) Stop) → mid.terms.map ≡ old.terms.map
+    (all : Sides → Compared → Compared) (r : Result (Option Numbers) RunStop) → mid.terms.map ≡ old.terms.map
     → Leads nodes old mid path a b Fit all
     → IfOk r (λ o. IfSome o (λ numbers. (subject : Subject) (so_far : Compared)
     → HaveCompared mid.terms.map nodes mid path so_far
@@ -190,7 +190,7 @@ leads_found nodes old mid new path a b Fit all (Ok (Some numbers)) same leads sa
     (says at.0 at.1 (subst (λ (map : List ℕ). HaveCompared map nodes mid path at.1) (sym same) at.2)))
 
 pub leads_over : (nodes : ℕ) (old mid new : Space) (path : Function) (a b : ℕ) (Fit : Sides → Type 0)
-    (all : Sides → Compared → Compared) (r : Result (Option Numbers) Stop) → mid.terms.map ≡ old.terms.map
+    (all : Sides → Compared → Compared) (r : Result (Option Numbers) RunStop) → mid.terms.map ≡ old.terms.map
     → Leads nodes old mid path a b Fit all
     → IfErr r (λ stop. (word j : ℕ) → stop ≡ stops.Over word j → (subject : Subject) (so_far : Compared)
     → HaveCompared mid.terms.map nodes mid path so_far

@@ -18,7 +18,7 @@ use Rattle.mw_symboard.specs.Along.{standing_in}
 use Rattle.mw_symboard.specs.Laws.{IsNew}
 use Rattle.mw_symboard.specs.Parts.{AreParts}
 use Rattle.mw_symboard.specs.Turns.{Symbolic}
-use Rattle.mw_symboard.proofs.Begun.{has_number, number_below, number_of}
+use Rattle.mw_symboard.proofs.Begun.{has_number, number_below, number_of_element}
 use Rattle.mw_symboard.proofs.PartElements.{AreFrom, count_of, parts_are}
 use Rattle.mw_rel.specs.CaseWords.{along_cycles, parts_with, registers_in, standing_at, words_along}
 use Rattle.mw_rel.specs.Free.{numbered}
@@ -52,7 +52,7 @@ part_same : (board : BoardParts) (terms : List ℕ) (o : Symbolic) (e : Element)
     → IsElement board e → term_of_part (parts_with board terms) e ≡ term_of_part o.place.parts e
 part_same board terms o e new is =
     let p = parts_with board terms in
-    let n = number_of board e in
+    let n = number_of_element board e in
     let below = number_below board e is in
     subst (λ (f : Element). term_of_part p f ≡ term_of_part o.place.parts f) (has_number board e is)
     (parts_are board terms p (parts_from board terms) n below

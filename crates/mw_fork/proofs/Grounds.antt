@@ -31,7 +31,7 @@ use Rattle.mw_rel.proofs.Choices.{each_choice_gives_a_pair}
 use Rattle.mw_rel.proofs.Elements.{board_value, pair_words, register_value, widths_count}
 use Rattle.mw_rel.proofs.Standing.{board_address, dropped_at}
 use Rattle.mw_fork.specs.Begins.{IsChosen}
-use Rattle.mw_fork.specs.Starts.{Ground, HaveAll, HaveFree, HaveStarts, IsGround, IsStartOf, registers_of}
+use Rattle.mw_fork.specs.Starts.{Ground, HaveAll, HaveFree, HaveStarts, IsGround, StandsForStart, registers_of}
 use Rattle.mw_fork.proofs.FreeValues.{begin_of, completed_free, element_inside, element_no_base, element_value}
 use Rattle.mw_fork.proofs.FreeValues.{outside_no_base, terms_begin, with_values}
 use Rattle.mw_fork.proofs.Runs.{registers_count}
@@ -108,7 +108,7 @@ elements_are job number g given pair n is all below =
 start_of : (job : Job) (number : ℕ) (g : Ground) (given : Given) (start : Start) → IsJob job → IsGround job number g
     → IsStartAt job number start → HaveFree job number g given start.pair
     → FitImage g.table given g.memory.reads start.pair.board.memory
-    → IsEnvironmentOf job.board g.table g.words given start.env → IsStartOf job number g given start
+    → IsEnvironmentOf job.board g.table g.words given start.env → StandsForStart job number g given start
 start_of job number g given start is ground starts free fit outside =
     let pair = start.pair in
     let related = related_at job number start starts in
@@ -138,7 +138,7 @@ pub start_with : (job : Job) (number : ℕ) (g : Ground) → IsJob job → IsGro
     → IsEnvironmentOf job.board g.table g.words given env
     → (start : Start)
     × IsChosen job number (begin_of job (numbered job number) g.table given g.elements image env) start
-    × IsStartOf job number g given start
+    × StandsForStart job number g given start
 start_with job number g is ground given image env fits fit outside =
     let boundary = numbered job number in
     let begin : Begin = begin_of job boundary g.table given g.elements image env in
@@ -160,7 +160,7 @@ start_with job number g is ground given image env fits fit outside =
     )
 
 start_there : (job : Job) (number : ℕ) (g : Ground) → IsJob job → IsGround job number g
-    → (given : Given) → (start : Start) × IsStartOf job number g given start
+    → (given : Given) → (start : Start) × StandsForStart job number g given start
 start_there job number g is ground given =
     let work = ground.space.workspace in
     let image = images_are_there g.table g.words g.memory given work.table work.memory in
@@ -180,7 +180,7 @@ HasElements job g given start = (place term n : ℕ) → IsVariable g.words plac
 -- and inputs alone.
 pub reached_from : (job : Job) (number : ℕ) (g : Ground) → IsJob job → IsGround job number g → (start : Start)
     → IsStartAt job number start → (first : Given) → HasElements job g first start
-    → (given : Given) × IsStartOf job number g given start
+    → (given : Given) × StandsForStart job number g given start
     × ((n : ℕ) → ¬ IsOutsideNumber g.words n → ¬ IsBaseNumber g.words n → given n ≡ first n)
 reached_from job number g is ground start starts first has =
     let work = ground.space.workspace in
@@ -208,7 +208,7 @@ reached_from job number g is ground start starts first has =
     )
 
 start_reached : (job : Job) (number : ℕ) (g : Ground) → IsJob job → IsGround job number g
-    → (start : Start) → IsStartAt job number start → (given : Given) × IsStartOf job number g given start
+    → (start : Start) → IsStartAt job number start → (given : Given) × StandsForStart job number g given start
 start_reached job number g is ground start starts =
     let reached =
     reached_from job number g is ground start starts (with_values g.words (values_of job.board start.pair))

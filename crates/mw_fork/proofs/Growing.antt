@@ -28,7 +28,7 @@ use Rattle.mw_fork.specs.CasePaths.{IsCasePath, OnPath}
 use Rattle.mw_fork.specs.declared.elements.Space.{Space}
 use Rattle.mw_fork.specs.declared.way.Kept.{Kept}
 use Rattle.mw_fork.specs.OnWay.{IsOnWay, ground_in}
-use Rattle.mw_fork.specs.Starts.{GoesTo, Ground, HaveValues, IsGround, IsStartOf, course_of, origin_of, registers_of}
+use Rattle.mw_fork.specs.Starts.{GoesTo, Ground, HaveValues, IsGround, StandsForStart, course_of, origin_of, registers_of}
 use Rattle.mw_fork.specs.Ways.{Way, met_of}
 use Rattle.mw_fork.proofs.Boundaries.{space_later}
 use Rattle.mw_fork.proofs.Runs.{board_elements}
@@ -46,8 +46,8 @@ registers_there job number g ground i inside =
 
 -- a start of what a run went on to was one before
 pub start_before : (job : Job) (number : ℕ) (old new : Ground) (given : Given) (start : Start) → IsJob job
-    → IsGround job number old → GoesTo old new → IsStartOf job number new given start
-    → IsStartOf job number old given start
+    → IsGround job number old → GoesTo old new → StandsForStart job number new given start
+    → StandsForStart job number old given start
 start_before job number old new given start is ground goes one =
     let before = runs_fit_before job.board old.table new.table old.words new.words goes.more old.memory new.memory given
     (course_of start) ground.space.workspace goes.later goes.words goes.reads in

@@ -10,16 +10,16 @@ use Rattle.mw_fork.specs.declared.budget.Budget.{Budget}
 use Rattle.mw_fork.specs.declared.fork.Stage.{Stage}
 use Rattle.mw_fork.specs.declared.fork.Stage.TheVariants as stages
 use Rattle.mw_fork.specs.declared.run.Run.{Run}
-use Rattle.mw_fork.specs.declared.stop.Stop.{Stop}
-use Rattle.mw_fork.specs.declared.stop.Stop.TheVariants.{Over}
+use Rattle.mw_fork.specs.declared.stop.RunStop.{RunStop}
+use Rattle.mw_fork.specs.declared.stop.RunStop.TheVariants.{Over}
 use Rattle.mw_fork.specs.declared.way.Kept.{Kept}
 use Rattle.mw_fork.specs.Forks.{At, Before, EndsEach, Fork, IsForkOf, IsNextCase, IsToCome, KeepsFor, LeadNowhere}
 use Rattle.mw_fork.specs.Forks.{LeadOn, LeadsToNext, NoneIsToCome, fork_of}
-use Rattle.mw_fork.specs.KeptBits.{AreKept}
+use Rattle.mw_fork.specs.KeptBits.{AreKeptBits}
 use Rattle.mw_fork.specs.OnWay.{HasMetCase}
 use Rattle.mw_fork.specs.Stops.{StopsBy}
 use Rattle.mw_fork.specs.Ways.{Way, bits_of, met_of, turned_last}
-use Rattle.mw_fork.specs.Within.{AreWithin}
+use Rattle.mw_fork.specs.Within.{AreDecidedWithin}
 use Rattle.mw_fork.proofs.AnyStart.{some_case}
 use Rattle.mw_fork.proofs.Ordering.{all_met, keeps_met, leads_behind, leads_to_first, none_left}
 use Rattle.mw_fork.proofs.Tracing.{case_met, ends_met}
@@ -60,9 +60,9 @@ pub record HasStopped (job : Job) (f : Fork) (number : ℕ) (prefix : List Decid
 
 -- so it is where the run of a fork's next case stops, by the bits that it has met
 pub has_stopped : (job : Job) (f : Fork) (boundary given : ℕ) (budget : Budget) (stage : Stage) (kept from : List Kept)
-    (way : Way) (stop : Stop) (number : ℕ) (prefix : List Decided) (word j : ℕ) → IsJob job
+    (way : Way) (stop : RunStop) (number : ℕ) (prefix : List Decided) (word j : ℕ) → IsJob job
     → fork_of boundary budget given stage kept ≡ f → IsForkOf job f → LeadOn stage kept from
-    → (AreKept job boundary [] from → StopsBy job boundary budget.nodes from way stop)
+    → (AreKeptBits job boundary [] from → StopsBy job boundary budget.nodes from way stop)
     → (number ≡ boundary) × (prefix ≡ met_of way) × (stop ≡ Over word j) → HasStopped job f number prefix word j
 has_stopped job f boundary given budget stage kept from way stop number prefix word j valid is of lead stops told =
     let before = subst (IsForkOf job) (sym is) of in
@@ -90,16 +90,16 @@ ends_so job number bits same_bits cycles same_cycles late same_late bits_are cyc
 pub record HasGiven (job : Job) (f : Fork) (way : Way) (cycles : ℕ) (late : Bool) : Type 0 where
   pub next : IsNextCase job f.boundary f.at (met_of way)
   pub ends : EndsEach job f.boundary (met_of way) cycles late
-  pub within : AreWithin job f.boundary f.budget.nodes (met_of way)
+  pub within : AreDecidedWithin job f.boundary f.budget.nodes (met_of way)
   pub keeps : KeepsFor job f.boundary (At (bits_of way.kept)) way.kept
   pub bits : bits_of way.kept ≡ met_of way
 
 pub has_given : (job : Job) (f : Fork) (boundary given : ℕ) (budget : Budget) (stage : Stage) (kept from : List Kept)
     (way : Way) (cycles : ℕ) (late : Bool) (run : Run) (step : Option Stepping) → IsJob job
     → fork_of boundary budget given stage kept ≡ f → IsForkOf job f → LeadOn stage kept from
-    → (AreKept job boundary [] from
+    → (AreKeptBits job boundary [] from
     → (elements : List ℕ) × HasMetCase job boundary elements from cycles late way run step)
-    → (AreKept job boundary [] from → AreWithin job boundary budget.nodes (met_of way)) → HasGiven job f way cycles late
+    → (AreKeptBits job boundary [] from → AreDecidedWithin job boundary budget.nodes (met_of way)) → HasGiven job f way cycles late
 has_given job f boundary given budget stage kept from way cycles late run step valid is of lead traced within =
     let before = subst (IsForkOf job) (sym is) of in
     let leads = lead job boundary valid before.there before.keeps in

@@ -26,7 +26,7 @@ use Rattle.mw_term.specs.Table.{Table, term_width}
 use Rattle.mw_term.specs.Values.{term_value}
 use Rattle.mw_term.specs.WordList.{Ended, WordList, ended}
 use Rattle.mw_fork.specs.declared.elements.Space.{Space}
-use Rattle.mw_fork.specs.declared.stop.Stop.{Stop}
+use Rattle.mw_fork.specs.declared.stop.RunStop.{RunStop}
 use Rattle.mw_fork.specs.Boundaries.{AreWide}
 use Rattle.mw_fork.specs.Comparing.{AreOneOn, AreSidesOn, AreTwoAt, FailsAt, GoesComparing, HoldsAt, IsComparedKind}
 use Rattle.mw_fork.specs.Comparing.{right_of}
@@ -163,7 +163,7 @@ right_value s old mid new elements l right given image has last is fits =
 
 -- the left element has that value on the path
 pub line_holds : (s : Shape) (old mid new : Space) (path : Function) (elements : List ℕ) (l : Line) (a right : ℕ)
-    (r : Result (Option Numbers) Stop) → HasMadeRight s old mid elements l right → a ≡ slice_index elements l.left
+    (r : Result (Option Numbers) RunStop) → HasMadeRight s old mid elements l right → a ≡ slice_index elements l.left
     → OnOk r (GoesComparing mid new) → IfOk r (λ o. o ≡ None → AreOneOn new.terms path a right)
     → IfOk r (λ o. o ≡ None → (given : Given) → path given ≡ true → HoldsAt s new elements given l)
 line_holds s old mid new path elements l a right (Err e) has at last one = tt
@@ -173,7 +173,7 @@ line_holds s old mid new path elements l a right (Ok o) has at last one = λ non
 
 -- it has another one under an assignment
 pub line_fails : (s : Shape) (old mid new : Space) (elements : List ℕ) (l : Line) (a right : ℕ)
-    (r : Result (Option Numbers) Stop) → HasMadeRight s old mid elements l right → a ≡ slice_index elements l.left
+    (r : Result (Option Numbers) RunStop) → HasMadeRight s old mid elements l right → a ≡ slice_index elements l.left
     → OnOk r (GoesComparing mid new) → IfOk r (λ o. IfSome o (λ numbers. AreTwoAt new.terms (given_by numbers) a right))
     → IfOk r (λ o. IfSome o (λ numbers. FailsAt s new elements (given_by numbers) l))
 line_fails s old mid new elements l a right (Err e) has at last two = tt

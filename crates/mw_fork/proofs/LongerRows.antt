@@ -202,12 +202,12 @@ nothing_or false ts us are = tt
 -- ---- over a table with more terms
 
 -- a term has the width and the bits that it had
-pub record IsKept (told tnew : Table) (term : ℕ) : Type 0 where
+pub record HasSameBits (told tnew : Table) (term : ℕ) : Type 0 where
   pub width : term_width tnew term ≡ term_width told term
   pub bits : HaveBits (bit told term) (bit tnew term)
 
 pub kept_by : (told tnew : Table) (term : ℕ) → Keeps told tnew → term < length (widths_of told.ops)
-    → IsKept told tnew term
+    → HasSameBits told tnew term
 kept_by told tnew term keeps inside =
     let there : term < length told.ops = omega (arith, inside, widths_count told.ops) in
     record {

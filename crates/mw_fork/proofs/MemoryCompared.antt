@@ -21,7 +21,7 @@ use Rattle.mw_term.specs.MemoryRead.{Held, held}
 use Rattle.mw_term.specs.Values.{IsTermOf, Keeps, term_value}
 use Rattle.mw_term.specs.WordList.{Ended, WordList, ended, memory_read_words, variable, with_variable}
 use Rattle.mw_fork.specs.declared.elements.Space.{Space}
-use Rattle.mw_fork.specs.declared.stop.Stop.{Stop}
+use Rattle.mw_fork.specs.declared.stop.RunStop.{RunStop}
 use Rattle.mw_fork.specs.Comparing.{AreOneAtProbe, AreOneOn, AreTwoAt, AreTwoInMemory, AreWritesOn, GoesComparing}
 use Rattle.mw_fork.specs.Comparing.{IsComparedKind}
 use Rattle.mw_fork.specs.Listed.{list_of_space}
@@ -183,7 +183,7 @@ probe_wide s0 s1 new width probe address has goes =
 
 -- where these have one value on the path
 pub one_at_probe : (s0 s1 s2 s3 new : Space) (path : Function) (width probe board machine : ℕ)
-    (r : Result (Option Numbers) Stop) → width ≡ s0.memory.address → HasProbe s0 s1 width probe
+    (r : Result (Option Numbers) RunStop) → width ≡ s0.memory.address → HasProbe s0 s1 width probe
     → HasRead s1 s2 sides.Board probe board
     → HasRead s2 s3 sides.Machine probe machine → OnOk r (GoesComparing s3 new)
     → IfOk r (λ o. o ≡ None → AreOneOn new.terms path board machine)
@@ -202,7 +202,7 @@ one_at_probe s0 s1 s2 s3 new path width probe board machine (Ok o) address has f
     }
 
 -- where they have two
-pub two_in_memory : (s0 s1 s2 s3 new : Space) (width probe board machine : ℕ) (r : Result (Option Numbers) Stop)
+pub two_in_memory : (s0 s1 s2 s3 new : Space) (width probe board machine : ℕ) (r : Result (Option Numbers) RunStop)
     → HasProbe s0 s1 width probe → HasRead s1 s2 sides.Board probe board → HasRead s2 s3 sides.Machine probe machine
     → OnOk r (GoesComparing s3 new)
     → IfOk r (λ o. IfSome o (λ numbers. AreTwoAt new.terms (given_by numbers) board machine))

@@ -14,12 +14,12 @@ use Rattle.mw_rel.specs.Relation.{Boundary}
 use Rattle.mw_rel.specs.Start.{Start, addresses_of}
 use Rattle.mw_fork.specs.declared.run.Run.{Run}
 use Rattle.mw_fork.specs.declared.way.Kept.{Kept}
-use Rattle.mw_fork.specs.declared.stop.Stop.{Stop}
+use Rattle.mw_fork.specs.declared.stop.RunStop.{RunStop}
 use Rattle.mw_fork.specs.CasePaths.{HasNoBoundary}
 use Rattle.mw_fork.specs.Ends.{IsBoardOf}
 use Rattle.mw_fork.specs.OnWay.{Cycles, CyclesStop, HasFinished, HasMetAll, HasMetSegment, IsOnRun, IsRunOf}
 use Rattle.mw_fork.specs.OnWay.{SegmentStops, ground_in, path_in}
-use Rattle.mw_fork.specs.Starts.{IsStartOf, course_of}
+use Rattle.mw_fork.specs.Starts.{StandsForStart, course_of}
 use Rattle.mw_fork.specs.Ways.{Way, met_of}
 use Rattle.mw_fork.proofs.Along.{comes_to_next, left_at_boundary, left_at_end, left_at_none}
 use Rattle.mw_fork.proofs.Grounds.{boundary_is}
@@ -29,7 +29,7 @@ use Rattle.mw_rel.proofs.Cases.{segments_end}
 at_address : (job : Job) (number count : ℕ) (elements : List ℕ) (from : List Kept) (way : Way)
     (run : Run) (given : Given)
     (start : Start) → IsOnRun job number elements from way run count
-    → IsStartOf job number (ground_in run.space elements) given start → path_in run.paths given ≡ true
+    → StandsForStart job number (ground_in run.space elements) given start → path_in run.paths given ≡ true
     → at_cycle job start run.board.place.cycle ≡ run.board.place.at
 at_address job number count elements from way run given start on is holds =
     (on.in_run.in_run given (course_of start) is.board holds).state.at
@@ -78,7 +78,7 @@ next_of_segment job number n elements from way run made none below on finished =
 -- the bits that were met are those of all its cycles
 bits_are_all : (job : Job) (number n : ℕ) (elements : List ℕ) (way : Way) (run : Run) (given : Given) (start : Start)
     → run.board.place.cycle ≡ n → HasMetAll job number elements way run
-    → IsStartOf job number (ground_in run.space elements) given start → path_in run.paths given ≡ true
+    → StandsForStart job number (ground_in run.space elements) given start → path_in run.paths given ≡ true
     → bits_in job.board job.store (course_of start) n ≡ met_of way
 bits_are_all job number n elements way run given start made met is holds =
     subst (λ (m : ℕ). bits_in job.board job.store (course_of start) m ≡ met_of way) made
@@ -244,7 +244,7 @@ ends_late job old way before run bound n has under made all some none number ele
     last.1)
 
 -- a cycle that stops
-pub stops_made : (job : Job) (nodes : ℕ) (old way next : Way) (before run : Run) (bound n : ℕ) (stop : Stop)
+pub stops_made : (job : Job) (nodes : ℕ) (old way next : Way) (before run : Run) (bound n : ℕ) (stop : RunStop)
     → HasMade job old way before run bound n → run.board.place.cycle ≡ n → n < bound
     → (0 < n → is_named (addresses_of job) run.board.place.at ≡ false) → CyclesStop job nodes way next run stop
     → SegmentStops job nodes old next before bound stop

@@ -22,7 +22,7 @@ use Rattle.mw_symboard.specs.Cycle.{bits_before}
 use Rattle.mw_symboard.specs.Kinds.{IsCycleKind}
 use Rattle.mw_symboard.specs.Laws.{IsNew, bits_in}
 use Rattle.mw_symboard.specs.Paths.{IsNextBit, IsPath}
-use Rattle.mw_symboard.specs.Seen.{Place, microword_of}
+use Rattle.mw_symboard.specs.Seen.{Progress, microword_of}
 use Rattle.mw_symboard.specs.Turns.{IsSymbolic, IsTurn, Symbolic, decided_so}
 use Rattle.mw_symboard.specs.Variables.{HasVariables}
 use Rattle.mw_symboard.proofs.Environments.{begun_has_variables, cycles_are_there, variables_stay}
@@ -38,7 +38,7 @@ use Rattle.mw_fork.specs.declared.elements.Space.{Space}
 use Rattle.mw_fork.specs.declared.paths.Paths.{Paths}
 use Rattle.mw_fork.specs.declared.run.Run.{Run}
 use Rattle.mw_fork.specs.declared.way.Kept.{Kept}
-use Rattle.mw_fork.specs.declared.stop.Stop.{Stop}
+use Rattle.mw_fork.specs.declared.stop.RunStop.{RunStop}
 use Rattle.mw_fork.specs.Listed.{ComesTo, left_in_cycle, list_of_space}
 use Rattle.mw_fork.specs.OnWay.{CyclesStop, HasDecided, HasFinished, HasMetAll, IsOnRun, IsTurnedOnRun, Settles}
 use Rattle.mw_fork.specs.OnWay.{SettlesNot, Turns, ground_in, path_in}
@@ -76,7 +76,7 @@ variables_after : (job : Job) (old new : Space) (before after : Symbolic) (turn 
     → ((n : ℕ) → n < before.place.cycle → HasVariables old.terms old.words n)
     → (n : ℕ) → n < after.place.cycle → HasVariables new.terms new.words n
 variables_after job old new before after (Ask kind term) symbolic goes is all there n below =
-    let cycle : after.place.cycle ≡ before.place.cycle = ap (λ (p : Place). p.cycle) is.0 in
+    let cycle : after.place.cycle ≡ before.place.cycle = ap (λ (p : Progress). p.cycle) is.0 in
     variables_stay old.terms new.terms old.words new.words goes.more n goes.later goes.words
     (there n (omega (arith, cycle, below)))
 variables_after job old new before after Finished symbolic goes is all there n below =
@@ -116,7 +116,7 @@ turned_on : (job : Job) (number : ℕ) (elements : List ℕ) (from : List Kept) 
 turned_on job number elements from way old space board (Ask kind term) is lists comes on asks all = (
   on,
   asks kind term refl,
-  asks_in_cycle job number way old space board kind term (ap (λ (p : Place). p.cycle) is.0)
+  asks_in_cycle job number way old space board kind term (ap (λ (p : Progress). p.cycle) is.0)
       (ap (λ (m : Memory). m.board) is.2) lists comes,
 )
 turned_on job number elements from way old space board Finished is lists comes on asks all = (
@@ -235,7 +235,7 @@ StaysOnRun job old new before after count =
     → count < (numbered job number).bound → IsOnRun job number elements from new after count
 
 -- it asks where it was
-pub asked_at : (job : Job) (at : Place) (t : Table) (words : List Word) (m : Memory) (o : Symbolic) (registers : List ℕ)
+pub asked_at : (job : Job) (at : Progress) (t : Table) (words : List Word) (m : Memory) (o : Symbolic) (registers : List ℕ)
     (turn : Turn) (kind : DecidedKind) (term : ℕ) → turn ≡ Ask kind term → IsTurned job at t words m o registers turn
     → o.place ≡ at
 asked_at job at t words m o registers turn kind term asks turned =
@@ -274,7 +274,7 @@ stays_with job old way next before run asked after count turn kind term asks mad
 -- no bit more
 pub stops_with : (job : Job) (nodes : ℕ) (old way next : Way) (before run asked : Run) (turn : Turn)
     (kind : DecidedKind)
-    (term : ℕ) (stop : Stop) → turn ≡ Ask kind term → run.board.place.cycle ≡ before.board.place.cycle
+    (term : ℕ) (stop : RunStop) → turn ≡ Ask kind term → run.board.place.cycle ≡ before.board.place.cycle
     → asked.board.place.cycle ≡ before.board.place.cycle → StaysOnRun job old way before run before.board.place.cycle
     → Turns job run asked turn → SettlesNot job nodes way next asked kind term stop
     → CyclesStop job nodes old next before stop

@@ -52,7 +52,7 @@ use Rattle.mw_fork.specs.Ends.{IsBoardOf}
 use Rattle.mw_fork.specs.Listed.{AsksFor, ComesTo, left_behind_segment, list_of_space, standing_on}
 use Rattle.mw_fork.specs.OnWay.{HasDecided, HasMetCase, HasMetSegment, IsOnStep, IsTurnedOnStep, ground_in, path_in}
 use Rattle.mw_fork.specs.OnWay.{scene_of}
-use Rattle.mw_fork.specs.Starts.{GoesTo, Ground, IsGround, IsStartOf, course_of, registers_of}
+use Rattle.mw_fork.specs.Starts.{GoesTo, Ground, IsGround, StandsForStart, course_of, registers_of}
 use Rattle.mw_fork.specs.Steps.{said_from}
 use Rattle.mw_fork.specs.Ways.{Way, met_of}
 use Rattle.mw_fork.proofs.AlongStep.{along_none, along_turn, asks_for, ends_listed, left_at_start}
@@ -88,7 +88,7 @@ next_of job cycles segment start bits value ends next =
 -- ---- the scene of a start
 
 -- a step is seen in the scene of a start
-seen_in : (job : Job) (number : ℕ) (g : Ground) (given : Given) (start : Start) → IsStartOf job number g given start
+seen_in : (job : Job) (number : ℕ) (g : Ground) (given : Given) (start : Start) → StandsForStart job number g given start
     → IsSeen g.table g.words g.memory given (scene_of start)
 seen_in job number g given start one = record {
   image = one.board.fits.image;
@@ -98,7 +98,7 @@ seen_in job number g given start one = record {
 
 -- a start begins its step with the values of the registers' terms, the memory and the line of the first cycle
 starts_so : (job : Job) (number : ℕ) (g : Ground) (given : Given) (start : Start) (registers : List ℕ) (request : ℕ)
-    → IsStartOf job number g given start → g.memory.machine ≡ [] → registers ≡ registers_of job g.elements
+    → StandsForStart job number g given start → g.memory.machine ≡ [] → registers ≡ registers_of job g.elements
     → term_of g.words (Line 0) ≡ Some request
     → IsStart g.table g.memory given registers request (scene_of start) start.pair.machine
     (slice_index_or start.env.line 0 false)
@@ -176,7 +176,7 @@ said_on : (job : Job) (number cycles : ℕ) (elements : List ℕ) (from : List K
     → IsSaid job.machine space.terms space.words space.memory o turn
     → TurnsAlong (said_from job.machine on.begun) job.machine on.so_far space.terms space.words space.memory o turn
     → Stands job.machine.shape space.terms space.words space.memory o.parts
-    → ((given : Given) (start : Start) → IsStartOf job number (ground_in space elements) given start
+    → ((given : Given) (start : Start) → StandsForStart job number (ground_in space elements) given start
     → path_in paths given ≡ true → Says job space given start o on.so_far turn)
     → IsTurnedOnStep job number elements from cycles segment board way space paths o turn
 said_on job number cycles elements from segment board way space paths o (Ask kind term) on asks along stands says = (
@@ -258,7 +258,7 @@ turns job number cycles elements from segment board way sold snew paths old new 
     let variables = cycles_stay job.board sold.terms snew.terms sold.words snew.words goes.more ground.cycles goes.later
     goes.words goes.kinds (inputs_of job snew.terms snew.words snew.memory new.parts new.request is stepping.terms)
     ground.variables in
-    let says = λ (given : Given) (start : Start) (one : IsStartOf job number now given start)
+    let says = λ (given : Given) (start : Start) (one : StandsForStart job number now given start)
     (at : path_in paths given ≡ true).
     turns_are_of_the_step job.machine sold.terms snew.terms snew.words sold.memory snew.memory old new turn given
     (scene_of start) start.pair.machine (slice_index_or start.env.line 0 false) on.so_far turned

@@ -12,7 +12,7 @@ use Rattle.mw_rel.specs.Job.{Job, IsJob}
 use Rattle.mw_rel.proofs.Cases.{no_case_goes_on, one_case_is_first}
 use Rattle.mw_fork.specs.declared.way.Kept.{Kept}
 use Rattle.mw_fork.specs.Forks.{At, Before, KeepsFor, LeadsToNext, NoneIsToCome, OneIsToCome}
-use Rattle.mw_fork.specs.KeptBits.{AreKept, AreLeast, IsKept, IsWayFrom}
+use Rattle.mw_fork.specs.KeptBits.{AreKeptBits, AreLeast, IsKeptBit, IsWayFrom}
 use Rattle.mw_fork.specs.Ways.{Way, bits_of, met_of, turned, turned_from, turned_last}
 
 -- ---- lists of which one comes before the other
@@ -90,7 +90,7 @@ feasible_case job number bits is =
 
 -- kept bits are feasible behind feasible ones
 pub kept_feasible : (job : Job) (number : ℕ) (kept : List Kept) (before : List Decided)
-    → IsFeasiblePrefix job number before → AreKept job number before kept
+    → IsFeasiblePrefix job number before → AreKeptBits job number before kept
     → IsFeasiblePrefix job number (before ++ bits_of kept)
 kept_feasible job number [] before f are = subst (IsFeasiblePrefix job number) (sym (append-nil before)) f
 kept_feasible job number (k ∷ kept) before f are =
@@ -98,15 +98,15 @@ kept_feasible job number (k ∷ kept) before f are =
     (kept_feasible job number kept (before ++ k.bit ∷ []) are.0.feasible are.1)
 
 -- so are the first ones of them
-kept_front : (job : Job) (number n : ℕ) (kept : List Kept) (before : List Decided) → AreKept job number before kept
-    → AreKept job number before (take n kept)
+kept_front : (job : Job) (number n : ℕ) (kept : List Kept) (before : List Decided) → AreKeptBits job number before kept
+    → AreKeptBits job number before (take n kept)
 kept_front job number zero kept before are = tt
 kept_front job number (suc n) [] before are = tt
 kept_front job number (suc n) (k ∷ kept) before are =
     (are.0, kept_front job number n kept (before ++ k.bit ∷ []) are.1)
 
 pub front_feasible : (job : Job) (number n : ℕ) (kept : List Kept) → IsFeasiblePrefix job number []
-    → AreKept job number [] kept → IsFeasiblePrefix job number (bits_of (take n kept))
+    → AreKeptBits job number [] kept → IsFeasiblePrefix job number (bits_of (take n kept))
 front_feasible job number n kept none are =
     kept_feasible job number (take n kept) [] none (kept_front job number n kept [] are)
 
@@ -139,7 +139,7 @@ none_turned k (Some rest) is = absurd cc
 none_turned k None is = (refl, not_turned k.other (turned k ∷ []) is)
 
 -- nothing that is feasible comes behind bits of which none can be turned
-none_behind : (job : Job) (number : ℕ) (kept : List Kept) (before rest : List Decided) → AreKept job number before kept
+none_behind : (job : Job) (number : ℕ) (kept : List Kept) (before rest : List Decided) → AreKeptBits job number before kept
     → turned_last kept ≡ None → IsBefore (bits_of kept) rest → IsFeasiblePrefix job number (before ++ rest) → ⊥
 none_behind job number [] before rest are none b f = none_after rest b
 none_behind job number (k ∷ kept) before [] are none b f = none_before (bits_of (k ∷ kept)) b
@@ -195,8 +195,8 @@ turned_at (k ∷ rest) now is = turned_here k rest now (turned_last rest) refl i
 
 -- the bits are kept bits again
 turned_kept : (job : Job) (number : ℕ) (front : List Kept) (k : Kept) (behind : List Kept) (before : List Decided)
-    → AreKept job number before (front ++ k ∷ behind) → k.other ≡ true
-    → AreKept job number before (front ++ turned k ∷ [])
+    → AreKeptBits job number before (front ++ k ∷ behind) → k.other ≡ true
+    → AreKeptBits job number before (front ++ turned k ∷ [])
 turned_kept job number [] k behind before are can = (
   record {
     feasible = are.0.turns can;
@@ -210,11 +210,11 @@ turned_kept job number (f ∷ front) k behind before are can =
     (are.0, turned_kept job number front k behind (before ++ f.bit ∷ []) are.1 can)
 
 kept_there : (job : Job) (number : ℕ) (front : List Kept) (k : Kept) (behind : List Kept) (before : List Decided)
-    → AreKept job number before (front ++ k ∷ behind) → IsKept job number (before ++ bits_of front) k
+    → AreKeptBits job number before (front ++ k ∷ behind) → IsKeptBit job number (before ++ bits_of front) k
 kept_there job number [] k behind before are =
-    subst (λ (xs : List Decided). IsKept job number xs k) (sym (append-nil before)) are.0
+    subst (λ (xs : List Decided). IsKeptBit job number xs k) (sym (append-nil before)) are.0
 kept_there job number (f ∷ front) k behind before are =
-    subst (λ (xs : List Decided). IsKept job number xs k) (append_assoc before (f.bit ∷ []) (bits_of front))
+    subst (λ (xs : List Decided). IsKeptBit job number xs k) (append_assoc before (f.bit ∷ []) (bits_of front))
     (kept_there job number front k behind (before ++ f.bit ∷ []) are.1)
 
 -- turned bits come behind the others
@@ -234,7 +234,7 @@ turned_before front k behind more low =
 
 -- a case comes behind the bits: one that has the turned bit
 turned_comes : (job : Job) (number : ℕ) (front : List Kept) (k : Kept) (behind : List Kept)
-    → AreKept job number [] (front ++ k ∷ behind) → k.other ≡ true
+    → AreKeptBits job number [] (front ++ k ∷ behind) → k.other ≡ true
     → OneIsToCome job number (At (bits_of (front ++ k ∷ behind)))
 turned_comes job number front k behind are can =
     let is = kept_there job number front k behind [] are in
@@ -261,7 +261,7 @@ not_both d kind one low = let both : true ≡ false = sym (ap (λ (x : Decided).
 -- Nothing that is feasible comes between bits, of which one is turned and none behind it can be, and the turned bits
 -- with the least ones behind them.
 none_between : (job : Job) (number : ℕ) (front : List Kept) (k : Kept) (behind more : List Kept)
-    (before rest : List Decided) → AreKept job number before (front ++ k ∷ behind)
+    (before rest : List Decided) → AreKeptBits job number before (front ++ k ∷ behind)
     → turned_last behind ≡ None → AreLeast job number (before ++ bits_of (front ++ turned k ∷ [])) more
     → IsFeasiblePrefix job number (before ++ rest) → IsBefore (bits_of (front ++ k ∷ behind)) rest
     → IsBefore rest (bits_of (front ++ turned k ∷ more)) → ⊥
@@ -306,7 +306,7 @@ split_at (x ∷ xs) (suc n) inside =
     let t = split_at xs n (omega arith) in (t.0, t.1, ap (λ (ys : List Kept). x ∷ ys) t.2)
 
 -- the bits that it has met are all that are kept
-pub all_met : (job : Job) (number : ℕ) (way : Way) → IsJob job → AreKept job number [] way.kept
+pub all_met : (job : Job) (number : ℕ) (way : Way) → IsJob job → AreKeptBits job number [] way.kept
     → IsCase job number (met_of way) → bits_of way.kept ≡ met_of way
 all_met job number way is are whole = elim (cases_lt way.met (length way.kept)) [
   | inr over ↦ ap (λ (xs : List Kept). bits_of xs) (sym (take_all way.met way.kept over))
@@ -337,7 +337,7 @@ keeps_met job number from way is bits whole =
 -- ---- the next case
 
 -- a run begins with the bits that are kept
-pub way_begins : (job : Job) (number : ℕ) (way : Way) → AreKept job number [] way.kept
+pub way_begins : (job : Job) (number : ℕ) (way : Way) → AreKeptBits job number [] way.kept
     → IsWayFrom job number way.kept way
 way_begins job number way are = record {
   kept = are;
@@ -402,12 +402,12 @@ run_on job number front now bit way now_is bits =
 
 -- no case that is to come behind the last one comes before the bits of a run that began with those turned
 none_at_turned : (job : Job) (number : ℕ) (kept now : List Kept) (way : Way) (other : List Decided)
-    → AreKept job number [] kept → turned_last kept ≡ Some now → IsWayFrom job number now way → IsCase job number other
+    → AreKeptBits job number [] kept → turned_last kept ≡ Some now → IsWayFrom job number now way → IsCase job number other
     → IsBefore (bits_of kept) other → ¬ IsBefore other (met_of way)
 none_at_turned job number kept now way other are turns bits case come before =
     let t = turned_at kept now turns in
     none_between job number t.front t.bit t.behind bits.more [] other
-    (subst (AreKept job number []) t.kept_is are) t.none
+    (subst (AreKeptBits job number []) t.kept_is are) t.none
     (subst (λ (xs : List Kept). AreLeast job number (bits_of xs) bits.more) t.now_is bits.least)
     (feasible_case job number other case)
     (subst (λ (xs : List Kept). IsBefore (bits_of xs) other) t.kept_is come)
@@ -421,11 +421,11 @@ pub leads_behind : (job : Job) (number : ℕ) (kept now : List Kept) → IsJob j
     → LeadsToNext job number (At (bits_of kept)) now
 leads_behind job number kept now is keeps turns =
     let t = turned_at kept now turns in
-    let are : AreKept job number [] (t.front ++ t.bit ∷ t.behind) =
-    subst (AreKept job number []) t.kept_is keeps.2 in
+    let are : AreKeptBits job number [] (t.front ++ t.bit ∷ t.behind) =
+    subst (AreKeptBits job number []) t.kept_is keeps.2 in
     let last : bits_of kept ≡ bits_of (t.front ++ t.bit ∷ t.behind) = ap (λ (xs : List Kept). bits_of xs) t.kept_is in
     record {
-      are_kept = subst (AreKept job number []) (sym t.now_is)
+      are_kept = subst (AreKeptBits job number []) (sym t.now_is)
           (turned_kept job number t.front t.bit t.behind [] are t.can);
       some = subst (λ (xs : List Decided). OneIsToCome job number (At xs)) (sym last)
           (turned_comes job number t.front t.bit t.behind are t.can);

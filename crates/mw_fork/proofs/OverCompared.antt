@@ -8,7 +8,7 @@ use Rattle.mw_term.specs.Cofactors.{Agree, AreSame, HasAtMostCofactors, HasMoreC
 use Rattle.mw_term.specs.Functions.{Function, made, never}
 use Rattle.mw_term.specs.Rows.{bit}
 use Rattle.mw_term.specs.Table.{IsTable, Table, table_of}
-use Rattle.mw_term.specs.WordList.{WordList, number_of, table_in}
+use Rattle.mw_term.specs.WordList.{WordList, word_number, table_in}
 use Rattle.mw_dd.specs.Diagrams.{IsFirst}
 use Rattle.mw_dd.proofs.Cofactors.{more-same}
 use Rattle.mw_blast.specs.Causes.{IsOver}
@@ -20,12 +20,12 @@ use Rattle.mw_rel.specs.ComparisonWords.{Compared, Comparison}
 use Rattle.mw_rel.specs.Job.{Job}
 use Rattle.mw_rel.specs.OverBudget.{AreNodesOver}
 use Rattle.mw_rel.specs.PathWords.{comparison_word, path_of}
-use Rattle.mw_rel.specs.PathWords.StandsAt.{at_word}
+use Rattle.mw_rel.specs.PathWords.StandsAtWord.{at_word}
 use Rattle.mw_rel.specs.Sought.{IsSought, NeverFails}
 use Rattle.mw_rel.specs.Sought.IsSought.{at_comparison as sought_at, on_path}
 use Rattle.mw_fork.specs.declared.elements.Space.{Space}
-use Rattle.mw_fork.specs.declared.stop.Stop.{Stop}
-use Rattle.mw_fork.specs.declared.stop.Stop.TheVariants.{NoMemory, Over}
+use Rattle.mw_fork.specs.declared.stop.RunStop.{RunStop}
+use Rattle.mw_fork.specs.declared.stop.RunStop.TheVariants.{NoMemory, Over}
 use Rattle.mw_fork.specs.Comparing.{FailsFirst, HaveCompared, IsComparedOver, IsFrontOf, StopsComparing, word_on}
 use Rattle.mw_fork.specs.Comparing.IsComparedOver.{at_comparison, in_list}
 use Rattle.mw_fork.specs.Failing.{ComparisonStops, ComparisonsAreWithin}
@@ -52,14 +52,14 @@ at_seam before after x = Contains-append_right before (x ∷ after) x (zero, ome
 
 -- the path word of a comparison
 comparison_over : (job : Job) (number nodes : ℕ) (bits : List Decided) (path : Function) (c : Comparison)
-    → IsFrontOf c.list (case_words job number bits).list → IsSome (number_of c.list.words c.term)
+    → IsFrontOf c.list (case_words job number bits).list → IsSome (word_number c.list.words c.term)
     → Contains (case_words job number bits).comparisons c → Agree path (path_of job number bits)
     → IsFeasiblePrefix job number bits → HasMoreCofactors (word_on job.board.map_entries path c) nodes
     → AreNodesOver job number nodes bits (number_or_last c.list.words c.term) 0
 comparison_over job number nodes bits path c front some among written feasible over =
     let own = number_or_last c.list.words c.term in
     let word = word_front c.list (case_words job number bits).list own c.term front
-    (has_word c.list c.term (number_of c.list.words c.term) refl some) in
+    (has_word c.list c.term (word_number c.list.words c.term) refl some) in
     record {
       feasible = feasible;
       operation = comparison_word job number bits c;
@@ -125,7 +125,7 @@ over_compared job number nodes bits map space path compared word j law laws entr
 -- so it is whatever it stops by
 pub stops_comparing : (job : Job) (number nodes : ℕ) (bits : List Decided) (map : List ℕ)
     (space : Space) (path : Function)
-    (compared : Compared) (stop : Stop) → OverHaveNumbers → AreNumbered → map ≡ job.board.map_entries
+    (compared : Compared) (stop : RunStop) → OverHaveNumbers → AreNumbered → map ≡ job.board.map_entries
     → case_words job number bits ≡ whole compared → Agree path (path_of job number bits)
     → IsFeasiblePrefix job number bits
     → ((word j : ℕ) → stop ≡ Over word j → StopsComparing map nodes space path compared word j)

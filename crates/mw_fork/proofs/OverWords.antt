@@ -13,7 +13,7 @@ use Rattle.mw_term.specs.Functions.{Function, Triple}
 use Rattle.mw_term.specs.Numbered.{IsNumbered}
 use Rattle.mw_term.specs.Rows.{bit}
 use Rattle.mw_term.specs.Table.{Table, table_of}
-use Rattle.mw_term.specs.WordList.{WordList, number_from, number_of}
+use Rattle.mw_term.specs.WordList.{WordList, number_from, word_number}
 use Rattle.mw_dd.proofs.Cofactors.{more-same}
 use Rattle.mw_blast.specs.declared.fault.BlastFault.{BlastFault}
 use Rattle.mw_blast.specs.declared.fault.BlastFault.TheVariants as faults
@@ -27,10 +27,10 @@ use Rattle.mw_rel.specs.Case.{IsFeasiblePrefix}
 use Rattle.mw_rel.specs.CaseWords.{CaseWords, case_words}
 use Rattle.mw_rel.specs.Job.{Job}
 use Rattle.mw_rel.specs.OverBudget.{AreNodesOver}
-use Rattle.mw_rel.specs.PathWords.{IsWord, StandsAt, next_bit, path_of, path_word, table_with}
-use Rattle.mw_rel.specs.PathWords.StandsAt.{at_constant, at_word}
-use Rattle.mw_fork.specs.declared.stop.Stop.{Stop}
-use Rattle.mw_fork.specs.declared.stop.Stop.TheVariants as stops
+use Rattle.mw_rel.specs.PathWords.{IsWord, StandsAtWord, next_bit, path_of, path_word, table_with}
+use Rattle.mw_rel.specs.PathWords.StandsAtWord.{at_constant, at_word}
+use Rattle.mw_fork.specs.declared.stop.RunStop.{RunStop}
+use Rattle.mw_fork.specs.declared.stop.RunStop.TheVariants as stops
 use Rattle.mw_fork.specs.declared.way.Kept.{Kept}
 use Rattle.mw_fork.specs.Comparing.{IsFrontOf}
 use Rattle.mw_fork.specs.Listed.{AsksFor}
@@ -71,22 +71,22 @@ number_is_from (w ∷ rest) first number term is =
       at false same found further = from_next w rest first number term (further found)
 
 -- the number that a list gives is that of a word with the term
-pub number_is_word : (l : WordList) (number term : ℕ) → number_of l.words term ≡ Some number → IsWord l number term
+pub number_is_word : (l : WordList) (number term : ℕ) → word_number l.words term ≡ Some number → IsWord l number term
 number_is_word l number term is = number_is_from l.words 1 number term is
 
 -- so is the number of a term that has one
-pub has_word : (l : WordList) (term : ℕ) (found : Option ℕ) → number_of l.words term ≡ found → IsSome found
+pub has_word : (l : WordList) (term : ℕ) (found : Option ℕ) → word_number l.words term ≡ found → IsSome found
     → IsWord l (unwrap_or found (length l.words)) term
 has_word l term None same some = absurd cc
 has_word l term (Some number) same some = number_is_word l number term same
 
 -- the number of a term or, where it has none, of the last word so far
 abbrev pub number_or_last : (words : List Word) → (term : ℕ) → ℕ
-number_or_last words term = unwrap_or (number_of words term) (length words)
+number_or_last words term = unwrap_or (word_number words term) (length words)
 
 -- a path word of a term stands at its number or, where it has none, at the last one so far
-stands_at : (t : Table) (l : WordList) (term : ℕ) (found : Option ℕ) → number_of l.words term ≡ found
-    → StandsAt t l l term (unwrap_or found (length l.words))
+stands_at : (t : Table) (l : WordList) (term : ℕ) (found : Option ℕ) → word_number l.words term ≡ found
+    → StandsAtWord t l l term (unwrap_or found (length l.words))
 stands_at t l term None same = at_constant same refl
 stands_at t l term (Some number) same =
     let word = number_is_word l number term same in
@@ -113,7 +113,7 @@ word_front front all number term is word =
 
 -- one of the term table's row, at the number that the beginning of the list gives
 pub over_at : (job : Job) (number nodes : ℕ) (bits : List Decided) (front : WordList) (term j : ℕ)
-    → IsFrontOf front (case_words job number bits).list → IsSome (number_of front.words term)
+    → IsFrontOf front (case_words job number bits).list → IsSome (word_number front.words term)
     → IsFeasiblePrefix job number bits → IsOver (table_with job (case_words job number bits)) term j nodes
     → AreNodesOver job number nodes bits (number_or_last front.words term) j
 over_at job number nodes bits front term j is some feasible over = record {
@@ -122,7 +122,7 @@ over_at job number nodes bits front term j is some feasible over = record {
   listed = of_row (record {
     term = term;
     at = word_front front (case_words job number bits).list (number_or_last front.words term) term is
-        (has_word front term (number_of front.words term) refl some);
+        (has_word front term (word_number front.words term) refl some);
     op = over.op;
     its = over.its;
     among = (over.over.0, over.over.2, over.over.3);
@@ -160,9 +160,9 @@ value_over job number nodes bits g path term value map asks written feasible ove
     term = term;
     asked = ap (λ (w : CaseWords). w.asked) asks;
     at = subst (λ (l : WordList).
-        StandsAt (table_with job (case_words job number bits)) l l term (number_or_last g.words term))
+        StandsAtWord (table_with job (case_words job number bits)) l l term (number_or_last g.words term))
         (sym (ap (λ (w : CaseWords). w.list) asks))
-        (stands_at _ (list_in g.table g.words g.memory) term (number_of g.words term) refl);
+        (stands_at _ (list_in g.table g.words g.memory) term (word_number g.words term) refl);
     lowest = refl;
     value = value;
     is = refl;
@@ -198,13 +198,13 @@ met_feasible job number g from way path starts on =
     front_feasible job number way.met way.kept (none_feasible job number g starts) on.bits.kept
 
 -- a stop says the fault of a term by the number of its word
-pub record Tells (words : List Word) (fault : BlastFault) (stop : Stop) : Type 0 where
+pub record Tells (words : List Word) (fault : BlastFault) (stop : RunStop) : Type 0 where
   pub over : (term j : ℕ) → fault ≡ faults.Over term j → stop ≡ stops.Over (number_or_last words term) j
   pub none : fault ≡ faults.NoMemory → stop ≡ stops.NoMemory
 
 -- a run whose path wasn't split stops by that
 pub stops_by : (job : Job) (number nodes : ℕ) (g : Ground) (from : List Kept) (way : Way) (path : Function) (term : ℕ)
-    (fault : BlastFault) (stop : Stop) → OverHaveNumbers → IsNumbered (case_words job number (met_of way)).list
+    (fault : BlastFault) (stop : RunStop) → OverHaveNumbers → IsNumbered (case_words job number (met_of way)).list
     → HaveStarts job number g → IsOnWay job number g from way path → AsksFor job number (met_of way) g term
     → IsSplitCause g.table path term nodes fault → Tells g.words fault stop → StopsBy job number nodes from way stop
 stops_by job number nodes g from way path term (faults.Over named j) stop law numbered starts on asks cause tells =

@@ -28,7 +28,7 @@ use Rattle.mw_rel.specs.Start.{Start}
 use Rattle.mw_fork.specs.declared.elements.Space.{Space}
 use Rattle.mw_fork.specs.Comparing.{GoesComparing, IsComparedKind}
 use Rattle.mw_fork.specs.OnWay.{ground_in}
-use Rattle.mw_fork.specs.Starts.{GoesTo, Ground, IsGround, IsStartOf}
+use Rattle.mw_fork.specs.Starts.{GoesTo, Ground, IsGround, StandsForStart}
 use Rattle.mw_fork.proofs.FreeValues.{same_kind, with_values}
 use Rattle.mw_fork.proofs.Grounds.{reached_from}
 use Rattle.mw_fork.proofs.Growing.{goes_to, ground_later, start_before}
@@ -79,7 +79,7 @@ other_number number value given n other = grind (arith, nat_tests)
 pub reached_at : (job : Job) (number : ℕ) (g : Ground) (place probe address : ℕ) → IsJob job → IsGround job number g
     → IsVariable g.words place probe Probe → IsOfWidth g.table g.memory.address probe → address < 2 ^ g.memory.address
     → (start : Start) → IsStartAt job number start
-    → (given : Given) × IsStartOf job number g given start × (term_value g.table given probe ≡ address)
+    → (given : Given) × StandsForStart job number g given start × (term_value g.table given probe ≡ address)
 reached_at job number g place probe address is ground at wide less start starts =
     let work = ground.space.workspace in
     let width = g.memory.address in
@@ -164,8 +164,8 @@ ground_compared job number old new elements is ground compared own =
 -- a start over what there is after a comparison was one before
 pub start_compared : (job : Job) (number : ℕ) (old new : Space) (elements : List ℕ) (given : Given) (start : Start)
     → IsJob job → IsGround job number (ground_in old elements) → GoesComparing old new → HaveOwnKinds new.words
-    → IsStartOf job number (ground_in new elements) given start
-    → IsStartOf job number (ground_in old elements) given start
+    → StandsForStart job number (ground_in new elements) given start
+    → StandsForStart job number (ground_in old elements) given start
 start_compared job number old new elements given start is ground compared own one =
     start_before job number (ground_in old elements) (ground_in new elements) given start is ground
     (goes_compared old new elements compared own) one

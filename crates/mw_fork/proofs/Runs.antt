@@ -18,7 +18,7 @@ use Rattle.mw_symmem.proofs.Later.{width_later}
 use Rattle.mw_symboard.specs.declared.reading.Reading.{Reading}
 use Rattle.mw_symboard.specs.Cycle.{bits_before}
 use Rattle.mw_symboard.specs.Kinds.{AreInputs, IsCycleKind}
-use Rattle.mw_symboard.specs.Seen.{Place, microword_of}
+use Rattle.mw_symboard.specs.Seen.{Progress, microword_of}
 use Rattle.mw_symboard.specs.Turns.{AreNoLater, Asks, HasRead, IsSymbolic, IsTurn, Symbolic, decided_so, reads_by}
 use Rattle.mw_symboard.specs.Turns.{reads_to_come}
 use Rattle.mw_board.specs.declared.parts.BoardParts.{BoardParts}
@@ -121,8 +121,8 @@ pub turned : (job : Job) (told tnew : Table) (wold wnew : List Word) (mold mnew 
     → IsTurned job old.place tnew wnew mnew new registers turn
 turned job told tnew wold wnew mold mnew old new registers (Ask kind term) under goes is symbolic reads all =
     let K = IsCycleKind old.place.cycle old.place.taken in
-    let cycle : new.place.cycle ≡ old.place.cycle = ap (λ (p : Place). p.cycle) is.0 in
-    let taken : new.place.taken ≡ old.place.taken = ap (λ (p : Place). p.taken) is.0 in
+    let cycle : new.place.cycle ≡ old.place.cycle = ap (λ (p : Progress). p.cycle) is.0 in
+    let taken : new.place.taken ≡ old.place.taken = ap (λ (p : Progress). p.taken) is.0 in
     let none : reads_to_come new ≡ 0 = ap reads_by is.3.begun.1 in
     let before : 0 < new.place.cycle → HasLine tnew wnew = λ some.
     line_later K told tnew wold wnew mold mnew goes (under.line (omega (arith, some, cycle))) in (

@@ -43,7 +43,7 @@ use Rattle.mw_fork.specs.CasePaths.{HasSegment}
 use Rattle.mw_fork.specs.Comparing.{GoesComparing}
 use Rattle.mw_fork.specs.declared.elements.Space.{Space}
 use Rattle.mw_fork.specs.Ends.{HaveEnded}
-use Rattle.mw_fork.specs.Starts.{Ground, IsStartOf, course_of}
+use Rattle.mw_fork.specs.Starts.{Ground, StandsForStart, course_of}
 
 -- the terms of all elements where both sides have ended
 abbrev pub terms_at_end : Job → Symbolic → Stepping → List ℕ
@@ -107,7 +107,7 @@ pub come_to : (job : Job) (number : ℕ) (g : Ground) (bits segment : List Decid
     (path : Function) (board : Symbolic) (step : Stepping) (given : Given) (start : Start) → IsJob job
     → g.table ≡ space.terms → g.memory ≡ space.memory
     → HaveEnded job number g bits cycles space path board step → HasSegment job number g path cycles false segment
-    → IsStartOf job number g given start → path given ≡ true → ComeTo job space given start cycles board step
+    → StandsForStart job number g given start → path given ≡ true → ComeTo job space given start cycles board step
 come_to job number g bits segment cycles space path board step given start valid table memory ended_so ends is along =
     let t = space.terms in
     let m = space.memory in

@@ -23,8 +23,8 @@ use Rattle.mw_rel.specs.Rules.{IsLineOf}
 use Rattle.mw_fork.specs.Comparing.{AreApart, AreSidesOn, FailsFirst, GoesComparing, HaveCompared, StopsComparing}
 use Rattle.mw_fork.specs.Comparing.{compared_all}
 use Rattle.mw_fork.specs.declared.elements.Space.{Space}
-use Rattle.mw_fork.specs.declared.stop.Stop.{Stop}
-use Rattle.mw_fork.specs.declared.stop.Stop.TheVariants.{Over}
+use Rattle.mw_fork.specs.declared.stop.RunStop.{RunStop}
+use Rattle.mw_fork.specs.declared.stop.RunStop.TheVariants.{Over}
 use Rattle.mw_fork.specs.Failing.{ComparisonStops, ComparisonsAreWithin, IsFound}
 use Rattle.mw_fork.specs.Listed.{list_of_space, standing_on}
 use Rattle.mw_fork.proofs.CaseCompared.{IsEnded, found_apart, found_on_path, prefix_of_case, unlike_differs}
@@ -188,7 +188,7 @@ some_both P Q R (Some x) each one other = each x one other
 -- where the comparison stops, an operation of the case is over the budget
 pub alike_stops : (job : Job) (number nodes : ℕ) (elements : List ℕ) (bits : List Decided)
     (cycles : ℕ) (old new : Space)
-    (path : Function) (board : Symbolic) (step : Stepping) (reached : Boundary) (stop : Stop)
+    (path : Function) (board : Symbolic) (step : Stepping) (reached : Boundary) (stop : RunStop)
     → OverHaveNumbers → AreNumbered
     → IsEnded job number elements bits cycles old path board step → boundary_at job board.place.at ≡ Some reached
     → is_unlike reached (ends_of job old board step) ≡ false

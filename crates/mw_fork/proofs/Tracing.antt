@@ -20,7 +20,7 @@ use Rattle.mw_rel.proofs.Relations.{solved_at}
 use Rattle.mw_fork.specs.declared.run.Run.{Run}
 use Rattle.mw_fork.specs.declared.way.Kept.{Kept}
 use Rattle.mw_fork.specs.Forks.{EndsEach}
-use Rattle.mw_fork.specs.KeptBits.{AreKept}
+use Rattle.mw_fork.specs.KeptBits.{AreKeptBits}
 use Rattle.mw_fork.specs.Listed.{ComesTo, left_in_cycle}
 use Rattle.mw_fork.specs.OnWay.{HasMetCase, HasMetSegment, IsFirst, IsOnRun, ground_in, path_in}
 use Rattle.mw_fork.specs.Runs.{IsIdle}
@@ -46,7 +46,7 @@ no_path job number bits none = ap (path_of job number) none
 
 -- a run that has met no bit is on its way
 pub on_run_first : (job : Job) (number : ℕ) (elements : List ℕ) (way : Way) (run : Run) → IsJob job
-    → IsFirst job number elements run → IsIdle run.board 0 → met_of way ≡ [] → AreKept job number [] way.kept
+    → IsFirst job number elements run → IsIdle run.board 0 → met_of way ≡ [] → AreKeptBits job number [] way.kept
     → IsOnRun job number elements way.kept way run 0
 on_run_first job number elements way run valid first idle none are = record {
   on = record {
@@ -126,7 +126,7 @@ pub segment_met : (job : Job) (number : ℕ) (elements : List ℕ) (before : Way
     → ((number : ℕ) (elements : List ℕ) (from : List Kept) → IsOnRun job number elements from before first 0
     → bound ≡ (numbered job number).bound
     → HasMetSegment job number elements from (unwrap_or reached bound) (is_none reached) way run)
-    → AreKept job number [] before.kept → HasMetSegment job number elements before.kept cycles late way run
+    → AreKeptBits job number [] before.kept → HasMetSegment job number elements before.kept cycles late way run
 segment_met job number elements before first reached bound cycles late way run valid is idle none
     bound_is some so goes are =
     met_so job number elements before.kept reached bound cycles late way run some so

@@ -11,24 +11,24 @@ use Rattle.mw_rel.specs.Case.{bits_of_cycles, case_of, cycles_of, is_late}
 use Rattle.mw_rel.specs.CaseLaws.{HasNoBoundaryYet}
 use Rattle.mw_rel.specs.Job.{Job}
 use Rattle.mw_rel.specs.Start.{Start}
-use Rattle.mw_fork.specs.Starts.{Ground, IsStartOf}
+use Rattle.mw_fork.specs.Starts.{Ground, StandsForStart}
 
 -- where a path is true, this holds of the start
 abbrev pub OnPath : Job → (number : ℕ) → Ground → (path : Function) → (Start → Type 0) → Type 0
 OnPath job number g path Holds =
-    (given : Given) (start : Start) → IsStartOf job number g given start → path given ≡ true → Holds start
+    (given : Given) (start : Start) → StandsForStart job number g given start → path given ≡ true → Holds start
 
 -- a path of these decided bits: it is true exactly where they are the first of the start's case
 pub record IsCasePath (job : Job) (number : ℕ) (g : Ground) (bits : List Decided) (path : Function) : Type 0 where
   pub first : OnPath job number g path (λ start. AreFirst bits (case_of job start))
-  pub only : (given : Given) (start : Start) → IsStartOf job number g given start → AreFirst bits (case_of job start)
+  pub only : (given : Given) (start : Start) → StandsForStart job number g given start → AreFirst bits (case_of job start)
       → path given ≡ true
 
 -- where the path is true, the next decided bit of the start's case is of this kind, and has the value of this term
 abbrev pub IsNextOfCase : Job → (number : ℕ) → Ground → (bits : List Decided) → (path : Function) → DecidedKind
     → (term : ℕ) → Type 0
 IsNextOfCase job number g bits path kind term =
-    (given : Given) (start : Start) → IsStartOf job number g given start → path given ≡ true
+    (given : Given) (start : Start) → StandsForStart job number g given start → path given ≡ true
     → slice_get (case_of job start) (length bits) ≡ Some (decided kind (term_value g.table given term == 1))
 
 -- where the path is true, no boundary has come after the first so many cycles

@@ -17,7 +17,7 @@ use Rattle.mw_term.specs.PathWords.{path_zero}
 use Rattle.mw_term.specs.Rows.{bit}
 use Rattle.mw_term.specs.Table.{IsTable, Table}
 use Rattle.mw_term.specs.Values.{term_value}
-use Rattle.mw_term.specs.WordList.{WordList, number_of, table_in}
+use Rattle.mw_term.specs.WordList.{WordList, word_number, table_in}
 use Rattle.mw_dd.specs.Diagrams.{IsFirst}
 use Rattle.mw_blast.specs.Causes.{IsOver}
 use Rattle.mw_symmem.specs.declared.side.Side.TheVariants as sides
@@ -95,7 +95,7 @@ pub record StopsComparing (map : List ℕ) (nodes : ℕ) (space : Space) (path :
   pub table : IsTable space.terms
   pub map_is : space.terms.map ≡ map
   pub term : ℕ
-  pub named : word ≡ unwrap_or (number_of space.words term) (length space.words)
+  pub named : word ≡ unwrap_or (word_number space.words term) (length space.words)
   pub over : IsComparedOver map nodes space path at term j
   pub front : IsFrontOf (list_of_space space) compared.list
 

@@ -17,7 +17,7 @@ use Rattle.mw_symmach.specs.Walks.{underway_in}
 use Rattle.mw_fork.specs.declared.elements.Space.{Space}
 use Rattle.mw_fork.specs.declared.run.Run.{Run}
 use Rattle.mw_fork.specs.Listed.{list_of_space, standing_on}
-use Rattle.mw_fork.specs.Starts.{Ground, IsStartOf, course_of}
+use Rattle.mw_fork.specs.Starts.{Ground, StandsForStart, course_of}
 
 -- under an assignment that stands for a start, the board is in the start's run, of which some bits were decided
 pub record IsWithStart (job : Job) (space : Space) (given : Given) (start : Start) (board : Symbolic) : Type 0 where
@@ -27,7 +27,7 @@ pub record IsWithStart (job : Job) (space : Space) (given : Given) (start : Star
 -- A board on terms is in the run of each start on a path, and its elements and events have terms of their widths.
 pub record IsBoardOf (job : Job) (number : ℕ) (g : Ground) (space : Space) (path : Function)
     (board : Symbolic) : Type 0 where
-  pub with_start : (given : Given) (start : Start) → IsStartOf job number g given start → path given ≡ true
+  pub with_start : (given : Given) (start : Start) → StandsForStart job number g given start → path given ≡ true
       → IsWithStart job space given start board
   pub parts : AreParts job.board space.terms board.place.parts
   pub events : AreEvents job.board space.terms board.events
@@ -35,7 +35,7 @@ pub record IsBoardOf (job : Job) (number : ℕ) (g : Ground) (space : Space) (pa
 -- A step on terms has ended: its terms have, for each start on a path, the values of what the start's step comes to.
 pub record IsStepOf (job : Job) (number : ℕ) (g : Ground) (space : Space) (path : Function)
     (step : Stepping) : Type 0 where
-  pub ends : (given : Given) (start : Start) → IsStartOf job number g given start → path given ≡ true
+  pub ends : (given : Given) (start : Start) → StandsForStart job number g given start → path given ≡ true
       → step_of job.machine start.pair.machine (slice_index_or start.env.line 0 false) start.env.inputs 0
       ≡ ended job.machine (now_of space.terms given space.memory start.pair.board.memory step.parts)
   pub stands : Stands job.machine.shape space.terms space.words space.memory step.parts

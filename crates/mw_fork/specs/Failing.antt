@@ -15,11 +15,11 @@ use Rattle.mw_term.specs.Cofactors.{HasAtMostCofactors}
 use Rattle.mw_term.specs.Functions.{Function}
 use Rattle.mw_dd.specs.Diagrams.{IsFirst}
 use Rattle.mw_fork.specs.declared.elements.Space.{Space}
-use Rattle.mw_fork.specs.declared.stop.Stop.{Stop}
-use Rattle.mw_fork.specs.declared.stop.Stop.TheVariants.{NoMemory, Over}
+use Rattle.mw_fork.specs.declared.stop.RunStop.{RunStop}
+use Rattle.mw_fork.specs.declared.stop.RunStop.TheVariants.{NoMemory, Over}
 use Rattle.mw_fork.specs.Listed.{list_of_space}
 use Rattle.mw_fork.specs.OnWay.{ground_in}
-use Rattle.mw_fork.specs.Starts.{IsGround, IsStartOf}
+use Rattle.mw_fork.specs.Starts.{IsGround, StandsForStart}
 
 -- no start with a case differs
 abbrev pub NoneDiffersOf : Job → (number : ℕ) → (bits : List Decided) → Type 0
@@ -41,12 +41,12 @@ pub record IsFound (job : Job) (number : ℕ) (elements : List ℕ) (bits : List
   pub sought : Function
   pub among : IsSought job number bits sought (list_of_space space)
   pub first : IsFirst sought numbers
-  pub of_case : (start : Start) → IsStartOf job number (ground_in space elements) (given_by numbers) start
+  pub of_case : (start : Start) → StandsForStart job number (ground_in space elements) (given_by numbers) start
       → case_of job start ≡ bits
-  pub differs : (start : Start) → IsStartOf job number (ground_in space elements) (given_by numbers) start
+  pub differs : (start : Start) → StandsForStart job number (ground_in space elements) (given_by numbers) start
       → difference_of job start ≢ None
 
 -- An operation of the comparison is over the budget, in the list of the case; or memory ran out.
-abbrev pub ComparisonStops : Job → (number nodes : ℕ) → (bits : List Decided) → Stop → Type 0
+abbrev pub ComparisonStops : Job → (number nodes : ℕ) → (bits : List Decided) → RunStop → Type 0
 ComparisonStops job number nodes bits (Over word j) = AreNodesOver job number nodes bits word j
 ComparisonStops job number nodes bits NoMemory = Unit {0}

@@ -8,7 +8,7 @@ use Rattle.mw_fork.specs.declared.budget.Budget.{Budget}
 use Rattle.mw_fork.specs.declared.fork.Stage.{Stage}
 use Rattle.mw_fork.specs.declared.fork.Stage.TheVariants as stages
 use Rattle.mw_fork.specs.declared.way.Kept.{Kept}
-use Rattle.mw_fork.specs.KeptBits.{AreKept, IsWayFrom}
+use Rattle.mw_fork.specs.KeptBits.{AreKeptBits, IsWayFrom}
 use Rattle.mw_fork.specs.Ways.{Way, bits_of, met_of}
 
 -- where a fork stands among the cases of its boundary: before all, at the one given last, or behind all
@@ -47,7 +47,7 @@ EndsEach job number bits cycles late = (start : Start) → IsStartAt job number 
 -- Kept bits lead to the next case: there is one, and it is that of each run that began with them and has met all bits
 -- of a case. None that is to come stands before the bits of such a run.
 pub record LeadsToNext (job : Job) (number : ℕ) (at : Standing) (kept : List Kept) : Type 0 where
-  pub are_kept : AreKept job number [] kept
+  pub are_kept : AreKeptBits job number [] kept
   pub some : OneIsToCome job number at
   pub next : (way : Way) → IsWayFrom job number kept way → IsCase job number (met_of way)
       → IsNextCase job number at (met_of way)
@@ -84,7 +84,7 @@ fork_of boundary budget given stage kept = record {
 -- what it keeps where it stands: nothing before all cases, and the bits of the one given last
 abbrev pub KeepsFor : Job → (number : ℕ) → Standing → List Kept → Type 0
 KeepsFor job number Before kept = kept ≡ []
-KeepsFor job number (At last) kept = (bits_of kept ≡ last) × IsCase job number last × AreKept job number [] kept
+KeepsFor job number (At last) kept = (bits_of kept ≡ last) × IsCase job number last × AreKeptBits job number [] kept
 KeepsFor job number Behind kept = Unit {0}
 
 -- Bits that were turned lead to the next case, from where the bits before stood.

@@ -9,7 +9,7 @@ use Rattle.mw_fork.specs.Ways.{Way, bits_of}
 
 -- A bit that is kept behind others: all are feasible; and it can be turned exactly where it is 0 and 1 is feasible
 -- there too.
-pub record IsKept (job : Job) (number : ℕ) (before : List Decided) (k : Kept) : Type 0 where
+pub record IsKeptBit (job : Job) (number : ℕ) (before : List Decided) (k : Kept) : Type 0 where
   pub feasible : IsFeasiblePrefix job number (before ++ k.bit ∷ [])
   pub zero : k.other ≡ true → k.bit.value ≡ false
   pub turns : k.other ≡ true → IsFeasiblePrefix job number (before ++ decided k.bit.kind true ∷ [])
@@ -17,10 +17,10 @@ pub record IsKept (job : Job) (number : ℕ) (before : List Decided) (k : Kept) 
       → ¬ IsFeasiblePrefix job number (before ++ decided k.bit.kind true ∷ [])
 
 -- so is each of these bits, which stand behind others
-abbrev pub AreKept : Job → (number : ℕ) → (before : List Decided) → List Kept → Type 0
-AreKept job number before [] = Unit {0}
-AreKept job number before (k ∷ rest) =
-    IsKept job number before k × AreKept job number (before ++ k.bit ∷ []) rest
+abbrev pub AreKeptBits : Job → (number : ℕ) → (before : List Decided) → List Kept → Type 0
+AreKeptBits job number before [] = Unit {0}
+AreKeptBits job number before (k ∷ rest) =
+    IsKeptBit job number before k × AreKeptBits job number (before ++ k.bit ∷ []) rest
 
 -- each of these bits, which stand behind others, is 1 only where 0 isn't feasible there
 abbrev pub AreLeast : Job → (number : ℕ) → (before : List Decided) → List Kept → Type 0
@@ -32,7 +32,7 @@ AreLeast job number before (k ∷ rest) =
 -- The bits of a run that began with some bits kept: these stand first, and each that came behind them is the least that
 -- is feasible; more have come only where the run has met all.
 pub record IsWayFrom (job : Job) (number : ℕ) (from : List Kept) (way : Way) : Type 0 where
-  pub kept : AreKept job number [] way.kept
+  pub kept : AreKeptBits job number [] way.kept
   pub more : List Kept
   pub kept_is : way.kept ≡ from ++ more
   pub least : AreLeast job number (bits_of from) more

@@ -36,12 +36,12 @@ use Rattle.mw_fork.specs.Listed.{left_of_cycles, left_of_step}
 use Rattle.mw_fork.specs.Listed.{list_of_space, standing_on}
 use Rattle.mw_fork.specs.Paths.{ArePaths}
 use Rattle.mw_fork.specs.Runs.{IsUnder}
-use Rattle.mw_fork.specs.declared.stop.Stop.{Stop}
-use Rattle.mw_fork.specs.Starts.{Ground, IsGround, IsStartOf, ground_of, origin_of, registers_of}
+use Rattle.mw_fork.specs.declared.stop.RunStop.{RunStop}
+use Rattle.mw_fork.specs.Starts.{Ground, IsGround, StandsForStart, ground_of, origin_of, registers_of}
 use Rattle.mw_fork.specs.Steps.{said_from}
 use Rattle.mw_fork.specs.Stops.{StopsBy}
 use Rattle.mw_fork.specs.Ways.{Way, met_of}
-use Rattle.mw_fork.specs.Within.{AreWithin}
+use Rattle.mw_fork.specs.Within.{AreDecidedWithin}
 
 -- what a space has, with the terms of the elements at the start
 abbrev pub ground_in : Space → (elements : List ℕ) → Ground
@@ -176,7 +176,7 @@ pub record IsOnStep (job : Job) (number : ℕ) (elements : List ℕ) (from : Lis
   pub ended : HasSegment job number (ground_in space elements) (path_in paths) cycles false segment
   pub so_far : List Bool
   pub met : met_of way ≡ segment ++ map (decided Branch) so_far
-  pub in_step : (given : Given) (start : Start) → IsStartOf job number (ground_in space elements) given start
+  pub in_step : (given : Given) (start : Start) → StandsForStart job number (ground_in space elements) given start
       → path_in paths given ≡ true
       → IsInStep job.machine space.terms space.memory given (scene_of start) o start.pair.machine
       (slice_index_or start.env.line 0 false) so_far
@@ -234,8 +234,8 @@ Cycles job old new before after =
 abbrev pub StaysWithin : Job → (nodes : ℕ) → (old new : Way) → (before : Run) → (count : ℕ) → Type 0
 StaysWithin job nodes old new before count =
     (number : ℕ) (elements : List ℕ) (from : List Kept) → IsOnRun job number elements from old before count
-    → count < (numbered job number).bound → AreWithin job number nodes (met_of old)
-    → AreWithin job number nodes (met_of new)
+    → count < (numbered job number).bound → AreDecidedWithin job number nodes (met_of old)
+    → AreDecidedWithin job number nodes (met_of new)
 
 -- so are they with the bit that was asked for
 abbrev pub SettlesWithin : Job → (nodes : ℕ) → (old new : Way) → (before : Run) → DecidedKind → (term : ℕ) → Type 0
@@ -243,33 +243,33 @@ SettlesWithin job nodes old new before kind term =
     (number : ℕ) (elements : List ℕ) (from : List Kept)
     → IsTurnedOnRun job number elements from old before before.board.place.cycle (Ask kind term)
     → before.board.place.cycle < (numbered job number).bound
-    → AreWithin job number nodes (met_of old) → AreWithin job number nodes (met_of new)
+    → AreDecidedWithin job number nodes (met_of old) → AreDecidedWithin job number nodes (met_of new)
 
 -- so are they after cycles from a boundary, up to its bound
 abbrev pub MadeWithin : Job → (nodes : ℕ) → (old new : Way) → (before : Run) → (bound : ℕ) → Type 0
 MadeWithin job nodes old new before bound =
     (number : ℕ) (elements : List ℕ) (from : List Kept) → IsOnRun job number elements from old before 0
-    → bound ≡ (numbered job number).bound → AreWithin job number nodes (met_of old)
-    → AreWithin job number nodes (met_of new)
+    → bound ≡ (numbered job number).bound → AreDecidedWithin job number nodes (met_of old)
+    → AreDecidedWithin job number nodes (met_of new)
 
 -- ---- where a call stops
 
 -- a run stops in a cycle of the segment
-abbrev pub CyclesStop : Job → (nodes : ℕ) → (old new : Way) → (before : Run) → Stop → Type 0
+abbrev pub CyclesStop : Job → (nodes : ℕ) → (old new : Way) → (before : Run) → RunStop → Type 0
 CyclesStop job nodes old new before stop =
     (number : ℕ) (elements : List ℕ) (from : List Kept)
     → IsOnRun job number elements from old before before.board.place.cycle
     → before.board.place.cycle < (numbered job number).bound → StopsBy job number nodes from new stop
 
 -- it stops at the bit that was asked for
-abbrev pub SettlesNot : Job → (nodes : ℕ) → (old new : Way) → (before : Run) → DecidedKind → (term : ℕ) → Stop → Type 0
+abbrev pub SettlesNot : Job → (nodes : ℕ) → (old new : Way) → (before : Run) → DecidedKind → (term : ℕ) → RunStop → Type 0
 SettlesNot job nodes old new before kind term stop =
     (number : ℕ) (elements : List ℕ) (from : List Kept)
     → IsTurnedOnRun job number elements from old before before.board.place.cycle (Ask kind term)
     → before.board.place.cycle < (numbered job number).bound → StopsBy job number nodes from new stop
 
 -- it stops in a cycle from a boundary, up to its bound
-abbrev pub SegmentStops : Job → (nodes : ℕ) → (old new : Way) → (before : Run) → (bound : ℕ) → Stop → Type 0
+abbrev pub SegmentStops : Job → (nodes : ℕ) → (old new : Way) → (before : Run) → (bound : ℕ) → RunStop → Type 0
 SegmentStops job nodes old new before bound stop =
     (number : ℕ) (elements : List ℕ) (from : List Kept) → IsOnRun job number elements from old before 0
     → bound ≡ (numbered job number).bound → StopsBy job number nodes from new stop

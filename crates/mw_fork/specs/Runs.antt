@@ -7,7 +7,7 @@ use Rattle.mw_term.specs.WordList.{term_of}
 use Rattle.mw_symmem.specs.Memory.{Memory, IsOfWidth}
 use Rattle.mw_symmem.specs.declared.turn.Turn.{Turn}
 use Rattle.mw_symmem.specs.declared.turn.Turn.TheVariants.{Ask, Finished}
-use Rattle.mw_symboard.specs.Seen.{Place}
+use Rattle.mw_symboard.specs.Seen.{Progress}
 use Rattle.mw_symboard.specs.Turns.{Asks, IsSymbolic, Symbolic, reads_to_come}
 use Rattle.mw_rel.specs.Job.{Job}
 use Rattle.mw_fork.specs.Boundaries.{AreWideSoFar, IsSpace}
@@ -37,7 +37,7 @@ pub record IsIdle (o : Symbolic) (count : ℕ) : Type 0 where
   pub cycles : o.place.cycle ≡ count
 
 -- A turn of its cycle, from this place: it asks for a bit there, or the cycle is done.
-abbrev pub IsTurned : Job → (from : Place) → Table → List Word → Memory → Symbolic
+abbrev pub IsTurned : Job → (from : Progress) → Table → List Word → Memory → Symbolic
     → (registers : List ℕ) → Turn → Type 0
 IsTurned job from t words m o registers (Ask kind term) =
     IsUnder job t words m o registers × (o.place ≡ from) × Asks job.board job.store t words m o kind term

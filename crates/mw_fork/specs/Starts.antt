@@ -50,15 +50,15 @@ abbrev pub registers_of : Job → (elements : List ℕ) → List ℕ
 registers_of job elements = drop (element_count job.board) elements
 
 -- Under an assignment, terms and what was read so far have the values of a start at the boundary.
-pub record IsStartOf (job : Job) (number : ℕ) (g : Ground) (given : Given) (start : Start) : Type 0 where
+pub record StandsForStart (job : Job) (number : ℕ) (g : Ground) (given : Given) (start : Start) : Type 0 where
   pub starts : IsStartAt job number start
   pub board : IsOneOf job.board g.table g.words g.memory (origin_of job number g.elements) given (course_of start)
   pub registers : start.pair.machine.registers ≡ values_at g.table given (registers_of job g.elements)
 
 -- each assignment is that of a start at the boundary, and each start has an assignment
 pub record HaveStarts (job : Job) (number : ℕ) (g : Ground) : Type 0 where
-  pub there : (given : Given) → (start : Start) × IsStartOf job number g given start
-  pub reached : (start : Start) → IsStartAt job number start → (given : Given) × IsStartOf job number g given start
+  pub there : (given : Given) → (start : Start) × StandsForStart job number g given start
+  pub reached : (start : Start) → IsStartAt job number start → (given : Given) × StandsForStart job number g given start
 
 -- the free elements of a pair have the values of their terms
 abbrev pub HaveFree : Job → (number : ℕ) → Ground → Given → Pair → Type 0

@@ -27,12 +27,12 @@ pub record IsInList (job : Job) (number : ℕ) (before : List Decided) (k : Deci
 
 -- A decided bit behind others is within a budget of nodes: the word list has it, and none of its path operations there
 -- has more joint cofactors.
-pub record IsWithin (job : Job) (number nodes : ℕ) (before : List Decided) (k : Decided) : Type 0 where
+pub record IsDecidedWithin (job : Job) (number nodes : ℕ) (before : List Decided) (k : Decided) : Type 0 where
   pub listed : IsInList job number before k
   pub within : lists.IsWithin job number nodes before
 
 -- so is each of some decided bits
-abbrev pub AreWithin : Job → (number nodes : ℕ) → List Decided → Type 0
-AreWithin job number nodes bits =
+abbrev pub AreDecidedWithin : Job → (number nodes : ℕ) → List Decided → Type 0
+AreDecidedWithin job number nodes bits =
     (before : List Decided) (k : Decided) (rest : List Decided) → bits ≡ before ++ k ∷ rest
-    → IsWithin job number nodes before k
+    → IsDecidedWithin job number nodes before k

@@ -18,7 +18,7 @@ ghost use Rattle.mw_fork.specs.Begins.{IsAssigned, IsChosen, value_or_zero};
 ghost use Rattle.mw_fork.specs.Entries.{HasTaken, entry, is_outside};
 ghost use Rattle.mw_fork.specs.Listed.{list_of_space};
 ghost use Rattle.mw_fork.specs.OnWay.{ground_in};
-ghost use Rattle.mw_fork.specs.Starts.{IsGround, IsStartOf};
+ghost use Rattle.mw_fork.specs.Starts.{IsGround, StandsForStart};
 
 use crate::elements::Space;
 use mw_base::NoMemory;
@@ -189,7 +189,7 @@ pub(crate) fn begin_of(
     ensures start { IfOk result
         (λ begin. (elements : List ℕ) → IsGround (job_of job.now) boundary (ground_in space.now elements)
         → (start : Start) × IsChosen (job_of job.now) boundary begin start
-        × IsStartOf (job_of job.now) boundary (ground_in space.now elements) (given_by given.now) start) }
+        × StandsForStart (job_of job.now) boundary (ground_in space.now elements) (given_by given.now) start) }
 {
     // A call for the proof: what holds of every job.
     let _shape = job.shape();

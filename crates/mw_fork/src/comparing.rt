@@ -17,7 +17,7 @@ ghost use Rattle.mw_term.specs.declared.kinds.WordKind.TheVariants.{Probe};
 ghost use Rattle.mw_term.specs.WordList.{ended, memory_read_words, term_of};
 ghost use Rattle.mw_symmem.specs.Memory.{IsOfWidth, IsRead, writes_of};
 ghost use Rattle.mw_symmem.specs.Workspace.{IsWorkspace};
-ghost use Rattle.mw_fork.specs.declared.stop.Stop.TheVariants as stops;
+ghost use Rattle.mw_fork.specs.declared.stop.RunStop.TheVariants as stops;
 ghost use Rattle.mw_fork.specs.declared.way.Kept.{Kept};
 ghost use Rattle.mw_fork.specs.Boundaries.{AreWide, IsSpace};
 ghost use Rattle.mw_fork.specs.Comparing.{AreApart, AreEventsOf, AreOne, AreOneAtProbe, AreOneOn, ArePutOut};
@@ -40,7 +40,7 @@ use crate::fork::Traced;
 use crate::paths::Paths;
 use crate::reached::boundary_at;
 use crate::run::Run;
-use crate::stop::Stop;
+use crate::stop::RunStop;
 use mw_base::NoMemory;
 use mw_blast::over_have_numbers;
 use mw_macro::words_are_numbered;
@@ -84,7 +84,7 @@ fn apart(
     a: Term,
     b: Term,
     nodes: u32,
-) -> Result<Option<Assignment>, Stop>
+) -> Result<Option<Assignment>, RunStop>
     requires wide { (width : ℕ) × IsOfWidth space.old.terms width a × IsOfWidth space.old.terms width b }
     requires workspace { IsWorkspace space.old.terms space.old.words space.old.memory }
     requires paths { HavePaths space.old paths.old }
@@ -122,7 +122,7 @@ fn compare_events(
     board: &[SymEvent],
     machine: &[SymEvent],
     nodes: u32,
-) -> Result<Option<Assignment>, Stop>
+) -> Result<Option<Assignment>, RunStop>
     requires alike { are_alike board.now machine.now ≡ true }
     requires wide { (word : ℕ) × AreEventsOf space.old.terms word board.now
         × AreEventsOf space.old.terms word machine.now }
@@ -171,7 +171,7 @@ fn compare_line(
     elements: &[Term],
     line: &Line,
     nodes: u32,
-) -> Result<Option<Assignment>, Stop>
+) -> Result<Option<Assignment>, RunStop>
     requires line_of { IsLineOf (job_of job.now).relation.shape (line_of line.now) }
     requires few { length space.old.memory.reads + reads (line_of line.now).right < 2 ^ 32 }
     requires space { IsSpace (job_of job.now) space.old.terms space.old.words space.old.memory }
@@ -233,7 +233,7 @@ fn compare_lines(
     elements: &[Term],
     lines: &[Line],
     nodes: u32,
-) -> Result<Option<Assignment>, Stop>
+) -> Result<Option<Assignment>, RunStop>
     requires lines_of { All (IsLineOf (job_of job.now).relation.shape) (lines_of lines.now) }
     requires few { length space.old.memory.reads + reads_of (lines_of lines.now) < 2 ^ 32 }
     requires space { IsSpace (job_of job.now) space.old.terms space.old.words space.old.memory }
@@ -300,7 +300,7 @@ fn compare_memory(
     space: &mut Space,
     paths: &mut Paths,
     nodes: u32,
-) -> Result<Option<Assignment>, Stop>
+) -> Result<Option<Assignment>, RunStop>
     requires space { IsSpace (job_of job.now) space.old.terms space.old.words space.old.memory }
     requires fresh { term_of space.old.words Probe ≡ None }
     requires few { length space.old.memory.reads + 2 < 2 ^ 32 }
@@ -372,7 +372,7 @@ fn compare_all(
     board: &[SymEvent],
     machine: &[SymEvent],
     nodes: u32,
-) -> Result<Option<Assignment>, Stop>
+) -> Result<Option<Assignment>, RunStop>
     requires alike { are_alike board.now machine.now ≡ true }
     requires events { (word : ℕ) × AreEventsOf space.old.terms word board.now
         × AreEventsOf space.old.terms word machine.now }
@@ -431,7 +431,7 @@ fn compare_sides(
     run: &mut Run,
     step: &SymMach,
     nodes: u32,
-) -> Result<Option<Assignment>, Stop>
+) -> Result<Option<Assignment>, RunStop>
     requires met { (number cycles : ℕ) × (elements : List ℕ) × (from : List Kept) × (late : Bool) × (way : Way)
         × HasMetCase (job_of job.now) number elements from cycles late way run.old (Some step.now) }
     requires few { length run.old.space.memory.reads ≤ 1024 }
@@ -466,7 +466,7 @@ fn compare_sides(
         unreachable!()
     };
     if !alike(run.board.events(), step.events()) | (run.board.sp() != reached.sp) {
-        return Ok(run.paths.first(alloc)?);
+        return Ok(run.paths.first_assignment(alloc)?);
     }
     let elements = elements_at_end(alloc, job, &run.board, step)?;
     let found = compare_all(
@@ -489,7 +489,7 @@ pub(crate) fn first_failing(
     job: &Job,
     traced: &mut Traced,
     nodes: u32,
-) -> Result<Option<Assignment>, Stop>
+) -> Result<Option<Assignment>, RunStop>
     requires met { (number : ℕ) × (elements : List ℕ) × (from : List Kept) × (way : Way)
         × HasMetCase (job_of job.now) number elements from traced.old.cycles traced.old.late way traced.old.run
         traced.old.step }
@@ -517,7 +517,7 @@ pub(crate) fn first_failing(
     // A call for the proof: what holds of every job.
     let _shape = job.shape();
     match &traced.step {
-        None => Ok(traced.run.paths.first(alloc)?),
+        None => Ok(traced.run.paths.first_assignment(alloc)?),
         Some(step) => compare_sides(alloc, job, &mut traced.run, step, nodes),
     }
 }

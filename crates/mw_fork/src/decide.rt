@@ -2,21 +2,21 @@
 ghost use Rattle.std.specs.Prelude.{◌≡◌, ◌+◌, ℕ, List, IfErr, IfOk, OnOk, length};
 ghost use Rattle.std.specs.Option.{unwrap_or};
 ghost use Rattle.mw_blast.specs.declared.fault.BlastFault.TheVariants as faults;
-ghost use Rattle.mw_term.specs.WordList.{number_of};
+ghost use Rattle.mw_term.specs.WordList.{word_number};
 ghost use Rattle.mw_symmem.specs.Memory.{IsOfWidth};
 ghost use Rattle.mw_rel.specs.Job.{IsJob, Job};
-ghost use Rattle.mw_fork.specs.declared.stop.Stop.TheVariants as stops;
+ghost use Rattle.mw_fork.specs.declared.stop.RunStop.TheVariants as stops;
 ghost use Rattle.mw_fork.specs.declared.way.Kept.{Kept};
 ghost use Rattle.mw_fork.specs.CasePaths.{IsNextOfCase};
 ghost use Rattle.mw_fork.specs.Listed.{AsksFor};
 ghost use Rattle.mw_fork.specs.OnWay.{HasDecided, HavePaths, IsOnWay, ground_in, path_in};
 ghost use Rattle.mw_fork.specs.Stops.{StopsBy};
 ghost use Rattle.mw_fork.specs.Ways.{met_of};
-ghost use Rattle.mw_fork.specs.Within.{AreWithin};
+ghost use Rattle.mw_fork.specs.Within.{AreDecidedWithin};
 
 use crate::elements::Space;
 use crate::paths::Paths;
-use crate::stop::Stop;
+use crate::stop::RunStop;
 use crate::way::Way;
 use mw_blast::{BlastFault, over_have_numbers};
 use mw_macro::words_are_numbered;
@@ -27,8 +27,8 @@ use mw_term::{DecidedKind, Term};
 use std::alloc::Global;
 
 /// The number of an operation's word. That of a constant, which is no word, is the last one before it.
-fn number_of(words: &Words, term: Term) -> u64
-    ensures { result ≡ unwrap_or (number_of words.now term) (length words.now) }
+fn operation_number(words: &Words, term: Term) -> u64
+    ensures { result ≡ unwrap_or (word_number words.now term) (length words.now) }
 {
     match words.word_of(term) {
         Some(number) => number,
@@ -37,17 +37,17 @@ fn number_of(words: &Words, term: Term) -> u64
 }
 
 /// Why a run stops, by the fault of a term.
-pub(crate) fn stop_of(words: &Words, fault: BlastFault) -> Stop
+pub(crate) fn stop_of(words: &Words, fault: BlastFault) -> RunStop
     ensures over { (term j : ℕ) → fault ≡ faults.Over term j
-        → result ≡ stops.Over (unwrap_or (number_of words.now term) (length words.now)) j }
+        → result ≡ stops.Over (unwrap_or (word_number words.now term) (length words.now)) j }
     ensures none { fault ≡ faults.NoMemory → result ≡ stops.NoMemory }
 {
     match fault {
-        BlastFault::Over(term, bit) => Stop::Over {
-            word: number_of(words, term),
+        BlastFault::Over(term, bit) => RunStop::Over {
+            word: operation_number(words, term),
             bit,
         },
-        BlastFault::NoMemory => Stop::NoMemory,
+        BlastFault::NoMemory => RunStop::NoMemory,
     }
 }
 
@@ -60,7 +60,7 @@ pub(crate) fn decide(
     term: Term,
     way: &mut Way,
     nodes: u32,
-) -> Result<bool, Stop>
+) -> Result<bool, RunStop>
     requires wide { IsOfWidth space.now.terms 1 term }
     requires paths { HavePaths space.now paths.old }
     ensures paths { OnOk result (HavePaths space.now paths.new) }
@@ -76,7 +76,7 @@ pub(crate) fn decide(
         → IsOnWay job number (ground_in space.now elements) from way.old (path_in paths.old)
         → IsNextOfCase job number (ground_in space.now elements) (met_of way.old) (path_in paths.old) kind term
         → AsksFor job number (met_of way.old) (ground_in space.now elements) term
-        → AreWithin job number nodes (met_of way.old) → AreWithin job number nodes (met_of way.new)) }
+        → AreDecidedWithin job number nodes (met_of way.old) → AreDecidedWithin job number nodes (met_of way.new)) }
     ensures over { IfErr result (λ stop. (job : Job) (number : ℕ) (elements : List ℕ) (from : List Kept) → IsJob job
         → IsOnWay job number (ground_in space.now elements) from way.old (path_in paths.old)
         → AsksFor job number (met_of way.old) (ground_in space.now elements) term

@@ -12,16 +12,16 @@ ghost use Rattle.mw_rel.specs.Views.{job_of};
 ghost use Rattle.mw_fork.specs.declared.fault.ForkFault.TheVariants as faults;
 ghost use Rattle.mw_fork.specs.declared.fault.Over.TheVariants as overs;
 ghost use Rattle.mw_fork.specs.declared.fork.Stage.TheVariants as stages;
-ghost use Rattle.mw_fork.specs.declared.stop.Stop.TheVariants as stops;
+ghost use Rattle.mw_fork.specs.declared.stop.RunStop.TheVariants as stops;
 ghost use Rattle.mw_fork.specs.declared.way.Kept.{Kept};
 ghost use Rattle.mw_fork.specs.Forks as forks;
 ghost use Rattle.mw_fork.specs.Forks.{At, Behind, EndsEach, IsForkOf, IsNextCase, IsToCome, LeadNowhere, LeadOn};
 ghost use Rattle.mw_fork.specs.Forks.{NoneIsToCome, OneIsToCome};
-ghost use Rattle.mw_fork.specs.KeptBits.{AreKept};
+ghost use Rattle.mw_fork.specs.KeptBits.{AreKeptBits};
 ghost use Rattle.mw_fork.specs.OnWay.{HasMetCase, HasMetSegment, HavePaths, IsRunOf};
 ghost use Rattle.mw_fork.specs.Stops.{StopsBy};
 ghost use Rattle.mw_fork.specs.Ways.{met_of};
-ghost use Rattle.mw_fork.specs.Within.{AreWithin};
+ghost use Rattle.mw_fork.specs.Within.{AreDecidedWithin};
 
 use crate::begin::begin_of;
 use crate::budget::Budget;
@@ -30,7 +30,7 @@ use crate::fault::{ForkFault, Over};
 use crate::run::Run;
 use crate::segment::segment;
 use crate::step::step;
-use crate::stop::Stop;
+use crate::stop::RunStop;
 use crate::way::Way;
 use mw_base::NoMemory;
 use mw_rel::{Begin, Job};
@@ -102,7 +102,7 @@ fn with_step(
     late: bool,
     way: &mut Way,
     nodes: u32,
-) -> Result<Option<SymMach>, Stop>
+) -> Result<Option<SymMach>, RunStop>
     requires under { IsRunOf (job_of job.now) run.old }
     requires some { 0 < run.old.board.place.cycle }
     requires few { run.old.board.place.cycle ≤ 500 }
@@ -112,8 +112,8 @@ fn with_step(
         → HasMetCase (job_of job.now) number elements from cycles late way.new run.new o) }
     ensures nodes { OnOk result ((number cycles : ℕ) (elements : List ℕ) (from : List Kept)
         → HasMetSegment (job_of job.now) number elements from cycles late way.old run.old
-        → AreWithin (job_of job.now) number nodes (met_of way.old)
-        → AreWithin (job_of job.now) number nodes (met_of way.new)) }
+        → AreDecidedWithin (job_of job.now) number nodes (met_of way.old)
+        → AreDecidedWithin (job_of job.now) number nodes (met_of way.new)) }
     ensures over { IfErr result (λ stop. (number cycles : ℕ) (elements : List ℕ) (from : List Kept)
         → HasMetSegment (job_of job.now) number elements from cycles late way.old run.old
         → StopsBy (job_of job.now) number nodes from way.new stop) }
@@ -134,16 +134,16 @@ fn trace(
     boundary: usize,
     way: &mut Way,
     nodes: u32,
-) -> Result<Traced, Stop>
+) -> Result<Traced, RunStop>
     requires boundary { boundary < length (job_of job.now).relation.boundaries }
     requires anew { met_of way.old ≡ [] }
-    ensures case { IfOk result (λ traced. AreKept (job_of job.now) boundary [] way.old.kept
+    ensures case { IfOk result (λ traced. AreKeptBits (job_of job.now) boundary [] way.old.kept
         → (elements : List ℕ)
         × HasMetCase (job_of job.now) boundary elements way.old.kept traced.cycles traced.late way.new traced.run
         traced.step) }
-    ensures nodes { OnOk result (AreKept (job_of job.now) boundary [] way.old.kept
-        → AreWithin (job_of job.now) boundary nodes (met_of way.new)) }
-    ensures over { IfErr result (λ stop. AreKept (job_of job.now) boundary [] way.old.kept
+    ensures nodes { OnOk result (AreKeptBits (job_of job.now) boundary [] way.old.kept
+        → AreDecidedWithin (job_of job.now) boundary nodes (met_of way.new)) }
+    ensures over { IfErr result (λ stop. AreKeptBits (job_of job.now) boundary [] way.old.kept
         → StopsBy (job_of job.now) boundary nodes way.old.kept way.new stop) }
     ensures few { IfOk result (λ traced. length traced.run.space.memory.reads ≤ 1024) }
     ensures fresh { IfOk result (λ traced. term_of traced.run.space.words Probe ≡ None) }
@@ -173,14 +173,14 @@ fn ending(traced: Traced) -> (u32, bool)
 }
 
 /// Why a case isn't given, by why its run stopped.
-fn fault_of(alloc: Global, boundary: usize, way: &Way, stop: Stop) -> ForkFault
+fn fault_of(alloc: Global, boundary: usize, way: &Way, stop: RunStop) -> ForkFault
     ensures nodes { (number : ℕ) (prefix : List Decided) (word j : ℕ)
         → result ≡ faults.Over (overs.Nodes number prefix word j)
         → (number ≡ boundary) × (prefix ≡ met_of way.now) × (stop ≡ stops.Over word j) }
     ensures paths { (number limit : ℕ) → result ≢ faults.Over (overs.Paths number limit) }
 {
     match stop {
-        Stop::Over { word, bit } => match way.prefix(alloc) {
+        RunStop::Over { word, bit } => match way.prefix(alloc) {
             Ok(prefix) => ForkFault::Over(Over::Nodes {
                 boundary,
                 prefix,
@@ -189,7 +189,7 @@ fn fault_of(alloc: Global, boundary: usize, way: &Way, stop: Stop) -> ForkFault
             }),
             Err(_) => ForkFault::NoMemory,
         },
-        Stop::NoMemory => ForkFault::NoMemory,
+        RunStop::NoMemory => ForkFault::NoMemory,
     }
 }
 
@@ -256,7 +256,7 @@ impl Fork {
         ensures ends { IfOk result (λ o. IfSome o (λ case.
             EndsEach (job_of job.now) self.old.boundary case.prefix case.cycles case.late)) }
         ensures nodes { IfOk result (λ o. IfSome o (λ case.
-            AreWithin (job_of job.now) self.old.boundary self.old.budget.nodes case.prefix)) }
+            AreDecidedWithin (job_of job.now) self.old.boundary self.old.budget.nodes case.prefix)) }
         ensures at { IfOk result (λ o. IfSome o (λ case. self.new.at ≡ At case.prefix)) }
         ensures given { IfOk result (λ o. IfSome o (λ case. self.new.given ≡ self.old.given + 1)) }
         ensures within { IfOk result (λ o. IfSome o (λ case. self.old.given < self.old.budget.paths)) }

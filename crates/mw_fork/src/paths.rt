@@ -138,7 +138,7 @@ impl Paths {
     }
 
     /// The first assignment on the path, if there is one.
-    pub(crate) fn first(&self, alloc: Global) -> Result<Option<Assignment>, NoMemory>
+    pub(crate) fn first_assignment(&self, alloc: Global) -> Result<Option<Assignment>, NoMemory>
         requires { IsDd self.now.dds self.now.path }
         ensures first { IfOk result (λ o. IfSome o (IsFirst (function_of self.now.dds self.now.path))) }
         ensures none { IfOk result (λ o. o ≡ None → Agree (function_of self.now.dds self.now.path) never) }

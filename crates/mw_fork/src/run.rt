@@ -11,7 +11,7 @@ ghost use Rattle.mw_fork.specs.Runs.{IsIdle, IsTurned};
 use crate::decide::decide;
 use crate::elements::{Space, elements_at};
 use crate::paths::Paths;
-use crate::stop::Stop;
+use crate::stop::RunStop;
 use crate::way::Way;
 use mw_base::NoMemory;
 use mw_blast::stays_with_terms;
@@ -115,7 +115,7 @@ impl Run {
     }
 
     /// Decides the bit that the cycle asks for.
-    fn settle(
+    fn decide_bit(
         &mut self,
         alloc: Global,
         job: &Job,
@@ -123,7 +123,7 @@ impl Run {
         term: Term,
         way: &mut Way,
         nodes: u32,
-    ) -> Result<(), Stop>
+    ) -> Result<(), RunStop>
         requires under { IsRunOf (job_of job.now) self.old }
         requires asks { Asks (job_of job.now).board (job_of job.now).store
             self.old.space.terms self.old.space.words self.old.space.memory self.old.board kind term }
@@ -151,7 +151,7 @@ impl Run {
         job: &Job,
         way: &mut Way,
         nodes: u32,
-    ) -> Result<(), Stop>
+    ) -> Result<(), RunStop>
         requires under { IsRunOf (job_of job.now) self.old }
         requires idle { self.old.board.asked ≡ None }
         requires few { self.old.board.place.cycle < 500 }
@@ -169,7 +169,7 @@ impl Run {
             let Turn::Ask { kind, term } = turn else {
                 return Ok(());
             };
-            self.settle(alloc, job, kind, term, way, nodes)?;
+            self.decide_bit(alloc, job, kind, term, way, nodes)?;
         }
     }
 

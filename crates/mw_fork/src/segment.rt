@@ -10,7 +10,7 @@ ghost use Rattle.mw_fork.specs.Segments.{HasReached, IsLate};
 
 use crate::reached::is_boundary;
 use crate::run::Run;
-use crate::stop::Stop;
+use crate::stop::RunStop;
 use crate::way::Way;
 use mw_rel::Job;
 use std::alloc::Global;
@@ -23,7 +23,7 @@ pub(crate) fn segment(
     run: &mut Run,
     way: &mut Way,
     nodes: u32,
-) -> Result<Option<u32>, Stop>
+) -> Result<Option<u32>, RunStop>
     requires some { 1 ≤ bound }
     requires most { bound ≤ 500 }
     requires under { IsRunOf (job_of job.now) run.old }

@@ -20,13 +20,13 @@ ghost use Rattle.mw_fork.specs.Runs.{HasLine};
 ghost use Rattle.mw_fork.specs.Steps.{HasCome, HasEnded, HasStopped, IsStepTurned, IsUnderway};
 ghost use Rattle.mw_fork.specs.Stops.{StopsBy};
 ghost use Rattle.mw_fork.specs.Ways as ways;
-ghost use Rattle.mw_fork.specs.Within.{AreWithin};
+ghost use Rattle.mw_fork.specs.Within.{AreDecidedWithin};
 
 use crate::decide::decide;
 use crate::elements::Space;
 use crate::paths::Paths;
 use crate::run::Run;
-use crate::stop::Stop;
+use crate::stop::RunStop;
 use crate::way::Way;
 use mw_base::NoMemory;
 use mw_blast::stays_with_terms;
@@ -110,7 +110,7 @@ fn turn(alloc: Global, job: &Job, space: &mut Space, step: &mut SymMach) -> Resu
 }
 
 /// Decides the branch bit that the step asks for.
-fn settle(
+fn decide_branch(
     alloc: Global,
     job: &Job,
     space: &Space,
@@ -120,7 +120,7 @@ fn settle(
     term: Term,
     way: &mut Way,
     nodes: u32,
-) -> Result<(), Stop>
+) -> Result<(), RunStop>
     requires under { IsUnderway (description_of job.now.machine) space.now.terms space.now.words
         space.now.memory step.old }
     requires asks { Asks (description_of job.now.machine) space.now.terms space.now.words space.now.memory
@@ -143,8 +143,8 @@ fn settle(
     ensures nodes { OnOk result ((number cycles : ℕ) (elements : List ℕ) (from : List Kept) (segment : List Decided)
         (board : Symbolic) → IsTurnedOnStep (job_of job.now) number elements from cycles segment board way.old space.now
         paths.old step.old (Ask kind term)
-        → AreWithin (job_of job.now) number nodes (ways.met_of way.old)
-        → AreWithin (job_of job.now) number nodes (ways.met_of way.new)) }
+        → AreDecidedWithin (job_of job.now) number nodes (ways.met_of way.old)
+        → AreDecidedWithin (job_of job.now) number nodes (ways.met_of way.new)) }
     ensures over { IfErr result
         (λ stop. (number cycles : ℕ) (elements : List ℕ) (from : List Kept) (segment : List Decided)
         (board : Symbolic) → IsTurnedOnStep (job_of job.now) number elements from cycles segment board way.old space.now
@@ -170,7 +170,7 @@ fn finish(
     step: &mut SymMach,
     way: &mut Way,
     nodes: u32,
-) -> Result<(), Stop>
+) -> Result<(), RunStop>
     requires under { IsUnderway (description_of job.now.machine) space.old.terms space.old.words
         space.old.memory step.old }
     requires idle { is_asked step.old.pending ≡ false }
@@ -192,8 +192,8 @@ fn finish(
     ensures nodes { OnOk result ((number cycles : ℕ) (elements : List ℕ) (from : List Kept) (segment : List Decided)
         (board : Symbolic)
         → IsOnStep (job_of job.now) number elements from cycles segment board way.old space.old paths.old step.old
-        → AreWithin (job_of job.now) number nodes (ways.met_of way.old)
-        → AreWithin (job_of job.now) number nodes (ways.met_of way.new)) }
+        → AreDecidedWithin (job_of job.now) number nodes (ways.met_of way.old)
+        → AreDecidedWithin (job_of job.now) number nodes (ways.met_of way.new)) }
     ensures over { IfErr result
         (λ stop. (number cycles : ℕ) (elements : List ℕ) (from : List Kept) (segment : List Decided)
         (board : Symbolic)
@@ -206,7 +206,7 @@ fn finish(
         let Turn::Ask { kind, term } = turn else {
             return Ok(());
         };
-        settle(alloc, job, space, paths, step, kind, term, way, nodes)?;
+        decide_branch(alloc, job, space, paths, step, kind, term, way, nodes)?;
     }
 }
 
@@ -217,7 +217,7 @@ pub(crate) fn step(
     run: &mut Run,
     way: &mut Way,
     nodes: u32,
-) -> Result<SymMach, Stop>
+) -> Result<SymMach, RunStop>
     requires under { IsRunOf (job_of job.now) run.old }
     requires some { 0 < run.old.board.place.cycle }
     requires few { run.old.board.place.cycle ≤ 500 }
@@ -229,8 +229,8 @@ pub(crate) fn step(
         → HasMetCase (job_of job.now) number elements from cycles false way.new run.new (Some s)) }
     ensures nodes { OnOk result ((number cycles : ℕ) (elements : List ℕ) (from : List Kept)
         → HasMetSegment (job_of job.now) number elements from cycles false way.old run.old
-        → AreWithin (job_of job.now) number nodes (ways.met_of way.old)
-        → AreWithin (job_of job.now) number nodes (ways.met_of way.new)) }
+        → AreDecidedWithin (job_of job.now) number nodes (ways.met_of way.old)
+        → AreDecidedWithin (job_of job.now) number nodes (ways.met_of way.new)) }
     ensures over { IfErr result (λ stop. (number cycles : ℕ) (elements : List ℕ) (from : List Kept)
         → HasMetSegment (job_of job.now) number elements from cycles false way.old run.old
         → StopsBy (job_of job.now) number nodes from way.new stop) }

@@ -23,7 +23,7 @@ const MOST_ELEMENTS: usize = 257;
 
 /// What all statements of a step are given.
 #[derive(Clone, Copy)]
-struct Given<'a> {
+struct StepContext<'a> {
     /// The widths of the elements and the memory.
     shape: &'a Shape,
     /// The inputs, words of the memory's width.
@@ -54,7 +54,7 @@ fn note(events: &mut Vec<Event>, event: Event)
 }
 
 /// An element gets the value of an expression.
-fn assign_value(given: &Given, target: u32, expr: &Expr, values: &mut [u32], memory: &[u32])
+fn assign_value(given: &StepContext, target: u32, expr: &Expr, values: &mut [u32], memory: &[u32])
     requires right { is_right given.now.shape.now (assign target (view expr.now)) ≡ true }
     requires values_fit { AreWords given.now.shape.now.widths values.old }
     requires memory_fits { IsImage given.now.shape.now memory.now }
@@ -67,7 +67,7 @@ fn assign_value(given: &Given, target: u32, expr: &Expr, values: &mut [u32], mem
 }
 
 /// The memory gets the value of an expression at an address.
-fn write_word(given: &Given, address: &Expr, expr: &Expr, values: &[u32], memory: &mut [u32])
+fn write_word(given: &StepContext, address: &Expr, expr: &Expr, values: &[u32], memory: &mut [u32])
     requires right { is_right given.now.shape.now (write (view address.now) (view expr.now)) ≡ true }
     requires values_fit { AreWords given.now.shape.now.widths values.now }
     requires memory_fits { IsImage given.now.shape.now memory.old }
@@ -82,7 +82,13 @@ fn write_word(given: &Given, address: &Expr, expr: &Expr, values: &[u32], memory
 }
 
 /// The value of an expression is put out.
-fn put_word(given: &Given, expr: &Expr, values: &[u32], memory: &[u32], events: &mut Vec<Event>)
+fn put_word(
+    given: &StepContext,
+    expr: &Expr,
+    values: &[u32],
+    memory: &[u32],
+    events: &mut Vec<Event>,
+)
     requires right { is_right given.now.shape.now (put (view expr.now)) ≡ true }
     requires values_fit { AreWords given.now.shape.now.widths values.now }
     requires memory_fits { IsImage given.now.shape.now memory.now }
@@ -96,7 +102,13 @@ fn put_word(given: &Given, expr: &Expr, values: &[u32], memory: &[u32], events: 
 }
 
 /// An element gets the next input, where so many were taken before it.
-fn take_word(given: &Given, target: u32, taken: u32, values: &mut [u32], events: &mut Vec<Event>)
+fn take_word(
+    given: &StepContext,
+    target: u32,
+    taken: u32,
+    values: &mut [u32],
+    events: &mut Vec<Event>,
+)
     requires right { is_right given.now.shape.now (take_in target) ≡ true }
     requires values_fit { AreWords given.now.shape.now.widths values.old }
     requires inputs_fit { (i : ℕ) → slice_index given.now.inputs.now i < 2 ^ given.now.shape.now.word }
@@ -118,7 +130,7 @@ fn take_word(given: &Given, target: u32, taken: u32, values: &mut [u32], events:
 #[cycle(runs)]
 fn run(
     statement: &Statement,
-    given: &Given,
+    given: &StepContext,
     taken: u32,
     values: &mut [u32],
     memory: &mut [u32],
@@ -181,7 +193,7 @@ fn run(
 #[cycle(runs)]
 fn run_all(
     statements: &[Statement],
-    given: &Given,
+    given: &StepContext,
     taken: u32,
     values: &mut [u32],
     memory: &mut [u32],
@@ -234,7 +246,7 @@ fn begin(values: &mut [u32], registers: &[u32], request: bool)
 /// One step over the registers and the memory of a machine, with a place for the value of each element.
 fn step_over(
     machine: &Machine,
-    given: &Given,
+    given: &StepContext,
     request: bool,
     values: &mut [u32],
     registers: &mut [u32],
@@ -290,7 +302,7 @@ pub fn step(
     let shape = machine.shape();
     let mut elements = [0; MOST_ELEMENTS];
     let values = &mut elements[..shape.widths.as_slice().len()];
-    let given = Given {
+    let given = StepContext {
         shape,
         inputs,
         first,

@@ -4,7 +4,7 @@ use Rattle.mw_term.specs.declared.decided.Decided.{Decided}
 use Rattle.mw_rel.specs.CaseWords.{case_words}
 use Rattle.mw_rel.specs.ComparisonWords.{Comparison}
 use Rattle.mw_rel.specs.Job.{Job}
-use Rattle.mw_rel.specs.PathWords.{IsWord, StandsAt, comparison_word, next_bit, path_of, path_word, table_with}
+use Rattle.mw_rel.specs.PathWords.{IsWord, StandsAtWord, comparison_word, next_bit, path_of, path_word, table_with}
 use Rattle.mw_term.specs.declared.op.Op.{Op}
 use Rattle.mw_term.specs.Functions.{Triple}
 use Rattle.mw_term.specs.Rows.{row}
@@ -24,7 +24,7 @@ pub record IsOfPath (job : Job) (number : ℕ) (bits : List Decided) (word j : �
   pub bits_are : bits ≡ before ++ rest
   pub term : ℕ
   pub asked : (case_words job number before).asked ≡ Some term
-  pub at : StandsAt (table_with job (case_words job number bits)) (case_words job number bits).list
+  pub at : StandsAtWord (table_with job (case_words job number bits)) (case_words job number bits).list
       (case_words job number before).list term word
   pub lowest : j ≡ 0
   pub value : Bool
@@ -34,7 +34,7 @@ pub record IsOfPath (job : Job) (number : ℕ) (bits : List Decided) (word j : �
 pub record IsOfComparison (job : Job) (number : ℕ) (bits : List Decided) (word j : ℕ) (operation : Triple) : Type 0 where
   pub compared : Comparison
   pub among : Contains (case_words job number bits).comparisons compared
-  pub at : StandsAt (table_with job (case_words job number bits)) (case_words job number bits).list
+  pub at : StandsAtWord (table_with job (case_words job number bits)) (case_words job number bits).list
       (case_words job number bits).list compared.term word
   pub lowest : j ≡ 0
   pub is : operation ≡ comparison_word job number bits compared

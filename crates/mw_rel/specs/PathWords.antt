@@ -10,7 +10,7 @@ use Rattle.mw_term.specs.PathWords.{path_one, path_zero}
 use Rattle.mw_term.specs.Rows.{bit}
 use Rattle.mw_term.specs.Table.{Table}
 use Rattle.mw_term.specs.Values.{term_value}
-use Rattle.mw_term.specs.WordList.{WordList, number_of, table_in}
+use Rattle.mw_term.specs.WordList.{WordList, word_number, table_in}
 
 -- the table of a job's list
 abbrev pub table_with : Job → CaseWords → Table
@@ -58,7 +58,7 @@ HaveOneValue t a b = (given : Given) → term_value t given a ≡ term_value t g
 
 -- A path word of a term stands at the term's word, and at each other word of the list that has one value with it. That of
 -- a constant, which has no word, stands at the last word before it, or at 0 where there is none.
-pub data StandsAt (t : Table) (l : WordList) (before : WordList) (term : ℕ) (number : ℕ) : Type 0 where
+pub data StandsAtWord (t : Table) (l : WordList) (before : WordList) (term : ℕ) (number : ℕ) : Type 0 where
   at_word : (own other : ℕ) → IsWord l own term → IsWord l number other → HaveOneValue t other term
-      → StandsAt t l before term number
-  at_constant : number_of l.words term ≡ None → number ≡ length before.words → StandsAt t l before term number
+      → StandsAtWord t l before term number
+  at_constant : word_number l.words term ≡ None → number ≡ length before.words → StandsAtWord t l before term number

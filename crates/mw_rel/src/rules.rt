@@ -15,15 +15,15 @@ const MOST_CYCLES: u32 = 500;
 
 /// What has a number that may stand once only.
 trait Numbered {
-    ghost number_of: { Self → ℕ };
+    ghost item_number: { Self → ℕ };
 
     /// Its number.
     fn number(&self) -> u32
-        ensures { result ≡ number_of self.now };
+        ensures { result ≡ item_number self.now };
 }
 
 impl Numbered for Line {
-    ghost number_of = { λ line. line.left };
+    ghost item_number = { λ line. line.left };
 
     fn number(&self) -> u32 {
         self.left
@@ -31,7 +31,7 @@ impl Numbered for Line {
 }
 
 impl Numbered for Boundary {
-    ghost number_of = { λ boundary. boundary.address };
+    ghost item_number = { λ boundary. boundary.address };
 
     fn number(&self) -> u32 {
         u32::from(self.address)
@@ -40,7 +40,7 @@ impl Numbered for Boundary {
 
 /// Whether one of some items has this number.
 fn has_number<T: Numbered>(items: &[T], number: u32) -> bool
-    ensures { result ≡ list_any (λ other. other == number) (map T.number_of items.now) }
+    ensures { result ≡ list_any (λ other. other == number) (map T.item_number items.now) }
 {
     for item in items {
         if item.number() == number {
@@ -52,7 +52,7 @@ fn has_number<T: Numbered>(items: &[T], number: u32) -> bool
 
 /// Whether no number is that of two items. There are few items, so each is compared with each.
 fn are_once<T: Numbered>(items: &[T]) -> bool
-    ensures { result ≡ are_once (map T.number_of items.now) }
+    ensures { result ≡ are_once (map T.item_number items.now) }
 {
     for (i, item) in items.iter().enumerate() {
         if has_number(&items[i + 1..], item.number()) {

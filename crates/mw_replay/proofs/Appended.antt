@@ -6,7 +6,7 @@ use Rattle.std.proofs.lemmas.List.{map-id, flat_map_more}
 use Rattle.std.proofs.lemmas.List.FromFn.{map-range_with_len_more}
 use Rattle.mw_rel.specs.Completed.{free_value}
 use Rattle.mw_rel.specs.Job.{Job}
-use Rattle.mw_sim.specs.Given.{trimmed}
+use Rattle.mw_sim.specs.Settings.{trimmed}
 use Rattle.mw_sim.proofs.Starts.{front_is}
 use Rattle.mw_replay.specs.CounterPrinted.{set_line}
 

@@ -25,11 +25,11 @@ use Rattle.mw_rel.specs.Free.{no_boundary, numbered}
 use Rattle.mw_rel.specs.Job.{Job, IsJob}
 use Rattle.mw_rel.specs.Relation.{Boundary}
 use Rattle.mw_rel.proofs.Relations.{accepted_are_solved}
-use Rattle.mw_sim.specs.Given.{Given, given_by}
+use Rattle.mw_sim.specs.Settings.{Settings, given_by}
 use Rattle.mw_sim.specs.Start.{blank_lines, from_first}
 use Rattle.mw_replay.specs.Counter.{Counter}
 use Rattle.mw_replay.specs.CounterText.{behind_difference, behind_no, boundary_place, counter_in, counter_of}
-use Rattle.mw_replay.specs.CounterText.{counter_with, number_at, number_of, settables_of}
+use Rattle.mw_replay.specs.CounterText.{counter_with, number_at, boundary_at_place, settables_of}
 use Rattle.mw_replay.proofs.Lines.{is_plain, line_with}
 use Rattle.mw_replay.proofs.Sets.{hex_plain}
 use Rattle.mw_replay.proofs.Spelled.{hex_short}
@@ -135,15 +135,15 @@ unfolding boundary_place first_word place_at end_at symbol_of
 place_is text number start address word = rw word refl
 
 number_there : (job : Job) (labels : List Label) (text : List ℕ) (number start address n : ℕ) → address < 4096
-    → number_at job address ≡ Some n → number_of job labels text (head_place number start address) ≡ Ok n
-unfolding number_of address_of
+    → number_at job address ≡ Some n → boundary_at_place job labels text (head_place number start address) ≡ Ok n
+unfolding boundary_at_place address_of
 number_there job labels text number start address n low found =
     let small : nat_lt address 4096 ≡ true = lt-ltb address 4096 low in
     rw (small, found) refl
 
 -- what the lines from that of a boundary on say
 pub head_says : (job : Job) (labels : List Label) (text : List ℕ) (fault : TextFault) (number start n : ℕ)
-    (others : List Line) (end : Given)
+    (others : List Line) (end : Settings)
     → (numbered job n).address < 4096 → number_at job (numbered job n).address ≡ Some n
     → spelled text (token number start 0 Name 8) ≡ codes "boundary"
     → given_by job.board (settables_of job (numbered job n)) text others ≡ Ok end
@@ -151,7 +151,7 @@ pub head_says : (job : Job) (labels : List Label) (text : List ℕ) (fault : Tex
     ≡ Ok (counter_with job n end)
 head_says job labels text fault number start n others end low found word given =
     let address = (numbered job n).address in
-    ap (λ place. place >>= λ place. number_of job labels text place >>= λ n.
+    ap (λ place. place >>= λ place. boundary_at_place job labels text place >>= λ n.
     given_by job.board (settables_of job (numbered job n)) text others >>= λ given. Ok (counter_with job n given))
     (place_is text number start address word)
     ∙ ap (λ number. number >>= λ n.

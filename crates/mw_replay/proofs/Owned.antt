@@ -21,10 +21,10 @@ use Rattle.mw_rel.specs.Job.{Job, IsJob}
 use Rattle.mw_rel.specs.Relation.{Boundary}
 use Rattle.mw_rel.proofs.Chosen.{free_words}
 use Rattle.mw_rel.proofs.Elements.{widths_count}
-use Rattle.mw_sim.specs.declared.given.Owner.{Owner}
-use Rattle.mw_sim.specs.declared.given.Owner.TheVariants.{Board, Machine}
-use Rattle.mw_sim.specs.declared.given.Settable.{Settable}
-use Rattle.mw_sim.specs.Given.{is_free, number_named, owner_text}
+use Rattle.mw_sim.specs.declared.settings.Owner.{Owner}
+use Rattle.mw_sim.specs.declared.settings.Owner.TheVariants.{Board, Machine}
+use Rattle.mw_sim.specs.declared.settings.Settable.{Settable}
+use Rattle.mw_sim.specs.Settings.{is_free, number_named, owner_text}
 use Rattle.mw_replay.specs.CounterText.{name_of, owner_of, settable, settables_of}
 use Rattle.mw_replay.proofs.Names.{Once, all_each, board_count, board_name, board_names, board_once, board_spelled}
 use Rattle.mw_replay.proofs.Names.{free_once, other_bytes, same_bytes}

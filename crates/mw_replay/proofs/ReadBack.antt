@@ -28,7 +28,7 @@ use Rattle.mw_rel.specs.Job.{Job, IsJob, shape_of}
 use Rattle.mw_rel.specs.Relation.{Boundary}
 use Rattle.mw_rel.proofs.Completed.{given_values}
 use Rattle.mw_rel.proofs.Standing.{board_address}
-use Rattle.mw_sim.specs.Given.{Given, nothing_given, trimmed, with_line}
+use Rattle.mw_sim.specs.Settings.{Settings, nothing_given, trimmed, with_line}
 use Rattle.mw_sim.specs.Start.{environment_with}
 use Rattle.mw_replay.specs.Counter.{Counter, IsCounter}
 use Rattle.mw_replay.specs.CounterPrinted.{AreShort, MayFollow, counter_text, in_short, line_count, memory_lines}
@@ -118,7 +118,7 @@ wider : (bound most : ℕ) (xs : List ℕ) → bound ≤ most → All (λ v. v <
 wider bound most xs less all =
     All-weaker (λ v. v < bound) (λ v. v < most) (λ v below. below_more v bound most below less) xs all
 
-noise_go : (P : Given → Type 0) (job : Job) (boundary : Boundary) (text rest xs memory : List ℕ) (written : List Bool)
+noise_go : (P : Settings → Type 0) (job : Job) (boundary : Boundary) (text rest xs memory : List ℕ) (written : List Bool)
     (inputs interrupts values : List ℕ) (set : List Bool) → All (λ v. v < 2 ^ 14) xs → length xs ≤ 65536
     → Goes P (with_line (settables_of job boundary) job.board.width text) text rest
     (given_with memory written inputs interrupts xs values set)
@@ -138,7 +138,7 @@ noise_go P job boundary text rest xs memory written inputs interrupts values set
     (chunk_room xs n short))
     next 0 (line_count (length xs)) (omega arith)
 
-line_go : (P : Given → Type 0) (job : Job) (boundary : Boundary) (text rest xs memory : List ℕ) (written : List Bool)
+line_go : (P : Settings → Type 0) (job : Job) (boundary : Boundary) (text rest xs memory : List ℕ) (written : List Bool)
     (inputs noise values : List ℕ) (set : List Bool) → All (λ v. v < 2) xs → length xs ≤ 65536
     → Goes P (with_line (settables_of job boundary) job.board.width text) text rest
     (given_with memory written inputs xs noise values set)
@@ -158,7 +158,7 @@ line_go P job boundary text rest xs memory written inputs noise values set below
     (chunk_room xs n short))
     next 0 (line_count (length xs)) (omega arith)
 
-inputs_go : (P : Given → Type 0) (job : Job) (boundary : Boundary) (text rest xs memory : List ℕ) (written : List Bool)
+inputs_go : (P : Settings → Type 0) (job : Job) (boundary : Boundary) (text rest xs memory : List ℕ) (written : List Bool)
     (interrupts noise values : List ℕ) (set : List Bool) → job.board.width ≤ 32
     → All (λ v. v < 2 ^ job.board.width) xs → length xs ≤ 65536
     → Goes P (with_line (settables_of job boundary) job.board.width text) text rest
@@ -180,7 +180,7 @@ inputs_go P job boundary text rest xs memory written interrupts noise values set
     next 0 (line_count (length xs)) (omega arith)
 
 -- the lines of all three
-lists_go : (P : Given → Type 0) (job : Job) (boundary : Boundary) (text : List ℕ) (env : Environment)
+lists_go : (P : Settings → Type 0) (job : Job) (boundary : Boundary) (text : List ℕ) (env : Environment)
     (memory : List ℕ) (written : List Bool) (values : List ℕ) (set : List Bool) → job.board.width ≤ 32
     → IsEnvironment job.board env → AreShort (shortened env)
     → P (given_with memory written (trimmed env.inputs) (trimmed (map num env.line)) (trimmed env.noise) values set)
@@ -217,7 +217,7 @@ memory_words job memory a is image =
     ap (λ s. s.word) is.matched.parts.shape ∙ is.matched.word in
     subst (λ w. slice_index memory a < 2 ^ w) word (image.words a)
 
-memory_go : (P : Given → Type 0) (job : Job) (boundary : Boundary) (text rest memory values : List ℕ)
+memory_go : (P : Settings → Type 0) (job : Job) (boundary : Boundary) (text rest memory values : List ℕ)
     (set : List Bool) → IsJob job → IsImage job.relation.shape memory
     → ((written : List Bool) → Goes P (with_line (settables_of job boundary) job.board.width text) text rest
     (given_with memory written [] [] [] values set))
@@ -245,7 +245,7 @@ memory_go P job boundary text rest memory values set is image next =
     0 (length memory) (omega arith) [] [] rest refl refl
     (λ written. subst (λ words. Goes P step text rest (make words written)) (sym whole) (next written)))
 
-sets_go : (P : Given → Type 0) (job : Job) (boundary : Boundary) (text rest : List ℕ) (begin : Begin)
+sets_go : (P : Settings → Type 0) (job : Job) (boundary : Boundary) (text rest : List ℕ) (begin : Begin)
     (memory : List ℕ) (written : List Bool) → IsJob job → check_of job.board ≡ Ok tt → IsBegin job boundary begin
     → ((set : List Bool) → Goes P (with_line (settables_of job boundary) job.board.width text) text rest
     (given_with memory written [] [] [] (all_values job boundary begin.values) set))
@@ -283,7 +283,7 @@ behind_goes : (job : Job) (counter : Counter) (text : List ℕ) → IsJob job �
     (nothing_given (length (settables_of job (numbered job counter.boundary))) (2 ^ job.board.address))
 unfolding behind
 behind_goes job counter text is checked counts short =
-    let P = λ (end : Given). counter_with job counter.boundary end ≡ in_short counter in
+    let P = λ (end : Settings). counter_with job counter.boundary end ≡ in_short counter in
     let boundary = numbered job counter.boundary in
     let begin = counter.begin in
     let values = all_values job boundary begin.values in

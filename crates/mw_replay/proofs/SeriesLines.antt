@@ -19,8 +19,8 @@ use Rattle.mw_base.specs.Reading.{◌>>=◌}
 use Rattle.mw_base.specs.Steps.{steps}
 use Rattle.mw_base.specs.Symbols.{spelled, symbol_of}
 use Rattle.mw_base.specs.TokenLines.{fault_on}
-use Rattle.mw_sim.specs.declared.given.Settable.{Settable}
-use Rattle.mw_sim.specs.Given.{Given, value_below, with_entry, with_line}
+use Rattle.mw_sim.specs.declared.settings.Settable.{Settable}
+use Rattle.mw_sim.specs.Settings.{Settings, value_below, with_entry, with_line}
 use Rattle.mw_sim.specs.Lines.{numbers_of, series_of, statement_of, with_number}
 use Rattle.mw_replay.specs.CounterPrinted.{value_text}
 use Rattle.mw_replay.proofs.Lines.{Gives, line_with}
@@ -59,16 +59,16 @@ numbers_behind line number start v keyword vs is =
 -- ---- entries
 
 -- a list to which each step appends a value below a bound
-entries_are : (entry : Given → Numeral → Result Given TextFault) (so_far : Given → List ℕ)
-    (set : List ℕ → Given → Given) (bound : ℕ)
-    → ((given : Given) (numeral : Numeral) → entry given numeral
+entries_are : (entry : Settings → Numeral → Result Settings TextFault) (so_far : Settings → List ℕ)
+    (set : List ℕ → Settings → Settings) (bound : ℕ)
+    → ((given : Settings) (numeral : Numeral) → entry given numeral
     ≡ cond (nat_lt (length (so_far given)) 65536)
     (value_below bound numeral >>= λ value. Ok (set (so_far given ++ (value ∷ [])) given))
     (Err (fault_on numeral.token TooMany)))
-    → ((xs : List ℕ) (given : Given) → so_far (set xs given) ≡ xs)
-    → ((xs ys : List ℕ) (given : Given) → set xs (set ys given) ≡ set xs given)
-    → ((given : Given) → set (so_far given) given ≡ given)
-    → (number start at : ℕ) (values : List ℕ) (given : Given) → All (λ value. value < bound) values
+    → ((xs : List ℕ) (given : Settings) → so_far (set xs given) ≡ xs)
+    → ((xs ys : List ℕ) (given : Settings) → set xs (set ys given) ≡ set xs given)
+    → ((given : Settings) → set (so_far given) given ≡ given)
+    → (number start at : ℕ) (values : List ℕ) (given : Settings) → All (λ value. value < bound) values
     → length (so_far given) + length values ≤ 65536
     → steps entry given (numerals number start at values) ≡ Ok (set (so_far given ++ values) given)
 unfolding steps
@@ -120,7 +120,7 @@ keyword_at text keyword values rest number start at =
     (append_assoc keyword (flat_map value_text values) rest))
 
 pub inputs_gives : (elements : List Settable) (width : ℕ) (text rest values : List ℕ)
-    (number start : ℕ) (given : Given)
+    (number start : ℕ) (given : Settings)
     → 0 < length values → drop start text ≡ series_bytes (codes "inputs") values ++ rest
     → All (λ value. value < 2 ^ 128) values
     → All (λ value. value < 2 ^ width) values → length given.inputs + length values ≤ 65536
@@ -143,7 +143,7 @@ inputs_gives elements width text rest (v ∷ vs) number start given some at few 
     }
 
 pub line_gives : (elements : List Settable) (width : ℕ) (text rest values : List ℕ)
-    (number start : ℕ) (given : Given)
+    (number start : ℕ) (given : Settings)
     → 0 < length values → drop start text ≡ series_bytes (codes "line") values ++ rest
     → All (λ value. value < 2 ^ 128) values
     → All (λ value. value < 2) values → length given.interrupts + length values ≤ 65536
@@ -166,7 +166,7 @@ line_gives elements width text rest (v ∷ vs) number start given some at few be
     }
 
 pub noise_gives : (elements : List Settable) (width : ℕ) (text rest values : List ℕ)
-    (number start : ℕ) (given : Given)
+    (number start : ℕ) (given : Settings)
     → 0 < length values → drop start text ≡ series_bytes (codes "noise") values ++ rest
     → All (λ value. value < 2 ^ 128) values
     → All (λ value. value < 2 ^ 14) values → length given.noise + length values ≤ 65536

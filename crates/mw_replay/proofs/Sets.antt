@@ -9,10 +9,10 @@ use Rattle.std.proofs.lemmas.Bool.Decides.{nat_tests}
 use Rattle.std.proofs.lemmas.List.Folds.{list_all-append}
 use Rattle.mw_base.specs.Names.{are_word_bytes, is_name_start, is_spelled_as_name, is_word_byte}
 use Rattle.mw_base.specs.Numbers.{hex}
-use Rattle.mw_sim.specs.declared.given.Owner.{Owner}
-use Rattle.mw_sim.specs.declared.given.Owner.TheVariants.{Board, Machine}
-use Rattle.mw_sim.specs.declared.given.Settable.{Settable}
-use Rattle.mw_sim.specs.Given.{Given, bound_of, is_free, number_named, owner_text, with_line}
+use Rattle.mw_sim.specs.declared.settings.Owner.{Owner}
+use Rattle.mw_sim.specs.declared.settings.Owner.TheVariants.{Board, Machine}
+use Rattle.mw_sim.specs.declared.settings.Settable.{Settable}
+use Rattle.mw_sim.specs.Settings.{Settings, bound_of, is_free, number_named, owner_text, with_line}
 use Rattle.mw_sim.specs.Texts.{line}
 use Rattle.mw_replay.specs.CounterPrinted.{set_line, word_line}
 use Rattle.mw_replay.specs.CounterText.{name_of, owner_of}
@@ -49,7 +49,7 @@ both_plain one two first second = list_all-append is_plain one two ∙ rw (first
 
 -- what lines gave
 abbrev pub given_with : (memory : List ℕ) (written : List Bool) (inputs interrupts noise : List ℕ) → List ℕ
-    → List Bool → Given
+    → List Bool → Settings
 given_with memory written inputs interrupts noise values set = record {
   values = values;
   set = set;
@@ -116,7 +116,7 @@ pub record IsSettable (job : Job) (elements : List Settable) (value e : ℕ) : T
   pub free : (value == 0) ≡ false → is_free (slice_get elements e) ≡ true
   pub below : value < bound_of (slice_get elements e)
 
-one_set : (P : Given → Type 0) (job : Job) (elements : List Settable) (width : ℕ) (text : List ℕ) (value e : ℕ)
+one_set : (P : Settings → Type 0) (job : Job) (elements : List Settable) (width : ℕ) (text : List ℕ) (value e : ℕ)
     (memory : List ℕ) (written : List Bool) (inputs interrupts noise before after : List ℕ)
     (flags later : List Bool) (rest : List ℕ) → IsSettable job elements value e → length before ≡ e
     → length flags ≡ e
@@ -151,7 +151,7 @@ one_set P job elements width text value e memory written inputs interrupts noise
     is.spelled (few_bits value is.few) named (is.free test) (get_seam flags later e false false flagged) is.below))
     (next true)
 
-pub set_fills : (P : Given → Type 0) (job : Job) (elements : List Settable) (width : ℕ) (text : List ℕ)
+pub set_fills : (P : Settings → Type 0) (job : Job) (elements : List Settable) (width : ℕ) (text : List ℕ)
     (value : ℕ → ℕ) (e : ℕ) (memory : List ℕ) (written : List Bool) (inputs interrupts noise : List ℕ)
     → IsSettable job elements (value e) e
     → Fills P (with_line elements width text) text (λ e. set_line job e (value e)) value
@@ -170,7 +170,7 @@ set_fills P job elements width text value e memory written inputs interrupts noi
 
 -- what lines gave, by the memory
 abbrev pub written_with : (values : List ℕ) (set : List Bool) (inputs interrupts noise : List ℕ) → List ℕ → List Bool
-    → Given
+    → Settings
 written_with values set inputs interrupts noise memory written =
     given_with memory written inputs interrupts noise values set
 
@@ -185,7 +185,7 @@ word_short : (address word : ℕ) → address < 2 ^ 32 → word < 2 ^ 32 → len
 word_short address word low few =
     omega (arith, length-append (hex address) (32 ∷ hex word), hex_short address low, hex_short word few)
 
-one_word : (P : Given → Type 0) (elements : List Settable) (width : ℕ) (text : List ℕ) (word address : ℕ)
+one_word : (P : Settings → Type 0) (elements : List Settable) (width : ℕ) (text : List ℕ) (word address : ℕ)
     (values : List ℕ) (set : List Bool) (inputs interrupts noise before after : List ℕ)
     (flags later : List Bool) (rest : List ℕ) → address < 2 ^ 32 → word < 2 ^ width → width ≤ 32
     → length before ≡ address → length flags ≡ address
@@ -216,7 +216,7 @@ one_word P elements width text word address values set inputs interrupts noise b
     (few_bits word few) inside (get_seam flags later address false false flagged) below))
     (next true)
 
-pub word_fills : (P : Given → Type 0) (elements : List Settable) (width : ℕ) (text words : List ℕ) (address : ℕ)
+pub word_fills : (P : Settings → Type 0) (elements : List Settable) (width : ℕ) (text words : List ℕ) (address : ℕ)
     (values : List ℕ) (set : List Bool) (inputs interrupts noise : List ℕ) → address < 2 ^ 32
     → slice_index words address < 2 ^ width → width ≤ 32
     → Fills P (with_line elements width text) text (λ address. word_line address (slice_index words address))

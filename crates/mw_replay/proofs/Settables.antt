@@ -19,7 +19,7 @@ use Rattle.mw_rel.specs.Relation.{Boundary}
 use Rattle.mw_rel.proofs.Completed.{free_more, numbers_more}
 use Rattle.mw_rel.proofs.Elements.{board_width, numbers_length, register_width, widths_count}
 use Rattle.mw_rel.proofs.Standing.{board_address}
-use Rattle.mw_sim.specs.Given.{Given, IsGiven, bound_of}
+use Rattle.mw_sim.specs.Settings.{Settings, AreSettings, bound_of}
 use Rattle.mw_sim.proofs.Starts.{width_few}
 use Rattle.mw_replay.specs.Counter.{IsCounter}
 use Rattle.mw_replay.specs.CounterText.{settable, settables_of}
@@ -124,7 +124,7 @@ bound_is job boundary n below =
     ap bound_of (slice_get-map (settable job boundary) all n
     ∙ ap (option_map (settable job boundary)) (numbers_at 0 (length job.relation.shape.widths) n below ∙ ap Some place))
 
-begin_values : (job : Job) (boundary : Boundary) (given : Given) → IsGiven job.board (settables_of job boundary) given
+begin_values : (job : Job) (boundary : Boundary) (given : Settings) → AreSettings job.board (settables_of job boundary) given
     → (i : ℕ) → i < length (map (slice_index given.values) (free_elements job boundary))
     → slice_index (map (slice_index given.values) (free_elements job boundary)) i
     < 2 ^ slice_index job.relation.shape.widths (slice_index (free_elements job boundary) i)
@@ -151,8 +151,8 @@ image_of job memory is size each =
     }
 
 -- what is given at a boundary is a counter of the job
-pub is_counter : (job : Job) (n : ℕ) (given : Given) (values : List ℕ) (env : Environment) → IsJob job
-    → n < length job.relation.boundaries → IsGiven job.board (settables_of job (numbered job n)) given
+pub is_counter : (job : Job) (n : ℕ) (given : Settings) (values : List ℕ) (env : Environment) → IsJob job
+    → n < length job.relation.boundaries → AreSettings job.board (settables_of job (numbered job n)) given
     → values ≡ map (slice_index given.values) (free_elements job (numbered job n)) → IsEnvironment job.board env
     → IsCounter job (record { boundary = n; begin = record { values = values; memory = given.memory; env = env } })
 is_counter job n given values env is below in_range same outside =

@@ -16,9 +16,9 @@ use Rattle.mw_base.specs.Signs.{sign_of}
 use Rattle.mw_base.specs.Steps.{steps}
 use Rattle.mw_base.specs.Symbols.{spelled, symbol_of}
 use Rattle.mw_base.specs.Tokens.{slice, tokens_from}
-use Rattle.mw_sim.specs.declared.given.Settable.{Settable}
-use Rattle.mw_sim.specs.Given.{Given, bound_of, is_free, number_named, with_line, with_more_words, with_set, with_value}
-use Rattle.mw_sim.specs.Given.{with_word, with_words}
+use Rattle.mw_sim.specs.declared.settings.Settable.{Settable}
+use Rattle.mw_sim.specs.Settings.{Settings, bound_of, is_free, number_named, with_line, with_more_words, with_set, with_value}
+use Rattle.mw_sim.specs.Settings.{with_word, with_words}
 use Rattle.mw_sim.specs.Lines.{memory_of, numbers_of, set_of, statement_of, with_number}
 use Rattle.mw_replay.proofs.Lines.{Gives, line_with}
 use Rattle.mw_replay.proofs.Tokens.{Has, has_blank, has_name, has_number, has_point, token}
@@ -84,7 +84,7 @@ set_has number start letter (c ∷ name) value one is few =
 
 -- an element that a line sets
 set_is : (elements : List Settable) (text : List ℕ) (letter : ℕ) (name : List ℕ) (element : Dotted)
-    (numeral : Numeral) (e : ℕ) (given : Given) → spelled text element.owner ≡ letter ∷ []
+    (numeral : Numeral) (e : ℕ) (given : Settings) → spelled text element.owner ≡ letter ∷ []
     → spelled text element.name ≡ name → number_named elements (letter ∷ []) name ≡ Some e
     → is_free (slice_get elements e) ≡ true → slice_index_or given.set e false ≡ false
     → numeral.value < bound_of (slice_get elements e)
@@ -97,7 +97,7 @@ set_is elements text letter name element numeral e given owner named is free fre
 
 -- the line that sets it
 set_says : (elements : List Settable) (width : ℕ) (text rest : List ℕ) (letter : ℕ) (name : List ℕ)
-    (value number start : ℕ) (given : Given) → drop start text ≡ set_bytes letter name value ++ rest
+    (value number start : ℕ) (given : Settings) → drop start text ≡ set_bytes letter name value ++ rest
     → with_line elements width text given
     (line_with number (set_bytes letter name value) (set_tokens number start name value))
     ≡ with_set elements text (set_element number start name) (set_value number start name value) given
@@ -112,7 +112,7 @@ set_says elements width text rest letter name value number start given at =
 
 -- a line that sets an element that is free, for the first time, to a value below its bound
 pub set_gives : (elements : List Settable) (width : ℕ) (text rest : List ℕ) (letter : ℕ) (name : List ℕ)
-    (value e number start : ℕ) (given : Given) → drop start text ≡ set_bytes letter name value ++ rest
+    (value e number start : ℕ) (given : Settings) → drop start text ≡ set_bytes letter name value ++ rest
     → is_spelled_as_name (letter ∷ []) ≡ true → is_spelled_as_name name ≡ true → value < 2 ^ 128
     → number_named elements (letter ∷ []) name ≡ Some e → is_free (slice_get elements e) ≡ true
     → slice_index_or given.set e false ≡ false → value < bound_of (slice_get elements e)
@@ -168,7 +168,7 @@ word_has number start address word low few =
     (has_last number start (4 + length (hex address) + 1) word few))))
 
 -- a word that a line gives
-word_is : (width : ℕ) (address word : Numeral) (given : Given) → address.value < length given.memory
+word_is : (width : ℕ) (address word : Numeral) (given : Settings) → address.value < length given.memory
     → slice_index_or given.written address.value false ≡ false → word.value < 2 ^ width
     → with_words width address (word ∷ []) given
     ≡ Ok (record given {
@@ -182,7 +182,7 @@ word_is width address word given inside fresh below =
     rw (low, fresh, small) refl
 
 word_says : (elements : List Settable) (width : ℕ) (text rest : List ℕ) (address word number start : ℕ)
-    (given : Given) → drop start text ≡ word_bytes address word ++ rest
+    (given : Settings) → drop start text ≡ word_bytes address word ++ rest
     → with_line elements width text given
     (line_with number (word_bytes address word) (word_tokens number start address word))
     ≡ with_words width (word_address number start address) (word_value number start address word ∷ []) given
@@ -195,7 +195,7 @@ word_says elements width text rest address word number start given at =
 
 -- a line that gives a word of the memory for the first time
 pub word_gives : (elements : List Settable) (width : ℕ) (text rest : List ℕ) (address word number start : ℕ)
-    (given : Given) → drop start text ≡ word_bytes address word ++ rest → address < 2 ^ 128 → word < 2 ^ 128
+    (given : Settings) → drop start text ≡ word_bytes address word ++ rest → address < 2 ^ 128 → word < 2 ^ 128
     → address < length given.memory → slice_index_or given.written address false ≡ false → word < 2 ^ width
     → Gives (with_line elements width text) number start (word_bytes address word) given
     (record given { memory = slice_set given.memory address word; written = slice_set given.written address true })

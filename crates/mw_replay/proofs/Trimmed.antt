@@ -10,7 +10,7 @@ use Rattle.mw_cycle.specs.declared.state.CycleIn.{CycleIn}
 use Rattle.mw_cycle.specs.Trimmed.{EndsWell}
 use Rattle.mw_replay.specs.CounterPrinted.{shortened}
 use Rattle.mw_replay.specs.Laws.{NothingIsCut, ZerosGiveNothing}
-use Rattle.mw_sim.specs.Given.{before_trimmed, trimmed}
+use Rattle.mw_sim.specs.Settings.{before_trimmed, trimmed}
 use Rattle.mw_sim.proofs.Starts.{trimmed_below}
 use Rattle.mw_replay.proofs.Appended.{kept_front}
 

@@ -11,7 +11,7 @@ use Rattle.mw_rel.specs.Completed.{free_value}
 use Rattle.mw_rel.specs.Free.{is_free, numbered}
 use Rattle.mw_rel.specs.Job.{Job}
 use Rattle.mw_rel.specs.Relation.{Boundary}
-use Rattle.mw_sim.specs.Given.{owner_text, trimmed}
+use Rattle.mw_sim.specs.Settings.{owner_text, trimmed}
 use Rattle.mw_sim.specs.Texts.{line}
 use Rattle.mw_replay.specs.Counter.{Counter}
 use Rattle.mw_replay.specs.CounterText.{owner_of, name_of}

@@ -19,10 +19,10 @@ use Rattle.mw_rel.specs.Begin.{free_elements}
 use Rattle.mw_rel.specs.Free.{is_free, numbered}
 use Rattle.mw_rel.specs.Job.{Job}
 use Rattle.mw_rel.specs.Relation.{Boundary}
-use Rattle.mw_sim.specs.declared.given.Owner.{Owner}
-use Rattle.mw_sim.specs.declared.given.Owner.TheVariants.{Board, Machine}
-use Rattle.mw_sim.specs.declared.given.Settable.{Settable}
-use Rattle.mw_sim.specs.Given.{Given, given_by}
+use Rattle.mw_sim.specs.declared.settings.Owner.{Owner}
+use Rattle.mw_sim.specs.declared.settings.Owner.TheVariants.{Board, Machine}
+use Rattle.mw_sim.specs.declared.settings.Settable.{Settable}
+use Rattle.mw_sim.specs.Settings.{Settings, given_by}
 use Rattle.mw_asm.specs.Labels.{label_named}
 use Rattle.mw_sim.specs.Start.{environment_with, from_first}
 use Rattle.mw_replay.specs.Counter.{Counter}
@@ -90,8 +90,8 @@ abbrev pub number_at : Job → ℕ → Option ℕ
 number_at job at = position (λ (boundary : Boundary). boundary.address == at) job.relation.boundaries
 
 -- the number of the boundary at a PLACE, which has to be the address of one
-unfoldable pub number_of : Job → List Label → List ℕ → Place → Result ℕ TextFault
-number_of job labels text place = do
+unfoldable pub boundary_at_place : Job → List Label → List ℕ → Place → Result ℕ TextFault
+boundary_at_place job labels text place = do
   address ← address_of text (label_named labels) place
   ok_or (number_at job address) (fault_on (token_of place) ValueTooWide)
 
@@ -99,7 +99,7 @@ number_of job labels text place = do
 
 -- the counter of a boundary with what is given there: the values of its free elements, the memory, and the environment
 -- without the zeros at its lists' ends
-abbrev pub counter_with : Job → ℕ → Given → Counter
+abbrev pub counter_with : Job → ℕ → Settings → Counter
 counter_with job n given = record {
   boundary = n;
   begin = record {
@@ -114,7 +114,7 @@ abbrev pub counter_in : Job → List Label → List ℕ → TextFault → List L
 counter_in job labels text end [] = Err end
 counter_in job labels text end (head ∷ rest) =
     boundary_place (at_line text head BadSyntax) >>= λ place.
-    number_of job labels text place >>= λ n.
+    boundary_at_place job labels text place >>= λ n.
     given_by job.board (settables_of job (numbered job n)) text rest >>= λ given.
     Ok (counter_with job n given)
 

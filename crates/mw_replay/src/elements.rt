@@ -3,7 +3,7 @@ ghost use Rattle.std.specs.Prelude.{◌≡◌, ◌<◌, ◌≤◌, ◌^◌, ◌+
 ghost use Rattle.mw_rel.specs.Begin.{free_elements};
 ghost use Rattle.mw_rel.specs.Free.{is_free, numbered};
 ghost use Rattle.mw_rel.specs.Views.{job_of};
-ghost use Rattle.mw_sim.specs.Given.{AreBounded};
+ghost use Rattle.mw_sim.specs.Settings.{AreBounded};
 ghost use Rattle.mw_replay.specs.CounterText.{owner_of, name_of, settable, settables_of};
 
 use mw_base::{Name, NoMemory};

@@ -7,7 +7,7 @@ ghost use Rattle.mw_rel.specs.Begin.{free_elements};
 ghost use Rattle.mw_rel.specs.Completed.{free_before, free_value};
 ghost use Rattle.mw_rel.specs.Free.{is_free, numbered};
 ghost use Rattle.mw_rel.specs.Views.{job_of};
-ghost use Rattle.mw_sim.specs.Given.{owner_text, trimmed};
+ghost use Rattle.mw_sim.specs.Settings.{owner_text, trimmed};
 ghost use Rattle.mw_replay.specs.Counter.{IsCounter};
 ghost use Rattle.mw_replay.specs.CounterText.{counter_of, owner_of};
 ghost use Rattle.mw_asm.specs.declared.assembled.Label.{Label};

@@ -3,11 +3,11 @@ ghost use Rattle.std.specs.Prelude.{◌≡◌, ◌<◌, ◌^◌, IfOk, IfErr, Ok
 ghost use Rattle.mw_base.specs.Reading.{Gives};
 ghost use Rattle.mw_rel.specs.Free.{numbered};
 ghost use Rattle.mw_rel.specs.Views.{job_of};
-ghost use Rattle.mw_sim.specs.Given.{IsGiven};
+ghost use Rattle.mw_sim.specs.Settings.{AreSettings};
 ghost use Rattle.mw_sim.specs.Views.{given_seen};
 ghost use Rattle.mw_replay.specs.Counter.{IsCounter};
 ghost use Rattle.mw_replay.specs.CounterText.{settables_of, begins_with, behind_no, behind_difference, boundary_place};
-ghost use Rattle.mw_replay.specs.CounterText.{token_of, number_of, counter_with, counter_in, counter_of};
+ghost use Rattle.mw_replay.specs.CounterText.{token_of, boundary_at_place, counter_with, counter_in, counter_of};
 
 use crate::counter::Counter;
 use crate::elements::{free_values, settables_of};
@@ -18,7 +18,7 @@ use mw_base::{
     text_end,
 };
 use mw_rel::{Begin, Job};
-use mw_sim::{Given, environment_with, from_first, given_by};
+use mw_sim::{Settings, environment_with, from_first, given_by};
 use std::alloc::Global;
 
 /// Whether a line begins with this word.
@@ -79,9 +79,14 @@ fn token_of(place: Place) -> Token
 }
 
 /// The number of the boundary at a PLACE: cause 30 or 33.
-#[tactic(auto, unfolding(crate::specs::CounterText::number_of))]
-fn number_of(job: &Job, labels: &[Label], text: &[u8], place: Place) -> Result<usize, TextFault>
-    ensures exact { result ≡ number_of (job_of job.now) labels.now text.now place }
+#[tactic(auto, unfolding(crate::specs::CounterText::boundary_at_place))]
+fn boundary_at_place(
+    job: &Job,
+    labels: &[Label],
+    text: &[u8],
+    place: Place,
+) -> Result<usize, TextFault>
+    ensures exact { result ≡ boundary_at_place (job_of job.now) labels.now text.now place }
     ensures there { IfOk result (λ n. n < length (job_of job.now).relation.boundaries) }
 {
     let address = address_of(place, text, labels)?;
@@ -93,10 +98,10 @@ fn counter_with(
     alloc: Global,
     job: &Job,
     boundary: usize,
-    given: Given,
+    given: Settings,
 ) -> Result<Counter, NoMemory>
     requires there { boundary < length (job_of job.now).relation.boundaries }
-    requires valid { IsGiven (job_of job.now).board
+    requires valid { AreSettings (job_of job.now).board
         (settables_of (job_of job.now) (numbered (job_of job.now) boundary)) (given_seen given) }
     ensures exact { IfOk result (λ counter. counter ≡ counter_with (job_of job.now) boundary (given_seen given)) }
     ensures counts { IfOk result (λ counter. IsCounter (job_of job.now) counter) }
@@ -133,7 +138,7 @@ fn counter_in(
         return Err(Refused::At(end));
     };
     let place = boundary_place(&Cursor::new(text, head, Cause::BadSyntax)).map_err(Refused::At)?;
-    let boundary = number_of(job, labels, text, place).map_err(Refused::At)?;
+    let boundary = boundary_at_place(job, labels, text, place).map_err(Refused::At)?;
     let elements = settables_of(alloc, job, boundary)?;
     let given = given_by(alloc, &job.board, &elements, text, rest)?;
     Ok(counter_with(alloc, job, boundary, given)?)

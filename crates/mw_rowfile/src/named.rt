@@ -26,7 +26,7 @@ pub fn hexadecimal(text: &str) -> Result<u64, Fault> {
 }
 
 /// The number of a name.
-pub fn number_of(words: &[String], name: &str) -> Result<u64, Fault> {
+pub fn hexadecimal_of(words: &[String], name: &str) -> Result<u64, Fault> {
     hexadecimal(text_of(words, name)?)
 }
 
@@ -76,13 +76,13 @@ pub fn bit(number: u64) -> Result<bool, Fault> {
 pub fn address_of(words: &[String], name: &str) -> Result<u16, Fault>
     ensures { IfOk result (λ address. address < 2 ^ 12) }
 {
-    let number = number_of(words, name)?;
+    let number = hexadecimal_of(words, name)?;
     address(number)
 }
 
 /// The bit of a name.
 pub fn bit_of(words: &[String], name: &str) -> Result<bool, Fault> {
-    bit(number_of(words, name)?)
+    bit(hexadecimal_of(words, name)?)
 }
 
 /// An address of a list with commas between, by its place.
@@ -102,7 +102,7 @@ fn listed(text: &str, place: usize) -> Result<u16, Fault>
 fn pointer_of(words: &[String], depth: u8) -> Result<u8, Fault>
     ensures { IfOk result (λ pointer. pointer ≤ depth) }
 {
-    let number = number_of(words, "sp")?;
+    let number = hexadecimal_of(words, "sp")?;
     if number <= u64::from(depth) {
         Ok(number as u8)
     } else {

@@ -2,7 +2,7 @@
 ghost use Rattle.std.specs.Prelude.{◌<◌};
 
 use crate::fault::{Fault, wrong};
-use crate::named::{address, bit_of, hexadecimal, number_of, sequencer_of, set_word, word};
+use crate::named::{address, bit_of, hexadecimal, hexadecimal_of, sequencer_of, set_word, word};
 use crate::row::{File, contents, text_in};
 use crate::spelled::words_of;
 use mw_base::Items;
@@ -100,9 +100,9 @@ pub fn given_of(given: &[String]) -> Result<CycleIn, Fault> {
     if given.len() != 3 {
         return Err(wrong("`cycle` has three numbers"));
     }
-    let noise = number_of(given, "noise")?;
+    let noise = hexadecimal_of(given, "noise")?;
     let line = bit_of(given, "line")?;
-    let input = word(number_of(given, "input")?)?;
+    let input = word(hexadecimal_of(given, "input")?)?;
     match u16::try_from(noise) {
         Ok(noise) => Ok(CycleIn { noise, line, input }),
         Err(_) => Err(wrong("`noise=` has fourteen bits")),

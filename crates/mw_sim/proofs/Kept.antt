@@ -24,13 +24,13 @@ use Rattle.mw_base.specs.Steps.{steps}
 use Rattle.mw_base.proofs.Results.{ok_is, ok_of}
 use Rattle.mw_base.proofs.Steps.{steps_keep}
 use Rattle.mw_board.specs.declared.parts.BoardParts.{BoardParts}
-use Rattle.mw_sim.specs.declared.given.Settable.{Settable}
+use Rattle.mw_sim.specs.declared.settings.Settable.{Settable}
 use Rattle.mw_sim.specs.declared.lines.Series.{Series}
 use Rattle.mw_sim.specs.declared.lines.Series.TheVariants.{Inputs, Interrupts, Noise}
 use Rattle.mw_sim.specs.declared.lines.Statement.{Statement}
 use Rattle.mw_sim.specs.declared.lines.Statement.TheVariants as statements
 use Rattle.mw_sim.specs.Lines.{statement_of}
-use Rattle.mw_sim.specs.Given.{AreBounded, Given, nothing_given, owner_text, Writing, HasImage, IsGiven, bound_of, is_free, number_named, series_bound, series_so_far, value_below, with_entry, with_last, with_line, with_more_words, with_next_word, with_set, with_statement, with_value, with_word, with_words}
+use Rattle.mw_sim.specs.Settings.{AreBounded, Settings, nothing_given, owner_text, Writing, HasImage, AreSettings, bound_of, is_free, number_named, series_bound, series_so_far, value_below, with_entry, with_last, with_line, with_more_words, with_next_word, with_set, with_statement, with_value, with_word, with_words}
 
 -- ---- what is so of a result that is a value
 
@@ -140,10 +140,10 @@ below_then bound numeral =
     (λ is. fault_is (λ value. value < bound) (fault_on numeral.token ValueTooWide))
 
 -- with a value more
-value_set : (board : BoardParts) (elements : List Settable) (n value : ℕ) (given : Given) → n < length elements
+value_set : (board : BoardParts) (elements : List Settable) (n value : ℕ) (given : Settings) → n < length elements
     → value < bound_of (slice_get elements n)
-    → IsGiven board elements given
-    → IsGiven board elements (record given {
+    → AreSettings board elements given
+    → AreSettings board elements (record given {
       values = slice_set given.values n value;
       set = slice_set given.set n true;
     })
@@ -161,12 +161,12 @@ value_set board elements n value given there small is = record {
 
 -- an element that a line sets
 value_then : (board : BoardParts) (elements : List Settable) (place : Token) (n : ℕ) (numeral : Numeral)
-    (given : Given) → n < length elements
-    → IsGiven board elements given → Then (IsGiven board elements) (with_value elements place n numeral given)
+    (given : Settings) → n < length elements
+    → AreSettings board elements given → Then (AreSettings board elements) (with_value elements place n numeral given)
 unfolding with_value
 value_then board elements place n numeral given there is =
     let bound = bound_of (slice_get elements n) in
-    let made : ℕ → Given = λ value. record given {
+    let made : ℕ → Settings = λ value. record given {
       values = slice_set given.values n value;
       set = slice_set given.set
           n true;
@@ -175,18 +175,18 @@ value_then board elements place n numeral given there is =
     let new_value = value_below bound numeral >>= set_to in
     let twice = fault_on place Twice in
     let bound_to = fault_on place NotFree in
-    either (IsGiven board elements) (is_free (slice_get elements n))
+    either (AreSettings board elements) (is_free (slice_get elements n))
     (cond (slice_index_or given.set n false) (Err twice) new_value) (Err bound_to)
-    (λ free. either (IsGiven board elements) (slice_index_or given.set n false) (Err twice) new_value
-    (λ again. fault_is (IsGiven board elements) twice)
-    (λ new. later (λ value. value < bound) (IsGiven board elements) (value_below bound numeral) set_to
+    (λ free. either (AreSettings board elements) (slice_index_or given.set n false) (Err twice) new_value
+    (λ again. fault_is (AreSettings board elements) twice)
+    (λ new. later (λ value. value < bound) (AreSettings board elements) (value_below bound numeral) set_to
     (below_then bound numeral)
-    (λ value small. value_is (IsGiven board elements) (made value)
+    (λ value small. value_is (AreSettings board elements) (made value)
     (value_set board elements n value given there small is))))
-    (λ kept. fault_is (IsGiven board elements) bound_to)
+    (λ kept. fault_is (AreSettings board elements) bound_to)
 
 -- the memory with a word more
-image_set : (board : BoardParts) (given : Given) (address word : ℕ) → address < length given.memory
+image_set : (board : BoardParts) (given : Settings) (address word : ℕ) → address < length given.memory
     → word < 2 ^ board.width → HasImage board given
     → HasImage board (record given {
       memory = slice_set given.memory address word;
@@ -200,7 +200,7 @@ image_set board given address word low small is = record {
 }
 
 -- a word that a line gives
-word_then : (P : Given → Type 0) (width : ℕ) (place : Token) (address : ℕ) (numeral : Numeral) (given : Given)
+word_then : (P : Settings → Type 0) (width : ℕ) (place : Token) (address : ℕ) (numeral : Numeral) (given : Settings)
     → ((word : ℕ) → address < length given.memory → word < 2 ^ width
     → P (record given {
       memory = slice_set given.memory address word;
@@ -210,7 +210,7 @@ word_then : (P : Given → Type 0) (width : ℕ) (place : Token) (address : ℕ)
     → Then P (with_word width place address numeral given)
 unfolding with_word
 word_then P width place address numeral given so =
-    let made : ℕ → Given = λ word. record given {
+    let made : ℕ → Settings = λ word. record given {
       memory = slice_set given.memory address word;
       written = slice_set
           given.written address true;
@@ -227,24 +227,24 @@ word_then P width place address numeral given so =
     (λ word small. value_is P (made word) (so word (ltb-true address (length given.memory) low) small))))
     (λ past. fault_is P outside)
 
-image_then : (board : BoardParts) (place : Token) (address : ℕ) (numeral : Numeral) (given : Given)
+image_then : (board : BoardParts) (place : Token) (address : ℕ) (numeral : Numeral) (given : Settings)
     → HasImage board given
     → Then (HasImage board) (with_word board.width place address numeral given)
 image_then board place address numeral given is =
     word_then (HasImage board) board.width place address numeral given
     (λ word low small. image_set board given address word low small is)
 
-pub image_keeps : (board : BoardParts) (place : Token) (address : ℕ) (numeral : Numeral) (before after : Given)
+pub image_keeps : (board : BoardParts) (place : Token) (address : ℕ) (numeral : Numeral) (before after : Settings)
     → with_word board.width place address numeral before ≡ Ok after
     → HasImage board before → HasImage board after
 image_keeps board place address numeral before after is so =
     (image_then board place address numeral before so).so after is
 
 given_then : (board : BoardParts) (elements : List Settable) (place : Token) (address : ℕ) (numeral : Numeral)
-    (given : Given) → IsGiven board elements given
-    → Then (IsGiven board elements) (with_word board.width place address numeral given)
+    (given : Settings) → AreSettings board elements given
+    → Then (AreSettings board elements) (with_word board.width place address numeral given)
 given_then board elements place address numeral given is =
-    word_then (IsGiven board elements) board.width place address numeral given (λ word low small. record {
+    word_then (AreSettings board elements) board.width place address numeral given (λ word low small. record {
       values = record { each = is.values.each; set = is.values.set; fit = is.values.fit };
       image = image_set board given address word low small is.image;
       series = record { inputs = is.series.inputs; interrupts = is.series.interrupts; noise = is.series.noise };
@@ -252,35 +252,35 @@ given_then board elements place address numeral given is =
 
 -- further words
 next_then : (board : BoardParts) (elements : List Settable) (writing : Writing) (numeral : Numeral)
-    → IsGiven board elements writing.given
-    → Then (λ after. IsGiven board elements after.given) (with_next_word board.width writing numeral)
+    → AreSettings board elements writing.given
+    → Then (λ after. AreSettings board elements after.given) (with_next_word board.width writing numeral)
 unfolding with_next_word
 next_then board elements writing numeral is =
-    later (IsGiven board elements) (λ (after : Writing). IsGiven board elements after.given)
+    later (AreSettings board elements) (λ (after : Writing). AreSettings board elements after.given)
     (with_word board.width numeral.token writing.next numeral writing.given) _
     (given_then board elements numeral.token writing.next numeral writing.given is)
-    (λ given kept. value_is (λ (after : Writing). IsGiven board elements after.given)
+    (λ given kept. value_is (λ (after : Writing). AreSettings board elements after.given)
     (record { given = given; next = writing.next + 1 }) kept)
 
 words_then : (board : BoardParts) (elements : List Settable) (address : Numeral) (words : List Numeral)
-    (given : Given) → IsGiven board elements given
-    → Then (IsGiven board elements) (with_words board.width address words given)
+    (given : Settings) → AreSettings board elements given
+    → Then (AreSettings board elements) (with_words board.width address words given)
 unfolding with_words with_more_words
-words_then board elements address [] given is = value_is (IsGiven board elements) given is
+words_then board elements address [] given is = value_is (AreSettings board elements) given is
 words_then board elements address (first ∷ rest) given is =
-    later (IsGiven board elements) (IsGiven board elements)
+    later (AreSettings board elements) (AreSettings board elements)
     (with_word board.width address.token address.value first given) _
     (given_then board elements address.token address.value first given is) (λ one kept.
-    later (λ (after : Writing). IsGiven board elements after.given) (IsGiven board elements) _ _
-    (steps_then (λ (after : Writing). IsGiven board elements after.given) (with_next_word board.width)
+    later (λ (after : Writing). AreSettings board elements after.given) (AreSettings board elements) _ _
+    (steps_then (λ (after : Writing). AreSettings board elements after.given) (with_next_word board.width)
     (λ writing numeral so. next_then board elements writing numeral so)
     (record { given = one; next = address.value + 1 }) rest kept)
-    (λ after so. value_is (IsGiven board elements) after.given so))
+    (λ after so. value_is (AreSettings board elements) after.given so))
 
 -- an entry of a list
-last_is : (board : BoardParts) (elements : List Settable) (series : Series) (value : ℕ) (given : Given)
-    → value < series_bound board.width series → IsGiven board elements given
-    → IsGiven board elements (with_last series value given)
+last_is : (board : BoardParts) (elements : List Settable) (series : Series) (value : ℕ) (given : Settings)
+    → value < series_bound board.width series → AreSettings board elements given
+    → AreSettings board elements (with_last series value given)
 last_is board elements Inputs value given small is = record {
   values = record { each = is.values.each; set = is.values.set; fit = is.values.fit };
   image = record { each = is.image.each; written = is.image.written; fit = is.image.fit };
@@ -312,54 +312,54 @@ last_is board elements Noise value given small is = record {
   };
 }
 
-entry_then : (board : BoardParts) (elements : List Settable) (series : Series) (given : Given) (numeral : Numeral)
-    → IsGiven board elements given
-    → Then (IsGiven board elements) (with_entry board.width series given numeral)
+entry_then : (board : BoardParts) (elements : List Settable) (series : Series) (given : Settings) (numeral : Numeral)
+    → AreSettings board elements given
+    → Then (AreSettings board elements) (with_entry board.width series given numeral)
 unfolding with_entry
 entry_then board elements series given numeral is =
     let bound = series_bound board.width series in
     let added = λ (value : ℕ). ok_of {F = TextFault} (with_last series value given) in
     let many = fault_on numeral.token TooMany in
-    either (IsGiven board elements) (nat_lt (length (series_so_far series given)) 65536)
+    either (AreSettings board elements) (nat_lt (length (series_so_far series given)) 65536)
     (value_below bound numeral >>= added) (Err many)
-    (λ few. later (λ value. value < bound) (IsGiven board elements) (value_below bound numeral) added
+    (λ few. later (λ value. value < bound) (AreSettings board elements) (value_below bound numeral) added
     (below_then bound numeral)
-    (λ value small. value_is (IsGiven board elements) (with_last series value given)
+    (λ value small. value_is (AreSettings board elements) (with_last series value given)
     (last_is board elements series value given small is)))
-    (λ past. fault_is (IsGiven board elements) many)
+    (λ past. fault_is (AreSettings board elements) many)
 
 -- what a line says
 set_then : (board : BoardParts) (elements : List Settable) (text : List ℕ) (element : Dotted) (numeral : Numeral)
-    (given : Given) → IsGiven board elements given
-    → Then (IsGiven board elements) (with_set elements text element numeral given)
+    (given : Settings) → AreSettings board elements given
+    → Then (AreSettings board elements) (with_set elements text element numeral given)
 unfolding with_set
 set_then board elements text element numeral given is =
-    later (λ n. n < length elements) (IsGiven board elements) _ _
+    later (λ n. n < length elements) (AreSettings board elements) _ _
     (there_then (λ n. n < length elements) (fault_on element.owner UnknownElement)
     (number_named elements (spelled text element.owner) (spelled text element.name))
     (position_within (λ (e : Settable). bytes_eq (spelled text element.owner) (owner_text e.owner) && bytes_eq
     (spelled text element.name) e.name) elements))
     (λ n there. value_then board elements element.owner n numeral given there is)
 
-statement_then : (board : BoardParts) (elements : List Settable) (text : List ℕ) (given : Given)
-    (statement : Statement) → IsGiven board elements given
-    → Then (IsGiven board elements) (with_statement elements board.width text given statement)
-statement_then board elements text given statements.Blank is = value_is (IsGiven board elements) given is
+statement_then : (board : BoardParts) (elements : List Settable) (text : List ℕ) (given : Settings)
+    (statement : Statement) → AreSettings board elements given
+    → Then (AreSettings board elements) (with_statement elements board.width text given statement)
+statement_then board elements text given statements.Blank is = value_is (AreSettings board elements) given is
 statement_then board elements text given (statements.Set element value) is = set_then board elements text element
     value given is
 statement_then board elements text given (statements.Memory address values) is = words_then board elements address
     values given is
 statement_then board elements text given (statements.Series series values) is =
-    steps_then (IsGiven board elements) (with_entry board.width series)
+    steps_then (AreSettings board elements) (with_entry board.width series)
     (λ before numeral so. entry_then board elements series before numeral so) given values is
 
 -- a line
-pub line_keeps : (board : BoardParts) (elements : List Settable) (text : List ℕ) (before after : Given) (line : Line)
+pub line_keeps : (board : BoardParts) (elements : List Settable) (text : List ℕ) (before after : Settings) (line : Line)
     → with_line elements board.width text before line ≡ Ok after
-    → IsGiven board elements before → IsGiven board elements after
+    → AreSettings board elements before → AreSettings board elements after
 unfolding with_line
 line_keeps board elements text before after line is so =
-    (later (λ (s : Statement). Unit {0}) (IsGiven board elements) (statement_of (at_line text line BadSyntax))
+    (later (λ (s : Statement). Unit {0}) (AreSettings board elements) (statement_of (at_line text line BadSyntax))
     (with_statement elements board.width text before)
     (record { so = λ s read. tt }) (λ statement _. statement_then board elements text before statement so)).so after
     is
@@ -371,7 +371,7 @@ none_below (suc n) zero bound some = some
 none_below (suc n) (suc i) bound some = none_below n i bound some
 
 pub nothing_is : (board : BoardParts) (elements : List Settable) → AreBounded elements
-    → IsGiven board elements (nothing_given (length elements) (2 ^ board.address))
+    → AreSettings board elements (nothing_given (length elements) (2 ^ board.address))
 nothing_is board elements bounded = record {
   values = record {
     each = length-replicate {A = ℕ} (length elements) 0;
@@ -389,7 +389,7 @@ nothing_is board elements bounded = record {
 
 -- ---- further words of a line, one at a time
 
-pub next_is : (width : ℕ) (writing : Writing) (after : Given) (numeral : Numeral)
+pub next_is : (width : ℕ) (writing : Writing) (after : Settings) (numeral : Numeral)
     → with_word width numeral.token writing.next numeral writing.given ≡ Ok after
     → with_next_word width writing numeral ≡ Ok (record { given = after; next = writing.next + 1 })
 unfolding with_next_word
@@ -402,7 +402,7 @@ unfolding with_next_word
 next_fails width writing numeral NoMemory fails = tt
 next_fails width writing numeral (At fault) fails = rw fails refl
 
-pub more_fail : (width address : ℕ) (words : List Numeral) (given : Given) (refusal : Refused TextFault)
+pub more_fail : (width address : ℕ) (words : List Numeral) (given : Settings) (refusal : Refused TextFault)
     → Fails refusal (steps (with_next_word width) (record { given = given; next = address }) words)
     → Fails refusal (with_more_words width address words given)
 unfolding with_more_words

@@ -17,8 +17,8 @@ use Rattle.mw_cycle.specs.declared.elements.Element.{Element as Kind}
 use Rattle.mw_cycle.specs.declared.elements.Element.TheVariants.{Register, Q, Mar, Ir, FlipFlop, Pc, R, StackWord}
 use Rattle.mw_cycle.specs.Elements.{IsValueOf, bits_of, element_of}
 use Rattle.mw_cycle.proofs.Values.{width_is}
-use Rattle.mw_sim.specs.declared.given.Settable.{Settable}
-use Rattle.mw_sim.specs.Given.{AreBounded, bound_of, before_trimmed, trimmed}
+use Rattle.mw_sim.specs.declared.settings.Settable.{Settable}
+use Rattle.mw_sim.specs.Settings.{AreBounded, bound_of, before_trimmed, trimmed}
 use Rattle.mw_sim.specs.Start.{settable, stack_pointer, settables_of}
 
 -- ---- the elements of a board

@@ -1,6 +1,6 @@
 pub mod Run
 pub mod Lines
-pub mod Given
+pub mod Settings
 pub mod Start
 pub mod Views
 pub mod Texts

@@ -17,9 +17,9 @@ use Rattle.mw_cycle.specs.Elements.{with_element}
 use Rattle.mw_cycle.specs.Environment.{Environment}
 use Rattle.mw_asm.specs.declared.assembled.Label.{Label}
 use Rattle.mw_asm.specs.Labels.{label_named}
-use Rattle.mw_sim.specs.declared.given.Owner.TheVariants.{Board}
-use Rattle.mw_sim.specs.declared.given.Settable.{Settable}
-use Rattle.mw_sim.specs.Given.{Given, given_by, trimmed}
+use Rattle.mw_sim.specs.declared.settings.Owner.TheVariants.{Board}
+use Rattle.mw_sim.specs.declared.settings.Settable.{Settable}
+use Rattle.mw_sim.specs.Settings.{Settings, given_by, trimmed}
 
 -- the state in which a run begins, and its environment
 pub record Start : Type 0 where
@@ -64,14 +64,14 @@ abbrev pub with_pointer : ℕ → BoardState → BoardState
 with_pointer sp s = record s { seq = record s.seq { sp = sp } }
 
 -- the state at a control address that has what is given
-unfoldable pub state_with : BoardParts → ℕ → Given → BoardState
+unfoldable pub state_with : BoardParts → ℕ → Settings → BoardState
 state_with board address given =
     with_pointer (slice_index given.values (element_count board))
     (with_values board given.values (record (cleared board) { at = address; memory = given.memory })
     (element_count board))
 
 -- the environment that is given, without the zeros at its lists' ends
-unfoldable pub environment_with : Given → Environment
+unfoldable pub environment_with : Settings → Environment
 environment_with given = record {
   line = map (λ bit. bit == 1) (trimmed given.interrupts);
   noise = trimmed given.noise;

@@ -2,15 +2,15 @@
 //! reports that show it.
 #![tactic(auto)]
 
-mod given;
 mod lines;
 mod parts;
 mod run;
+mod settings;
 mod start;
 mod texts;
 
-pub use given::{Given, Owner, Settable, given_by, two_to, value_below};
 pub use parts::Parts;
 pub use run::{Late, run_cycles, run_to_boundary};
+pub use settings::{Owner, Settable, Settings, given_by, two_to, value_below};
 pub use start::{Start, environment_with, from_first, read_start};
 pub use texts::{append_event, append_hex_line, append_line};

@@ -7,11 +7,11 @@ ghost use Rattle.mw_board.specs.Elements.{element_count, elements_of};
 ghost use Rattle.mw_cycle.specs.Elements.{IsValueOf};
 ghost use Rattle.mw_cycle.specs.Environment.{IsEnvironment};
 ghost use Rattle.mw_cycle.specs.State.{Fits};
-ghost use Rattle.mw_sim.specs.Given.{AreBounded, HasSeries, IsGiven, trimmed};
+ghost use Rattle.mw_sim.specs.Settings.{AreBounded, HasSeries, AreSettings, trimmed};
 ghost use Rattle.mw_sim.specs.Start.{settable, stack_pointer, settables_of, at_of, blank_lines, from_first, with_values, with_pointer, state_with, environment_with, start_in, start_of};
 ghost use Rattle.mw_sim.specs.Views.{given_seen};
 
-use crate::given::{Given, Owner, Settable, given_by, two_to};
+use crate::settings::{Owner, Settable, Settings, given_by, two_to};
 use mw_asm::{Assembled, Label, address_of};
 use mw_base::{
     Cause, Cursor, Line, Name, NoMemory, Place, Refusal, Refused, TextFault, lines, text_end,
@@ -211,7 +211,7 @@ fn noise_words(alloc: Global, numbers: &[u32]) -> Result<Vec<u16>, NoMemory>
 ///
 /// Memory ran out.
 #[tactic(auto, unfolding(crate::specs::Start::environment_with))]
-pub fn environment_with(alloc: Global, board: &Board, given: &Given) -> Result<Env, NoMemory>
+pub fn environment_with(alloc: Global, board: &Board, given: &Settings) -> Result<Env, NoMemory>
     requires { HasSeries board.now (given_seen given.now) }
     ensures exact { IfOk result (λ env. env ≡ environment_with (given_seen given.now)) }
     ensures valid { IfOk result (λ env. IsEnvironment board.now env) }
@@ -240,13 +240,13 @@ fn set_pointer(board: &Board, state: &mut State, values: &[u32])
 
 /// The state at a control address that has what is given.
 #[tactic(auto, unfolding(crate::specs::Start::state_with), using(crate::proofs::Starts::value_in, crate::proofs::Starts::pointer_in, crate::proofs::Starts::settable_count))]
-fn state_with(board: &Board, address: u16, given: Given) -> State
+fn state_with(board: &Board, address: u16, given: Settings) -> State
     requires low { address < 4096 }
-    requires given { IsGiven board.now (settables_of board.now) (given_seen given) }
+    requires given { AreSettings board.now (settables_of board.now) (given_seen given) }
     ensures exact { result ≡ state_with board.now address (given_seen given) }
     ensures fits { Fits board.now result }
 {
-    let Given { values, memory, .. } = given;
+    let Settings { values, memory, .. } = given;
     let mut state = State::begun(board, address, memory);
     set_elements(board, &mut state, &values);
     set_pointer(board, &mut state, &values);

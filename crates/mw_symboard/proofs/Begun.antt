@@ -18,19 +18,19 @@ use Rattle.mw_symboard.specs.Parts.{AreElements, AreParts}
 use Rattle.mw_cycle.specs.BoardTerms.{Parts, term_of_part}
 
 -- the number of an element
-pub number_of : BoardParts → Element → ℕ
-number_of board (Register n) = n
-number_of board Q = 16
-number_of board Mar = 17
-number_of board Ir = 18
-number_of board (FlipFlop n) = 19 + n
-number_of board Pc = pc_number board
-number_of board R = pc_number board + 1
-number_of board (StackWord n) = pc_number board + 2 + n
+pub number_of_element : BoardParts → Element → ℕ
+number_of_element board (Register n) = n
+number_of_element board Q = 16
+number_of_element board Mar = 17
+number_of_element board Ir = 18
+number_of_element board (FlipFlop n) = 19 + n
+number_of_element board Pc = pc_number board
+number_of_element board R = pc_number board + 1
+number_of_element board (StackWord n) = pc_number board + 2 + n
 
 -- what has it is that element
-pub has_number : (board : BoardParts) (e : Element) → IsElement board e → element_of board (number_of board e) ≡ e
-unfolding number_of
+pub has_number : (board : BoardParts) (e : Element) → IsElement board e → element_of board (number_of_element board e) ≡ e
+unfolding number_of_element
 has_number board (Register n) is =
     by_number board n (λ e. e ≡ Register n) (λ h. refl) (λ h. absurd (omega (arith, is, h))) (λ h. absurd (omega (arith, is, h)))
     (λ h. absurd (omega (arith, is, h))) (λ h k. absurd (omega (arith, is, h))) (λ h. absurd (omega (arith, is, h)))
@@ -66,8 +66,8 @@ has_number board (StackWord n) is =
     (λ h. ap StackWord (omega arith))
 
 -- and the board has it
-pub number_below : (board : BoardParts) (e : Element) → IsElement board e → number_of board e < element_count board
-unfolding number_of
+pub number_below : (board : BoardParts) (e : Element) → IsElement board e → number_of_element board e < element_count board
+unfolding number_of_element
 number_below board (Register n) is = let count = count_of board in omega (arith, count, is)
 number_below board Q is = let count = count_of board in omega (arith, count)
 number_below board Mar is = let count = count_of board in omega (arith, count)
@@ -86,7 +86,7 @@ parts_of_elements board t es p are same regs flips stack = record {
   flips = flips;
   stack = stack;
   wide = λ e is.
-      let n = number_of board e in
+      let n = number_of_element board e in
       let below = number_below board e is in
       let at = has_number board e is in
       subst (λ (f : Element). IsOfWidth t (bits_of board f) (term_of_part p f)) at

@@ -17,7 +17,7 @@ use Rattle.mw_symmem.specs.Memory.{IsOfWidth}
 use Rattle.mw_symboard.specs.Cycle.{IsCounter, IsLeaving, effect_by, number_in, value_in}
 use Rattle.mw_symboard.specs.Growth.{Grew}
 use Rattle.mw_symboard.specs.Made.{IsDirect, IsNext}
-use Rattle.mw_symboard.specs.Seen.{Place}
+use Rattle.mw_symboard.specs.Seen.{Progress}
 use Rattle.mw_symboard.proofs.Growing.{grew_then, wide_later}
 use Rattle.mw_symboard.proofs.Standing.{direct_stays, less_one_stays}
 
@@ -57,7 +57,7 @@ counter_stays false counters.Loaded told tnew old direct term extends is = is
 counter_stays false counters.Counted told tnew old direct term extends is = less_one_stays told tnew old term extends is
 
 -- what was made for the end, in the order in which it is made
-pub leaving_is : (board : BoardParts) (m : Microword) (t1 t2 t3 : Table) (w1 w2 w3 : List Word) (p : Place)
+pub leaving_is : (board : BoardParts) (m : Microword) (t1 t2 t3 : Table) (w1 w2 w3 : List Word) (p : Progress)
     (noise direct next r : ℕ) (effect : Effect) → effect ≡ effect_by m p.decided
     → IsDirect (instruction_of m.sequencer) board m t1 p.parts.ir direct → IsOfWidth t1 12 direct → Grew t1 t2 w1 w2
     → IsCounter m.rld effect.counter t2 p.parts.r direct r → IsOfWidth t2 12 r → Grew t2 t3 w2 w3

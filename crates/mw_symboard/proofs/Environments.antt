@@ -26,7 +26,7 @@ use Rattle.mw_symmem.proofs.Later.{width_later}
 use Rattle.mw_symmem.proofs.Lists.{missing}
 use Rattle.mw_symboard.specs.declared.reading.Reading.{Reading}
 use Rattle.mw_symboard.specs.Kinds.{AreInputs}
-use Rattle.mw_symboard.specs.Seen.{Place}
+use Rattle.mw_symboard.specs.Seen.{Progress}
 use Rattle.mw_symboard.specs.Turns.{HasRead}
 use Rattle.mw_symboard.specs.Variables.{BegunHasVariables, CyclesAreThere, CyclesStay, EnvironmentsAreReached, EnvironmentsAreThere, EnvironmentsStay, HaveVariables, HasVariables, IsOutsideKind, IsOutsideNumber, IsReadKind, VariablesHaveValues, VariablesStay}
 use Rattle.mw_symboard.proofs.Runs.{variable_of}
@@ -46,7 +46,7 @@ variables_stay told tnew wold wnew more cycle later words has = record {
   noise_wide = width_later told tnew 14 has.noise later has.noise_wide;
 }
 
-has_variables : (board : BoardParts) (store : List ℕ) (t : Table) (words : List Word) (m : Memory) (p : Place)
+has_variables : (board : BoardParts) (store : List ℕ) (t : Table) (words : List Word) (m : Memory) (p : Progress)
     (read : Option Reading) (r : Reading) → read ≡ Some r → HasRead board store t words m p read
     → HasVariables t words p.cycle
 has_variables board store t words m p read r is has =
@@ -61,7 +61,7 @@ has_variables board store t words m p read r is has =
     }
 
 -- a cycle of which a bit is decided has begun
-decided_begun : (board : BoardParts) (store : List ℕ) (t : Table) (words : List Word) (m : Memory) (p : Place)
+decided_begun : (board : BoardParts) (store : List ℕ) (t : Table) (words : List Word) (m : Memory) (p : Progress)
     (read : Option Reading) → HasRead board store t words m p read → 0 < length p.decided → HasVariables t words p.cycle
 decided_begun board store t words m p None has some =
     let none : length p.decided ≡ 0 = ap (λ (ds : List Decided). length ds) has.0 in
@@ -74,7 +74,7 @@ begun_has_variables board store t words m o symbolic = (
   decided_begun board store t words m o.place o.reading symbolic.reading,
 )
 
-cycles_begun : (board : BoardParts) (store : List ℕ) (t : Table) (words : List Word) (m : Memory) (p : Place)
+cycles_begun : (board : BoardParts) (store : List ℕ) (t : Table) (words : List Word) (m : Memory) (p : Progress)
     (read : Option Reading) → AreInputs board t words → HasRead board store t words m p read
     → ((r : Reading) → read ≡ Some r → HasVariables t words p.cycle) → ((n : ℕ) → n < p.cycle → HasVariables t words n)
     → (cycles : ℕ) × HaveVariables board t words cycles

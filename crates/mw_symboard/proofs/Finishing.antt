@@ -32,7 +32,7 @@ use Rattle.mw_symboard.specs.Cycle.{IsEdge, IsReading, bits_before}
 use Rattle.mw_symboard.specs.Growth.{Grew}
 use Rattle.mw_symboard.specs.Kinds.{AreInputs}
 use Rattle.mw_symboard.specs.Parts.{AreParts}
-use Rattle.mw_symboard.specs.Seen.{Place, Scene, IsSeen, microword_of}
+use Rattle.mw_symboard.specs.Seen.{Progress, Scene, IsSeen, microword_of}
 use Rattle.mw_symboard.specs.Shown.{shown, taken_after}
 use Rattle.mw_symboard.specs.Turns.{Symbolic, AreEvents, AreNoLater, Asks, HasRead, IsDone, IsSymbolic, IsTurn, Leaves, clock_of, cycle_left, event_of, event_term, shown_by, with_reads, written_if}
 use Rattle.mw_symboard.proofs.SaysDone.{at_edge, says_done}
@@ -141,12 +141,12 @@ both_wide board t (x ∷ first) second one two zero e is = one zero e is
 both_wide board t (x ∷ first) second one two (suc k) e is =
     both_wide board t first second (λ j f at. one (suc j) f at) two k e is
 
-none_read : (board : BoardParts) (store : List ℕ) (t : Table) (words : List Word) (m : Memory) (p : Place)
+none_read : (board : BoardParts) (store : List ℕ) (t : Table) (words : List Word) (m : Memory) (p : Progress)
     (read : Option Reading) → read ≡ None → p.decided ≡ [] → AreNoLater p.cycle words → HasRead board store t words m p read
 none_read board store t words m p read is decided none =
     subst (λ (x : Option Reading). HasRead board store t words m p x) (sym is) (decided, none)
 
-none_leaves : (board : BoardParts) (store : List ℕ) (t : Table) (p : Place) (read : Option Reading)
+none_leaves : (board : BoardParts) (store : List ℕ) (t : Table) (p : Progress) (read : Option Reading)
     (leaving : Option Leaving) → read ≡ None → leaving ≡ None → p.decided ≡ [] → Leaves board store t p read leaving
 none_leaves board store t p read leaving is_read is_left decided =
     let count : length p.decided ≡ 0 = ap length decided in
@@ -231,15 +231,15 @@ pub done_from : (board : BoardParts) (store : List ℕ) (t : Table) (words : Lis
     → IsDone board store t words m mnew old new given x
 done_from board store t words m mid mnew old begun new place events memory done given x seen =
     let there : IsSeen board store t words mid begun.place given x =
-    subst (λ (p : Place). IsSeen board store t words mid p given x) (sym place)
+    subst (λ (p : Progress). IsSeen board store t words mid p given x) (sym place)
     (subst (λ (n : Memory). IsSeen board store t words n old.place given x) (sym memory) seen) in
     let is = done given x there in
     record {
-      bits = is.bits ∙ ap (λ (p : Place). p.decided) place;
+      bits = is.bits ∙ ap (λ (p : Progress). p.decided) place;
       state = is.state;
       events = is.events ∙ ap (λ (es : List SymEvent). map (event_of t given) es
           ++ option_to_list (nets_of board store x.state x.outside).event) events;
-      clock = is.clock ∙ ap (λ (p : Place). clock_after (nets_of board store x.state x.outside).event (clock_of p)) place;
+      clock = is.clock ∙ ap (λ (p : Progress). clock_after (nets_of board store x.state x.outside).event (clock_of p)) place;
     }
 
 -- what the edge is taken with, over the table at the end of the cycle
@@ -263,7 +263,7 @@ at_the_end board store told tnew wold wnew m o before after r l good micro map w
     (goes.later.extends.map ∙ map) is.sp (omega (arith, all))
     (subst (λ (ws : List Word). IsReading board (microword_of board store o.place) tnew ws m o.place r) (sym grew.1.words) later)
     (leaving_stays board (microword_of board store o.place) told tnew o.place r.sources.noise l goes.later left)
-    (subst (λ (p : Place). IsEdge board (microword_of board store o.place) tnew p after.place r l) place edge)
+    (subst (λ (p : Progress). IsEdge board (microword_of board store o.place) tnew p after.place r l) place edge)
 
 -- a turn that asks for a bit
 pub asked_turn : (board : BoardParts) (store : List ℕ) (t : Table) (words : List Word) (m mid : Memory)

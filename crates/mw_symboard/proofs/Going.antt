@@ -33,19 +33,19 @@ use Rattle.mw_symboard.specs.declared.reading.Reading as read
 use Rattle.mw_symboard.specs.Along.{GoesAlong, ListsTurn, StopsAt, address_bits_of, left_behind_reading, left_by, left_of_address, left_to_test, standing_in, words_left}
 use Rattle.mw_symboard.specs.Cycle.{bits_before, effect_by, number_in, pass_by, value_in, zero_by}
 use Rattle.mw_symboard.specs.Listed.{leaving_of, reading_of, standing_after, standing_of}
-use Rattle.mw_symboard.specs.Seen.{Place, microword_of}
+use Rattle.mw_symboard.specs.Seen.{Progress, microword_of}
 use Rattle.mw_symboard.specs.Turns.{Leaves, Symbolic, cycle_left, decided_so, shown_by, written_if}
 use Rattle.mw_symboard.proofs.Deciding.{value_more, count_more, pass_same, zero_same}
 use Rattle.mw_symboard.proofs.Ends.{number_more}
 
 -- a place with one decided bit more
-abbrev pub with_bit : Place → DecidedKind → Bool → Place
+abbrev pub with_bit : Progress → DecidedKind → Bool → Progress
 with_bit p kind bit = record p { decided = p.decided ++ decided kind bit ∷ [] }
 
 -- ---- what was read
 
 -- before the first bit, what stands behind the reading is what stands behind pass
-first_bit : (tests counts : Bool) (board : BoardParts) (m : Microword) (p : Place) (s : Standing) (r : Reading) (bits : List Bool)
+first_bit : (tests counts : Bool) (board : BoardParts) (m : Microword) (p : Progress) (s : Standing) (r : Reading) (bits : List Bool)
     (l : WordList) → decides_pass m ≡ tests → decides_counter m ≡ counts → p.decided ≡ []
     → along_pass board m s r bits l ≡ left_behind_reading board m p s r bits l
 first_bit true true board m p s r bits l tests counts none = rw (tests, counts, none) refl
@@ -54,7 +54,7 @@ first_bit false true board m p s r bits l tests counts none = rw (tests, counts,
 first_bit false false board m p s r bits l tests counts none = rw (tests, counts, none) refl
 
 -- a cycle that begins
-pub begins : (board : BoardParts) (store : List ℕ) (p : Place) (writes : List Held) (events : List SymEvent) (r : Reading)
+pub begins : (board : BoardParts) (store : List ℕ) (p : Progress) (writes : List Held) (events : List SymEvent) (r : Reading)
     (l0 l1 : WordList) → p.decided ≡ []
     → reading_words board (microword_of board store p) (standing_of p writes events) l0 ≡ record { list = l1; reading = r }
     → (bits : List Bool) → cycle_words board store (standing_of p writes events) bits l0
@@ -69,14 +69,14 @@ begins board store p writes events r l0 l1 none read = λ bits.
 -- ---- pass
 
 -- it stops at pass
-pub pass_stops : (counts : Bool) (board : BoardParts) (m : Microword) (p : Place) (s : Standing) (r : Reading) (l : WordList)
+pub pass_stops : (counts : Bool) (board : BoardParts) (m : Microword) (p : Progress) (s : Standing) (r : Reading) (l : WordList)
     → decides_counter m ≡ counts → decides_pass m ≡ true → p.decided ≡ []
     → left_behind_reading board m p s r [] l ≡ stopped s (ended r.condition l)
 pass_stops true board m p s r l counts tests none = rw (tests, counts, none) refl
 pass_stops false board m p s r l counts tests none = rw (tests, counts, none) refl
 
 -- and goes on behind it
-pub pass_goes : (counts : Bool) (board : BoardParts) (m : Microword) (p : Place) (s : Standing) (r : Reading) (l : WordList)
+pub pass_goes : (counts : Bool) (board : BoardParts) (m : Microword) (p : Progress) (s : Standing) (r : Reading) (l : WordList)
     (kind : DecidedKind) (bit : Bool) (bits : List Bool) → decides_counter m ≡ counts → decides_pass m ≡ true → p.decided ≡ []
     → left_behind_reading board m p s r (bit ∷ bits) l ≡ left_behind_reading board m (with_bit p kind bit) s r bits l
 pass_goes true board m p s r l kind bit bits counts tests none = rw (tests, counts, none) refl
@@ -85,7 +85,7 @@ pass_goes false board m p s r l kind bit bits counts tests none = rw (tests, cou
 -- ---- the counter
 
 -- it stops at the counter
-pub zero_stops : (tests : Bool) (ds : List Decided) (board : BoardParts) (m : Microword) (p : Place) (s : Standing) (r : Reading)
+pub zero_stops : (tests : Bool) (ds : List Decided) (board : BoardParts) (m : Microword) (p : Progress) (s : Standing) (r : Reading)
     (l : WordList) → decides_pass m ≡ tests → decides_counter m ≡ true → p.decided ≡ ds → length ds ≡ num tests
     → left_behind_reading board m p s r [] l ≡ stopped s (zero_words 12 s.parts.r l)
 zero_stops true [] board m p s r l tests counts is many = absurd (omega (arith, many))
@@ -95,7 +95,7 @@ zero_stops false [] board m p s r l tests counts is many = rw (tests, counts, is
 zero_stops false (d ∷ rest) board m p s r l tests counts is many = absurd (omega (arith, many))
 
 -- and goes on behind it
-pub zero_goes : (tests : Bool) (ds : List Decided) (board : BoardParts) (m : Microword) (p : Place) (s : Standing) (r : Reading)
+pub zero_goes : (tests : Bool) (ds : List Decided) (board : BoardParts) (m : Microword) (p : Progress) (s : Standing) (r : Reading)
     (l : WordList) (kind : DecidedKind) (bit : Bool) (bits : List Bool) → decides_pass m ≡ tests → decides_counter m ≡ true
     → p.decided ≡ ds → length ds ≡ num tests
     → left_behind_reading board m p s r (bit ∷ bits) l
@@ -112,7 +112,7 @@ not_less : (a b : ℕ) → b ≤ a → nat_lt a b ≡ false
 not_less a b least = grind (arith, nat_tests)
 
 -- what is known of its end is there, and no bit of the next address is decided
-pub prepares : (board : BoardParts) (m : Microword) (p : Place) (s : Standing) (r : Reading) (leaving : Leaving) (l0 l1 : WordList)
+pub prepares : (board : BoardParts) (m : Microword) (p : Progress) (s : Standing) (r : Reading) (leaving : Leaving) (l0 l1 : WordList)
     → length p.decided ≡ bits_before m
     → leaving_words board m s.parts s.sp r.sources.noise (effect_by m p.decided) l0 ≡ record { list = l1; leaving = leaving_of leaving }
     → (bits : List Bool) → left_behind_reading board m p s r bits l0 ≡ left_of_address board m p s r leaving bits l1
@@ -126,7 +126,7 @@ prepares board m p s r leaving l0 l1 many leaves = λ bits.
     (number_in p.decided (bits_before m) k) bits l1) (sym none))
 
 -- it stops at a bit of the next address: the one of this number from the lowest
-pub address_stops : (board : BoardParts) (m : Microword) (p : Place) (s : Standing) (r : Reading) (leaving : Leaving) (l : WordList)
+pub address_stops : (board : BoardParts) (m : Microword) (p : Progress) (s : Standing) (r : Reading) (leaving : Leaving) (l : WordList)
     (place : ℕ) → 12 - address_bits_of m p ≡ suc place
     → left_of_address board m p s r leaving [] l ≡ stopped s (with_word (Part leaving.next place 1) l)
 address_stops board m p s r leaving l place is =
@@ -160,7 +160,7 @@ effect_same m ds x within =
     (zero_same (decides_pass m) (decides_counter m) ds x within)
 
 -- and goes on behind it
-pub address_goes : (board : BoardParts) (m : Microword) (p : Place) (s : Standing) (r : Reading) (leaving : Leaving) (l : WordList)
+pub address_goes : (board : BoardParts) (m : Microword) (p : Progress) (s : Standing) (r : Reading) (leaving : Leaving) (l : WordList)
     (place : ℕ) (kind : DecidedKind) (bit : Bool) (bits : List Bool) → 12 - address_bits_of m p ≡ suc place
     → bits_before m ≤ length p.decided
     → left_of_address board m p s r leaving (bit ∷ bits) l
@@ -187,7 +187,7 @@ address_goes board m p s r leaving l place kind bit bits is within =
     (with_word (Part leaving.next place 1) l).list) (number_next ds x before k (omega (arith, within))))
 
 -- all bits are decided: what is left is the edge
-pub address_ends : (board : BoardParts) (m : Microword) (p : Place) (s : Standing) (r : Reading) (leaving : Leaving) (l : WordList)
+pub address_ends : (board : BoardParts) (m : Microword) (p : Progress) (s : Standing) (r : Reading) (leaving : Leaving) (l : WordList)
     (after : Stands) (at : ℕ) → length p.decided ≡ bits_before m + 12 → at ≡ number_in p.decided (bits_before m) 12
     → edge_words board m s r (leaving_of leaving) (effect_by m p.decided) at l ≡ after
     → (bits : List Bool) → left_of_address board m p s r leaving bits l ≡ done bits after
@@ -263,14 +263,14 @@ none_is None none = refl
 none_is (Some x) none = absurd (bool.both_ways false refl (sym none))
 
 -- a cycle that hasn't begun knows nothing of its end
-pub not_begun : (board : BoardParts) (store : List ℕ) (t : Table) (p : Place) (reading : Option read.Reading) (leaving : Option Leaving)
+pub not_begun : (board : BoardParts) (store : List ℕ) (t : Table) (p : Progress) (reading : Option read.Reading) (leaving : Option Leaving)
     → reading ≡ None → Leaves board store t p reading leaving → leaving ≡ None
 not_begun board store t p reading None none leaves = refl
 not_begun board store t p reading (Some l) none leaves =
     absurd (subst (λ (x : Option read.Reading). Leaves board store t p x (Some l)) none leaves)
 
 -- one that knows nothing of it has decided no bit of the next address
-pub few_decided : (board : BoardParts) (store : List ℕ) (t : Table) (p : Place) (r : read.Reading) (reading : Option read.Reading)
+pub few_decided : (board : BoardParts) (store : List ℕ) (t : Table) (p : Progress) (r : read.Reading) (reading : Option read.Reading)
     (leaving : Option Leaving) → reading ≡ Some r → leaving ≡ None → Leaves board store t p reading leaving
     → length p.decided ≤ bits_before (microword_of board store p)
 few_decided board store t p r reading leaving is none leaves =
@@ -296,7 +296,7 @@ asked_one turn k kind t term P one other is =
     subst (λ x. P kind x) terms (subst (λ x. P x t) kinds is)
 
 -- while pass or the counter is to be decided it knows nothing of its end
-pub not_leaving : (board : BoardParts) (store : List ℕ) (t : Table) (p : Place) (r : read.Reading) (reading : Option read.Reading)
+pub not_leaving : (board : BoardParts) (store : List ℕ) (t : Table) (p : Progress) (r : read.Reading) (reading : Option read.Reading)
     (leaving : Option Leaving) → reading ≡ Some r → Leaves board store t p reading leaving
     → length p.decided < bits_before (microword_of board store p) → leaving ≡ None
 not_leaving board store t p r reading None is leaves few = refl
@@ -316,7 +316,7 @@ pub stops_before : (board : BoardParts) (store : List ℕ) (writes : List Held) 
     (reading_of r) bits l1)
     → StopsAt board store writes old new l0 l1 kind term
 stops_before board store writes old new r l0 l1 kind term asked is reading leaving here goes =
-    let left = λ (p : Place) (bits : List Bool) (l : WordList).
+    let left = λ (p : Progress) (bits : List Bool) (l : WordList).
     ap₂ (λ x y. left_by board store p (standing_of p writes old.events) x y bits l) reading leaving in
     record {
       here = left old.place [] l0 ∙ here;
@@ -337,7 +337,7 @@ pub stops_behind : (board : BoardParts) (store : List ℕ) (writes : List Held) 
     (reading_of r) leaving bits l1)
     → StopsAt board store writes old new l0 l1 kind term
 stops_behind board store writes old new r leaving l0 l1 kind term asked is reading leaves here goes =
-    let left = λ (p : Place) (bits : List Bool) (l : WordList).
+    let left = λ (p : Progress) (bits : List Bool) (l : WordList).
     ap₂ (λ x y. left_by board store p (standing_of p writes old.events) x y bits l) reading leaves in
     record {
       here = left old.place [] l0 ∙ here;
@@ -363,7 +363,7 @@ pub stops_later : (board : BoardParts) (store : List ℕ) (writes : List Held) (
     → mid.events ≡ old.events → mold.board ≡ writes → GoesAlong board store writes old mid l0 l1
     → StopsAt board store writes mid new l1 l2 kind term → ListsTurn board store mold mnew old new l0 l2 turn
 stops_later board store writes old mid new l0 l1 l2 mold mnew turn kind term is place events same goes stops =
-    let standing = ap₂ (λ (p : Place) (es : List SymEvent). standing_of p writes es) place events in
+    let standing = ap₂ (λ (p : Progress) (es : List SymEvent). standing_of p writes es) place events in
     subst (λ (t : Turn). ListsTurn board store mold mnew old new l0 l2 t) (sym is)
     (subst (λ (ws : List Held). StopsAt board store ws old new l0 l2 kind term) (sym same) (record {
       here = goes [] ∙ stops.here ∙ ap (λ (s : Standing). stopped s (ended term l2)) standing;

@@ -24,7 +24,7 @@ use Rattle.mw_cycle.specs.EdgeWords.{Loaded, Made, Stands, edge_made, edge_words
 use Rattle.mw_cycle.specs.ReadingWords.{BitEnded, Bits, BitsMade, HasRead, MadeBit, Operands, Reading, Sources, SourcesMade, addends_words, all_read_words, bit_ended, bit_words, bits_in_order, condition_words, early_once, early_words, f_words, kept_or, late_once, made_or, made_term, masked_words, no_bits, operands_words, r_words, read_words, reading_words, source_words, sources_words, turned_words, with_made, y_term}
 use Rattle.mw_board.specs.declared.bit.Bit.TheVariants as bits
 use Rattle.mw_symboard.specs.Listed.{ListsBit, standing_after}
-use Rattle.mw_symboard.specs.Seen.{Place}
+use Rattle.mw_symboard.specs.Seen.{Progress}
 use Rattle.mw_seq.specs.declared.instruction.Effect.{Effect}
 use Rattle.mw_seq.specs.declared.instruction.Instruction.{Instruction}
 use Rattle.mw_seq.specs.declared.instruction.Instruction.TheVariants.{Jmap, Cjv}
@@ -356,7 +356,7 @@ parts_are p q regs quotient mar ir flips pc r stack =
     ∙ ap (λ (x : List ℕ). (record q { stack = x })) stack
 
 -- the same of where a board is after a cycle
-pub standing_is : (m : Microword) (old new : Place) (reading : Reading) (writes : List Held) (events : List SymEvent) (at sp : ℕ)
+pub standing_is : (m : Microword) (old new : Progress) (reading : Reading) (writes : List Held) (events : List SymEvent) (at sp : ℕ)
     (parts : Parts) → new.at ≡ at → new.sp ≡ sp → new.parts ≡ parts
     → record {
       at = at;

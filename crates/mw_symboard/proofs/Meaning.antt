@@ -26,7 +26,7 @@ use Rattle.mw_symboard.specs.Nets.{first_net, r_net, s_net, carry_in_net, second
 use Rattle.mw_symboard.specs.Made.{IsAddendR, IsAddendS, IsF, IsFrom, IsMasked, IsPart, IsR, IsS, IsWidened}
 use Rattle.mw_symboard.specs.Parts.{AreParts}
 use Rattle.mw_cycle.specs.BoardTerms.{term_of_part}
-use Rattle.mw_symboard.specs.Seen.{Place, Says, Scene, answer_net, d_net, microword_of}
+use Rattle.mw_symboard.specs.Seen.{Progress, Says, Scene, answer_net, d_net, microword_of}
 use Rattle.mw_symboard.proofs.Saying.{says_and, says_as, says_below, says_con, says_join, says_not, says_or, says_part, says_same, says_sum, says_wide, says_xor}
 
 -- a word is its own low bits
@@ -41,7 +41,7 @@ whole_part low v w x none all below =
     let first : x / 2 ^ low ≡ x = ap (λ (k : ℕ). x / 2 ^ k) none ∙ omega arith in
     sym (ap₂ (λ (n k : ℕ). n % 2 ^ k) first all ∙ low_bits x w below)
 
-module _ {board : BoardParts} {store : List ℕ} {t : Table} {words : List Word} {m : Memory} {p : Place} where
+module _ {board : BoardParts} {store : List ℕ} {t : Table} {words : List Word} {m : Memory} {p : Progress} where
   -- the term of an element says what the element has
   pub says_element : (e : Element) → AreParts board t p.parts → IsElement board e
       → Says board store t words m p (bits_of board e) (term_of_part p.parts e) (λ x. value_of x.state e)

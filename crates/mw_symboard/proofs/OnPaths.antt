@@ -21,7 +21,7 @@ use Rattle.mw_symmem.proofs.Lists.{pushed}
 use Rattle.mw_symboard.specs.Laws.{BeginsWith, Course, bits_in, run_in}
 use Rattle.mw_symboard.specs.Parts.{AreElements}
 use Rattle.mw_symboard.specs.Paths.{IsOneOf, Origin, PassedGoOn, PassedStay, PathsBegin, PathsGoOn, PathsStay, PathsTakeBits, SplitsAreBy}
-use Rattle.mw_symboard.specs.Seen.{Place}
+use Rattle.mw_symboard.specs.Seen.{Progress}
 use Rattle.mw_symboard.specs.Turns.{Symbolic, IsTurn}
 use Rattle.mw_symboard.proofs.RunBits.{first_before}
 use Rattle.mw_symboard.proofs.Runs.{bits_are_of_the_run, runs_begin, runs_fit_before, runs_stay, turns_are_of_the_run}
@@ -56,7 +56,7 @@ cycle_after : (board : BoardParts) (store : List ℕ) (t : Table) (words : List 
     (old new : Symbolic) (turn : Turn) (n : ℕ) → IsTurn board store t words mold mnew old new turn → new.place.cycle < n
     → old.place.cycle < n
 cycle_after board store t words mold mnew old new (Ask kind term) n turn less =
-    subst (λ (p : Place). p.cycle < n) turn.0 less
+    subst (λ (p : Progress). p.cycle < n) turn.0 less
 cycle_after board store t words mold mnew old new Finished n turn less = omega (arith, less, turn.2)
 
 pub paths_go_on : PathsGoOn

@@ -27,7 +27,7 @@ use Rattle.mw_symboard.specs.Kinds.{IsCycleKind, IsSourceKind}
 use Rattle.mw_symboard.specs.Made.{IsFrom, IsMasked, IsR, IsS, IsAddendR, IsAddendS, IsF, IsEarlyBit, IsBitTerm}
 use Rattle.mw_symboard.specs.Parts.{AreParts}
 use Rattle.mw_cycle.specs.BoardTerms.{Parts}
-use Rattle.mw_symboard.specs.Seen.{Place}
+use Rattle.mw_symboard.specs.Seen.{Progress}
 use Rattle.mw_symboard.proofs.Growing.{grew_then, wide_later}
 use Rattle.mw_symboard.proofs.Standing.{addend_r_stays, addend_s_stays, early_bit_stays, f_stays, found_stays, from_stays, masked_stays, parts_stay, r_stays, s_stays, sources_stay}
 use Rattle.mw_symboard.proofs.Variables.{grew_term}
@@ -151,7 +151,7 @@ pub no_early_bits : (board : BoardParts) (t : Table) (p : Parts) (sp line : ℕ)
     → AreEarlyBits board t p sp line made
 no_early_bits board t p sp line made none = rw none (λ k m is. absurd cc)
 
-module _ (board : BoardParts) (m : Microword) (p : Place) (t0 t1 t2 t3 t4 t5 t6 : Table)
+module _ (board : BoardParts) (m : Microword) (p : Progress) (t0 t1 t2 t3 t4 t5 t6 : Table)
     (w0 w1 w2 w3 w4 w5 w6 : List Word) (m0 m2 : Memory)
     (goes : GoesOn (IsCycleKind p.cycle p.taken) t0 t1 w0 w1 m0 m0)
     (taken : GoesOn (IsSourceKind p.taken) t1 t2 w1 w2 m0 m2) (two : Grew t2 t3 w2 w3) (three : Grew t3 t4 w3 w4)

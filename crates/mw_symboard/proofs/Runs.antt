@@ -37,9 +37,9 @@ use Rattle.mw_symmem.proofs.Later.{image_before, images_fit_before, valued_stays
 use Rattle.mw_symboard.specs.Laws.{BeginsWith, BitsAreFirst, BitsAreOfTheRun, Course, ElementsHaveTerms, FitsSoFar, IsEnvironmentOf, IsInRun, IsNew, RunsBegin, RunsFitBefore, RunsStay, TurnsAreOfTheRun, bits_in, run_in}
 use Rattle.mw_symboard.specs.Parts.{AreParts}
 use Rattle.mw_cycle.specs.BoardTerms.{term_of_part}
-use Rattle.mw_symboard.specs.Seen.{AreFirst, IsOutside, IsSeen, IsStateOf, Place, Scene}
+use Rattle.mw_symboard.specs.Seen.{AreFirst, IsOutside, IsSeen, IsStateOf, Progress, Scene}
 use Rattle.mw_symboard.specs.Turns.{Symbolic, AreEvents, IsDone, clock_of, event_of, event_term, with_reads}
-use Rattle.mw_symboard.proofs.Begun.{has_number, number_below, number_of}
+use Rattle.mw_symboard.proofs.Begun.{has_number, number_below, number_of_element}
 use Rattle.mw_symboard.proofs.RunBits.{bits_next, bits_none, first_next, first_of, first_of_run, next_of_cycle, next_of_run, run_next, run_none}
 use Rattle.mw_symboard.proofs.Standing.{parts_stay}
 use Rattle.mw_symboard.proofs.Staying.{events_stay}
@@ -48,7 +48,7 @@ use Rattle.mw_symboard.proofs.Staying.{events_stay}
 
 -- a state has the values of the parts still, while the board's side writes nothing
 state_stays : (board : BoardParts) (told tnew : Table) (words : List Word) (mold mnew : Memory) (given : Given)
-    (p : Place) (image : List ℕ) (s : BoardState) → IsLater told tnew → IsMemory told words mold → mnew.board
+    (p : Progress) (image : List ℕ) (s : BoardState) → IsLater told tnew → IsMemory told words mold → mnew.board
     ≡ mold.board
     → AreParts board told p.parts → IsStateOf board told given mold p image s
     → IsStateOf board tnew given mnew p image s
@@ -112,7 +112,7 @@ new_state board t m given x terms o new none begins = record {
   at = begins.address;
   sp = begins.depth;
   elements = λ e own.
-      let n = number_of board e in
+      let n = number_of_element board e in
       let below = number_below board e own in
       subst (λ (f : Element). value_of x.start f ≡ term_value t given (term_of_part o.place.parts f))
       (has_number board e own)
@@ -165,7 +165,7 @@ variable_of (w ∷ words) kind term is = elim (first_or_rest w w.kind kind term 
 ]
 
 -- what the outside has for the cycle at a place
-outside_of : (board : BoardParts) (t : Table) (words : List Word) (given : Given) (env : Environment) (p : Place)
+outside_of : (board : BoardParts) (t : Table) (words : List Word) (given : Given) (env : Environment) (p : Progress)
     (k : Clock) → k ≡ clock_of p → IsEnvironmentOf board t words given env
     → IsOutside board t given words p (given_at env k)
 outside_of board t words given env p k same is =
@@ -212,15 +212,15 @@ in_run_same : (board : BoardParts) (store : List ℕ) (t : Table) (m : Memory) (
     → IsInRun board store t m given x old bits
     → IsInRun board store t m given x new bits
 in_run_same board store t m old new given x bits place es is = record {
-  clock = subst (λ (p : Place). (run_in board store x p.cycle).clock ≡ clock_of p) (sym place) is.clock;
-  state = subst (λ (p : Place). IsStateOf board t given m p x.image (run_in board store x p.cycle).state)
+  clock = subst (λ (p : Progress). (run_in board store x p.cycle).clock ≡ clock_of p) (sym place) is.clock;
+  state = subst (λ (p : Progress). IsStateOf board t given m p x.image (run_in board store x p.cycle).state)
       (sym place) is.state;
-  events = subst (λ (p : Place). (run_in board store x p.cycle).events ≡ map (event_of t given) old.events)
+  events = subst (λ (p : Progress). (run_in board store x p.cycle).events ≡ map (event_of t given) old.events)
       (sym place) is.events
       ∙ ap (map (event_of t given)) (sym es);
-  first = subst (λ (p : Place). AreFirst p.decided (bits_of_cycle board store x.env x.start p.cycle))
+  first = subst (λ (p : Progress). AreFirst p.decided (bits_of_cycle board store x.env x.start p.cycle))
       (sym place) is.first;
-  bits = subst (λ (p : Place). bits ≡ bits_in board store x p.cycle ++ p.decided) (sym place) is.bits;
+  bits = subst (λ (p : Progress). bits ≡ bits_in board store x p.cycle ++ p.decided) (sym place) is.bits;
 }
 
 -- a board whose cycle is done is in its run, with all bits of that cycle
@@ -280,11 +280,11 @@ turns_are_of_the_run board store told tnew wold wnew mold mnew old new
     let now = in_run_same board store tnew mnew old new given x bits turn.0 turn.1 later in
     let scene = scene_of board store x old.place.cycle in
     let there : IsSeen board store tnew wnew mnew new.place given scene =
-    subst (λ (p : Place). IsSeen board store tnew wnew mnew p given scene) (sym turn.0)
+    subst (λ (p : Progress). IsSeen board store tnew wnew mnew p given scene) (sym turn.0)
     (subst (λ (m : Memory). IsSeen board store tnew wnew m old.place given scene) (sym turn.2) seen) in
     let next : slice_get (bits_of_cycle board store x.env x.start new.place.cycle) (length new.place.decided)
     ≡ Some (decided kind (term_value tnew given term == 1)) =
-    ap (λ (p : Place). slice_get (bits_of_cycle board store x.env x.start p.cycle) (length new.place.decided)) turn.0
+    ap (λ (p : Progress). slice_get (bits_of_cycle board store x.env x.start p.cycle) (length new.place.decided)) turn.0
     ∙ turn.3.next given scene there in (
       now,
       λ other that asks n less.

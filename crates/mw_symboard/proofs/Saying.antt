@@ -25,7 +25,7 @@ use Rattle.mw_symmem.proofs.Later.{held_by_stays, image_before, images_fit_befor
 use Rattle.mw_symboard.specs.Made.{Is}
 use Rattle.mw_symboard.specs.Parts.{AreParts}
 use Rattle.mw_cycle.specs.BoardTerms.{term_of_part}
-use Rattle.mw_symboard.specs.Seen.{IsSeen, Place, Says, Scene}
+use Rattle.mw_symboard.specs.Seen.{IsSeen, Progress, Says, Scene}
 
 -- the test of a bit as a number is the bit
 pub num_is : (b : Bool) → (num b == 1) ≡ b
@@ -46,7 +46,7 @@ carry_same x f y g c v w h first second carry wide =
     ∙ ap (λ (b : Bool). carry_at f g b v) bit
     ∙ ap (λ (n : ℕ). carry_at f g h n) wide
 
-module _ {board : BoardParts} {store : List ℕ} {t : Table} {words : List Word} {m : Memory} {p : Place} where
+module _ {board : BoardParts} {store : List ℕ} {t : Table} {words : List Word} {m : Memory} {p : Progress} where
   -- a term of an op says what the op's value is
   pub says_op : (op : Op) (w x : ℕ) (net : Scene → ℕ) → IsTable t → Is t op x → width_over t op ≡ w
       → ((given : Given) (s : Scene) → IsSeen board store t words m p given s → value_over t given op ≡ net s)
@@ -259,7 +259,7 @@ variable_before {told = told} {wold = wold} {wnew = wnew} given kind value works
     (term_of_more wold goes.more kind term is) in
     sym (goes.later.keeps.values given term there) ∙ later term now
 
-module _ {board : BoardParts} {store : List ℕ} {p : Place} {K : WordKind → Type 0} {told tnew : Table} {wold wnew : List Word} {mold mnew : Memory} where
+module _ {board : BoardParts} {store : List ℕ} {p : Progress} {K : WordKind → Type 0} {told tnew : Table} {wold wnew : List Word} {mold mnew : Memory} where
   -- what is seen later was seen before
   pub seen_before : (given : Given) (s : Scene) → IsWorkspace told wold mold → GoesOn K told tnew wold wnew mold mnew
       → KeepsWrites mold mnew → AreParts board told p.parts → IsSeen board store tnew wnew mnew p given s

@@ -23,7 +23,7 @@ use Rattle.mw_term.specs.declared.word.Word.{Word}
 use Rattle.mw_symmem.specs.Memory.{Memory}
 use Rattle.mw_symboard.specs.Made.{IsDirect, IsEntry, IsLessOne, IsNext, IsTop}
 use Rattle.mw_symboard.specs.Parts.{AreParts}
-use Rattle.mw_symboard.specs.Seen.{IsSeen, Place, Says, Scene, direct_net, microword_of}
+use Rattle.mw_symboard.specs.Seen.{IsSeen, Progress, Says, Scene, direct_net, microword_of}
 use Rattle.mw_symboard.proofs.Meaning.{says_element, says_piece}
 use Rattle.mw_symboard.proofs.Saying.{says_as, says_below, says_con, says_part, says_same, says_sum, says_tab}
 
@@ -42,7 +42,7 @@ less_one_sum r some below =
 last_below : (sp depth : ℕ) → (sp == 0) ≡ false → sp ≤ depth → sp - 1 < depth
 last_below sp depth some within = grind (arith, nat_tests)
 
-module _ {board : BoardParts} {store : List ℕ} {t : Table} {words : List Word} {m : Memory} {p : Place} where
+module _ {board : BoardParts} {store : List ℕ} {t : Table} {words : List Word} {m : Memory} {p : Progress} where
   -- what the map gives, where it has bits or none
   says_entry : (none : Bool) (term : ℕ) → (board.map_bits == 0) ≡ none → IsTable t → valid.IsBoard board
       → AreParts board t p.parts → t.map ≡ board.map_entries → IsEntry none board t p.parts.ir term

@@ -23,7 +23,7 @@ use Rattle.mw_symboard.specs.declared.bits.Sources.{Sources}
 use Rattle.mw_symboard.specs.Made.{Is, IsBitTerm, IsEarlyBit, IsLoaded, sources_of}
 use Rattle.mw_cycle.specs.ReadingWords.{carry_op, overflow_op}
 use Rattle.mw_symboard.specs.Parts.{AreParts}
-use Rattle.mw_symboard.specs.Seen.{Place, Says, Scene, answer_net, bit_net, early_net, microword_of}
+use Rattle.mw_symboard.specs.Seen.{Progress, Says, Scene, answer_net, bit_net, early_net, microword_of}
 use Rattle.mw_symboard.proofs.Meaning.{low_bits, says_element}
 use Rattle.mw_symboard.specs.Nets.{carry_in_net, first_net, r_net, s_net, second_net, SaySources}
 use Rattle.mw_symboard.proofs.Saying.{says_as, says_below, says_bit, says_con, says_cout, says_eq, says_not, says_ovf, says_same, says_xor}
@@ -76,7 +76,7 @@ overflow_value function w r s c noise false is first second =
 
 -- ---- of a cycle
 
-module _ {board : BoardParts} {store : List ℕ} {t : Table} {words : List Word} {m : Memory} {p : Place} where
+module _ {board : BoardParts} {store : List ℕ} {t : Table} {words : List Word} {m : Memory} {p : Progress} where
   -- a bit that stands before F is made
   pub says_early : (line : ℕ) (bit : Bit) (term : ℕ) → IsTable t → AreParts board t p.parts
       → valid.IsBit board.width (length board.flipflop) bit

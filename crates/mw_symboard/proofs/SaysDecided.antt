@@ -25,7 +25,7 @@ use Rattle.mw_term.specs.declared.word.Word.{Word}
 use Rattle.mw_symmem.specs.Memory.{Memory}
 use Rattle.mw_cycle.proofs.Tested.{tests, counts, tests_is, counts_is, untested_same, uncounted_same}
 use Rattle.mw_symboard.specs.Cycle.{bits_before, effect_by, number_in, value_in, zero_by}
-use Rattle.mw_symboard.specs.Seen.{IsSeen, Place, Scene, answer_net, microword_of, next_net, pass_net}
+use Rattle.mw_symboard.specs.Seen.{IsSeen, Progress, Scene, answer_net, microword_of, next_net, pass_net}
 
 -- ---- lists of decided bits
 
@@ -208,7 +208,7 @@ bits_at board store x at =
     let pass = pass_of board m (answer_of board m x.state x.outside) x.state x.outside in
     pass_bits m pass ++ counter_bits m x.state ++ address_bits (next_address board m pass x.state x.outside) 12
 
-module _ {board : BoardParts} {store : List ℕ} {t : Table} {words : List Word} {m : Memory} {p : Place} where
+module _ {board : BoardParts} {store : List ℕ} {t : Table} {words : List Word} {m : Memory} {p : Progress} where
   -- its decided bits, by the microword of the place
   pub seen_bits : (given : Given) (x : Scene) → IsSeen board store t words m p given x
       → decided_of board store x.state x.outside

@@ -27,7 +27,7 @@ use Rattle.mw_symboard.specs.declared.reading.Reading.{Reading}
 use Rattle.mw_symboard.specs.Cycle.{IsEdge, IsLeaving, IsReading, bits_before}
 use Rattle.mw_symboard.specs.Parts.{AreParts}
 use Rattle.mw_cycle.specs.BoardTerms.{Parts, term_of_part}
-use Rattle.mw_symboard.specs.Seen.{IsSeen, IsStateOf, Place, Scene, after_net, answer_net, microword_of}
+use Rattle.mw_symboard.specs.Seen.{IsSeen, IsStateOf, Progress, Scene, after_net, answer_net, microword_of}
 use Rattle.mw_symboard.specs.Shown.{shown, taken_after}
 use Rattle.mw_symboard.specs.Turns.{IsDone, Symbolic, clock_of, event_of}
 use Rattle.mw_symboard.proofs.SaysDecided.{seen_all}
@@ -73,7 +73,7 @@ clock_by from true y cycle taken x = refl
 clock_by from false y cycle taken x = refl
 
 -- a state of a place is one of each place with the same address, stack pointer and parts
-pub state_of_same : (board : BoardParts) (t : Table) (given : Given) (m : Memory) (p new : Place) (image : List ℕ)
+pub state_of_same : (board : BoardParts) (t : Table) (given : Given) (m : Memory) (p new : Progress) (image : List ℕ)
     (s : BoardState) → new.at ≡ p.at → new.sp ≡ p.sp → new.parts ≡ p.parts → IsStateOf board t given m p image s
     → IsStateOf board t given m new image s
 state_of_same board t given m p new image s at sp parts is = record {
@@ -84,7 +84,7 @@ state_of_same board t given m p new image s at sp parts is = record {
   memory = is.memory;
 }
 
-module _ {board : BoardParts} {store : List ℕ} {t : Table} {words : List Word} {m : Memory} {p : Place} where
+module _ {board : BoardParts} {store : List ℕ} {t : Table} {words : List Word} {m : Memory} {p : Progress} where
   -- the event of a cycle that is seen
   event_seen : (given : Given) (x : Scene) → IsSeen board store t words m p given x
       → (nets_of board store x.state x.outside).event
@@ -104,7 +104,7 @@ module _ {board : BoardParts} {store : List ℕ} {t : Table} {words : List Word}
       ∙ sym (event_seen given x seen)
 
 -- what was made of a place when its cycle ends
-pub at_edge : (board : BoardParts) (store : List ℕ) (t : Table) (words : List Word) (m : Memory) (p new : Place)
+pub at_edge : (board : BoardParts) (store : List ℕ) (t : Table) (words : List Word) (m : Memory) (p new : Progress)
     (made : Reading) (end : Leaving) → IsTable t → valid.IsBoard board → AreParts board t p.parts
     → IsMicroword board (microword_of board store p) → t.map ≡ board.map_entries → p.sp ≤ depth_of board
     → bits_before (microword_of board store p) + 12 ≤ length p.decided
@@ -128,7 +128,7 @@ at_edge board store t words m p new made end table good parts micro map sp known
 
 -- A symbolic board that has taken its edge, shown its event and counted its cycle is done.
 pub says_done : (board : BoardParts) (store : List ℕ) (t : Table) (words : List Word) (m mnew : Memory) (old new : Symbolic)
-    (edged : Place) (made : Reading) (end : Leaving) → IsAtEdge board store t words m old.place edged made end
+    (edged : Progress) (made : Reading) (end : Leaving) → IsAtEdge board store t words m old.place edged made end
     → new.place.at ≡ edged.at → new.place.sp ≡ edged.sp → new.place.parts ≡ edged.parts
     → new.place.cycle ≡ old.place.cycle + 1
     → new.place.taken ≡ taken_after (microword_of board store old.place).d.from old.place.taken

@@ -18,7 +18,7 @@ use Rattle.mw_symmem.specs.Memory.{Memory}
 use Rattle.mw_symboard.specs.declared.bits.Sources.{Sources}
 use Rattle.mw_symboard.specs.Made.{IsDown, IsShiftedDown, IsShiftedUp, IsUp, IsWrittenB, IsWrittenQ}
 use Rattle.mw_symboard.specs.Parts.{AreParts}
-use Rattle.mw_symboard.specs.Seen.{Place, Says, Scene, answer_net, microword_of}
+use Rattle.mw_symboard.specs.Seen.{Progress, Says, Scene, answer_net, microword_of}
 use Rattle.mw_symboard.proofs.Meaning.{low_bits, says_element}
 use Rattle.mw_symboard.proofs.Saying.{says_as, says_below, says_join, says_part, says_wide}
 use Rattle.mw_symboard.proofs.SaysBits.{says_bit_term}
@@ -45,12 +45,12 @@ up_parts w x low some =
     ap (λ (n : ℕ). n % 2 ^ (w - 1) * 2 + num low) one ∙ ap (λ (n : ℕ). n + num low) (sym cut)
 
 -- a term that is written says a net, where one is written
-abbrev pub SaysTaken : (writes : Bool) → BoardParts → List ℕ → Table → List Word → Memory → Place → (width : ℕ) → Option ℕ
+abbrev pub SaysTaken : (writes : Bool) → BoardParts → List ℕ → Table → List Word → Memory → Progress → (width : ℕ) → Option ℕ
     → (Scene → ℕ) → Type 0
 SaysTaken false board store t words m p width o net = o ≡ None
 SaysTaken true board store t words m p width o net = (term : ℕ) × (o ≡ Some term) × Says board store t words m p width term net
 
-module _ {board : BoardParts} {store : List ℕ} {t : Table} {words : List Word} {m : Memory} {p : Place} where
+module _ {board : BoardParts} {store : List ℕ} {t : Table} {words : List Word} {m : Memory} {p : Progress} where
   -- a word shifted down
   pub says_down : (w word high term : ℕ) (f : Scene → ℕ) (h : Scene → Bool) → IsTable t → 1 ≤ w → IsDown t w word high term
       → Says board store t words m p w word f → Says board store t words m p 1 high (λ x. num (h x))

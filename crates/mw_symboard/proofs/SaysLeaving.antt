@@ -27,7 +27,7 @@ use Rattle.mw_symboard.specs.declared.reading.Reading.{Reading}
 use Rattle.mw_symboard.specs.Cycle.{IsCounter, IsLeaving, bits_before, effect_by}
 use Rattle.mw_symboard.specs.Made.{Is}
 use Rattle.mw_symboard.specs.Parts.{AreParts}
-use Rattle.mw_symboard.specs.Seen.{IsSeen, Place, Says, Scene, answer_net, condition_net, direct_net, microword_of, next_net, pass_net}
+use Rattle.mw_symboard.specs.Seen.{IsSeen, Progress, Says, Scene, answer_net, condition_net, direct_net, microword_of, next_net, pass_net}
 use Rattle.mw_symboard.proofs.Meaning.{says_element}
 use Rattle.mw_symboard.proofs.Saying.{num_is, says_as, says_bit, says_con, says_eq, says_same}
 use Rattle.mw_symboard.proofs.SaysAddress.{says_direct, says_less_one, says_next}
@@ -44,7 +44,7 @@ is_enabled : (disabled asks : Bool) → not disabled && asks ≡ true → disabl
 is_enabled false asks is = refl
 is_enabled true asks is = absurd cc
 
-module _ {board : BoardParts} {store : List ℕ} {t : Table} {words : List Word} {m : Memory} {p : Place} where
+module _ {board : BoardParts} {store : List ℕ} {t : Table} {words : List Word} {m : Memory} {p : Progress} where
   -- the register/counter, by its move
   says_counter : (rld : Bool) (move : CounterMove) (direct term : ℕ) → IsTable t → AreParts board t p.parts
       → Says board store t words m p 12 direct (direct_net board store p)

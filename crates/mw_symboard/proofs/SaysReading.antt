@@ -20,13 +20,13 @@ use Rattle.mw_symboard.specs.Cycle.{IsReading, IsTurned}
 use Rattle.mw_cycle.specs.ReadingWords.{y_term}
 use Rattle.mw_symboard.specs.Made.{IsF}
 use Rattle.mw_symboard.specs.Parts.{AreParts}
-use Rattle.mw_symboard.specs.Seen.{Place, Says, Scene, answer_net, condition_net, d_net, microword_of}
+use Rattle.mw_symboard.specs.Seen.{Progress, Says, Scene, answer_net, condition_net, d_net, microword_of}
 use Rattle.mw_symboard.proofs.Meaning.{says_addend_r, says_addend_s, says_answer, says_d, says_element, says_r, says_s, says_source}
 use Rattle.mw_symboard.specs.Nets.{carry_in_net, first_net, r_net, s_net, second_net, SaySources, SaysReading}
 use Rattle.mw_symboard.proofs.Saying.{says_same}
 use Rattle.mw_symboard.proofs.SaysBits.{says_bit_term, says_early, says_turned}
 
-module _ {board : BoardParts} {store : List ℕ} {t : Table} {words : List Word} {m : Memory} {p : Place} where
+module _ {board : BoardParts} {store : List ℕ} {t : Table} {words : List Word} {m : Memory} {p : Progress} where
   -- Y is A in RAMA, and else F
   says_y_term : (destination : Destination) (w a f y : ℕ) (g h : Scene → ℕ) → y ≡ y_term destination a f
       → Says board store t words m p w a g → Says board store t words m p w f h

@@ -39,7 +39,7 @@ use Rattle.mw_symboard.specs.Cycle.{IsEdge, IsMar, bits_before, effect_by}
 use Rattle.mw_cycle.specs.EdgeWords.{or_taken, with_pushed, with_taken, pushed_word, sp_after}
 use Rattle.mw_symboard.specs.Parts.{AreParts}
 use Rattle.mw_cycle.specs.BoardTerms.{term_of_part}
-use Rattle.mw_symboard.specs.Seen.{IsSeen, IsStateOf, Place, Says, Scene, after_net, answer_net, microword_of, next_net, pass_net}
+use Rattle.mw_symboard.specs.Seen.{IsSeen, IsStateOf, Progress, Says, Scene, after_net, answer_net, microword_of, next_net, pass_net}
 use Rattle.mw_symboard.proofs.AfterEdge.{after_one_more, flip_bit, flips_below, item_is, moved_sp, moved_words, pushed_below, pushed_both, pushed_length, set_both, sp_within}
 use Rattle.mw_symboard.proofs.Meaning.{says_element, says_low}
 use Rattle.mw_symboard.proofs.Saying.{says_below, says_con}
@@ -64,7 +64,7 @@ unwritten_q destinations.Ramqu w f q pins none = absurd cc
 unwritten_q destination w f q pins none = refl
 
 -- the state after the edge, by the microword of the place
-abbrev pub edge_net : BoardParts → List ℕ → Place → Scene → BoardState
+abbrev pub edge_net : BoardParts → List ℕ → Progress → Scene → BoardState
 edge_net board store p x =
     edge board (microword_of board store p) (answer_net board store p x) (pass_net board store p x) x.state x.outside
 
@@ -76,7 +76,7 @@ after_at board store x at =
     edge board m answer (pass_of board m answer x.state x.outside) x.state x.outside
 
 -- a place and what was made of it, when all bits of its cycle are decided and its parts have taken what they do
-pub record IsAtEdge (board : BoardParts) (store : List ℕ) (t : Table) (words : List Word) (m : Memory) (p new : Place)
+pub record IsAtEdge (board : BoardParts) (store : List ℕ) (t : Table) (words : List Word) (m : Memory) (p new : Progress)
     (made : Reading) (end : Leaving) : Type 0 where
   pub table : IsTable t
   pub good : valid.IsBoard board
@@ -89,7 +89,7 @@ pub record IsAtEdge (board : BoardParts) (store : List ℕ) (t : Table) (words :
   pub edge : IsEdge board (microword_of board store p) t p new made end
 
 -- the load of a flip-flop names a bit that there is
-load_is : (board : BoardParts) (store : List ℕ) (p : Place) (n : ℕ) (f : FlipFlopOf) → valid.IsBoard board
+load_is : (board : BoardParts) (store : List ℕ) (p : Progress) (n : ℕ) (f : FlipFlopOf) → valid.IsBoard board
     → n < length board.flipflop → slice_get board.flipflop n ≡ Some f
     → valid.IsLoad board.width (length board.flipflop) (load_of board (microword_of board store p) f)
 load_is board store p n f good inside is =
@@ -98,7 +98,7 @@ load_is board store p n f good inside is =
     chosen_is (valid.IsLoad board.width (length board.flipflop)) loads.Hold f.load
     (value_at board.fields (microword_of board store p).word f.control) named.some named.entries
 
-module _ {board : BoardParts} {store : List ℕ} {t : Table} {words : List Word} {m : Memory} {p : Place} where
+module _ {board : BoardParts} {store : List ℕ} {t : Table} {words : List Word} {m : Memory} {p : Progress} where
   edge_seen : (given : Given) (x : Scene) → IsSeen board store t words m p given x
       → after_net board store x ≡ edge_net board store p x
   unfolding state_after
@@ -165,7 +165,7 @@ module _ {board : BoardParts} {store : List ℕ} {t : Table} {words : List Word}
   memory_after false y net says given x seen = seen.state.memory
 
 -- what was made of a place, and the scene in which it is seen
-module _ {board : BoardParts} {store : List ℕ} {t : Table} {words : List Word} {m : Memory} {p new : Place} {made : Reading} {end : Leaving} where
+module _ {board : BoardParts} {store : List ℕ} {t : Table} {words : List Word} {m : Memory} {p new : Progress} {made : Reading} {end : Leaving} where
   -- the entry of the table
   edge_effect : IsAtEdge board store t words m p new made end → (given : Given) (x : Scene)
       → IsSeen board store t words m p given x

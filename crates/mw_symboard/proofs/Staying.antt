@@ -24,7 +24,7 @@ use Rattle.mw_symboard.specs.declared.leaving.Leaving.{Leaving}
 use Rattle.mw_symboard.specs.Cycle.{IsCounter, IsLeaving, IsReading, IsTurned, effect_by}
 use Rattle.mw_symboard.specs.Growth.{Grew}
 use Rattle.mw_symboard.specs.Kinds.{AreInputs}
-use Rattle.mw_symboard.specs.Seen.{Place, microword_of}
+use Rattle.mw_symboard.specs.Seen.{Progress, microword_of}
 use Rattle.mw_symboard.specs.Turns.{Symbolic, AreEvents, AreNoLater, HasRead, IsSymbolic, Leaves, event_term}
 use Rattle.mw_symboard.proofs.Standing.{addend_r_stays, addend_s_stays, bit_term_stays, bits_stay, direct_stays, early_bit_stays, f_stays, found_stays, from_stays, less_one_stays, masked_stays, next_stays, parts_stay, r_stays, s_stays, sources_stay}
 
@@ -66,7 +66,7 @@ turned_stays false told tnew bit term extends is = is
 
 -- what was read stays so
 pub reading_stays : (board : BoardParts) (m : Microword) (told tnew : Table) (words : List Word) (made : List ℕ)
-    (memory : Memory) (p : Place) (r : Reading) → IsWorkspace told words memory → IsLater told tnew
+    (memory : Memory) (p : Progress) (r : Reading) → IsWorkspace told words memory → IsLater told tnew
     → p.parts.mar < length told.ops → IsReading board m told words memory p r
     → IsReading board m tnew (words ++ map plain made) memory p r
 reading_stays board m told tnew words made memory p r workspace later mar is =
@@ -111,7 +111,7 @@ counter_stays false counters.Loaded told tnew old direct term extends is = is
 counter_stays false counters.Counted told tnew old direct term extends is = less_one_stays told tnew old term extends is
 
 -- what is known of the end stays so
-pub leaving_stays : (board : BoardParts) (m : Microword) (told tnew : Table) (p : Place) (noise : ℕ) (l : Leaving)
+pub leaving_stays : (board : BoardParts) (m : Microword) (told tnew : Table) (p : Progress) (noise : ℕ) (l : Leaving)
     → IsLater told tnew → IsLeaving board m told p noise l → IsLeaving board m tnew p noise l
 leaving_stays board m told tnew p noise l later is =
     let ex = later.extends in
@@ -127,7 +127,7 @@ leaving_stays board m told tnew p noise l later is =
     }
 
 has_read_stays : (board : BoardParts) (store : List ℕ) (told tnew : Table) (words : List Word) (made : List ℕ) (m : Memory)
-    (p : Place) (read : Option Reading) → IsWorkspace told words m → IsLater told tnew → p.parts.mar < length told.ops
+    (p : Progress) (read : Option Reading) → IsWorkspace told words m → IsLater told tnew → p.parts.mar < length told.ops
     → HasRead board store told words m p read → HasRead board store tnew (words ++ map plain made) m p read
 has_read_stays board store told tnew words made m p None workspace later mar has =
     (has.0, none_stay p.cycle words made has.1)
@@ -136,7 +136,7 @@ has_read_stays board store told tnew words made m p (Some r) workspace later mar
   none_stay (p.cycle + 1) words made has.1,
 )
 
-leaves_stays : (board : BoardParts) (store : List ℕ) (told tnew : Table) (p : Place) (read : Option Reading)
+leaves_stays : (board : BoardParts) (store : List ℕ) (told tnew : Table) (p : Progress) (read : Option Reading)
     (leaving : Option Leaving) → IsLater told tnew → Leaves board store told p read leaving
     → Leaves board store tnew p read leaving
 leaves_stays board store told tnew p (Some r) (Some l) later leaves =

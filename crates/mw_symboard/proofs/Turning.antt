@@ -23,14 +23,14 @@ use Rattle.mw_symboard.specs.Cycle.{IsReading, IsLeaving, IsCounter, bits_before
 use Rattle.mw_symboard.specs.Kinds.{AreInputs}
 use Rattle.mw_symboard.specs.Made.{Is, IsNext}
 use Rattle.mw_symboard.specs.Parts.{AreParts}
-use Rattle.mw_symboard.specs.Seen.{Place, microword_of}
+use Rattle.mw_symboard.specs.Seen.{Progress, microword_of}
 use Rattle.mw_symboard.specs.Turns.{Symbolic, AreEvents, AreNoLater, Asks, HasRead, IsSymbolic, Leaves, decided_so}
 use Rattle.mw_symboard.proofs.SaysLeaving.{asks_counter, asks_next, asks_pass, says_leaving}
 use Rattle.mw_symboard.proofs.SaysReading.{says_reading}
 use Rattle.mw_symboard.proofs.Deciding.{count_more, pass_same, zero_same}
 
 -- a place with one decided bit more
-abbrev pub further : Place → Decided → Place
+abbrev pub further : Progress → Decided → Progress
 further p bit = record p { decided = p.decided ++ bit ∷ [] }
 
 -- the table's entry is the same with one bit more
@@ -44,7 +44,7 @@ effect_same m ds bit within =
 none_some : {A : Type 0} {x : A} → None ≡ Some x → ⊥
 none_some is = absurd cc
 
-read_so : (board : BoardParts) (store : List ℕ) (t : Table) (words : List Word) (m : Memory) (p : Place) (bit : Decided)
+read_so : (board : BoardParts) (store : List ℕ) (t : Table) (words : List Word) (m : Memory) (p : Progress) (bit : Decided)
     (read : Option Reading) (reading : Reading) → read ≡ Some reading → HasRead board store t words m p read
     → HasRead board store t words m (further p bit) read
 read_so board store t words m p bit None reading is has = absurd (none_some is)
@@ -80,7 +80,7 @@ read_so board store t words m p bit (Some r) reading is has = (
   has.1,
 )
 
-leaves_so : (board : BoardParts) (store : List ℕ) (t : Table) (p : Place) (bit : Decided) (read : Option Reading)
+leaves_so : (board : BoardParts) (store : List ℕ) (t : Table) (p : Progress) (bit : Decided) (read : Option Reading)
     (leaving : Option Leaving) → (leaving ≡ None → length p.decided < bits_before (microword_of board store p))
     → Leaves board store t p read leaving → Leaves board store t (further p bit) read leaving
 leaves_so board store t p bit (Some r) (Some l) tests leaves =
@@ -127,14 +127,14 @@ decide_keeps board store t words m o asked kind term value asks symbolic =
 -- ---- what is there once a cycle has begun
 
 -- what it has read
-pub read_known : (board : BoardParts) (store : List ℕ) (t : Table) (words : List Word) (m : Memory) (p : Place)
+pub read_known : (board : BoardParts) (store : List ℕ) (t : Table) (words : List Word) (m : Memory) (p : Progress)
     (read : Option Reading) (r : Reading) → read ≡ Some r → HasRead board store t words m p read
     → IsReading board (microword_of board store p) t words m p r × AreNoLater (p.cycle + 1) words
 read_known board store t words m p read r is has =
     subst (λ (x : Option Reading). HasRead board store t words m p x) is has
 
 -- what it knows of its end
-pub leaving_known : (board : BoardParts) (store : List ℕ) (t : Table) (p : Place) (read : Option Reading)
+pub leaving_known : (board : BoardParts) (store : List ℕ) (t : Table) (p : Progress) (read : Option Reading)
     (leaving : Option Leaving) (r : Reading) (l : Leaving) → read ≡ Some r → leaving ≡ Some l
     → Leaves board store t p read leaving
     → IsLeaving board (microword_of board store p) t p r.sources.noise l
@@ -270,7 +270,7 @@ reading_keeps board store told tnew wold wnew mold mnew o r none is parts events
       few = is.few;
     }
   where
-    none_left : (board : BoardParts) (store : List ℕ) (told tnew : Table) (p : Place) (leaving : Option Leaving) (r : Reading)
+    none_left : (board : BoardParts) (store : List ℕ) (told tnew : Table) (p : Progress) (leaving : Option Leaving) (r : Reading)
         → Leaves board store told p None leaving → length p.decided ≤ bits_before (microword_of board store p)
         → Leaves board store tnew p (Some r) leaving
     none_left board store told tnew p None r leaves few = few

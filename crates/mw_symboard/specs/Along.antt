@@ -18,7 +18,7 @@ use Rattle.mw_symboard.specs.declared.leaving.Leaving.{Leaving}
 use Rattle.mw_symboard.specs.declared.reading.Reading.{Reading}
 use Rattle.mw_symboard.specs.Cycle.{bits_before, effect_by, number_in, pass_by, zero_by}
 use Rattle.mw_symboard.specs.Listed.{leaving_of, reading_of, standing_of}
-use Rattle.mw_symboard.specs.Seen.{Place, microword_of}
+use Rattle.mw_symboard.specs.Seen.{Progress, microword_of}
 use Rattle.mw_symboard.specs.Turns.{Symbolic, decided_so}
 
 -- where it was before its cycle, whose side had these writes
@@ -26,29 +26,29 @@ abbrev pub standing_in : Symbolic → (writes : List Held) → Standing
 standing_in o writes = standing_of o.place writes o.events
 
 -- the words from pass or the counter on, where one of them is still to be decided
-abbrev pub left_to_test : BoardParts → Microword → Place → Standing → words.Reading → List Bool → WordList → Come
+abbrev pub left_to_test : BoardParts → Microword → Progress → Standing → words.Reading → List Bool → WordList → Come
 left_to_test board m p s reading bits l =
     if decides_pass m && (length p.decided == 0) then along_test board m s reading bits l
     else along_zero board m s reading (pass_by m p.decided) bits l
 
 -- the words behind what a cycle has read
-abbrev pub left_behind_reading : BoardParts → Microword → Place → Standing → words.Reading → List Bool → WordList → Come
+abbrev pub left_behind_reading : BoardParts → Microword → Progress → Standing → words.Reading → List Bool → WordList → Come
 left_behind_reading board m p s reading bits l =
     if nat_lt (length p.decided) (bits_before m) then left_to_test board m p s reading bits l
     else along_leaving board m s reading (pass_by m p.decided) (zero_by m p.decided) bits l
 
 -- how many bits of the next address are decided
-abbrev pub address_bits_of : Microword → Place → ℕ
+abbrev pub address_bits_of : Microword → Progress → ℕ
 address_bits_of m p = length p.decided - bits_before m
 
 -- those of the next address that are left, and of the edge
-abbrev pub left_of_address : BoardParts → Microword → Place → Standing → words.Reading → Leaving → List Bool → WordList → Come
+abbrev pub left_of_address : BoardParts → Microword → Progress → Standing → words.Reading → Leaving → List Bool → WordList → Come
 left_of_address board m p s reading leaving bits l =
     along_address board m s reading (leaving_of leaving) (effect_by m p.decided) (12 - address_bits_of m p)
     (number_in p.decided (bits_before m) (address_bits_of m p)) bits l
 
 -- those of a cycle that may have begun
-abbrev pub left_by : BoardParts → List ℕ → Place → Standing → Option Reading → Option Leaving → List Bool → WordList → Come
+abbrev pub left_by : BoardParts → List ℕ → Progress → Standing → Option Reading → Option Leaving → List Bool → WordList → Come
 left_by board store p s None leaving bits l = cycle_words board store s bits l
 left_by board store p s (Some reading) None bits l =
     left_behind_reading board (microword_of board store p) p s (reading_of reading) bits l

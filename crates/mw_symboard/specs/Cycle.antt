@@ -27,7 +27,7 @@ use Rattle.mw_symboard.specs.declared.leaving.Leaving.{Leaving}
 use Rattle.mw_symboard.specs.Bits.{AreBits, AreSources}
 use Rattle.mw_symboard.specs.Made.{Is, IsFrom, IsMasked, IsR, IsS, IsAddendR, IsAddendS, IsF, IsEarlyBit, IsBitTerm, IsDirect, IsNext, IsLessOne, IsWrittenB, IsWrittenQ, AreLoaded, IsPart}
 use Rattle.mw_cycle.specs.BoardTerms.{Parts}
-use Rattle.mw_symboard.specs.Seen.{Place}
+use Rattle.mw_symboard.specs.Seen.{Progress}
 
 -- ---- what was read
 
@@ -53,7 +53,7 @@ pub record AreOperands (board : BoardParts) (m : Microword) (t : Table) (p : Par
 
 -- what a cycle read from its place: the variables of line and noise, D, the carry in, the operands and F, the bits that were made,
 -- the condition and Y
-pub record IsReading (board : BoardParts) (m : Microword) (t : Table) (words : List Word) (memory : Memory) (p : Place) (made : Reading) : Type 0 where
+pub record IsReading (board : BoardParts) (m : Microword) (t : Table) (words : List Word) (memory : Memory) (p : Progress) (made : Reading) : Type 0 where
   pub d : ℕ
   pub first : ℕ
   pub second : ℕ
@@ -113,7 +113,7 @@ IsCounter false counters.Loaded t old direct term = term ≡ direct
 IsCounter false counters.Counted t old direct term = IsLessOne t old term
 
 -- the next address and the register/counter, by what was decided
-pub record IsLeaving (board : BoardParts) (m : Microword) (t : Table) (p : Place) (noise : ℕ) (l : Leaving) : Type 0 where
+pub record IsLeaving (board : BoardParts) (m : Microword) (t : Table) (p : Progress) (noise : ℕ) (l : Leaving) : Type 0 where
   pub direct : ℕ
   pub is_direct : IsDirect (instruction_of m.sequencer) board m t p.parts.ir direct
   pub next : IsNext t p.parts p.sp noise direct (effect_by m p.decided).next l.next
@@ -135,7 +135,7 @@ IsMar true board t old y term = IsPart t board.width y 0 board.address term
 IsMar false board t old y term = term ≡ old
 
 -- what the parts of a place are after the edge
-pub record IsEdge (board : BoardParts) (m : Microword) (t : Table) (old new : Place) (made : Reading) (l : Leaving) : Type 0 where
+pub record IsEdge (board : BoardParts) (m : Microword) (t : Table) (old new : Progress) (made : Reading) (l : Leaving) : Type 0 where
   pub written : Option ℕ
   pub is_written : IsWrittenB (destination_of m.instruction) board m t old.parts old.sp made.sources written
   pub regs : new.parts.regs ≡ with_taken old.parts.regs m.b_address written

@@ -17,7 +17,7 @@ use Rattle.mw_symboard.specs.declared.bits.Sources.{Sources}
 use Rattle.mw_symboard.specs.declared.leaving.Leaving.{Leaving}
 use Rattle.mw_symboard.specs.declared.reading.Reading.{Reading}
 use Rattle.mw_symboard.specs.Made.{sources_of}
-use Rattle.mw_symboard.specs.Seen.{Place}
+use Rattle.mw_symboard.specs.Seen.{Progress}
 
 -- What is added of a bit ends at a term, and is, with the bits that were made, what the table says, whatever base reads
 -- there are.
@@ -44,7 +44,7 @@ ListsTaken said told tnew wold wnew bold bnew taken =
 -- ---- as the definitions of the words have it
 
 -- where a symbolic board is between two cycles
-abbrev pub standing_of : Place → (writes : List Held) → List SymEvent → Standing
+abbrev pub standing_of : Progress → (writes : List Held) → List SymEvent → Standing
 standing_of p writes events = record {
   at = p.at;
   sp = p.sp;
@@ -80,7 +80,7 @@ abbrev pub reading_in : Table → List Word → Memory → Reading → words.Has
 reading_in t ws m r = record { list = list_in t ws m; reading = reading_of r }
 
 -- where a board is after a cycle from one place to another, with these writes and events before it
-abbrev pub standing_after : Microword → (old new : Place) → words.Reading → (writes : List Held) → List SymEvent → Standing
+abbrev pub standing_after : Microword → (old new : Progress) → words.Reading → (writes : List Held) → List SymEvent → Standing
 standing_after m old new reading writes events = record {
   at = new.at;
   sp = new.sp;

@@ -26,7 +26,7 @@ use Rattle.mw_cycle.specs.BoardTerms.{Parts, term_of_part}
 
 -- Where a symbolic board is: its control address and stack pointer, which are numbers, a term for each element, how many
 -- cycles it has finished and how many inputs it has taken, and the bits decided so far of the cycle that it is in.
-pub record Place : Type 0 where
+pub record Progress : Type 0 where
   pub at : ℕ
   pub sp : ℕ
   pub parts : Parts
@@ -41,7 +41,7 @@ pub record Scene : Type 0 where
   pub outside : CycleIn
 
 -- a state has the values of a symbolic board's parts
-pub record IsStateOf (board : BoardParts) (t : Table) (given : Given) (m : Memory) (p : Place) (image : List ℕ) (s : BoardState) : Type 0 where
+pub record IsStateOf (board : BoardParts) (t : Table) (given : Given) (m : Memory) (p : Progress) (image : List ℕ) (s : BoardState) : Type 0 where
   pub fits : Fits board s
   pub at : s.at ≡ p.at
   pub sp : s.seq.sp ≡ p.sp
@@ -49,7 +49,7 @@ pub record IsStateOf (board : BoardParts) (t : Table) (given : Given) (m : Memor
   pub memory : s.memory ≡ held_by t given m side.Board image
 
 -- the outside of a cycle has the values of its variables, of those that are there
-pub record IsOutside (board : BoardParts) (t : Table) (given : Given) (words : List Word) (p : Place) (c : CycleIn) : Type 0 where
+pub record IsOutside (board : BoardParts) (t : Table) (given : Given) (words : List Word) (p : Progress) (c : CycleIn) : Type 0 where
   pub line : (term : ℕ) → term_of words (Line p.cycle) ≡ Some term → term_value t given term ≡ num c.line
   pub noise : (term : ℕ) → term_of words (Noise p.cycle) ≡ Some term → term_value t given term ≡ c.noise
   pub input : (term : ℕ) → term_of words (Input p.taken) ≡ Some term → term_value t given term ≡ c.input
@@ -62,7 +62,7 @@ AreFirst first all = take (length first) all ≡ first
 
 -- Under an assignment, a cycle from this place is seen in this scene: its image is one that the base reads fit, its state has
 -- the values of the parts, its outside those of the variables, and the bits decided so far are the first ones of its own.
-pub record IsSeen (board : BoardParts) (store : List ℕ) (t : Table) (words : List Word) (m : Memory) (p : Place) (given : Given) (x : Scene) : Type 0 where
+pub record IsSeen (board : BoardParts) (store : List ℕ) (t : Table) (words : List Word) (m : Memory) (p : Progress) (given : Given) (x : Scene) : Type 0 where
   pub image : IsImage m x.image
   pub fit : FitImage t given m.reads x.image
   pub state : IsStateOf board t given m p x.image x.state
@@ -70,22 +70,22 @@ pub record IsSeen (board : BoardParts) (store : List ℕ) (t : Table) (words : L
   pub first : AreFirst p.decided (decided_of board store x.state x.outside)
 
 -- a term of so many bits has, in every scene in which the cycle is seen, the value of a net
-pub record Says (board : BoardParts) (store : List ℕ) (t : Table) (words : List Word) (m : Memory) (p : Place) (width term : ℕ) (net : Scene → ℕ) : Type 0 where
+pub record Says (board : BoardParts) (store : List ℕ) (t : Table) (words : List Word) (m : Memory) (p : Progress) (width term : ℕ) (net : Scene → ℕ) : Type 0 where
   pub wide : IsOfWidth t width term
   pub value : (given : Given) (x : Scene) → IsSeen board store t words m p given x → term_value t given term ≡ net x
 
 -- ---- the nets of a scene
 
 -- the microword of the place
-abbrev pub microword_of : BoardParts → List ℕ → Place → Microword
+abbrev pub microword_of : BoardParts → List ℕ → Progress → Microword
 microword_of board store p = points_of board (word_at board store p.at)
 
 -- D
-abbrev pub d_net : BoardParts → List ℕ → Place → Scene → ℕ
+abbrev pub d_net : BoardParts → List ℕ → Progress → Scene → ℕ
 d_net board store p x = d_of board (microword_of board store p) x.state x.outside
 
 -- the Am2901's answers
-abbrev pub answer_net : BoardParts → List ℕ → Place → Scene → AluOut
+abbrev pub answer_net : BoardParts → List ℕ → Progress → Scene → AluOut
 answer_net board store p x = answer_of board (microword_of board store p) x.state x.outside
 
 -- a bit that stands before F is made
@@ -93,25 +93,25 @@ abbrev pub early_net : BoardParts → Bit → Scene → ℕ
 early_net board bit x = num (early_bit board bit x.state x.outside)
 
 -- a bit
-abbrev pub bit_net : BoardParts → List ℕ → Place → Bit → Scene → ℕ
+abbrev pub bit_net : BoardParts → List ℕ → Progress → Bit → Scene → ℕ
 bit_net board store p bit x = num (bit_value board bit (answer_net board store p x) x.state x.outside)
 
 -- the condition, turned over where polarity is 1
-abbrev pub condition_net : BoardParts → List ℕ → Place → Scene → ℕ
+abbrev pub condition_net : BoardParts → List ℕ → Progress → Scene → ℕ
 condition_net board store p x =
     let m = microword_of board store p in
     num (differ m.polarity (bit_value board m.condition (answer_net board store p x) x.state x.outside))
 
 -- whether the test passes
-abbrev pub pass_net : BoardParts → List ℕ → Place → Scene → Bool
+abbrev pub pass_net : BoardParts → List ℕ → Progress → Scene → Bool
 pass_net board store p x = pass_of board (microword_of board store p) (answer_net board store p x) x.state x.outside
 
 -- the next address
-abbrev pub next_net : BoardParts → List ℕ → Place → Scene → ℕ
+abbrev pub next_net : BoardParts → List ℕ → Progress → Scene → ℕ
 next_net board store p x = next_address board (microword_of board store p) (pass_net board store p x) x.state x.outside
 
 -- the address at the Am2910's D
-abbrev pub direct_net : BoardParts → List ℕ → Place → Scene → ℕ
+abbrev pub direct_net : BoardParts → List ℕ → Progress → Scene → ℕ
 direct_net board store p x = direct_address board (microword_of board store p) x.state
 
 -- the state after the cycle

@@ -30,12 +30,12 @@ use Rattle.mw_symboard.specs.declared.leaving.Leaving.{Leaving}
 use Rattle.mw_symboard.specs.Cycle.{IsReading, IsLeaving, bits_before}
 use Rattle.mw_symboard.specs.Kinds.{AreInputs}
 use Rattle.mw_symboard.specs.Parts.{AreParts}
-use Rattle.mw_symboard.specs.Seen.{Place, Scene, IsSeen, IsStateOf, microword_of, after_net}
+use Rattle.mw_symboard.specs.Seen.{Progress, Scene, IsSeen, IsStateOf, microword_of, after_net}
 
 -- Where it is, its events so far, what its cycle has read once it has begun, what it knows of the cycle's end once pass and the counter
 -- are decided, and the bit that it waits for.
 pub record Symbolic : Type 0 where
-  pub place : Place
+  pub place : Progress
   pub events : List SymEvent
   pub reading : Option Reading
   pub leaving : Option Leaving
@@ -81,13 +81,13 @@ abbrev pub AreEvents : BoardParts → Table → List SymEvent → Type 0
 AreEvents board t es = (k : ℕ) (e : SymEvent) → slice_get es k ≡ Some e → IsOfWidth t board.width (event_term e)
 
 -- what a cycle has read, if it has begun
-abbrev pub HasRead : BoardParts → List ℕ → Table → List Word → Memory → Place → Option Reading → Type 0
+abbrev pub HasRead : BoardParts → List ℕ → Table → List Word → Memory → Progress → Option Reading → Type 0
 HasRead board store t words m p None = (p.decided ≡ []) × AreNoLater p.cycle words
 HasRead board store t words m p (Some r) =
     IsReading board (microword_of board store p) t words m p r × AreNoLater (p.cycle + 1) words
 
 -- what it knows of its end, if it knows it
-abbrev pub Leaves : BoardParts → List ℕ → Table → Place → Option Reading → Option Leaving → Type 0
+abbrev pub Leaves : BoardParts → List ℕ → Table → Progress → Option Reading → Option Leaving → Type 0
 Leaves board store t p (Some r) (Some l) =
     IsLeaving board (microword_of board store p) t p r.sources.noise l
     × (bits_before (microword_of board store p) ≤ length p.decided)
@@ -134,7 +134,7 @@ pub record Asks (board : BoardParts) (store : List ℕ) (t : Table) (words : Lis
   pub few : length o.place.decided < bits_before (microword_of board store o.place) + 12
 
 -- a place in a run: how many cycles, and how many inputs
-abbrev pub clock_of : Place → Clock
+abbrev pub clock_of : Progress → Clock
 clock_of p = record { cycle = p.cycle; taken = p.taken }
 
 -- Its cycle is done: in every scene in which it was seen, all its bits were decided, the board has the values of the next state, and its

@@ -21,7 +21,7 @@ use crate::edge::{Moved, flips, mar_word, q_word, register_word, stack_move};
 use crate::leaving::{Leaving, address, bits_before, effect};
 use crate::make::constant;
 use crate::parts::Parts;
-use crate::place::Place;
+use crate::progress::Progress;
 use crate::reading::Reading;
 use mw_base::NoMemory;
 use mw_board::Board;
@@ -92,7 +92,7 @@ fn edge_made(
     alloc: Global,
     board: &Board,
     microword: &Microword,
-    place: &Place,
+    place: &Progress,
     reading: &mut Reading,
     terms: &mut Terms,
     words: &mut Words,
@@ -174,7 +174,7 @@ fn counted(at: u16, ci: bool) -> u16
 }
 
 /// The address that was decided.
-fn decided_address(place: &Place, microword: &Microword) -> u16
+fn decided_address(place: &Progress, microword: &Microword) -> u16
     requires { bits_before microword.now + 12 ≤ length place.now.decided }
     ensures exact { result ≡ number_in place.now.decided (bits_before microword.now) 12 }
     ensures below { result < 2 ^ 12 }
@@ -191,7 +191,7 @@ struct Next {
 }
 
 /// Where the cycle goes on: at the address that was decided.
-fn decided_next(place: &Place, microword: &Microword) -> Next
+fn decided_next(place: &Progress, microword: &Microword) -> Next
     requires { bits_before microword.now + 12 ≤ length place.now.decided }
     ensures at { result.at ≡ number_in place.now.decided (bits_before microword.now) 12 }
     ensures pc { result.pc ≡ (result.at + num microword.now.ci) % 2 ^ 12 }
@@ -204,7 +204,7 @@ fn decided_next(place: &Place, microword: &Microword) -> Next
 }
 
 /// What the bits that were decided do to the stack.
-fn decided_move(board: &Board, microword: &Microword, place: &Place) -> StackMove
+fn decided_move(board: &Board, microword: &Microword, place: &Progress) -> StackMove
     requires microword { IsMicroword board.now microword.now }
     requires known { bits_before microword.now ≤ length place.now.decided }
     ensures { result ≡ (effect_by microword.now place.now.decided).stack }
@@ -214,7 +214,7 @@ fn decided_move(board: &Board, microword: &Microword, place: &Place) -> StackMov
 
 /// The move of the stack that was decided.
 #[tactic(auto, using(crate::proofs::AtEdge::depth_some, crate::proofs::AtEdge::sp_within, crate::proofs::AtEdge::pushed_within))]
-fn moved(board: &Board, microword: &Microword, place: &Place) -> Moved
+fn moved(board: &Board, microword: &Microword, place: &Progress) -> Moved
     requires microword { IsMicroword board.now microword.now }
     requires known { bits_before microword.now ≤ length place.now.decided }
     requires sp { place.now.sp ≤ depth_of board.now }
@@ -264,8 +264,8 @@ fn put(
 }
 
 /// The place goes on to an address, with its new terms.
-fn settle(
-    place: &mut Place,
+fn go_to_address(
+    place: &mut Progress,
     microword: &Microword,
     taken: Taken,
     moved: Moved,
@@ -300,7 +300,7 @@ pub(crate) fn take_edge(
     alloc: Global,
     board: &Board,
     microword: &Microword,
-    place: &mut Place,
+    place: &mut Progress,
     reading: &mut Reading,
     leaving: Leaving,
     terms: &mut Terms,
@@ -337,6 +337,6 @@ pub(crate) fn take_edge(
     let next = decided_next(place, microword);
     let pc = constant(alloc, u32::from(next.pc), 12, terms)?;
     let moved = moved(board, microword, place);
-    settle(place, microword, taken, moved, next.at, y, pc, leaving.r);
+    go_to_address(place, microword, taken, moved, next.at, y, pc, leaving.r);
     Ok(())
 }

@@ -38,7 +38,7 @@ use crate::leaving::{Leaving, bits_before};
 use crate::make::{constant, word};
 use crate::parts::Parts;
 use crate::path::Path;
-use crate::place::Place;
+use crate::progress::Progress;
 use crate::reading::Reading;
 use mw_base::NoMemory;
 use mw_board::{Board, DFrom, Store};
@@ -51,7 +51,7 @@ use std::marker::Model;
 /// A board whose elements have terms in place of values. Its control address and its stack pointer are numbers.
 #[derive(Drop)]
 pub struct SymBoard {
-    place: Place,
+    place: Progress,
     events: Vec<SymEvent>,
     /// What the cycle has read, once it has begun.
     reading: Option<Reading>,
@@ -116,7 +116,7 @@ impl SymBoard {
             → IsSymbolic board.now store t words m b) }
     {
         Ok(SymBoard {
-            place: Place {
+            place: Progress {
                 at: address,
                 sp,
                 parts: Parts::new(alloc, board, elements)?,
@@ -158,7 +158,7 @@ impl SymBoard {
     }
 
     /// Where it is.
-    fn place(&self) -> &Place
+    fn place(&self) -> &Progress
         ensures { result.now ≡ self.now.place }
     {
         &self.place
@@ -616,7 +616,7 @@ impl SymBoard {
     }
 
     /// One decided bit more.
-    fn settle(&mut self, kind: DecidedKind, value: bool)
+    fn add_decided(&mut self, kind: DecidedKind, value: bool)
         requires { length self.old.place.decided < 14 }
         ensures { self.new ≡ decided_so self.old kind value }
     {
@@ -634,7 +634,7 @@ impl SymBoard {
             → IsSymbolic board store t words m self.new }
     {
         if let Some(kind) = self.asked {
-            self.settle(kind, value);
+            self.add_decided(kind, value);
         }
     }
 

@@ -15,7 +15,7 @@ ghost use Rattle.mw_symboard.specs.Listed.{leaving_of};
 
 use crate::address::{direct, less_one, next};
 use crate::path::Path;
-use crate::place::Place;
+use crate::progress::Progress;
 use mw_base::NoMemory;
 use mw_board::Board;
 use mw_cycle::Microword;
@@ -121,7 +121,7 @@ impl Leaving {
         alloc: Global,
         board: &Board,
         microword: &Microword,
-        place: &Place,
+        place: &Progress,
         noise: Term,
         terms: &mut Terms,
         words: &mut Words,

@@ -13,7 +13,7 @@ mod leaving;
 mod make;
 mod parts;
 mod path;
-mod place;
+mod progress;
 mod reading;
 mod source;
 

@@ -34,7 +34,7 @@ use crate::bits::{Bits, Sources, same};
 use crate::function::{addend_r, addend_s, f, r, s};
 use crate::make::word;
 use crate::parts::Parts;
-use crate::place::Place;
+use crate::progress::Progress;
 use crate::source::{from_source, masked};
 use mw_alu::{Destination, Function, Source};
 use mw_base::NoMemory;
@@ -132,7 +132,7 @@ fn make_read(
     bit: Bit,
     board: &Board,
     microword: &Microword,
-    place: &Place,
+    place: &Progress,
     sources: &Sources,
     bits: &mut Bits,
     terms: &mut Terms,
@@ -168,7 +168,7 @@ fn make_all(
     in_order: &[Bit],
     board: &Board,
     microword: &Microword,
-    place: &Place,
+    place: &Progress,
     sources: &Sources,
     bits: &mut Bits,
     terms: &mut Terms,
@@ -196,7 +196,7 @@ fn make_ir_bits(
     alloc: Global,
     board: &Board,
     microword: &Microword,
-    place: &Place,
+    place: &Progress,
     sources: &Sources,
     bits: &mut Bits,
     terms: &mut Terms,
@@ -225,7 +225,7 @@ fn make_bits(
     alloc: Global,
     board: &Board,
     microword: &Microword,
-    place: &Place,
+    place: &Progress,
     sources: &Sources,
     bits: &mut Bits,
     terms: &mut Terms,
@@ -272,7 +272,7 @@ fn condition(
     alloc: Global,
     board: &Board,
     microword: &Microword,
-    place: &Place,
+    place: &Progress,
     sources: &Sources,
     bits: &mut Bits,
     terms: &mut Terms,
@@ -424,7 +424,7 @@ fn make_sources(
     alloc: Global,
     board: &Board,
     microword: &Microword,
-    place: &Place,
+    place: &Progress,
     variables: Variables,
     d: Term,
     bits: &mut Bits,
@@ -471,7 +471,7 @@ fn make_sources(
 }
 
 /// The Am2901's outputs Y: A in RAMA, and else F.
-fn y(microword: &Microword, place: &Place, f: Term) -> Term
+fn y(microword: &Microword, place: &Progress, f: Term) -> Term
     requires instruction { microword.now.instruction < 512 }
     requires a_address { microword.now.a_address < length place.now.parts.regs }
     ensures { result ≡ y_term (destination_of microword.now.instruction) (slice_index place.now.parts.regs microword.now.a_address) f }
@@ -488,7 +488,7 @@ impl Reading {
         alloc: Global,
         board: &Board,
         microword: &Microword,
-        place: &Place,
+        place: &Progress,
         terms: &mut Terms,
         words: &mut Words,
         memory: &mut SymMemory,

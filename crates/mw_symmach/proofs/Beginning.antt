@@ -14,7 +14,7 @@ use Rattle.mw_symmem.specs.Workspace.{IsLater, IsWorkspace, GoesOn}
 use Rattle.mw_symmem.proofs.Growth.{grows_then}
 use Rattle.mw_symmem.proofs.Later.{goes_by_growth, held_by_stays, width_later, writes_itself}
 use Rattle.mw_symmach.specs.Expressions.{AreTerms, values_at}
-use Rattle.mw_symmach.specs.Given.{Gives}
+use Rattle.mw_symmach.specs.GivenTerms.{Gives}
 use Rattle.mw_symmach.specs.Steps.{parts_of, event_of, IsOfStep, Stands}
 use Rattle.mw_symmach.specs.Turns.{Stepping, HasTerms, IsStepping, Waits, now_in, values_in, with_parts}
 use Rattle.mw_symmach.specs.Zeros.{AreWide, HaveZeros}

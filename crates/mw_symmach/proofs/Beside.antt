@@ -8,7 +8,7 @@ use Rattle.mw_term.specs.Assigned.{Given}
 use Rattle.mw_term.specs.Table.{Table, term_width}
 use Rattle.mw_term.specs.Values.{term_value}
 use Rattle.mw_term.specs.declared.word.Word.{Word}
-use Rattle.mw_symmach.specs.Given.{Gives}
+use Rattle.mw_symmach.specs.GivenTerms.{Gives}
 use Rattle.mw_symmach.specs.Joined.{width_together, joined_value}
 use Rattle.mw_symmach.proofs.Single.{gives_then, gives_alike, gives_itself, of_own_width}
 

@@ -21,7 +21,7 @@ use Rattle.mw_symmem.specs.Memory.{Memory, IsMemory, IsRead, IsImage, IsOfWidth,
 use Rattle.mw_symmem.specs.Workspace.{IsWorkspace}
 use Rattle.mw_symmem.proofs.Later.{held_by_stays, images_fit_before, image_before, goes_then, goes_by_read, writes_by_read, writes_then}
 use Rattle.mw_symmach.specs.Expressions.{AreTerms, values_at, shape_over, IsBase, Means, MeanParts, Runs, IsReady, IsMade, AreReady, AreMade}
-use Rattle.mw_symmach.specs.Given.{Gives}
+use Rattle.mw_symmach.specs.GivenTerms.{Gives}
 use Rattle.mw_symmach.specs.Joined.{width_together, joined_value}
 use Rattle.mw_symmach.proofs.Making.{ready_next, pair_wide, choice_wide, added_wide, are_later, shape_same, runs_nowhere, runs_then, means_from, means_later, made_by, pair_is, choice_is, part_is, widened_is, memory_is, constant_is}
 use Rattle.mw_symmach.proofs.Single.{inside_widths, of_own_width, gives_itself}

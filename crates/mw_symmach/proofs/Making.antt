@@ -19,7 +19,7 @@ use Rattle.mw_symmem.specs.Memory.{Memory, IsMemory, IsImage, FitImage, held_by}
 use Rattle.mw_symmem.specs.Workspace.{IsLater, IsWorkspace, ReadsMore}
 use Rattle.mw_symmem.proofs.Later.{held_by_stays, images_fit_before, image_before, goes_nowhere, goes_then, goes_by_growth, writes_itself, writes_then}
 use Rattle.mw_symmach.specs.Expressions.{AreTerms, values_at, shape_over, IsBase, Means, Runs, IsReady, IsMade}
-use Rattle.mw_symmach.specs.Given.{Gives}
+use Rattle.mw_symmach.specs.GivenTerms.{Gives}
 
 -- ---- what is seen from a table that has grown
 

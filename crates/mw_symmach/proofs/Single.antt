@@ -19,7 +19,7 @@ use Rattle.mw_term.specs.WordList.{plain}
 use Rattle.mw_symmem.specs.Words.{AreOf, IsNoVariable}
 use Rattle.mw_symmem.proofs.Growth.{grows_one, grows_none, grows_then, width_stays}
 use Rattle.mw_symmem.proofs.Later.{grows_without_word}
-use Rattle.mw_symmach.specs.Given.{Gives}
+use Rattle.mw_symmach.specs.GivenTerms.{Gives}
 
 -- ---- one op, and then another
 

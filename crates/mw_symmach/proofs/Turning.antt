@@ -24,7 +24,7 @@ use Rattle.mw_symmach.specs.declared.machine.Pending.{Pending}
 use Rattle.mw_symmach.specs.declared.machine.Pending.TheVariants as pendings
 use Rattle.mw_symmach.specs.Places.{left_of, then_acts, reads_first, AsksNext, Carries, IsAtIf, Reaches, StopsAt}
 use Rattle.mw_symmach.specs.Steps.{Parts, IsOfStep, Stands, now_of, event_of}
-use Rattle.mw_symmach.specs.Turns.{Stepping, Scene, Asks, HasTerms, IsDecided, IsSaid, IsStart, IsStepping, IsTurn, StandsAt, bits_to_come, come_to, end_of, entered, entered_by, given_so, is_asked, left_by, left_in, now_in, reads_behind, reads_by, reads_to_come, turn_of, values_in, with_parts}
+use Rattle.mw_symmach.specs.Turns.{Stepping, Scene, Asks, HasTerms, IsDecided, IsSaid, IsStart, IsStepping, IsTurn, StandsAtIf, bits_to_come, come_to, end_of, entered, entered_by, given_so, is_asked, left_by, left_in, now_in, reads_behind, reads_by, reads_to_come, turn_of, values_in, with_parts}
 use Rattle.mw_symmach.proofs.AtIf.{at_if_within, left_at_if}
 use Rattle.mw_symmach.specs.Walks.{Walks, asked_by, chosen, underway_in, underway_of}
 use Rattle.mw_symmach.proofs.Carrying.{after_then, branches_then, total_then}
@@ -71,7 +71,7 @@ entered_left d o idle = by o.pending idle
         → left_of d.acts (entered_by p o).levels (entered_by p o).position ≡ left_by d.acts o.levels o.position p
     by pendings.Nothing idle = refl
     by pendings.Asked idle = absurd cc
-    by (pendings.Given first) idle = refl
+    by (pendings.Answered first) idle = refl
 
 pub entered_parts : (o : Stepping) → (entered o).parts ≡ o.parts
 entered_parts o = by o.pending
@@ -79,7 +79,7 @@ entered_parts o = by o.pending
     by : (p : Pending) → (entered_by p o).parts ≡ o.parts
     by pendings.Nothing = refl
     by pendings.Asked = refl
-    by (pendings.Given first) = refl
+    by (pendings.Answered first) = refl
 
 pub entered_request : (o : Stepping) → (entered o).request ≡ o.request
 entered_request o = by o.pending
@@ -87,12 +87,12 @@ entered_request o = by o.pending
     by : (p : Pending) → (entered_by p o).request ≡ o.request
     by pendings.Nothing = refl
     by pendings.Asked = refl
-    by (pendings.Given first) = refl
+    by (pendings.Answered first) = refl
 
 idle_reads : (p : Pending) (left : Acts) → is_asked p ≡ false → reads_by p left ≡ total Reads left
 idle_reads pendings.Nothing left idle = refl
 idle_reads pendings.Asked left idle = absurd cc
-idle_reads (pendings.Given first) left idle = refl
+idle_reads (pendings.Answered first) left idle = refl
 
 pub reads_idle : (d : Description) (o : Stepping) → is_asked o.pending ≡ false
     → reads_to_come d o ≡ total Reads (left_in d o)
@@ -167,14 +167,14 @@ went_on d t1 t2 w0 w2 m0 m2 old begun o new position asked idle stands is reache
     rw (entered_parts begun, entered_left d begun (begun_idle old begun stands idle)) at from
 
 pub position_fits : (d : Description) (t : Table) (words : List Word) (m : Memory) (o : Stepping)
-    → IsStepping d t words m o → total Statements d.acts ≤ 4096 → (first : Bool) → o.pending ≡ pendings.Given first
+    → IsStepping d t words m o → total Statements d.acts ≤ 4096 → (first : Bool) → o.pending ≡ pendings.Answered first
     → o.position < 2 ^ 32
 position_fits d t words m o stepping few first is =
     omega (
       arith,
       few,
       at_if_within d.acts o.levels o.position
-          (subst (λ p. StandsAt d.acts o.levels o.position p) is stepping.at),
+          (subst (λ p. StandsAtIf d.acts o.levels o.position p) is stepping.at),
     )
 
 pub come_left : (d : Description) (o : Stepping) (position : ℕ) (asked : Option ℕ)
@@ -307,7 +307,7 @@ went_few d t0 t1 t2 w0 w2 m0 m2 old begun new position asked went =
     )
 
 come_at : (acts : Acts) (o : Stepping) (position : ℕ) (asked : Option ℕ) → StopsAt acts o.levels position asked
-    → StandsAt acts (come_to o position asked).levels (come_to o position asked).position (come_to o position asked).pending
+    → StandsAtIf acts (come_to o position asked).levels (come_to o position asked).position (come_to o position asked).pending
 come_at acts o position None stops = tt
 come_at acts o position (Some term) stops = stops
 
@@ -337,7 +337,7 @@ went_stepping d t0 t1 t2 w0 w2 m0 m2 old begun new position asked went =
 asked_is : (p : Pending) → is_asked p ≡ true → p ≡ pendings.Asked
 asked_is pendings.Nothing is = absurd cc
 asked_is pendings.Asked is = refl
-asked_is (pendings.Given first) is = absurd cc
+asked_is (pendings.Answered first) is = absurd cc
 
 first_bit : (s : Shape) (inputs : List ℕ) (c : Tree) (one other behind : Acts) (n : Now) (bit : Bool)
     → slice_get (branches_in s inputs 0 (next (choose c one other) behind) n) 0 ≡ Some bit
@@ -375,7 +375,7 @@ pub decided : (d : Description) (t : Table) (words : List Word) (m : Memory) (o 
 decided d t words m o bit asked stepping =
     let is = asked_is o.pending asked in
     let at : IsAtIf d.acts o.levels o.position =
-    subst (λ p. StandsAt d.acts o.levels o.position p) is stepping.at in
+    subst (λ p. StandsAtIf d.acts o.levels o.position p) is stepping.at in
     let left = left_at_if d.acts o.levels o.position at in
     let here : left_in d o ≡ next (choose at.condition at.one at.other) left.behind =
     ap (left_by d.acts o.levels o.position) is ∙ left.here in
@@ -423,7 +423,7 @@ pub left_given : (d : Description) (t : Table) (words : List Word) (m : Memory) 
 left_given d t words m o bit asked stepping =
     let is = asked_is o.pending asked in
     let at : IsAtIf d.acts o.levels o.position =
-    subst (λ p. StandsAt d.acts o.levels o.position p) is stepping.at in
+    subst (λ p. StandsAtIf d.acts o.levels o.position p) is stepping.at in
     let left = left_at_if d.acts o.levels o.position at in
     let here : left_in d o ≡ next (choose at.condition at.one at.other) left.behind =
     ap (left_by d.acts o.levels o.position) is ∙ left.here in

@@ -1,6 +1,6 @@
 pub mod Along
 pub mod Expressions
-pub mod Given
+pub mod GivenTerms
 pub mod Joined
 pub mod Laws
 pub mod Places

@@ -41,7 +41,7 @@ pub record Stepping : Type 0 where
 abbrev pub is_asked : Pending → Bool
 is_asked pendings.Nothing = false
 is_asked pendings.Asked = true
-is_asked (pendings.Given first) = false
+is_asked (pendings.Answered first) = false
 
 -- a level
 abbrev pub level_of : (position : ℕ) (first : Bool) → Level
@@ -49,7 +49,7 @@ level_of position first = record { position = position; first = first }
 
 -- it with a bit that was given
 abbrev pub given_so : Stepping → Bool → Stepping
-given_so o value = record o { pending = pendings.Given value }
+given_so o value = record o { pending = pendings.Answered value }
 
 -- it with other terms
 abbrev pub with_parts : Stepping → Parts → Option ℕ → Stepping
@@ -59,7 +59,7 @@ with_parts o parts request = record o { parts = parts; request = request }
 abbrev pub entered_by : Pending → Stepping → Stepping
 entered_by pendings.Nothing o = o
 entered_by pendings.Asked o = o
-entered_by (pendings.Given first) o =
+entered_by (pendings.Answered first) o =
     record o { levels = o.levels ++ level_of o.position first ∷ []; position = 0; pending = pendings.Nothing }
 
 -- the same by what it does with that `if`
@@ -82,7 +82,7 @@ turn_of (Some term) = Ask Branch term
 abbrev pub left_by : Acts → List Level → (position : ℕ) → Pending → Acts
 left_by acts levels position pendings.Nothing = left_of acts levels position
 left_by acts levels position pendings.Asked = left_of acts levels position
-left_by acts levels position (pendings.Given first) = left_of acts (levels ++ level_of position first ∷ []) 0
+left_by acts levels position (pendings.Answered first) = left_of acts (levels ++ level_of position first ∷ []) 0
 
 -- what is left of a step
 abbrev pub left_in : Description → Stepping → Acts
@@ -146,16 +146,16 @@ HasTerms d t words m p None = Stands d.shape t words m p
 HasTerms d t words m p (Some request) = Waits d t words m p.values request × (p.events ≡ []) × (p.taken ≡ 0)
 
 -- where it waits for a bit, or was given one, it stands at an `if`
-abbrev pub StandsAt : Acts → List Level → (position : ℕ) → Pending → Type 0
-StandsAt acts levels position pendings.Nothing = Unit
-StandsAt acts levels position pendings.Asked = IsAtIf acts levels position
-StandsAt acts levels position (pendings.Given first) = IsAtIf acts levels position
+abbrev pub StandsAtIf : Acts → List Level → (position : ℕ) → Pending → Type 0
+StandsAtIf acts levels position pendings.Nothing = Unit
+StandsAtIf acts levels position pendings.Asked = IsAtIf acts levels position
+StandsAtIf acts levels position (pendings.Answered first) = IsAtIf acts levels position
 
 -- What holds between a step on terms, its machine, and what it works on.
 pub record IsStepping (d : Description) (t : Table) (words : List Word) (m : Memory) (o : Stepping) : Type 0 where
   pub terms : HasTerms d t words m o.parts o.request
   pub few : o.parts.taken + total Events (left_in d o) < 2 ^ 32
-  pub at : StandsAt d.acts o.levels o.position o.pending
+  pub at : StandsAtIf d.acts o.levels o.position o.pending
 
 -- how many base reads acts come to at most, where the condition of the first was read already
 abbrev pub reads_behind : Acts → ℕ
@@ -166,7 +166,7 @@ reads_behind (next act rest) = count Reads act - own_reads act + total Reads res
 abbrev pub reads_by : Pending → Acts → ℕ
 reads_by pendings.Nothing left = total Reads left
 reads_by pendings.Asked left = reads_behind left
-reads_by (pendings.Given first) left = total Reads left
+reads_by (pendings.Answered first) left = total Reads left
 
 -- how many base reads the rest of a step comes to at most
 abbrev pub reads_to_come : Description → Stepping → ℕ

@@ -2,7 +2,7 @@
 ghost use Rattle.std.specs.Prelude.{ℕ, ◌<◌, ◌≤◌, length, slice_index, IfOk};
 ghost use Rattle.mw_macro.specs.ExpressionWords.{join_words};
 ghost use Rattle.mw_symmem.specs.Listed.{Lists};
-ghost use Rattle.mw_symmach.specs.Given.{Gives};
+ghost use Rattle.mw_symmach.specs.GivenTerms.{Gives};
 ghost use Rattle.mw_symmach.specs.Expressions.{AreTerms};
 ghost use Rattle.mw_symmach.specs.Joined.{width_together, joined_value};
 

@@ -43,7 +43,7 @@ pub(crate) enum Pending {
     /// It waits for the bit of its condition.
     Asked,
     /// It goes into one of its lists: the first, where this is true.
-    Given(bool),
+    Answered(bool),
 }
 
 /// One step of a described machine, whose elements have terms in place of values.
@@ -183,10 +183,10 @@ impl SymMach {
 
     /// Goes into the list that was chosen, where one was.
     fn enter(&mut self) -> Result<(), NoMemory>
-        requires { (first : Bool) → self.old.pending ≡ pendings.Given first → self.old.position < 2 ^ 32 }
+        requires { (first : Bool) → self.old.pending ≡ pendings.Answered first → self.old.position < 2 ^ 32 }
         ensures { OnOk result (self.new ≡ entered self.old) }
     {
-        let Pending::Given(first) = self.pending else {
+        let Pending::Answered(first) = self.pending else {
             return Ok(());
         };
         self.levels.push(Level {
@@ -303,7 +303,7 @@ impl SymMach {
         ensures decided { (d : Description) (t : Table) (words : List Word) (m : Memory)
             → IsStepping d t words m self.old → IsDecided d t words m self.old self.new value }
     {
-        self.pending = Pending::Given(value);
+        self.pending = Pending::Answered(value);
     }
 
     /// The term of an element: the registers are the first ones, by their numbers, from 0.

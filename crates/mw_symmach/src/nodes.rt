@@ -11,7 +11,7 @@ ghost use Rattle.mw_term.specs.WordList.{with_complement, with_constant, with_pa
 ghost use Rattle.mw_macro.specs.ExpressionWords.{difference_words, sign_words, unequal_words};
 ghost use Rattle.mw_symmem.specs.Listed.{Lists};
 ghost use Rattle.mw_symmem.specs.Words.{IsNoVariable};
-ghost use Rattle.mw_symmach.specs.Given.{Gives};
+ghost use Rattle.mw_symmach.specs.GivenTerms.{Gives};
 
 use mw_base::NoMemory;
 use mw_expr::Pair2;

@@ -22,7 +22,7 @@ use Rattle.mw_symmem.proofs.Growth.{extends_then, keeps_then, width_stays}
 use Rattle.mw_symmem.proofs.Lists.{behind, among, no_variable, only_variable}
 use Rattle.mw_symmem.proofs.Listed.{of_without_word}
 use Rattle.mw_symmem.proofs.Made.{side_held}
-use Rattle.mw_symmem.proofs.Reached.{taken}
+use Rattle.mw_symmem.proofs.Reached.{held_in_front}
 use Rattle.mw_symmem.proofs.Stays.{stays_with_words, stays_with_writes}
 
 -- ---- values stay
@@ -38,7 +38,7 @@ valued_stays told tnew given a w (h ∷ hs) keeps are =
     (valued_stays told tnew given a w hs keeps (λ k g at. are (suc k) g at))
 
 front_held : (t : Table) (a w k : ℕ) (hs : List Held) → AreHeld t a w hs → AreHeld t a w (take k hs)
-front_held t a w k hs are i h is = are i h (taken hs k i h is)
+front_held t a w k hs are i h is = are i h (held_in_front hs k i h is)
 
 -- and so does what a base read has
 pub read_value_stays : (told tnew : Table) (given : Given) (a w : ℕ) (earlier : List Held) (read : Held)

@@ -6,8 +6,8 @@ use Rattle.std.proofs.lemmas.Option.{same_Some}
 use Rattle.mw_term.specs.declared.kinds.WordKind.{WordKind}
 use Rattle.mw_term.specs.declared.word.Word.{Word}
 use Rattle.mw_symmem.specs.declared.key.Key.{Key}
-use Rattle.mw_symmem.specs.Kept.{with_number, IsKept}
-use Rattle.mw_term.specs.WordList.{same_kind, plain, variable, number_from, number_of, is_of, term_of}
+use Rattle.mw_symmem.specs.Kept.{with_number, AreMapsOf}
+use Rattle.mw_term.specs.WordList.{same_kind, plain, variable, number_from, word_number, is_of, term_of}
 use Rattle.mw_symmem.specs.Kinds.{kind_is, kind_own}
 use Rattle.mw_symmem.specs.Words.{IsVariable, HaveOwnKinds}
 pub use Rattle.mw_term.proofs.Pushed.{pushed, behind, pushed_there, number_push}
@@ -109,9 +109,9 @@ undone true term old mid now absent put gone = gone ∙ sym (absent refl)
 undone false term old mid now absent put gone = gone ∙ put
 
 numbered : (words : List Word) (w : Word) (other : ℕ) (old new : ℕ → Option ℕ)
-    → ((term : ℕ) → old term ≡ number_of words term)
+    → ((term : ℕ) → old term ≡ word_number words term)
     → ((term : ℕ) → new term ≡ with_number old w.term (length words + 1) term)
-    → new other ≡ number_of (words ++ w ∷ []) other
+    → new other ≡ word_number (words ++ w ∷ []) other
 numbered words w other old new before given =
     given other
     ∙ ap (λ found. if w.term == other then Some (unwrap_or found (length words + 1)) else found) (before other)
@@ -121,9 +121,9 @@ numbered words w other old new before given =
 
 -- one word more that is no variable
 pub kept_plain : {S R : Type 0} (words : List Word) (old new : HashMap ℕ ℕ S) (by_kind : HashMap Key ℕ R) (term : ℕ)
-    → IsKept words old by_kind
+    → AreMapsOf words old by_kind
     → ((other : ℕ) → get nat_eq new other ≡ with_number (get nat_eq old) term (length words + 1) other)
-    → IsKept (words ++ plain term ∷ []) new by_kind
+    → AreMapsOf (words ++ plain term ∷ []) new by_kind
 kept_plain words old new by_kind term kept given = record {
   numbers = λ other. numbered words (plain term) other (get nat_eq old) (get nat_eq new) kept.numbers given;
   terms = λ kind. kept.terms kind ∙ sym (term_plain words term kind);
@@ -132,11 +132,11 @@ kept_plain words old new by_kind term kept given = record {
 
 -- one variable more
 pub kept_variable : {S R : Type 0} (words : List Word) (old new : HashMap ℕ ℕ S) (before after : HashMap Key ℕ R)
-    (term : ℕ) (own : WordKind) → term_of words own ≡ None → IsKept words old before
+    (term : ℕ) (own : WordKind) → term_of words own ≡ None → AreMapsOf words old before
     → ((other : ℕ) → get nat_eq new other ≡ with_number (get nat_eq old) term (length words + 1) other)
     → ((other : WordKind) → get_by (λ key. same_kind other key.0) after
     ≡ (if same_kind own other then Some term else get_by (λ key. same_kind other key.0) before))
-    → IsKept (words ++ variable term own ∷ []) new after
+    → AreMapsOf (words ++ variable term own ∷ []) new after
 kept_variable words old new before after term own absent kept given put = record {
   numbers = λ other. numbered words (variable term own) other (get nat_eq old) (get nat_eq new) kept.numbers given;
   terms = λ kind. put kind ∙ ap (λ found. if same_kind own kind then Some term else found) (kept.terms kind)
@@ -146,9 +146,9 @@ kept_variable words old new before after term own absent kept given put = record
 
 -- maps that answer as these do are right for the same words
 pub kept_same : {S R : Type 0} (words : List Word) (old new : HashMap ℕ ℕ S) (before after : HashMap Key ℕ R)
-    → IsKept words old before → ((other : ℕ) → get nat_eq new other ≡ get nat_eq old other)
+    → AreMapsOf words old before → ((other : ℕ) → get nat_eq new other ≡ get nat_eq old other)
     → ((other : WordKind) → get_by (λ key. same_kind other key.0) after ≡ get_by (λ key. same_kind other key.0) before)
-    → IsKept words new after
+    → AreMapsOf words new after
 kept_same words old new before after kept numbers terms = record {
   numbers = λ other. numbers other ∙ kept.numbers other;
   terms = λ kind. terms kind ∙ kept.terms kind;
@@ -158,19 +158,19 @@ kept_same words old new before after kept numbers terms = record {
 -- ---- where memory may run out
 
 pub after_plain : {A E S R : Type 0} (r : Result A E) (words more : List Word) (old new : HashMap ℕ ℕ S)
-    (by_kind : HashMap Key ℕ R) (term : ℕ) → IsKept words old by_kind
+    (by_kind : HashMap Key ℕ R) (term : ℕ) → AreMapsOf words old by_kind
     → OnOk r (more ≡ words ++ plain term ∷ [])
     → OnOk r ((other : ℕ) → get nat_eq new other ≡ with_number (get nat_eq old) term (length words + 1) other)
     → OnErr r (more ≡ words)
     → OnErr r ((other : ℕ) → get nat_eq new other ≡ get nat_eq old other)
-    → IsKept more new by_kind
+    → AreMapsOf more new by_kind
 after_plain (Ok done) words more old new by_kind term kept is given same numbers =
     rw is (kept_plain words old new by_kind term kept given)
 after_plain (Err fault) words more old new by_kind term kept is given same numbers =
     rw same (kept_same words old new by_kind by_kind kept numbers (λ kind. refl))
 
 pub after_variable : {A E S R : Type 0} (r : Result A E) (words more : List Word) (old new : HashMap ℕ ℕ S)
-    (before after : HashMap Key ℕ R) (term : ℕ) (own : WordKind) → term_of words own ≡ None → IsKept words old before
+    (before after : HashMap Key ℕ R) (term : ℕ) (own : WordKind) → term_of words own ≡ None → AreMapsOf words old before
     → OnOk r (more ≡ words ++ variable term own ∷ [])
     → OnOk r ((other : ℕ) → get nat_eq new other ≡ with_number (get nat_eq old) term (length words + 1) other)
     → OnOk r ((other : WordKind) → get_by (λ key. same_kind other key.0) after
@@ -179,7 +179,7 @@ pub after_variable : {A E S R : Type 0} (r : Result A E) (words more : List Word
     → OnErr r ((other : ℕ) → get nat_eq new other ≡ get nat_eq old other)
     → OnErr r ((other : WordKind) → get_by (λ key. same_kind other key.0) after
     ≡ get_by (λ key. same_kind other key.0) before)
-    → IsKept more new after
+    → AreMapsOf more new after
 after_variable (Ok done) words more old new before after term own absent kept is given put same numbers terms =
     rw is (kept_variable words old new before after term own absent kept given put)
 after_variable (Err fault) words more old new before after term own absent kept is given put same numbers terms =

@@ -31,16 +31,16 @@ abbrev set_to : Given → (n v : ℕ) → Given
 set_to given n v word = if word == n then v else given word
 
 -- each base variable, from the oldest on, gets the image's word at the value that its address has then
-abbrev second : Table → (image : List ℕ) → Given → List Held → Given
-second t image given [] = given
-second t image given (read ∷ newer) =
-    second t image
+abbrev with_image_words : Table → (image : List ℕ) → Given → List Held → Given
+with_image_words t image given [] = given
+with_image_words t image given (read ∷ newer) =
+    with_image_words t image
     (set_to given (variable_number t read.word) (slice_index image (term_value t given read.address))) newer
 
 -- a number that isn't one of these variables' keeps its value
 second_keeps : (t : Table) (image : List ℕ) (given : Given) (reads : List Held) (n : ℕ)
     → ((k : ℕ) (read : Held) → slice_get reads k ≡ Some read → n ≢ variable_number t read.word)
-    → second t image given reads n ≡ given n
+    → with_image_words t image given reads n ≡ given n
 second_keeps t image given [] n others = refl
 second_keeps t image given (read ∷ newer) n others =
     let x : ℕ = slice_index image (term_value t given read.address) in
@@ -65,16 +65,16 @@ variable_value : (t : Table) (given : Given) (term n w : ℕ) → IsTable t → 
 unfolding op_value
 variable_value t given term n w table is = (terms_have_ops t term (Var n w) table is).is.value given
 
--- under the second assignment the first base variable has the image's word at its address
+-- under the with_image_words assignment the first base variable has the image's word at its address
 first_holds : (t : Table) (w : ℕ) (image : List ℕ) (given : Given) (read : Held) (newer : List Held) → IsTable t
     → ((address : ℕ) → slice_index image address < 2 ^ w) → AreGood t w (read ∷ newer) → AreRising t (read ∷ newer)
-    → term_value t (second t image given (read ∷ newer)) read.word
-    ≡ slice_index image (term_value t (second t image given (read ∷ newer)) read.address)
+    → term_value t (with_image_words t image given (read ∷ newer)) read.word
+    ≡ slice_index image (term_value t (with_image_words t image given (read ∷ newer)) read.address)
 first_holds t w image given read newer table below good rising =
     let n : ℕ = variable_number t read.word in
     let x : ℕ = slice_index image (term_value t given read.address) in
     let next : Given = set_to given n x in
-    let last : Given = second t image next newer in
+    let last : Given = with_image_words t image next newer in
     let own = good 0 read refl in
     let later = λ (k : ℕ) (other : Held) (is : slice_get newer k ≡ Some other).
     rising 0 (suc k) read other refl is (omega arith) in
@@ -94,8 +94,8 @@ first_holds t w image given read newer table below good rising =
 all_hold : (t : Table) (w : ℕ) (image : List ℕ) (given : Given) (reads : List Held) → IsTable t
     → ((address : ℕ) → slice_index image address < 2 ^ w) → AreGood t w reads → AreRising t reads
     → (k : ℕ) (read : Held) → slice_get reads k ≡ Some read
-    → term_value t (second t image given reads) read.word
-    ≡ slice_index image (term_value t (second t image given reads) read.address)
+    → term_value t (with_image_words t image given reads) read.word
+    ≡ slice_index image (term_value t (with_image_words t image given reads) read.address)
 all_hold t w image given [] table below good rising k read is = absurd cc
 all_hold t w image given (first ∷ newer) table below good rising zero read is =
     let same = same_Some first read is in
@@ -124,12 +124,12 @@ first_fits t given image (h ∷ rest) address otherwise hold is =
           ∙ rest_is
     ]
 
-pub taken : (hs : List Held) (n k : ℕ) (h : Held) → slice_get (take n hs) k ≡ Some h → slice_get hs k ≡ Some h
-taken [] zero k h is = is
-taken [] (suc n) k h is = is
-taken (x ∷ hs) zero k h is = absurd cc
-taken (x ∷ hs) (suc n) zero h is = is
-taken (x ∷ hs) (suc n) (suc k) h is = taken hs n k h is
+pub held_in_front : (hs : List Held) (n k : ℕ) (h : Held) → slice_get (take n hs) k ≡ Some h → slice_get hs k ≡ Some h
+held_in_front [] zero k h is = is
+held_in_front [] (suc n) k h is = is
+held_in_front (x ∷ hs) zero k h is = absurd cc
+held_in_front (x ∷ hs) (suc n) zero h is = is
+held_in_front (x ∷ hs) (suc n) (suc k) h is = held_in_front hs n k h is
 
 pub images_are_reached : ImagesAreReached
 images_are_reached t words m image given table memory is_image =
@@ -138,10 +138,10 @@ images_are_reached t words m image given table memory is_image =
     let number = base_number t words m.word k read base in
     record { op = rw number base.op; depends = rw number base.depends }) in
     let hold = all_hold t m.word image given m.reads table is_image.words good memory.rising in
-    let other : Given = second t image given m.reads in (
+    let other : Given = with_image_words t image given m.reads in (
       other,
       λ k read is. first_fits t other image (take k m.reads) (term_value t other read.address)
-          (term_value t other read.word) (λ i h at. hold i h (taken m.reads k i h at)) (hold k read is),
+          (term_value t other read.word) (λ i h at. hold i h (held_in_front m.reads k i h at)) (hold k read is),
       λ n none. second_keeps t image given m.reads n (λ k read is same.
           (let base = memory.bases k read is in
           none (record {

@@ -4,7 +4,7 @@ use Rattle.std.specs.HashMap.{HashMap, get, get_by}
 use Rattle.mw_term.specs.declared.kinds.WordKind.{WordKind}
 use Rattle.mw_term.specs.declared.word.Word.{Word}
 use Rattle.mw_symmem.specs.declared.key.Key.{Key}
-use Rattle.mw_term.specs.WordList.{same_kind, number_of, term_of}
+use Rattle.mw_term.specs.WordList.{same_kind, word_number, term_of}
 use Rattle.mw_symmem.specs.Words.{HaveOwnKinds}
 
 -- a term with a number, where it has none yet
@@ -13,7 +13,7 @@ with_number numbers term number other =
     if term == other then Some (unwrap_or (numbers other) number) else numbers other
 
 -- the two maps answer as the list does, and no two of its variables have one kind
-pub record IsKept {S R : Type 0} (words : List Word) (by_term : HashMap ℕ ℕ S) (by_kind : HashMap Key ℕ R) : Type 0 where
-  pub numbers : (term : ℕ) → get nat_eq by_term term ≡ number_of words term
+pub record AreMapsOf {S R : Type 0} (words : List Word) (by_term : HashMap ℕ ℕ S) (by_kind : HashMap Key ℕ R) : Type 0 where
+  pub numbers : (term : ℕ) → get nat_eq by_term term ≡ word_number words term
   pub terms : (kind : WordKind) → get_by (λ key. same_kind kind key.0) by_kind ≡ term_of words kind
   pub own : HaveOwnKinds words

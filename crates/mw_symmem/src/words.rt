@@ -6,7 +6,7 @@ ghost use Rattle.mw_term.specs.Table.{Extends, Fits, IsWidth, IsTable};
 ghost use Rattle.mw_term.specs.Values.{IsTermOf, Keeps};
 ghost use Rattle.mw_term.specs.declared.kinds.WordKind.{WordKind};
 ghost use Rattle.mw_symmem.specs.Kept.{with_number};
-ghost use Rattle.mw_term.specs.WordList.{same_kind, plain, variable, with_variable, with_word, number_of, term_of};
+ghost use Rattle.mw_term.specs.WordList.{same_kind, plain, variable, with_variable, with_word, word_number, term_of};
 ghost use Rattle.mw_symmem.specs.Listed.{Lists};
 ghost use Rattle.mw_symmem.specs.Words.{HaveOwnKinds, AreOf, IsNoVariable};
 
@@ -29,13 +29,13 @@ pub struct Words {
 impl Model for Words {
     ghost use Rattle.std.specs.Prelude.{List};
     ghost use Rattle.mw_term.specs.declared.word.Word.{Word};
-    ghost use Rattle.mw_symmem.specs.Kept.{IsKept};
+    ghost use Rattle.mw_symmem.specs.Kept.{AreMapsOf};
 
     ghost Value = { List Word };
 
     ghost view = { λ w. w.words.items };
 
-    ghost invariant = { λ w. IsKept w.words.items w.numbers w.terms };
+    ghost invariant = { λ w. AreMapsOf w.words.items w.numbers w.terms };
 }
 
 /// Gives a term a number, where it has none.
@@ -147,7 +147,7 @@ impl Words {
 
     /// The least number of a word with a term, if there is one.
     pub fn word_of(&self, term: Term) -> Option<u64>
-        ensures { result ≡ number_of self.now term }
+        ensures { result ≡ word_number self.now term }
     {
         self.numbers.get(&term.position()).copied()
     }

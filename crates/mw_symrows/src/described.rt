@@ -10,8 +10,8 @@ ghost use Rattle.mw_symmach.specs.Turns.{is_asked};
 ghost use Rattle.mw_symrows.specs.StepRuns.{IsEnded, IsUnderway};
 
 use crate::listed::words_line;
-use crate::stepping::{Place, Scene, StepRun};
-use crate::valued::{Stop, numbered, set, value};
+use crate::stepping::{MemoryWord, Scene, StepRun};
+use crate::valued::{SymbolicStop, numbered, set, value};
 use mw_macro::Machine;
 use mw_rowfile::named::{bit, hexadecimal, word};
 use mw_rowfile::{Fault, wrong};
@@ -83,7 +83,7 @@ impl Setting {
     fn take_place(&mut self, machine: &Machine, address: &str, text: &str) -> Result<(), Fault> {
         let address = fitting(address, machine.shape().address)?;
         let word = fitting(text, machine.shape().word)?;
-        self.scene.memory.push(Place { address, word })?;
+        self.scene.memory.push(MemoryWord { address, word })?;
         Ok(())
     }
 
@@ -128,7 +128,7 @@ impl Setting {
     }
 
     /// The assignment of the variables of registers and of the request.
-    fn assignment(&self, alloc: Global, run: &StepRun) -> Result<Assignment, Stop> {
+    fn assignment(&self, alloc: Global, run: &StepRun) -> Result<Assignment, SymbolicStop> {
         let mut given = Assignment::new(alloc);
         for (number, &value) in self.registers.iter().enumerate() {
             let kind = WordKind::Element(numbered(number)?);
@@ -156,14 +156,14 @@ fn push_registers(
     machine: &Machine,
     run: &StepRun,
     given: &Assignment,
-) -> Result<(), Stop>
+) -> Result<(), SymbolicStop>
     requires { IsEnded (description_of machine.now) run.now.terms run.now.words run.now.memory run.now.step }
 {
     report.extend_from_slice(b"registers")?;
     for number in 0..machine.registers() {
         let value = run.register(alloc, machine, number, given)?;
         let Some(name) = machine.names().get(number as usize) else {
-            return Err(Stop::Unlike);
+            return Err(SymbolicStop::Unlike);
         };
         let value = format!(in alloc; "={value:x}")?;
         report.push(b' ')?;
@@ -178,11 +178,11 @@ fn push_memory(
     alloc: Global,
     report: &mut Vec<u8>,
     machine: &Machine,
-    places: &[Place],
+    places: &[MemoryWord],
     bases: u32,
     run: &mut StepRun,
     given: &mut Assignment,
-) -> Result<(), Stop>
+) -> Result<(), SymbolicStop>
     requires { IsEnded (description_of machine.now) run.old.terms run.old.words run.old.memory run.old.step }
 {
     report.extend_from_slice(b"\nmemory")?;
@@ -202,7 +202,7 @@ fn event_text(
     run: &StepRun,
     event: SymEvent,
     given: &Assignment,
-) -> Result<String, Stop> {
+) -> Result<String, SymbolicStop> {
     let text = match event {
         SymEvent::Out(term) => {
             let word = value(alloc, &run.terms, term, given)?;
@@ -217,7 +217,7 @@ fn event_text(
 }
 
 /// The line of the events.
-fn events_line(alloc: Global, run: &StepRun, given: &Assignment) -> Result<String, Stop> {
+fn events_line(alloc: Global, run: &StepRun, given: &Assignment) -> Result<String, SymbolicStop> {
     let mut line = String::from_str(alloc, "events")?;
     for event in run.step.events() {
         line.push_str(&event_text(alloc, run, *event, given)?)?;
@@ -226,7 +226,7 @@ fn events_line(alloc: Global, run: &StepRun, given: &Assignment) -> Result<Strin
 }
 
 /// The line of the branch bits.
-fn branches_line(alloc: Global, bits: &[bool]) -> Result<String, Stop> {
+fn branches_line(alloc: Global, bits: &[bool]) -> Result<String, SymbolicStop> {
     let mut line = String::from_str(alloc, "branches")?;
     for bit in bits {
         line.push_str(if *bit { " 1" } else { " 0" })?;
@@ -238,12 +238,12 @@ fn branches_line(alloc: Global, bits: &[bool]) -> Result<String, Stop> {
 fn state_lines(
     alloc: Global,
     machine: &Machine,
-    places: &[Place],
+    places: &[MemoryWord],
     run: &mut StepRun,
     given: &mut Assignment,
     bases: u32,
     bits: &[bool],
-) -> Result<Vec<u8>, Stop>
+) -> Result<Vec<u8>, SymbolicStop>
     requires { IsEnded (description_of machine.now) run.old.terms run.old.words run.old.memory run.old.step }
 {
     let mut report = Vec::new(alloc);
@@ -258,7 +258,7 @@ fn state_lines(
 }
 
 /// The line of the words behind the first ones, so many.
-fn words_report(alloc: Global, run: &StepRun, first: u64) -> Result<Vec<u8>, Stop> {
+fn words_report(alloc: Global, run: &StepRun, first: u64) -> Result<Vec<u8>, SymbolicStop> {
     let line = words_line(alloc, &run.terms, &run.words, first)?;
     Ok(Vec::from_slice(alloc, line.as_bytes())?)
 }
@@ -270,7 +270,7 @@ fn report_of(
     setting: &Setting,
     run: &mut StepRun,
     printed: Printed,
-) -> Result<Vec<u8>, Stop>
+) -> Result<Vec<u8>, SymbolicStop>
     requires under { IsUnderway (description_of machine.now) run.old.terms run.old.words run.old.memory run.old.step }
     requires idle { is_asked run.old.step.pending ≡ false }
 {

@@ -1,6 +1,6 @@
 // Words as texts, a token each: `sum(w14,w15,0'1)`. A variable stands by its kind, the kind's number and its width, as
 // `line(0,1)`. An operand is `wN`, the word of number N, or `VALUE'WIDTH`, a constant. All numbers are decimal.
-use crate::valued::Stop;
+use crate::valued::SymbolicStop;
 use mw_symmem::Words;
 use mw_term::{Op, Term, Terms, WordKind, terms_have_widths};
 use std::alloc::Global;
@@ -19,13 +19,18 @@ fn op_of(terms: &Terms, term: Term) -> Option<Op> {
 }
 
 /// An operand.
-fn operand(alloc: Global, terms: &Terms, words: &Words, term: Term) -> Result<String, Stop> {
+fn operand(
+    alloc: Global,
+    terms: &Terms,
+    words: &Words,
+    term: Term,
+) -> Result<String, SymbolicStop> {
     if let Some(Op::Con(value, width)) = op_of(terms, term) {
         return Ok(format!(in alloc; "{value}'{width}")?);
     }
     match words.word_of(term) {
         Some(number) => Ok(format!(in alloc; "w{number}")?),
-        None => Err(Stop::Unlike),
+        None => Err(SymbolicStop::Unlike),
     }
 }
 
@@ -36,7 +41,7 @@ fn operation(
     words: &Words,
     name: &str,
     operands: &[Term],
-) -> Result<String, Stop> {
+) -> Result<String, SymbolicStop> {
     let mut text = String::from_str(alloc, name)?;
     let mut before = "(";
     for term in operands {
@@ -67,13 +72,13 @@ fn kind_name(words: &Words, term: Term, number: u32) -> Option<&'static str> {
 }
 
 /// A variable.
-fn variable(alloc: Global, words: &Words, term: Term, width: u8) -> Result<String, Stop> {
+fn variable(alloc: Global, words: &Words, term: Term, width: u8) -> Result<String, SymbolicStop> {
     for number in 0..KINDS_END {
         if let Some(name) = kind_name(words, term, number) {
             return Ok(format!(in alloc; "{name}({number},{width})")?);
         }
     }
-    Err(Stop::Unlike)
+    Err(SymbolicStop::Unlike)
 }
 
 /// A word, by its term and its op.
@@ -83,9 +88,9 @@ fn word_text(
     words: &Words,
     term: Term,
     op: Op,
-) -> Result<String, Stop> {
+) -> Result<String, SymbolicStop> {
     let (name, operands) = match op {
-        Op::Con(..) => return Err(Stop::Unlike),
+        Op::Con(..) => return Err(SymbolicStop::Unlike),
         Op::Var(_, width) => return variable(alloc, words, term, width),
         Op::Part(a, low, width) => {
             let a = operand(alloc, terms, words, a)?;
@@ -120,7 +125,12 @@ fn is_behind(words: &Words, term: Term, first: u64) -> bool {
 /// # Errors
 ///
 /// A word that isn't as in one run, and want of memory.
-pub fn words_line(alloc: Global, terms: &Terms, words: &Words, first: u64) -> Result<String, Stop> {
+pub fn words_line(
+    alloc: Global,
+    terms: &Terms,
+    words: &Words,
+    first: u64,
+) -> Result<String, SymbolicStop> {
     let mut line = String::from_str(alloc, "words")?;
     for position in 0..u32::MAX {
         let term = Term::at(position);
@@ -133,5 +143,5 @@ pub fn words_line(alloc: Global, terms: &Terms, words: &Words, first: u64) -> Re
             line.push_str(&word_text(alloc, terms, words, term, op)?)?;
         }
     }
-    Err(Stop::Unlike)
+    Err(SymbolicStop::Unlike)
 }

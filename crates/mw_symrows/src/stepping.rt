@@ -9,7 +9,7 @@ ghost use Rattle.mw_symmem.specs.Workspace.{IsLater, IsWorkspace};
 ghost use Rattle.mw_symmach.specs.Turns.{Waits, is_asked};
 ghost use Rattle.mw_symrows.specs.StepRuns.{AreFirst, AreRegisters, IsEnded, IsFirstKind, IsTurned, IsUnderway};
 
-use crate::valued::{Stop, is_of_width, numbered, set, value};
+use crate::valued::{SymbolicStop, is_of_width, numbered, set, value};
 use mw_macro::Machine;
 use mw_symmach::SymMach;
 use mw_symmem::{Side, SymMemory, Turn, Words, are_of_at_first, is_memory_at_first};
@@ -31,7 +31,7 @@ pub struct StepRun {
 
 /// A word of the memory before the step, and its address.
 #[derive(Clone, Copy)]
-pub struct Place {
+pub struct MemoryWord {
     /// The address.
     pub address: u32,
     /// The word.
@@ -44,7 +44,7 @@ pub struct Scene {
     /// The inputs, in their order. Those behind them are 0.
     pub inputs: Vec<u32>,
     /// Words of the memory before the step. Those at other addresses are 0.
-    pub memory: Vec<Place>,
+    pub memory: Vec<MemoryWord>,
 }
 
 impl Scene {
@@ -66,7 +66,7 @@ fn first_variable(
     width: u8,
     terms: &mut Terms,
     words: &mut Words,
-) -> Result<Term, Stop>
+) -> Result<Term, SymbolicStop>
     requires kind { IsFirstKind kind }
     requires width { IsWidth width }
     requires of { AreOf terms.old words.old }
@@ -77,7 +77,7 @@ fn first_variable(
     ensures first { OnOk result (AreFirst words.new) }
 {
     if words.find(kind).is_some() {
-        return Err(Stop::Unlike);
+        return Err(SymbolicStop::Unlike);
     }
     let term = words.fresh(alloc, terms, kind, width)?;
     Ok(term)
@@ -100,7 +100,7 @@ fn push_register(
     terms: &mut Terms,
     words: &mut Words,
     registers: &mut Vec<Term>,
-) -> Result<(), Stop>
+) -> Result<(), SymbolicStop>
     requires there { number < (description_of machine.now).registers }
     requires count { length registers.old.items ≡ number }
     requires so_far { AreRegisters (description_of machine.now).shape terms.old number registers.old.items }
@@ -125,7 +125,7 @@ fn make_registers(
     machine: &Machine,
     terms: &mut Terms,
     words: &mut Words,
-) -> Result<Vec<Term>, Stop>
+) -> Result<Vec<Term>, SymbolicStop>
     requires table { IsTable terms.old }
     requires of { AreOf terms.old words.old }
     requires first { AreFirst words.old }
@@ -144,7 +144,7 @@ fn make_registers(
 }
 
 /// A table without a map and without terms.
-fn no_terms(alloc: Global) -> Result<Terms, Stop>
+fn no_terms(alloc: Global) -> Result<Terms, SymbolicStop>
     ensures exact { IfOk result (λ terms. terms ≡ tables.table_of [] []) }
     ensures table { IfOk result (λ terms. IsTable terms) }
 {
@@ -169,7 +169,7 @@ impl StepRun {
     /// # Errors
     ///
     /// Memory ran out.
-    pub fn new(alloc: Global, machine: &Machine) -> Result<StepRun, Stop>
+    pub fn new(alloc: Global, machine: &Machine) -> Result<StepRun, SymbolicStop>
         ensures under { IfOk result
             (λ run. IsUnderway (description_of machine.now) run.terms run.words run.memory run.step) }
         ensures idle { IfOk result (λ run. is_asked run.step.pending ≡ false) }
@@ -200,7 +200,7 @@ impl StepRun {
         memory: SymMemory,
         registers: &[Term],
         request: Term,
-    ) -> Result<StepRun, Stop>
+    ) -> Result<StepRun, SymbolicStop>
         requires waits { Waits (description_of machine.now) terms words memory registers.now request }
         requires few { length memory.reads ≤ 1000 }
         ensures under { IfOk result
@@ -217,7 +217,7 @@ impl StepRun {
     }
 
     /// Goes on to the next bit of the step, or to its end.
-    fn turn(&mut self, alloc: Global, machine: &Machine) -> Result<Turn, Stop>
+    fn turn(&mut self, alloc: Global, machine: &Machine) -> Result<Turn, SymbolicStop>
         requires under { IsUnderway (description_of machine.now) self.old.terms self.old.words
             self.old.memory self.old.step }
         requires idle { is_asked self.old.step.pending ≡ false }
@@ -248,7 +248,7 @@ impl StepRun {
     }
 
     /// The image that the base reads fit.
-    fn image(&self, alloc: Global, given: &Assignment) -> Result<Vec<u32>, Stop>
+    fn image(&self, alloc: Global, given: &Assignment) -> Result<Vec<u32>, SymbolicStop>
         requires { IsWorkspace self.now.terms self.now.words self.now.memory }
     {
         let image = self.memory.image_of(alloc, &self.terms, given)?;
@@ -263,7 +263,7 @@ impl StepRun {
         number: u32,
         scene: &Scene,
         given: &mut Assignment,
-    ) -> Result<(), Stop>
+    ) -> Result<(), SymbolicStop>
         requires { IsWorkspace self.now.terms self.now.words self.now.memory }
     {
         let before = self.image(alloc, given)?;
@@ -285,7 +285,7 @@ impl StepRun {
         from: u32,
         scene: &Scene,
         given: &mut Assignment,
-    ) -> Result<u32, Stop>
+    ) -> Result<u32, SymbolicStop>
         requires { IsWorkspace self.now.terms self.now.words self.now.memory }
     {
         for number in from..257 {
@@ -294,11 +294,16 @@ impl StepRun {
             }
             self.set_base(alloc, number, scene, given)?;
         }
-        Err(Stop::Unlike)
+        Err(SymbolicStop::Unlike)
     }
 
     /// Gives the inputs their words.
-    fn set_inputs(&self, alloc: Global, scene: &Scene, given: &mut Assignment) -> Result<(), Stop> {
+    fn set_inputs(
+        &self,
+        alloc: Global,
+        scene: &Scene,
+        given: &mut Assignment,
+    ) -> Result<(), SymbolicStop> {
         for (number, &word) in scene.inputs.iter().enumerate() {
             let kind = WordKind::Input(numbered(number)?);
             set(alloc, given, &self.words, kind, word)?;
@@ -307,7 +312,7 @@ impl StepRun {
     }
 
     /// The value of a bit that is asked for.
-    fn bit(&self, alloc: Global, term: Term, given: &Assignment) -> Result<bool, Stop> {
+    fn bit(&self, alloc: Global, term: Term, given: &Assignment) -> Result<bool, SymbolicStop> {
         let value = value(alloc, &self.terms, term, given)?;
         Ok(value == 1)
     }
@@ -324,7 +329,7 @@ impl StepRun {
         scene: &Scene,
         given: &mut Assignment,
         bits: &mut Vec<bool>,
-    ) -> Result<u32, Stop>
+    ) -> Result<u32, SymbolicStop>
         requires under { IsUnderway (description_of machine.now) self.old.terms self.old.words
             self.old.memory self.old.step }
         requires idle { is_asked self.old.step.pending ≡ false }
@@ -343,7 +348,7 @@ impl StepRun {
             bits.push(value)?;
             self.decide(machine, value);
         }
-        Err(Stop::Unlike)
+        Err(SymbolicStop::Unlike)
     }
 
     /// Reads the machine's memory at the variable of an address.
@@ -351,14 +356,14 @@ impl StepRun {
     /// # Errors
     ///
     /// There is no such variable, and want of memory.
-    pub fn read(&mut self, alloc: Global, machine: &Machine) -> Result<Term, Stop>
+    pub fn read(&mut self, alloc: Global, machine: &Machine) -> Result<Term, SymbolicStop>
         requires { IsEnded (description_of machine.now) self.old.terms self.old.words self.old.memory self.old.step }
     {
         let Some(probe) = self.words.find(WordKind::Probe) else {
-            return Err(Stop::Unlike);
+            return Err(SymbolicStop::Unlike);
         };
         if !is_of_width(&self.terms, machine.shape().address, probe) {
-            return Err(Stop::Unlike);
+            return Err(SymbolicStop::Unlike);
         }
         let term = self.memory.read(
             alloc,
@@ -378,11 +383,11 @@ impl StepRun {
     pub fn word(
         &self,
         alloc: Global,
-        place: Place,
+        place: MemoryWord,
         bases: u32,
         read: Term,
         given: &mut Assignment,
-    ) -> Result<u32, Stop> {
+    ) -> Result<u32, SymbolicStop> {
         set(alloc, given, &self.words, WordKind::Probe, place.address)?;
         set(alloc, given, &self.words, WordKind::Base(bases), place.word)?;
         value(alloc, &self.terms, read, given)
@@ -393,13 +398,13 @@ impl StepRun {
     /// # Errors
     ///
     /// There are more than a step takes.
-    pub fn inputs(&self) -> Result<u32, Stop> {
+    pub fn inputs(&self) -> Result<u32, SymbolicStop> {
         for number in 0..4097 {
             if self.words.find(WordKind::Input(number)).is_none() {
                 return Ok(number);
             }
         }
-        Err(Stop::Unlike)
+        Err(SymbolicStop::Unlike)
     }
 
     /// The value of a register, by its number.
@@ -413,7 +418,7 @@ impl StepRun {
         machine: &Machine,
         number: u32,
         given: &Assignment,
-    ) -> Result<u32, Stop>
+    ) -> Result<u32, SymbolicStop>
         requires over { IsEnded (description_of machine.now) self.now.terms self.now.words
             self.now.memory self.now.step }
         requires there { number < (description_of machine.now).registers }

@@ -10,7 +10,7 @@ ghost use Rattle.mw_symboard.specs.Parts.{AreParts};
 ghost use Rattle.mw_symrows.specs.Runs.{IsIdle, IsOver, IsUnder};
 
 use crate::listed::words_line;
-use crate::valued::{Stop, numbered, value};
+use crate::valued::{SymbolicStop, numbered, value};
 use crate::workspace::{Bit, Outside, Run, assignment, element};
 use mw_base::Event;
 use mw_board::{Board, Store};
@@ -54,7 +54,7 @@ fn memory_text(
     state: &State,
     run: &mut Run,
     given: &mut Assignment,
-) -> Result<String, Stop>
+) -> Result<String, SymbolicStop>
     requires { IsOver board.now run.old.terms run.old.words run.old.memory run.old.board }
 {
     let read = run.read(alloc, board)?;
@@ -82,7 +82,7 @@ fn push_element(
     flips: &mut Flips,
     element: Element,
     value: u32,
-) -> Result<(), Stop> {
+) -> Result<(), SymbolicStop> {
     let part = match element {
         Element::Register(_) if value == 0 => return Ok(()),
         Element::Register(number) => format!(in alloc; " r{number}={value:x}")?,
@@ -113,7 +113,7 @@ fn elements_text(
     terms: &Terms,
     symbolic: &SymBoard,
     given: &Assignment,
-) -> Result<String, Stop>
+) -> Result<String, SymbolicStop>
     requires { (t : Table) × AreParts board.now t symbolic.now.place.parts }
 {
     let at = symbolic.at();
@@ -133,30 +133,30 @@ fn elements_text(
 }
 
 /// The event of the cycle.
-fn event_text(alloc: Global, run: &Run, given: &Assignment) -> Result<String, Stop> {
+fn event_text(alloc: Global, run: &Run, given: &Assignment) -> Result<String, SymbolicStop> {
     let event = match run.board.events() {
         [] => None,
         [SymEvent::Out(term)] => Some(Event::Out(value(alloc, &run.terms, *term, given)?)),
         [SymEvent::Taken(term)] => Some(Event::Taken(value(alloc, &run.terms, *term, given)?)),
-        _ => return Err(Stop::Unlike),
+        _ => return Err(SymbolicStop::Unlike),
     };
     Ok(texts::event(alloc, event)?)
 }
 
 /// A decided bit, with a blank before it.
-fn bit_text(alloc: Global, bit: Bit) -> Result<String, Stop> {
+fn bit_text(alloc: Global, bit: Bit) -> Result<String, SymbolicStop> {
     let value = u8::from(bit.value);
     let text = match bit.kind {
         DecidedKind::Pass => format!(in alloc; " pass:{value}")?,
         DecidedKind::CounterZero => format!(in alloc; " zero:{value}")?,
         DecidedKind::Next(number) => format!(in alloc; " {number}:{value}")?,
-        DecidedKind::Branch => return Err(Stop::Unlike),
+        DecidedKind::Branch => return Err(SymbolicStop::Unlike),
     };
     Ok(text)
 }
 
 /// Decided bits.
-fn bits_text(alloc: Global, bits: &[Bit]) -> Result<String, Stop> {
+fn bits_text(alloc: Global, bits: &[Bit]) -> Result<String, SymbolicStop> {
     let mut text = String::new(alloc);
     for bit in bits {
         text.push_str(&bit_text(alloc, *bit)?)?;
@@ -172,7 +172,7 @@ fn decided(
     outside: Outside,
     run: &mut Run,
     given: &mut Assignment,
-) -> Result<String, Stop>
+) -> Result<String, SymbolicStop>
     requires under { IsUnder board.now store.now.words run.old.terms run.old.words run.old.memory run.old.board }
     requires idle { IsIdle run.old.board 0 }
     ensures { OnOk result (IsOver board.now run.new.terms run.new.words run.new.memory run.new.board) }
@@ -190,7 +190,7 @@ fn state_lines(
     run: &mut Run,
     given: &mut Assignment,
     bits: &str,
-) -> Result<String, Stop>
+) -> Result<String, SymbolicStop>
     requires { IsOver board.now run.old.terms run.old.words run.old.memory run.old.board }
 {
     let elements = elements_text(alloc, board, &run.terms, &run.board, given)?;
@@ -207,7 +207,7 @@ fn from_run(
     state: &State,
     asked: Asked,
     run: &mut Run,
-) -> Result<String, Stop>
+) -> Result<String, SymbolicStop>
     requires fits { Fits board.now state.now }
     requires under { IsUnder board.now store.now.words run.old.terms run.old.words run.old.memory run.old.board }
     requires idle { IsIdle run.old.board 0 }

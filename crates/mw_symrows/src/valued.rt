@@ -10,47 +10,47 @@ use std::alloc::{AllocError, AllocFailed, Global};
 
 /// Why a symbolic run doesn't come to its end.
 #[derive(Clone, Copy, Debug, PartialEq, Eq)]
-pub enum Stop {
+pub enum SymbolicStop {
     /// Memory ran out.
     NoMemory,
     /// Something isn't as it is in one run: a second variable of a kind, too many bits, or a term that isn't there.
     Unlike,
 }
 
-impl From<NoMemory> for Stop {
-    fn from(_: NoMemory) -> Stop {
-        Stop::NoMemory
+impl From<NoMemory> for SymbolicStop {
+    fn from(_: NoMemory) -> SymbolicStop {
+        SymbolicStop::NoMemory
     }
 }
 
-impl From<AllocError> for Stop {
-    fn from(_: AllocError) -> Stop {
-        Stop::NoMemory
+impl From<AllocError> for SymbolicStop {
+    fn from(_: AllocError) -> SymbolicStop {
+        SymbolicStop::NoMemory
     }
 }
 
-impl<T: Drop> From<AllocFailed<T>> for Stop {
-    fn from(_: AllocFailed<T>) -> Stop {
-        Stop::NoMemory
+impl<T: Drop> From<AllocFailed<T>> for SymbolicStop {
+    fn from(_: AllocFailed<T>) -> SymbolicStop {
+        SymbolicStop::NoMemory
     }
 }
 
-impl From<Stop> for Fault {
-    fn from(stop: Stop) -> Fault {
+impl From<SymbolicStop> for Fault {
+    fn from(stop: SymbolicStop) -> Fault {
         match stop {
-            Stop::NoMemory => Fault::NoMemory,
-            Stop::Unlike => wrong("a symbolic run is unlike a run"),
+            SymbolicStop::NoMemory => Fault::NoMemory,
+            SymbolicStop::Unlike => wrong("a symbolic run is unlike a run"),
         }
     }
 }
 
 /// A number in 32 bits.
-pub fn numbered(number: usize) -> Result<u32, Stop>
+pub fn numbered(number: usize) -> Result<u32, SymbolicStop>
     ensures { IfOk result (λ n. n ≡ number) }
 {
     match u32::try_from(number) {
         Ok(number) => Ok(number),
-        Err(_) => Err(Stop::Unlike),
+        Err(_) => Err(SymbolicStop::Unlike),
     }
 }
 
@@ -67,10 +67,15 @@ pub fn is_of_width(terms: &Terms, width: u8, term: Term) -> bool
 /// # Errors
 ///
 /// The term isn't there, and want of memory.
-pub fn value(alloc: Global, terms: &Terms, term: Term, given: &Assignment) -> Result<u32, Stop> {
+pub fn value(
+    alloc: Global,
+    terms: &Terms,
+    term: Term,
+    given: &Assignment,
+) -> Result<u32, SymbolicStop> {
     terms_have_widths();
     if !terms.fits(&Op::Not(term)) {
-        return Err(Stop::Unlike);
+        return Err(SymbolicStop::Unlike);
     }
     let value = terms.value(alloc, term, given)?;
     Ok(value)
@@ -87,7 +92,7 @@ pub fn set(
     words: &Words,
     kind: WordKind,
     value: u32,
-) -> Result<(), Stop> {
+) -> Result<(), SymbolicStop> {
     if let Some(term) = words.find(kind) {
         if let Some(number) = words.word_of(term) {
             given.set(alloc, number, value)?;

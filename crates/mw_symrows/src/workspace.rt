@@ -12,7 +12,7 @@ ghost use Rattle.mw_symboard.specs.Parts.{AreElements, AreParts};
 ghost use Rattle.mw_symboard.specs.Turns.{Asks};
 ghost use Rattle.mw_symrows.specs.Runs.{AreFree, AreSoFar, IsFreeKind, IsIdle, IsOver, IsTurned, IsUnder};
 
-use crate::valued::{Stop, is_of_width, numbered, set, value};
+use crate::valued::{SymbolicStop, is_of_width, numbered, set, value};
 use mw_board::{Board, Store};
 use mw_cycle::{CycleIn, Element, State, element_of};
 use mw_symboard::SymBoard;
@@ -54,7 +54,7 @@ pub(crate) fn variable(
     width: u8,
     terms: &mut Terms,
     words: &mut Words,
-) -> Result<Term, Stop>
+) -> Result<Term, SymbolicStop>
     requires kind { IsFreeKind kind }
     requires width { IsWidth width }
     requires of { AreOf terms.old words.old }
@@ -65,7 +65,7 @@ pub(crate) fn variable(
     ensures free { OnOk result (AreFree words.new) }
 {
     if words.find(kind).is_some() {
-        return Err(Stop::Unlike);
+        return Err(SymbolicStop::Unlike);
     }
     let term = words.fresh(alloc, terms, kind, width)?;
     Ok(term)
@@ -79,7 +79,7 @@ fn push_variable(
     terms: &mut Terms,
     words: &mut Words,
     elements: &mut Vec<Term>,
-) -> Result<(), Stop>
+) -> Result<(), SymbolicStop>
     requires there { number < element_count board.now }
     requires count { length elements.old.items ≡ number }
     requires so_far { AreSoFar board.now terms.old number elements.old.items }
@@ -104,7 +104,7 @@ fn make_elements(
     board: &Board,
     terms: &mut Terms,
     words: &mut Words,
-) -> Result<Vec<Term>, Stop>
+) -> Result<Vec<Term>, SymbolicStop>
     requires table { IsTable terms.old }
     requires of { AreOf terms.old words.old }
     requires free { AreFree words.old }
@@ -122,7 +122,7 @@ fn make_elements(
 }
 
 /// A table with the board's map, and without terms.
-pub(crate) fn no_terms(alloc: Global, board: &Board) -> Result<Terms, Stop>
+pub(crate) fn no_terms(alloc: Global, board: &Board) -> Result<Terms, SymbolicStop>
     ensures exact { IfOk result (λ terms. terms ≡ tables.table_of [] board.now.map_entries) }
     ensures table { IfOk result (λ terms. IsTable terms) }
 {
@@ -145,7 +145,7 @@ fn set_outside(
     given: &mut Assignment,
     words: &Words,
     outside: Outside,
-) -> Result<(), Stop> {
+) -> Result<(), SymbolicStop> {
     let CycleIn { noise, line, input } = outside.given;
     set(alloc, given, words, WordKind::Line(0), u32::from(line))?;
     set(alloc, given, words, WordKind::Noise(0), u32::from(noise))?;
@@ -163,7 +163,7 @@ pub fn assignment(
     board: &Board,
     state: &State,
     words: &Words,
-) -> Result<Assignment, Stop>
+) -> Result<Assignment, SymbolicStop>
     requires { Fits board.now state.now }
 {
     let mut given = Assignment::new(alloc);
@@ -191,7 +191,7 @@ impl Run {
     /// # Errors
     ///
     /// Memory ran out.
-    pub fn new(alloc: Global, board: &Board, state: &State) -> Result<Run, Stop>
+    pub fn new(alloc: Global, board: &Board, state: &State) -> Result<Run, SymbolicStop>
         requires { Fits board.now state.now }
         ensures under { IfOk result
             (λ run. (store : List ℕ) → IsUnder board.now store run.terms run.words run.memory run.board) }
@@ -218,7 +218,7 @@ impl Run {
         terms: Terms,
         words: Words,
         elements: &[Term],
-    ) -> Result<Run, Stop>
+    ) -> Result<Run, SymbolicStop>
         requires fits { Fits board.now state.now }
         requires count { length elements.now ≡ element_count board.now }
         requires elements { AreElements board.now terms elements.now }
@@ -253,7 +253,7 @@ impl Run {
     }
 
     /// Goes on to the next bit of the cycle, or to its end.
-    fn turn(&mut self, alloc: Global, board: &Board, store: &Store) -> Result<Turn, Stop>
+    fn turn(&mut self, alloc: Global, board: &Board, store: &Store) -> Result<Turn, SymbolicStop>
         requires under { IsUnder board.now store.now.words self.old.terms self.old.words
             self.old.memory self.old.board }
         requires idle { self.old.board.asked ≡ None }
@@ -262,7 +262,7 @@ impl Run {
             self.new.words self.new.memory self.new.board) }
     {
         if !self.has_few_reads() {
-            return Err(Stop::Unlike);
+            return Err(SymbolicStop::Unlike);
         }
         let turn = self.board.sym_cycle(
             alloc,
@@ -302,7 +302,7 @@ impl Run {
         outside: Outside,
         given: &mut Assignment,
         term: Term,
-    ) -> Result<bool, Stop> {
+    ) -> Result<bool, SymbolicStop> {
         set_outside(alloc, given, &self.words, outside)?;
         let value = value(alloc, &self.terms, term, given)?;
         Ok(value == 1)
@@ -321,7 +321,7 @@ impl Run {
         outside: Outside,
         given: &mut Assignment,
         bits: &mut Vec<Bit>,
-    ) -> Result<(), Stop>
+    ) -> Result<(), SymbolicStop>
         requires under { IsUnder board.now store.now.words self.old.terms self.old.words
             self.old.memory self.old.board }
         requires idle { self.old.board.asked ≡ None }
@@ -340,7 +340,7 @@ impl Run {
             bits.push(Bit { kind, value })?;
             self.decide(board, store, kind, term, value);
         }
-        Err(Stop::Unlike)
+        Err(SymbolicStop::Unlike)
     }
 
     /// Reads the board's memory at the variable of an address.
@@ -348,14 +348,14 @@ impl Run {
     /// # Errors
     ///
     /// There is no such variable, and want of memory.
-    pub fn read(&mut self, alloc: Global, board: &Board) -> Result<Term, Stop>
+    pub fn read(&mut self, alloc: Global, board: &Board) -> Result<Term, SymbolicStop>
         requires { IsOver board.now self.old.terms self.old.words self.old.memory self.old.board }
     {
         let Some(probe) = self.words.find(WordKind::Probe) else {
-            return Err(Stop::Unlike);
+            return Err(SymbolicStop::Unlike);
         };
         if !self.has_few_reads() || !is_of_width(&self.terms, board.parts().address, probe) {
-            return Err(Stop::Unlike);
+            return Err(SymbolicStop::Unlike);
         }
         let term = self.memory.read(alloc, Side::Board, probe, &mut self.terms, &mut self.words)?;
         Ok(term)
@@ -373,7 +373,7 @@ impl Run {
         word: u32,
         read: Term,
         given: &mut Assignment,
-    ) -> Result<u32, Stop> {
+    ) -> Result<u32, SymbolicStop> {
         let last = u32::from(self.words.find(WordKind::Base(1)).is_some());
         set(alloc, given, &self.words, WordKind::Probe, address)?;
         set(alloc, given, &self.words, WordKind::Base(last), word)?;
@@ -393,7 +393,7 @@ pub fn element(
     symbolic: &SymBoard,
     number: u32,
     given: &Assignment,
-) -> Result<u32, Stop>
+) -> Result<u32, SymbolicStop>
     requires parts { (t : Table) × AreParts board.now t symbolic.now.place.parts }
     requires there { number < element_count board.now }
 {

@@ -9,26 +9,26 @@ use Rattle.std.proofs.lemmas.Option.{slice_get_read, same_Some}
 use Rattle.mw_term.specs.declared.op.Op.{Op}
 use Rattle.mw_term.specs.Assigned.{Given}
 use Rattle.mw_term.specs.Table.{table_of, op_width, widths_after, widths_of, term_width, width_over, IsWidth}
-use Rattle.mw_term.specs.Table.{AreWidths, OpFits, Fits, IsTable, IsKept}
+use Rattle.mw_term.specs.Table.{AreWidths, OpFits, Fits, IsTable, IsTableWithWidths}
 use Rattle.mw_term.specs.Values.{op_value, values_after, values_of, term_value, AreWords, IsTermOf, Keeps}
 use Rattle.mw_term.proofs.Fitting.{stays}
 use Rattle.mw_term.proofs.Tables.{widths_append, widths_begin, values_append, values_begin, widths_count, widths_push}
 use Rattle.mw_term.proofs.Tables.{values_push, values_count, words_before, words_of, widths_range, terms_have_ops}
 
 -- there is a width for each term
-pub kept_inside : (ops : List Op) (widths map : List ℕ) (term : ℕ) → IsKept ops widths map → term < length ops
+pub kept_inside : (ops : List Op) (widths map : List ℕ) (term : ℕ) → IsTableWithWidths ops widths map → term < length ops
     → term < length widths
 kept_inside ops widths map term kept inside = omega (arith, inside, ap length kept.widths ∙ widths_count ops)
 
 -- which is the term's
-pub kept_width : (ops : List Op) (widths map : List ℕ) (term w : ℕ) → IsKept ops widths map → term < length ops
+pub kept_width : (ops : List Op) (widths map : List ℕ) (term w : ℕ) → IsTableWithWidths ops widths map → term < length ops
     → w ≡ get_or widths term w → w ≡ term_width (table_of ops map) term
 kept_width ops widths map term w kept inside read =
     get_or_read widths term w (kept_inside ops widths map term kept inside) read 0
     ∙ ap (λ ws. slice_index ws term) kept.widths
 
 -- and is 1 to 32 bits
-pub kept_range : (ops : List Op) (widths map : List ℕ) (term w : ℕ) → IsKept ops widths map → term < length ops
+pub kept_range : (ops : List Op) (widths map : List ℕ) (term w : ℕ) → IsTableWithWidths ops widths map → term < length ops
     → w ≡ get_or widths term w → IsWidth w
 kept_range ops widths map term w kept inside read =
     let is : w ≡ term_width (table_of ops map) term = kept_width ops widths map term w kept inside read in
@@ -36,7 +36,7 @@ kept_range ops widths map term w kept inside read =
     let range : IsWidth (term_width (table_of ops map) term) = widths_range (table_of ops map) kept.table term there in
     rw is range
 
-pub kept_ranges : (ops : List Op) (widths map : List ℕ) → IsKept ops widths map → AreWidths widths
+pub kept_ranges : (ops : List Op) (widths map : List ℕ) → IsTableWithWidths ops widths map → AreWidths widths
 kept_ranges ops widths map kept = rw kept.widths (widths_range (table_of ops map) kept.table)
 
 -- the widths of the terms before a place
@@ -51,21 +51,21 @@ widths_take ops n within =
     ∙ take_all n front (omega (arith, size))
 
 -- the op at a place fits the terms before it
-pub kept_fits : (ops : List Op) (widths map : List ℕ) (place : ℕ) (op : Op) → IsKept ops widths map → place < length ops
+pub kept_fits : (ops : List Op) (widths map : List ℕ) (place : ℕ) (op : Op) → IsTableWithWidths ops widths map → place < length ops
     → op ≡ get_or ops place op → OpFits map (take place widths) op
 kept_fits ops widths map place op kept inside read =
     let fits = kept.table.fit place op (slice_get_read ops (length ops) place op refl inside read) in
     rw (kept.widths, widths_take ops place (omega arith)) fits
 
 -- and the terms that there are
-pub kept_op : (ops : List Op) (widths map : List ℕ) (term : ℕ) (op : Op) → IsKept ops widths map → term < length ops
+pub kept_op : (ops : List Op) (widths map : List ℕ) (term : ℕ) (op : Op) → IsTableWithWidths ops widths map → term < length ops
     → op ≡ get_or ops term op → Fits (table_of ops map) op
 kept_op ops widths map term op kept inside read =
     let here : slice_get ops term ≡ Some op = slice_get_read ops (length ops) term op refl inside read in
     (terms_have_ops (table_of ops map) term op kept.table here).fits
 
 -- and these have words
-pub kept_words : (ops : List Op) (widths map values : List ℕ) (given : Given) (place : ℕ) → IsKept ops widths map
+pub kept_words : (ops : List Op) (widths map values : List ℕ) (given : Given) (place : ℕ) → IsTableWithWidths ops widths map
     → place < length ops
     → values ≡ values_of map given (take place ops) → AreWords (take place widths) values
 kept_words ops widths map values given place kept inside so_far =
@@ -74,7 +74,7 @@ kept_words ops widths map values given place kept inside so_far =
 
 -- one value more
 pub value_next : (ops : List Op) (widths map values : List ℕ) (given : Given) (place value : ℕ) (op : Op)
-    → IsKept ops widths map
+    → IsTableWithWidths ops widths map
     → place < length ops → op ≡ get_or ops place op → values ≡ values_of map given (take place ops)
     → value ≡ op_value map given (take place widths) values op
     → values ++ value ∷ [] ≡ values_of map given (take (place + 1) ops)
@@ -110,7 +110,7 @@ value_read map given ops values place term v inside last is read =
     get_or_read values term v there read 0 ∙ ap (λ xs. slice_index xs term) is
     ∙ values_front map given ops place term within before
 
-pub value_fits : (ops : List Op) (widths map : List ℕ) (given : Given) (term v : ℕ) → IsKept ops widths map
+pub value_fits : (ops : List Op) (widths map : List ℕ) (given : Given) (term v : ℕ) → IsTableWithWidths ops widths map
     → term < length ops
     → v ≡ term_value (table_of ops map) given term → v < 2 ^ term_width (table_of ops map) term
 value_fits ops widths map given term v kept inside is =
@@ -143,9 +143,9 @@ table_push ops map op table fits = record {
   ];
 }
 
-pub kept_push : (ops : List Op) (widths map : List ℕ) (op : Op) (w : ℕ) → IsKept ops widths map
+pub kept_push : (ops : List Op) (widths map : List ℕ) (op : Op) (w : ℕ) → IsTableWithWidths ops widths map
     → Fits (table_of ops map) op
-    → w ≡ width_over (table_of ops map) op → IsKept (ops ++ op ∷ []) (widths ++ w ∷ []) map
+    → w ≡ width_over (table_of ops map) op → IsTableWithWidths (ops ++ op ∷ []) (widths ++ w ∷ []) map
 kept_push ops widths map op w kept fits is = record {
   table = table_push ops map op kept.table fits;
   widths = rw (kept.widths, is) (sym (widths_push ops op));

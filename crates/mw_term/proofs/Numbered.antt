@@ -10,7 +10,7 @@ use Rattle.mw_term.specs.declared.op.Op.TheVariants.{Con, Var, Sum, Eq, Ite, Par
 use Rattle.mw_term.specs.declared.word.Word.{Word}
 use Rattle.mw_term.specs.MemoryRead.{Held}
 use Rattle.mw_term.specs.Numbered.{is_constant, IsNumbered, StaysWithConstants, StaysWithWords, StaysWithVariables, StaysWithReads}
-use Rattle.mw_term.specs.WordList.{WordList, ended, list_of, plain, variable, number_from, number_of, term_of, with_constant, with_variable, variable_or, with_input, with_word, with_sum, with_part, with_zeros_above, with_same, over_reads, over_write, over_writes, with_base, memory_read_words}
+use Rattle.mw_term.specs.WordList.{WordList, ended, list_of, plain, variable, number_from, word_number, term_of, with_constant, with_variable, variable_or, with_input, with_word, with_sum, with_part, with_zeros_above, with_same, over_reads, over_write, over_writes, with_base, memory_read_words}
 use Rattle.mw_term.proofs.Pushed.{pushed, number_push}
 
 -- ---- one more
@@ -58,14 +58,14 @@ numbered_more l op w last other has = record {
   numbered = λ term found is kind.
       (let count = unwrap_or (number_from 1 l.words term) (1 + length l.words) in
       rw (number_push 1 l.words w term) (elim (pushed l.ops op term found is) [
-        | inl h ↦ either (w.term == term) count (number_of l.words term) (has.numbered term found h.1 kind)
-        | inr h ↦ own (w.term == term) count (number_of l.words term) (alike w.term term (last ∙ sym h.0))
+        | inl h ↦ either (w.term == term) count (word_number l.words term) (has.numbered term found h.1 kind)
+        | inr h ↦ own (w.term == term) count (word_number l.words term) (alike w.term term (last ∙ sym h.0))
       ]));
   there = words_there l op w last has;
   constants = λ term found is kind.
       (let count = unwrap_or (number_from 1 l.words term) (1 + length l.words) in
       rw (number_push 1 l.words w term) (elim (pushed l.ops op term found is) [
-        | inl h ↦ neither (w.term == term) count (number_of l.words term)
+        | inl h ↦ neither (w.term == term) count (word_number l.words term)
             (apart w.term term (omega (arith, last, h.0))) (has.constants term found h.1 kind)
         | inr h ↦ absurd (false≢true (sym other ∙ ap is_constant h.1 ∙ kind))
       ]));

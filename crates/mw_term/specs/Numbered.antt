@@ -5,7 +5,7 @@ use Rattle.mw_term.specs.declared.op.Op.{Op}
 use Rattle.mw_term.specs.declared.op.Op.TheVariants.{Con}
 use Rattle.mw_term.specs.declared.word.Word.{Word}
 use Rattle.mw_term.specs.MemoryRead.{Held}
-use Rattle.mw_term.specs.WordList.{WordList, number_of, with_constant, with_word, with_variable, memory_read_words}
+use Rattle.mw_term.specs.WordList.{WordList, word_number, with_constant, with_word, with_variable, memory_read_words}
 
 -- an op is a constant
 abbrev pub is_constant : Op → Bool
@@ -15,10 +15,10 @@ is_constant op = false
 -- each term that is no constant is that of a word, each word's term is one of the list's, and a constant has no word
 pub record IsNumbered (l : WordList) : Type 0 where
   pub numbered : (term : ℕ) (op : Op) → slice_get l.ops term ≡ Some op → is_constant op ≡ false
-      → IsSome (number_of l.words term)
+      → IsSome (word_number l.words term)
   pub there : (place : ℕ) (w : Word) → slice_get l.words place ≡ Some w → w.term < length l.ops
   pub constants : (term : ℕ) (op : Op) → slice_get l.ops term ≡ Some op → is_constant op ≡ true
-      → number_of l.words term ≡ None
+      → word_number l.words term ≡ None
 
 -- a list is so with a constant more
 abbrev pub StaysWithConstants : Type 0

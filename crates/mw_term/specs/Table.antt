@@ -111,6 +111,6 @@ pub record Extends (old new : Table) : Type 0 where
   pub ops : take (length old.ops) new.ops ≡ old.ops
 
 -- what the code keeps: a table, and beside the ops their widths
-pub record IsKept (ops : List Op) (beside map : List ℕ) : Type 0 where
+pub record IsTableWithWidths (ops : List Op) (beside map : List ℕ) : Type 0 where
   pub table : IsTable (table_of ops map)
   pub widths : beside ≡ widths_of ops

@@ -45,8 +45,8 @@ number_from number [] term = None
 number_from number (w ∷ rest) term = if w.term == term then Some number else number_from (number + 1) rest term
 
 -- the least number of a word with a term
-abbrev pub number_of : List Word → (term : ℕ) → Option ℕ
-number_of words term = number_from 1 words term
+abbrev pub word_number : List Word → (term : ℕ) → Option ℕ
+word_number words term = number_from 1 words term
 
 -- two kinds are one
 abbrev pub same_kind : (a b : WordKind) → Bool

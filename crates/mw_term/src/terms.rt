@@ -21,13 +21,13 @@ pub struct Terms {
 }
 
 impl Model for Terms {
-    ghost use Rattle.mw_term.specs.Table.{Table, table_of, IsKept};
+    ghost use Rattle.mw_term.specs.Table.{Table, table_of, IsTableWithWidths};
 
     ghost Value = { Table };
 
     ghost view = { λ t. table_of t.ops.items t.map.items };
 
-    ghost invariant = { λ t. IsKept t.ops.items t.widths.items t.map.items };
+    ghost invariant = { λ t. IsTableWithWidths t.ops.items t.widths.items t.map.items };
 }
 
 impl Terms {

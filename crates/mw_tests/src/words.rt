@@ -4,7 +4,7 @@ ghost use Rattle.mw_rel.specs.CaseExamples.{adding_job, spinning_job, to_one, to
 ghost use Rattle.mw_rel.specs.CaseWords.{case_words};
 ghost use Rattle.mw_rel.specs.ComparisonWords as subjects;
 ghost use Rattle.mw_term.specs.declared.op.Op.TheVariants.{Sum};
-ghost use Rattle.mw_term.specs.WordList.{number_of};
+ghost use Rattle.mw_term.specs.WordList.{word_number};
 ghost use Rattle.mw_rel.specs.WordExamples.{small_start, small_start_listed, read_start, read_start_listed};
 ghost use Rattle.mw_rel.specs.WordExamples.{all_alike, all_alike_listed, compared};
 ghost use Rattle.mw_term.specs.declared.event.SymEvent.TheVariants.{Out, Taken};
@@ -30,8 +30,8 @@ fn worked_comparison_words()
 /// memory. Of a late case nothing is listed behind its cycles.
 fn worked_case_words()
     ensures asks { (case_words adding_job 0 []).asked ≡ Some 36 }
-    ensures at { number_of (case_words adding_job 0 []).list.words 36 ≡ Some 29 }
-    ensures sum { number_of (case_words adding_job 0 (to_one ++ to_zero)).list.words 33 ≡ Some 28 }
+    ensures at { word_number (case_words adding_job 0 []).list.words 36 ≡ Some 29 }
+    ensures sum { word_number (case_words adding_job 0 (to_one ++ to_zero)).list.words 33 ≡ Some 28 }
     ensures op { slice_get (case_words adding_job 0 (to_one ++ to_zero)).list.ops 33 ≡ Some (Sum 27 26 32) }
     ensures whole { (case_words adding_job 0 (to_one ++ to_zero)).asked ≡ None }
     ensures compares { map (λ c. c.subject) (case_words adding_job 0 (to_one ++ to_zero)).comparisons

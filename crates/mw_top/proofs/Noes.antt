@@ -19,7 +19,7 @@ use Rattle.mw_replay.specs.CounterPrinted.{AreShort, MayFollow, counter_text, in
 use Rattle.mw_replay.specs.CounterText.{counter_of}
 use Rattle.mw_replay.proofs.Starts.{counters_give_starts, starts_are_one}
 use Rattle.mw_replay.proofs.Trimmed.{nothing_is_cut}
-use Rattle.mw_top.specs.Commands.Certify.{IsNoReport, Shows, no_report, number_of}
+use Rattle.mw_top.specs.Commands.Certify.{IsNoReport, Shows, no_report, boundary_over_budget}
 use Rattle.mw_top.specs.Differences.{AreOf32Bits, IsDifferenceOf}
 use Rattle.mw_top.specs.Report.{difference_text}
 use Rattle.mw_top.proofs.Followed.{differences_may_follow, element_is_there}
@@ -89,7 +89,7 @@ is_no_report job counter difference text report valid board is shows few same be
 
 -- the boundary is one of the job's
 pub over_is_there : (job : Job) (budget : Budget) (over : Over) → IsUnknown job budget over
-    → number_of over < length job.relation.boundaries
+    → boundary_over_budget over < length job.relation.boundaries
 over_is_there job budget (overs.Nodes number prefix word j) is =
     let feasible = is.over.feasible in
     slice_get_within job.relation.boundaries number feasible.start.boundary feasible.starts.there

@@ -40,9 +40,9 @@ number_within least most text = if is_decimal text then within least most (numbe
 
 -- the number of an option, by the greatest, the one where the line doesn't give it, whether the option is the command's
 -- own, and the text that the line gives: nothing where that text isn't to be given
-abbrev pub number_of : ℕ → ℕ → Bool → Option Text → Option ℕ
-number_of most otherwise own None = Some otherwise
-number_of most otherwise own (Some text) = if own then number_within 1 most text else None
+abbrev pub option_number : ℕ → ℕ → Bool → Option Text → Option ℕ
+option_number most otherwise own None = Some otherwise
+option_number most otherwise own (Some text) = if own then number_within 1 most text else None
 
 -- the flag is on the line
 abbrev pub is_true : Option Text → Bool

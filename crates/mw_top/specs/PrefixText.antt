@@ -55,12 +55,12 @@ digit_or_dash None = 45
 digit_or_dash (Some bit) = digit bit.value
 
 -- the number that bits stand for, the highest first
-abbrev pub number_of : List Bool → ℕ
-number_of bits = fold (λ number bit. number * 2 + num bit) 0 bits
+abbrev pub binary_number : List Bool → ℕ
+binary_number bits = fold (λ number bit. number * 2 + num bit) 0 bits
 
 -- a next address: three hexadecimal digits where all its twelve bits are decided, else `b` and the bits so far
 abbrev pub address_text : List Bool → List ℕ
-address_text bits = if length bits == 12 then padded 3 (number_of bits) else codes "b" ++ map digit bits
+address_text bits = if length bits == 12 then padded 3 (binary_number bits) else codes "b" ++ map digit bits
 
 -- the piece of a cycle, from its bits: pass, counter zero, and the next address
 unfoldable pub cycle_text : List Decided → List ℕ

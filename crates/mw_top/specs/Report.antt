@@ -2,7 +2,7 @@
 use Rattle.std.specs.Prelude.{ℕ, ◌-◌, List, [], ◌∷◌, ◌++◌, codes, slice_index_or, ◌==◌, nat_lt, if◌then◌else◌}
 use Rattle.std.specs.Option.{unwrap_or}
 use Rattle.mw_base.specs.Numbers.{hex, decimal}
-use Rattle.mw_base.specs.Causes.{number_of}
+use Rattle.mw_base.specs.Causes.{cause_number}
 use Rattle.mw_base.specs.declared.cause.Cause.{Cause}
 use Rattle.mw_base.specs.declared.cause.Cause.TheVariants.{FileTooLong}
 use Rattle.mw_board.specs.Elements.{element_count, element_name}
@@ -29,7 +29,7 @@ fault_line file = line (codes "fault read " ++ file)
 
 -- the cause at the end of a refusal
 abbrev pub cause_text : Cause → List ℕ
-cause_text cause = codes " cause " ++ decimal (number_of cause)
+cause_text cause = codes " cause " ++ decimal (cause_number cause)
 
 -- a line and a column of a text
 abbrev pub place_text : ℕ → ℕ → List ℕ

@@ -17,7 +17,7 @@ use Rattle.mw_top.specs.declared.request.options.Number.TheVariants.{Nodes, Path
 use Rattle.mw_top.specs.declared.request.options.Options.{Options}
 use Rattle.mw_top.specs.Line.{line}
 use Rattle.mw_top.specs.Operands.{OperandsData, file_count, operands_of, words_in}
-use Rattle.mw_top.specs.Options.{limit_of, number_of, is_true, parts_of, options_from}
+use Rattle.mw_top.specs.Options.{limit_of, option_number, is_true, parts_of, options_from}
 
 -- A command, the names of its files in the order of the words, the number of a job, and the options. An option that
 -- isn't the command's own stands as it does where no line gives it, and the number as 0.
@@ -84,7 +84,7 @@ same_number _ _ = false
 
 -- the number of an option, which is read where it is the command's own
 abbrev pub number_in : Command → List Row → Number → Option ℕ
-number_in command matches number = number_of (limit_of number).most (limit_of number).otherwise
+number_in command matches number = option_number (limit_of number).most (limit_of number).otherwise
     (list_any (λ own. same_number own number) (row_of command).numbers) (first_of (limit_of number).name matches)
 
 -- the options of a command; nothing where one isn't its own, or isn't a number in its range

@@ -5,12 +5,12 @@ use Rattle.mw_top.specs.declared.status.Status.TheVariants.{Done, Differs, Unkno
 use Rattle.mw_top.specs.declared.status.Status.TheVariants.{WriteFault, NoMemory}
 
 -- the exit status of a call
-abbrev pub number_of : Status → ℕ
-number_of Done = 0
-number_of Differs = 1
-number_of Unknown = 2
-number_of Usage = 3
-number_of Refused = 4
-number_of ReadFault = 5
-number_of WriteFault = 6
-number_of NoMemory = 7
+abbrev pub status_number : Status → ℕ
+status_number Done = 0
+status_number Differs = 1
+status_number Unknown = 2
+status_number Usage = 3
+status_number Refused = 4
+status_number ReadFault = 5
+status_number WriteFault = 6
+status_number NoMemory = 7

@@ -3,7 +3,7 @@ ghost use Rattle.std.specs.Prelude.{◌≡◌, ◌∷◌, ◌++◌, ◌≤◌, �
 ghost use Rattle.std.specs.Prelude.{position, take};
 ghost use Rattle.mw_top.specs.PrefixText.{address_text, branches_text, cycle_by_cycle, cycle_text, cycles_text, digit};
 ghost use Rattle.mw_top.specs.PrefixText.{digit_or_dash, first_of};
-ghost use Rattle.mw_top.specs.PrefixText.{is_address, is_branch, is_counter_zero, is_last, is_pass, number_of};
+ghost use Rattle.mw_top.specs.PrefixText.{is_address, is_branch, is_counter_zero, is_last, is_pass, binary_number};
 ghost use Rattle.mw_top.specs.PrefixText.{prefix_text, values_of};
 
 mod computed_examples;
@@ -68,9 +68,9 @@ fn append_digits(report: &mut Vec<u8>, bits: &[bool]) -> Result<(), NoMemory>
 }
 
 /// The number that bits stand for, the highest first.
-fn number_of(bits: &[bool]) -> u32
+fn binary_number(bits: &[bool]) -> u32
     requires { length bits.now ≤ 12 }
-    ensures { result ≡ number_of bits.now }
+    ensures { result ≡ binary_number bits.now }
 {
     let mut number = 0;
     for bit in bits {
@@ -84,7 +84,7 @@ fn append_address(alloc: Global, report: &mut Vec<u8>, bits: &[bool]) -> Result<
     ensures { OnOk result (report.new.items ≡ report.old.items ++ address_text bits.now) }
 {
     if bits.len() == ADDRESS_BITS {
-        append_padded(alloc, report, 3, u128::from(number_of(bits)))
+        append_padded(alloc, report, 3, u128::from(binary_number(bits)))
     } else {
         report.push(b'b')?;
         append_digits(report, bits)

@@ -13,7 +13,7 @@ mod options;
 
 use self::line::{LineRead, read_line};
 use self::operands::{Expected, Operands, operands_in};
-use self::options::{Number, Options, number_of, parts_of};
+use self::options::{Number, Options, option_number, parts_of};
 use clap::ArgMatches;
 use mw_base::NoMemory;
 use std::alloc::Global;
@@ -187,7 +187,7 @@ fn number_in(command: Command, line: &ArgMatches<'_>, number: Number) -> Option<
 {
     let limit = number.limit();
     let is_own = command.row().numbers.contains(&number);
-    number_of(limit, is_own, value_in(line, limit.name))
+    option_number(limit, is_own, value_in(line, limit.name))
 }
 
 /// The options of a command.

@@ -1,6 +1,6 @@
 // How a call of the bench ends.
 ghost use Rattle.std.specs.Prelude.{◌≡◌};
-ghost use Rattle.mw_top.specs.Status.{number_of};
+ghost use Rattle.mw_top.specs.Status.{status_number};
 
 /// How a call of the bench ends; the numbers are the program's exit statuses.
 #[derive(Clone, Copy, Debug, PartialEq, Eq)]
@@ -26,7 +26,7 @@ pub enum Status {
 impl Status {
     /// The exit status.
     pub fn number(self) -> u8
-        ensures { result ≡ number_of self }
+        ensures { result ≡ status_number self }
     {
         match self {
             Status::Done => 0,

@@ -13,7 +13,7 @@ ghost use Rattle.mw_fork.specs.Forks.{IsForkOf};
 use super::pairs::read_job;
 use mw_fork::{Budget, Case, Decided, Fork, ForkFault, Over};
 use mw_rel::Job;
-use mw_rowfile::named::{number_of, word};
+use mw_rowfile::named::{hexadecimal_of, word};
 use mw_rowfile::{Fault, File, wrong};
 use mw_term::DecidedKind;
 use std::alloc::Global;
@@ -269,8 +269,8 @@ fn push_boundary(
 /// The budget that the words of a call name.
 pub(super) fn budget_of(given: &[String]) -> Result<Budget, Fault> {
     Ok(Budget {
-        nodes: word(number_of(given, "nodes")?)?,
-        paths: word(number_of(given, "paths")?)?,
+        nodes: word(hexadecimal_of(given, "nodes")?)?,
+        paths: word(hexadecimal_of(given, "paths")?)?,
     })
 }
 

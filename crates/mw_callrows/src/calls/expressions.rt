@@ -27,7 +27,7 @@ struct Words {
 
 /// What expressions are over.
 #[derive(Clone, Copy)]
-struct Given<'a> {
+struct Surroundings<'a> {
     names: &'a [Name],
     shape: &'a Shape,
     values: &'a [u32],
@@ -170,7 +170,12 @@ fn is_image(shape: &Shape, memory: &[u32]) -> bool
 }
 
 /// Appends an expression's tree, its width and its value.
-fn push_value(alloc: Global, report: &mut Vec<u8>, given: &Given, expr: &Expr) -> Result<(), Fault>
+fn push_value(
+    alloc: Global,
+    report: &mut Vec<u8>,
+    given: &Surroundings,
+    expr: &Expr,
+) -> Result<(), Fault>
     requires values_fit { AreWords given.now.shape.now.widths given.now.values.now }
     requires memory_fits { IsImage given.now.shape.now given.now.memory.now }
 {
@@ -191,7 +196,7 @@ fn push_line(
     alloc: Global,
     report: &mut Vec<u8>,
     text: &[u8],
-    given: &Given,
+    given: &Surroundings,
     line: &Line,
 ) -> Result<(), Fault>
     requires shape_fits { IsShape given.now.shape.now }
@@ -206,7 +211,7 @@ fn push_line(
 }
 
 /// What each line of a text is.
-fn answers(alloc: Global, text: &[u8], given: &Given) -> Result<Vec<u8>, Fault>
+fn answers(alloc: Global, text: &[u8], given: &Surroundings) -> Result<Vec<u8>, Fault>
     requires shape_fits { IsShape given.now.shape.now }
     requires values_fit { AreWords given.now.shape.now.widths given.now.values.now }
     requires memory_fits { IsImage given.now.shape.now given.now.memory.now }
@@ -242,7 +247,7 @@ pub fn read(alloc: Global, words: &[String], text: &[u8]) -> Result<Vec<u8>, Fau
         address: taken.address,
         word: taken.word,
     };
-    let given = Given {
+    let given = Surroundings {
         names: &taken.names,
         shape: &shape,
         values: &taken.values,

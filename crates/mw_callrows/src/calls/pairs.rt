@@ -17,7 +17,7 @@ use mw_cycle::Env;
 use mw_descfile::read_relation;
 use mw_macro::Machine;
 use mw_rel::{Begin, Job, Pair, Relation, complete, free, holds};
-use mw_rowfile::named::{hexadecimal, number_of, set_word, word};
+use mw_rowfile::named::{hexadecimal, hexadecimal_of, set_word, word};
 use mw_rowfile::states::file_words;
 use mw_rowfile::{Fault, File, contents, contents_in, texts, wrong};
 use std::alloc::Global;
@@ -90,7 +90,7 @@ const MOST_NUMBERS: u64 = 65_536;
 
 /// As many zeros as the word of this name says.
 fn zeros(alloc: Global, given: &[String], name: &str) -> Result<Vec<u32>, Fault> {
-    let count = number_of(given, name)?;
+    let count = hexadecimal_of(given, name)?;
     if count > MOST_NUMBERS {
         return Err(wrong("too many numbers"));
     }
@@ -219,7 +219,7 @@ fn push_made(
 
 /// The number of the boundary.
 fn boundary_number(given: &[String]) -> Result<usize, Fault> {
-    match usize::try_from(number_of(given, "boundary")?) {
+    match usize::try_from(hexadecimal_of(given, "boundary")?) {
         Ok(number) => Ok(number),
         Err(_) => Err(wrong("no such boundary")),
     }

@@ -3,7 +3,7 @@ ghost use Rattle.std.specs.Prelude.{◌<◌, IfOk};
 
 use mw_alu::{AluOut, Pins, alu};
 use mw_base::{NoMemory, Width, append_padded};
-use mw_rowfile::named::{DEPTH, address_of, bit_of, number_of, sequencer_of};
+use mw_rowfile::named::{DEPTH, address_of, bit_of, hexadecimal_of, sequencer_of};
 use mw_rowfile::texts::sequencer;
 use mw_rowfile::{Fault, wrong};
 use mw_slice::{Slice, SliceOut};
@@ -13,7 +13,7 @@ use std::alloc::Global;
 fn instruction(given: &[String]) -> Result<u16, Fault>
     ensures { IfOk result (λ ins. ins < 512) }
 {
-    let function = number_of(given, "function")?;
+    let function = hexadecimal_of(given, "function")?;
     if function < 8 && given.len() == 1 {
         Ok(0o105 + function as u16 * 0o010)
     } else {
@@ -103,7 +103,7 @@ pub fn slice_table(alloc: Global, given: &[String]) -> Result<Vec<u8>, Fault> {
 fn code(given: &[String]) -> Result<u8, Fault>
     ensures { IfOk result (λ ins. ins < 16) }
 {
-    let number = number_of(given, "ins")?;
+    let number = hexadecimal_of(given, "ins")?;
     if number < 16 {
         Ok(number as u8)
     } else {

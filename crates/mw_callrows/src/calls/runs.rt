@@ -10,7 +10,7 @@ use mw_asm::Program;
 use mw_base::{Event, append_hex};
 use mw_board::Board;
 use mw_cycle::{Clock, Datapath, State, Whole};
-use mw_rowfile::named::{address, bit_of, number_of};
+use mw_rowfile::named::{address, bit_of, hexadecimal_of};
 use mw_rowfile::{Fault, File, contents, texts, wrong};
 use mw_sim::{Late, Parts, Start, read_start, run_to_boundary};
 use std::alloc::Global;
@@ -197,8 +197,8 @@ pub fn start(alloc: Global, files: &[File]) -> Result<Vec<u8>, Fault> {
 /// Words or files that aren't what the call reads, and want of memory.
 pub fn until(alloc: Global, given: &[String], files: &[File]) -> Result<Vec<u8>, Fault> {
     let asked = Asked {
-        address: address(number_of(given, "address")?)?,
-        limit: cycles_of(number_of(given, "limit")?)?,
+        address: address(hexadecimal_of(given, "address")?)?,
+        limit: cycles_of(hexadecimal_of(given, "limit")?)?,
         slices: bit_of(given, "slices")?,
     };
     run(alloc, files, Some(asked))

@@ -90,9 +90,9 @@ unknown_report job (overs.Paths number limit) =
     codes "unknown paths " ++ boundary_text job number ++ line (codes " limit " ++ decimal limit)
 
 -- the number of the boundary at which something is over its budget
-abbrev pub number_of : Over → ℕ
-number_of (overs.Nodes number prefix word j) = number
-number_of (overs.Paths number limit) = number
+abbrev pub boundary_over_budget : Over → ℕ
+boundary_over_budget (overs.Nodes number prefix word j) = number
+boundary_over_budget (overs.Paths number limit) = number
 
 -- ---- its answer
 

@@ -7,7 +7,7 @@ ghost use Rattle.mw_plan.specs.Steps.{Ends};
 ghost use Rattle.mw_rel.specs.Seen.{boundary_of, lines_of};
 ghost use Rattle.mw_rel.specs.Views.{job_of};
 ghost use Rattle.mw_replay.specs.CounterPrinted.{no_lines};
-ghost use Rattle.mw_top.specs.Commands.Certify.{boundary_text, certify_plan, count_text, number_of, operation_text};
+ghost use Rattle.mw_top.specs.Commands.Certify.{boundary_text, certify_plan, count_text, boundary_over_budget, operation_text};
 ghost use Rattle.mw_top.specs.Commands.Certify.{states_text, summary_line, summary_lines, unknown_report};
 ghost use Rattle.mw_top.specs.Commands.Certify.{verdict_status, yes_report, IsCertification, IsNoReport};
 ghost use Rattle.mw_top.specs.Commands.Certify.{IsVerdictReport, Shows};
@@ -209,7 +209,7 @@ fn append_unknown(
     job: &Job,
     over: &Over,
 ) -> Result<(), NoMemory>
-    requires { number_of over.now < length (job_of job.now).relation.boundaries }
+    requires { boundary_over_budget over.now < length (job_of job.now).relation.boundaries }
     ensures { OnOk result (report.new.items ≡ report.old.items ++ unknown_report (job_of job.now) over.now) }
 {
     match over {

@@ -2,7 +2,7 @@
 ghost use Rattle.std.specs.Prelude.{◌≡◌, option_map};
 ghost use Rattle.std.specs.Char.{is_ascii_digit};
 ghost use Rattle.std.specs.List.{list_all};
-ghost use Rattle.mw_top.specs.Options.{is_decimal, is_true, limit_of, number_of, number_within, parts_of};
+ghost use Rattle.mw_top.specs.Options.{is_decimal, is_true, limit_of, option_number, number_within, parts_of};
 
 use mw_base::number;
 
@@ -105,8 +105,8 @@ pub(crate) fn number_within(least: u32, most: u32, text: &[u8]) -> Option<u32>
 }
 
 /// The number of an option, by whether it is the command's own, and of the text that the line gives.
-pub(crate) fn number_of(limit: Limit, is_own: bool, text: Option<&str>) -> Option<u32>
-    ensures { result ≡ number_of limit.most limit.otherwise is_own (option_map (λ word. word.now) text.entry) }
+pub(crate) fn option_number(limit: Limit, is_own: bool, text: Option<&str>) -> Option<u32>
+    ensures { result ≡ option_number limit.most limit.otherwise is_own (option_map (λ word. word.now) text.entry) }
 {
     match text {
         None => Some(limit.otherwise),

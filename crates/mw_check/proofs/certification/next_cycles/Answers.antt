@@ -3,7 +3,7 @@ use Rattle.mw_rel.specs.Views.{job_of}
 use Rattle.mw_fork.specs.declared.budget.Budget.{Budget}
 use Rattle.mw_fork.specs.Forks.{EndsEach, IsNextCase, NoneIsToCome}
 use Rattle.mw_fork.specs.Failing.{ComparisonsAreWithin, NoneDiffersOf}
-use Rattle.mw_fork.specs.Within.{AreWithin}
+use Rattle.mw_fork.specs.Within.{AreDecidedWithin}
 use Rattle.mw_check.proofs.Gone.{after_all, one_more}
 use Rattle.mw_check.proofs.Stopping.{stops_at_last, stops_at_next, stops_at_start}
 use Rattle.mw_check.proofs.certification.next_cycles.Goals as goal
@@ -53,8 +53,8 @@ returns-in-Ok-None-differs-clause-more c = λ budget summary cases gone.
       through = record {
         feasible = next.feasible;
         none = subst (λ n. NoneDiffersOf job n bits) here (found.none c.in-Ok-None-differs.field-0-is bits at);
-        decided = λ before rest d is. (subst (λ n. AreWithin job n budget.nodes bits) gone.boundary
-            (subst (λ (b : Budget). AreWithin job c.args.fork.now.boundary b.nodes bits) gone.budget_is
+        decided = λ before rest d is. (subst (λ n. AreDecidedWithin job n budget.nodes bits) gone.boundary
+            (subst (λ (b : Budget). AreDecidedWithin job c.args.fork.now.boundary b.nodes bits) gone.budget_is
             (rw c.in-Ok-Some.field-0-is at said.nodes))
             before d rest is).within;
         compared = subst (λ n. ComparisonsAreWithin job n budget.nodes bits) here

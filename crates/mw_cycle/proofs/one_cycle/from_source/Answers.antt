@@ -12,4 +12,4 @@ pub returns-in-Flip-clause-below : goal.returns-in-Flip-clause-below
 returns-in-Flip-clause-below c =
     let some : 1 ≤ c.args.board.now.width = omega (arith, c.width.ensures.valid.sizes.least) in
     let word : num c.flip.result < 2 ^ c.args.board.now.width = bit_below c.flip.result c.args.board.now.width some in
-    rw (c.from-in-Flip.ensures, c.number_of.ensures) word
+    rw (c.from-in-Flip.ensures, c.bit_number.ensures) word

@@ -5,8 +5,8 @@ use Rattle.mw_dd.proofs.first.first_assignment.Goals as goal
 pub loop-alloc-init : goal.loop-alloc-init
 loop-alloc-init c = rw c.new-assignment.ensures (walk-none c.args.nodes.now c.args.x c.requires.there c.requires.some)
 
-pub taken-requires-clause-there : goal.taken-requires-clause-there
-taken-requires-clause-there c = c.loop-alloc.invariant.there
+pub first_branch-requires-clause-there : goal.first_branch-requires-clause-there
+first_branch-requires-clause-there c = c.loop-alloc.invariant.there
 
 pub loop-alloc-preserved : goal.loop-alloc-preserved
 loop-alloc-preserved c = c.in_ok-at.ensures.walks c.args.x c.loop-alloc.invariant

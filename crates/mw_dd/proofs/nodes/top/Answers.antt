@@ -3,7 +3,7 @@ use Rattle.mw_dd.proofs.nodes.top.Goals as goal
 
 pub returns : goal.returns
 returns c =
-    let first = c.first-variable.ensures in
-    let second = c.first.ensures in
-    top-is c.args.nodes.now c.args.t c.inner-variable.result c.first-variable.result c.first.result c.requires.inner
+    let first = c.earlier_variable-variable.ensures in
+    let second = c.earlier_variable.ensures in
+    top-is c.args.nodes.now c.args.t c.inner-variable.result c.earlier_variable-variable.result c.earlier_variable.result c.requires.inner
     c.inner-variable.ensures first.own first.no_later first.from second.own second.no_later second.from

@@ -1,7 +1,7 @@
 use Rattle.std.proofs.Common.{◌≡◌, drop, []}
 use Rattle.std.specs.Prelude.{None}
 use Rattle.mw_base.specs.Steps.{steps}
-use Rattle.mw_descfile.specs.KeptRelation.{IsKept}
+use Rattle.mw_descfile.specs.KeptRelation.{IsKnownRelation}
 use Rattle.mw_descfile.specs.Relation.{with_line}
 use Rattle.mw_descfile.specs.RelationViews.{known_seen}
 use Rattle.mw_descfile.proofs.relation.known_of.Given as goal
@@ -10,5 +10,5 @@ abbrev pub invariant-loop-line : goal.invariant-loop-line
 invariant-loop-line l = record {
   told : steps (with_line l.text l.labels l.scope) (known_seen l.known) (drop l.line-index l.lines)
       ≡ steps (with_line l.text l.labels l.scope) (record { boundaries = []; block = None }) l.lines;
-  kept : IsKept l.scope.shape (known_seen l.known);
+  kept : IsKnownRelation l.scope.shape (known_seen l.known);
 }

@@ -39,7 +39,7 @@ returns-then-alike-sp-clause-none c = λ none number cycles elements from late w
     let run = c.args.run.now in
     nowhere_none (job_of c.args.job.now) number elements (met_of way) run.space
     (path_in run.paths) c.shape-shape.ensures.valid
-    met.on.stands met.on.cases (c.in_ok-first.ensures.none none)
+    met.on.stands met.on.cases (c.in_ok-first_assignment.ensures.none none)
 
 pub returns-then-alike-sp-clause-within : goal.returns-then-alike-sp-clause-within
 returns-then-alike-sp-clause-within c = λ none number cycles elements from late way met.
@@ -69,12 +69,12 @@ returns-then-alike-sp-clause-found c =
     let lines = lines_at job run.board.place.at reached valid there in
     let unlike = unlike_as job run.space run.board step reached c.alike.result c.sp.result true
     (c.alike.ensures ∙ ap₂ are_alike c.events.ensures c.events-2.ensures) c.sp.ensures c.if-alike-sp.true in
-    some_as (IsFirst (path_in run.paths)) _ c.in_ok-first.field-0
+    some_as (IsFirst (path_in run.paths)) _ c.in_ok-first_assignment.field-0
     (λ numbers first number cycles elements from late way met.
     unlike_found job number elements (met_of way) cycles run.space
     (path_in run.paths) run.board step reached numbers valid
     (ended_met job number elements from cycles late way run step valid met) lines.0 there unlike first)
-    c.in_ok-first.ensures.first
+    c.in_ok-first_assignment.ensures.first
 
 pub compare_all-requires-clause-events : goal.compare_all-requires-clause-events
 compare_all-requires-clause-events c =

@@ -7,19 +7,19 @@ use Rattle.mw_fork.proofs.ComparedAll.{some_as}
 use Rattle.mw_fork.proofs.LateCompared.{found_so, late_found, late_none, none_so, stops_so}
 use Rattle.mw_fork.proofs.comparing.first_failing.Goals as goal
 
-pub returns-in_ok-first-in-None-clause-none : goal.returns-in_ok-first-in-None-clause-none
-returns-in_ok-first-in-None-clause-none c = λ none number elements from way met.
+pub returns-in_ok-first_assignment-in-None-clause-none : goal.returns-in_ok-first_assignment-in-None-clause-none
+returns-in_ok-first_assignment-in-None-clause-none c = λ none number elements from way met.
     let traced = c.args.traced.now in
     late_none (job_of c.args.job.now) number elements from traced.cycles traced.late way traced.run traced.step
-    c.shape-shape.ensures.valid met (c.in_ok-first-in-None.ensures.none none)
+    c.shape-shape.ensures.valid met (c.in_ok-first_assignment-in-None.ensures.none none)
 
-pub returns-in_ok-first-in-None-clause-found : goal.returns-in_ok-first-in-None-clause-found
-returns-in_ok-first-in-None-clause-found c =
+pub returns-in_ok-first_assignment-in-None-clause-found : goal.returns-in_ok-first_assignment-in-None-clause-found
+returns-in_ok-first_assignment-in-None-clause-found c =
     let traced = c.args.traced.now in
-    some_as (IsFirst (path_in traced.run.paths)) _ c.in_ok-first-in-None.field-0
+    some_as (IsFirst (path_in traced.run.paths)) _ c.in_ok-first_assignment-in-None.field-0
     (λ numbers first number elements from way met.
     late_found (job_of c.args.job.now) number elements from traced.cycles traced.late way traced.run traced.step numbers
-    c.shape-shape.ensures.valid c.in-None.is met first) c.in_ok-first-in-None.ensures.first
+    c.shape-shape.ensures.valid c.in-None.is met first) c.in_ok-first_assignment-in-None.ensures.first
 
 pub returns-in-Some-clause-none : goal.returns-in-Some-clause-none
 returns-in-Some-clause-none c =

@@ -7,7 +7,7 @@ use Rattle.mw_cycle.specs.Decided.{decided}
 use Rattle.mw_rel.specs.CaseWords.{bit_values}
 use Rattle.mw_fork.specs.OnWay.{HasDecided, ground_in, path_in}
 use Rattle.mw_fork.specs.Ways.{met_of}
-use Rattle.mw_fork.specs.Within.{AreWithin}
+use Rattle.mw_fork.specs.Within.{AreDecidedWithin}
 use Rattle.mw_fork.proofs.Budgets.{within_more}
 use Rattle.mw_fork.proofs.Choosing.{AreTold, has_decided}
 use Rattle.mw_fork.proofs.Grounds.{have_starts}
@@ -52,7 +52,7 @@ pub returns-clause-nodes : goal.returns-clause-nodes
 returns-clause-nodes c = λ job number elements from valid on asked asks are.
     let has = returns-clause-goes c job number elements from valid on asked asks in
     let k = decided c.args.kind c.in_ok-value.value in
-    subst (AreWithin job number c.args.nodes) (sym has.met)
+    subst (AreDecidedWithin job number c.args.nodes) (sym has.met)
     (within_more job number c.args.nodes (met_of c.args.way.now) k are (record {
       listed = record {
         basis = ground_in c.args.space.now elements;

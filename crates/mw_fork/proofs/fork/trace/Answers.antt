@@ -3,7 +3,7 @@ use Rattle.std.specs.Option.{unwrap_or}
 use Rattle.std.proofs.lemmas.Result.{err_from_is_err_and}
 use Rattle.mw_rel.specs.Relation.{Boundary}
 use Rattle.mw_rel.specs.Views.{job_of}
-use Rattle.mw_fork.specs.Within.{AreWithin}
+use Rattle.mw_fork.specs.Within.{AreDecidedWithin}
 use Rattle.mw_fork.proofs.Budgets.{within_none}
 use Rattle.mw_fork.proofs.Tracing.{bound_within, cycles_made, on_run_first, segment_met}
 use Rattle.mw_fork.proofs.fork.trace.Goals as goal
@@ -60,7 +60,7 @@ returns-clause-nodes c = λ are.
     (c.in_ok-reached.ensures.nodes number first.0 kept
     (on_run_first job number first.0 c.args.way.now c.in_ok-run.run' c.shape-shape.ensures.valid first.1
     c.in_ok-run.ensures.idle c.requires.anew are)
-    bound (subst (AreWithin job number c.args.nodes) (sym c.requires.anew) (within_none job number c.args.nodes)))
+    bound (subst (AreDecidedWithin job number c.args.nodes) (sym c.requires.anew) (within_none job number c.args.nodes)))
 
 pub returns-in_err-reached-clause-over : goal.returns-in_err-reached-clause-over
 returns-in_err-reached-clause-over c =

@@ -10,11 +10,11 @@ use Rattle.mw_fork.proofs.OnStep.{asks_on, whole}
 use Rattle.mw_fork.proofs.Steps.{asked, come_more, ended}
 use Rattle.mw_fork.proofs.step.finish.Goals as goal
 
-pub settle-requires-clause-paths : goal.settle-requires-clause-paths
-settle-requires-clause-paths c = c.in_ok-turn.ensures.paths _ c.loop-turn.invariant.paths
+pub decide_branch-requires-clause-paths : goal.decide_branch-requires-clause-paths
+decide_branch-requires-clause-paths c = c.in_ok-turn.ensures.paths _ c.loop-turn.invariant.paths
 
-pub settle-requires-clause-asks : goal.settle-requires-clause-asks
-settle-requires-clause-asks c =
+pub decide_branch-requires-clause-asks : goal.decide_branch-requires-clause-asks
+decide_branch-requires-clause-asks c =
     let d = description_of c.args.job.now.machine in
     let old = c.args.space.now in
     let from = underway_of d old.terms old.words old.memory c.args.step.now in
@@ -32,35 +32,35 @@ returns-in_default-clause-ended c =
     (c.in_ok-turn.ensures.turned from count c.loop-turn.invariant.come)
 
 -- after the bit that the step asked for
-come_on : (c : goal.In_ok-settle)
+come_on : (c : goal.In_ok-decide_branch)
     → (c.loop-turn.way.met - c.args.way.now.met < total Statements (description_of c.args.job.now.machine).acts)
     × HasCome (description_of c.args.job.now.machine)
     (underway_of (description_of c.args.job.now.machine) c.args.space.now.terms c.args.space.now.words
     c.args.space.now.memory c.args.step.now) (c.loop-turn.way.met - c.args.way.now.met + 1) c.turn.new.space.terms
-    c.turn.new.space.words c.turn.new.space.memory c.settle.new.step
+    c.turn.new.space.words c.turn.new.space.memory c.decide_branch.new.step
 come_on c =
     let d = description_of c.args.job.now.machine in
     let old = c.args.space.now in
     let from = underway_of d old.terms old.words old.memory c.args.step.now in
     let count = c.loop-turn.way.met - c.args.way.now.met in
-    c.in_ok-settle.ensures.come from count
+    c.in_ok-decide_branch.ensures.come from count
     (asked d from count _ _ _ _ c.in_ok-turn.turn c.in-Ask.kind c.in-Ask.term c.in-Ask.is
     (c.in_ok-turn.ensures.turned from count c.loop-turn.invariant.come)).1
 
 pub loop-turn-smaller : goal.loop-turn-smaller
-loop-turn-smaller c = omega (arith, (come_on c).0, c.in_ok-settle.ensures.met, c.loop-turn.invariant.met)
+loop-turn-smaller c = omega (arith, (come_on c).0, c.in_ok-decide_branch.ensures.met, c.loop-turn.invariant.met)
 
 pub loop-turn-preserved : goal.loop-turn-preserved
 loop-turn-preserved c =
     let d = description_of c.args.job.now.machine in
     let old = c.args.space.now in
-    let e = c.in_ok-settle.ensures in
+    let e = c.in_ok-decide_branch.ensures in
     record {
       under = e.under;
       idle = e.idle;
       met = omega (arith, e.met, c.loop-turn.invariant.met);
       come = come_more d (underway_of d old.terms old.words old.memory c.args.step.now) c.args.way.now.met
-          c.loop-turn.way.met c.settle.new.way.met _ _ _ _ c.loop-turn.invariant.met e.met (come_on c).1;
+          c.loop-turn.way.met c.decide_branch.new.way.met _ _ _ _ c.loop-turn.invariant.met e.met (come_on c).1;
       goes = λ number cycles elements from segment board on.
           e.goes number cycles elements from segment board
           (asks_on (job_of c.args.job.now) number cycles elements from segment board _ _ _ _ _ _ _ _ _ _
@@ -84,11 +84,11 @@ returns-in_default-clause-goes c = λ number cycles elements from segment board 
 pub returns-in_default-clause-paths : goal.returns-in_default-clause-paths
 returns-in_default-clause-paths c = c.in_ok-turn.ensures.paths _ c.loop-turn.invariant.paths
 
-pub returns-in_err-settle-clause-over : goal.returns-in_err-settle-clause-over
-returns-in_err-settle-clause-over c =
-    let p = err_from_is_err_and c.from_residual-in_err-settle.result c.from_residual-in_err-settle.ensures.1 in
+pub returns-in_err-decide_branch-clause-over : goal.returns-in_err-decide_branch-clause-over
+returns-in_err-decide_branch-clause-over c =
+    let p = err_from_is_err_and c.from_residual-in_err-decide_branch.result c.from_residual-in_err-decide_branch.ensures.1 in
     rw (p.1, p.2) (λ number cycles elements from segment board on.
-    c.in_err-settle.ensures.over number cycles elements from segment board
+    c.in_err-decide_branch.ensures.over number cycles elements from segment board
     (asks_on (job_of c.args.job.now) number cycles elements from segment board _ _ _ _ _ _ _ _ _ _
     c.in_ok-turn.turn c.in-Ask.kind
     c.in-Ask.term c.in-Ask.is c.loop-turn.invariant.goes c.in_ok-turn.ensures.goes on))

@@ -12,7 +12,7 @@ use Rattle.mw_fork.specs.declared.way.Kept.{Kept}
 use Rattle.mw_fork.specs.OnWay.{HavePaths, IsOnStep}
 use Rattle.mw_fork.specs.Steps.{HasCome, IsUnderway}
 use Rattle.mw_fork.specs.Ways.{met_of}
-use Rattle.mw_fork.specs.Within.{AreWithin}
+use Rattle.mw_fork.specs.Within.{AreDecidedWithin}
 use Rattle.mw_fork.proofs.step.finish.Given as goal
 
 abbrev pub invariant-loop-turn : goal.invariant-loop-turn
@@ -30,8 +30,8 @@ invariant-loop-turn l = record {
   nodes : (number cycles : ℕ) (elements : List ℕ) (from : List Kept) (segment : List Decided)
       (board : Symbolic)
       → IsOnStep (job_of l.job) number elements from cycles segment board l.fn.way l.fn.space l.fn.paths l.fn.step
-      → AreWithin (job_of l.job) number l.nodes (met_of l.fn.way)
-      → AreWithin (job_of l.job) number l.nodes (met_of l.way);
+      → AreDecidedWithin (job_of l.job) number l.nodes (met_of l.fn.way)
+      → AreDecidedWithin (job_of l.job) number l.nodes (met_of l.way);
   paths : HavePaths l.space l.paths;
 }
 

@@ -4,5 +4,5 @@ use Rattle.mw_rel.proofs.rules.has_number.Given as goal
 
 abbrev pub invariant-loop-item : goal.invariant-loop-item
 invariant-loop-item g l =
-    list_any (λ other. other == l.number) (map g.T.Numbered.number_of (drop l.item-index l.items))
-    ≡ list_any (λ other. other == l.number) (map g.T.Numbered.number_of l.items)
+    list_any (λ other. other == l.number) (map g.T.Numbered.item_number (drop l.item-index l.items))
+    ≡ list_any (λ other. other == l.number) (map g.T.Numbered.item_number l.items)

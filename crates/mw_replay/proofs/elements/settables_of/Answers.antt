@@ -2,7 +2,7 @@ use Rattle.std.proofs.Common.{◌<◌, ◌≤◌, ◌^◌, ◌∙◌}
 use Rattle.std.proofs.lemmas.List.Elements.{All-push}
 use Rattle.mw_rel.specs.Free.{numbered}
 use Rattle.mw_rel.specs.Views.{job_of}
-use Rattle.mw_sim.specs.declared.given.Settable.{Settable}
+use Rattle.mw_sim.specs.declared.settings.Settable.{Settable}
 use Rattle.mw_replay.specs.CounterText.{settable}
 use Rattle.mw_replay.proofs.Settables.{made_more}
 use Rattle.mw_replay.proofs.elements.settables_of.Goals as goal

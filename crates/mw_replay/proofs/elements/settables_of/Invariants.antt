@@ -2,7 +2,7 @@ use Rattle.std.proofs.Common.{◌≡◌, map}
 use Rattle.mw_cycle.specs.Boundary.{numbers}
 use Rattle.mw_rel.specs.Free.{numbered}
 use Rattle.mw_rel.specs.Views.{job_of}
-use Rattle.mw_sim.specs.Given.{AreBounded}
+use Rattle.mw_sim.specs.Settings.{AreBounded}
 use Rattle.mw_replay.specs.CounterText.{settable}
 use Rattle.mw_replay.proofs.elements.settables_of.Given as goal
 

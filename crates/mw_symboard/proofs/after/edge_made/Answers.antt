@@ -3,7 +3,7 @@ use Rattle.mw_alu.specs.Instruction.{destination_of}
 use Rattle.mw_cycle.specs.declared.elements.Element.TheVariants.{Mar}
 use Rattle.mw_symboard.specs.Parts.{AreParts}
 use Rattle.mw_cycle.specs.BoardTerms.{Parts}
-use Rattle.mw_symboard.specs.Seen.{Place}
+use Rattle.mw_symboard.specs.Seen.{Progress}
 use Rattle.mw_symboard.proofs.Growing.{grew_then, wide_later}
 use Rattle.mw_symboard.proofs.Standing.{all_loaded_stay, written_b_stays, written_q_stays}
 use Rattle.mw_symboard.proofs.after.edge_made.Goals as goal
@@ -13,7 +13,7 @@ mar-requires-clause-old c =
     let b = c.args.board.now in
     let t = c.args.terms.now in
     let ws = c.args.words.now in
-    let placed = subst (λ (p : Place). AreParts b t p.parts) (sym c.place.view_is) c.requires.parts in
+    let placed = subst (λ (p : Progress). AreParts b t p.parts) (sym c.place.view_is) c.requires.parts in
     let are = subst (λ (p : Parts). AreParts b t p) (sym c.parts.view_is) placed in
     let both = grew_then t c.register_word.new.terms c.q_word.new.terms ws c.register_word.new.words c.q_word.new.words
     c.in_ok-register.ensures.grew c.in_ok-q.ensures.grew in

@@ -16,8 +16,8 @@ use Rattle.mw_symboard.specs.Listed.{leaving_of, reading_of, standing_of}
 use Rattle.mw_symboard.proofs.Listing.{edge_are, parts_are, standing_is, stands}
 use Rattle.mw_symboard.proofs.after.take_edge.Goals as goal
 
-pub settle-requires-clause-pushed : goal.settle-requires-clause-pushed
-settle-requires-clause-pushed c = rw c.requires.parts.stack c.moved-moved.ensures.pushed_within
+pub go_to_address-requires-clause-pushed : goal.go_to_address-requires-clause-pushed
+go_to_address-requires-clause-pushed c = rw c.requires.parts.stack c.moved-moved.ensures.pushed_within
 
 pub returns-clause-is : goal.returns-clause-is
 returns-clause-is c =
@@ -28,7 +28,7 @@ returns-clause-is c =
     let y = c.args.reading.now.y in
     let taken = c.in_ok-taken.taken in
     let e = c.in_ok-taken.ensures in
-    let s = c.settle.ensures in
+    let s = c.go_to_address.ensures in
     let t = c.edge_made.new.terms in
     let tnew = c.constant.new.terms in
     let ws = c.edge_made.new.words in
@@ -59,11 +59,11 @@ returns-clause-parts c =
     let b = c.args.board.now in
     let m = c.args.microword.now in
     let old = c.args.place.now in
-    let new = c.settle.new.place in
+    let new = c.go_to_address.new.place in
     let y = c.args.reading.now.y in
     let taken = c.in_ok-taken.taken in
     let e = c.in_ok-taken.ensures in
-    let s = c.settle.ensures in
+    let s = c.go_to_address.ensures in
     let told = c.args.terms.now in
     let t = c.edge_made.new.terms in
     let tnew = c.constant.new.terms in
@@ -103,11 +103,11 @@ returns-clause-listed c = λ reads writes events.
     (let board = c.args.board.now in
     let m = c.args.microword.now in
     let old = c.args.place.now in
-    let new = c.settle.new.place in
+    let new = c.go_to_address.new.place in
     let reading = reading_of c.args.reading.now in
     let taken = c.in_ok-taken.taken in
     let effect = effect_by m old.decided in
-    let s = c.settle.ensures in
+    let s = c.go_to_address.ensures in
     let pc = c.in_ok-pc.pc in
     let l1 = list_of c.edge_made.new.terms.ops c.edge_made.new.words reads in
     let made : Made = record {

@@ -2,7 +2,7 @@ use Rattle.std.proofs.Common.{ap, arith, subst, sym, ◌∙◌}
 use Rattle.mw_rel.specs.Views.{job_of}
 use Rattle.mw_fork.specs.Forks.{At, Fork, IsForkOf, IsNextCase, KeepsFor}
 use Rattle.mw_fork.specs.Ways.{bits_of, met_of}
-use Rattle.mw_fork.specs.Within.{AreWithin}
+use Rattle.mw_fork.specs.Within.{AreDecidedWithin}
 use Rattle.mw_fork.proofs.Leading.{ends_so, has_given, has_stopped, none_next}
 use Rattle.mw_fork.proofs.fork.Fork.next_case.Goals as goal
 
@@ -41,7 +41,7 @@ returns-clause-ends c =
 
 pub returns-clause-nodes : goal.returns-clause-nodes
 returns-clause-nodes c =
-    subst (AreWithin (job_of c.args.job.now) c.args.self.now.boundary c.args.self.now.budget.nodes)
+    subst (AreDecidedWithin (job_of c.args.job.now) c.args.self.now.boundary c.args.self.now.budget.nodes)
     (sym c.in_ok-prefix.ensures)
     (has_given (job_of c.args.job.now) _ _ _ _ _ _ _ c.trace.new.way _ _ _ _ c.shape-shape.ensures.valid c.self.view_is
     c.requires.of (c.lead_on.ensures.some c.if-not-lead_on.false) c.in-Ok.ensures.case c.in-Ok.ensures.nodes).within

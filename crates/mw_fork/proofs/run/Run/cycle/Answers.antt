@@ -1,6 +1,6 @@
 use Rattle.std.proofs.Common.{ap, ◌∙◌}
 use Rattle.std.proofs.lemmas.Result.{err_from_is_err_and}
-use Rattle.mw_symboard.specs.Seen.{Place}
+use Rattle.mw_symboard.specs.Seen.{Progress}
 use Rattle.mw_rel.specs.Views.{job_of}
 use Rattle.mw_fork.proofs.Budgets.{within_with}
 use Rattle.mw_fork.proofs.OnRun.{asked_at, stays_finished, stays_with, stops_with}
@@ -16,34 +16,34 @@ returns-in_default-clause-goes c =
 pub loop-turn-preserved : goal.loop-turn-preserved
 loop-turn-preserved c =
     let job = job_of c.args.job.now in
-    let e = c.in_ok-settle.ensures in
+    let e = c.in_ok-decide_bit.ensures in
     let place =
     asked_at job _ _ _ _ _ _ c.in_ok-turn.turn c.in-Ask.kind c.in-Ask.term c.in-Ask.is c.in_ok-turn.ensures.turned in
-    let cycle = ap (λ (p : Place). p.cycle) place ∙ c.loop-turn.invariant.idle.cycles in
+    let cycle = ap (λ (p : Progress). p.cycle) place ∙ c.loop-turn.invariant.idle.cycles in
     record {
       under = e.under;
       idle = record { idle = e.idle.idle; cycles = e.idle.cycles ∙ cycle };
-      goes = stays_with job c.args.way.now c.loop-turn.way c.settle.new.way c.args.self.now
+      goes = stays_with job c.args.way.now c.loop-turn.way c.decide_bit.new.way c.args.self.now
           c.loop-turn.self c.turn.new.self
-          c.settle.new.self c.args.self.now.board.place.cycle c.in_ok-turn.turn c.in-Ask.kind c.in-Ask.term c.in-Ask.is
+          c.decide_bit.new.self c.args.self.now.board.place.cycle c.in_ok-turn.turn c.in-Ask.kind c.in-Ask.term c.in-Ask.is
           c.loop-turn.invariant.idle.cycles cycle c.loop-turn.invariant.goes c.in_ok-turn.ensures.goes e.goes;
       nodes =
-          within_with job c.args.nodes c.args.way.now c.loop-turn.way c.settle.new.way c.args.self.now c.loop-turn.self
+          within_with job c.args.nodes c.args.way.now c.loop-turn.way c.decide_bit.new.way c.args.self.now c.loop-turn.self
           c.turn.new.self c.args.self.now.board.place.cycle c.in_ok-turn.turn c.in-Ask.kind c.in-Ask.term c.in-Ask.is
           c.loop-turn.invariant.idle.cycles cycle c.loop-turn.invariant.goes c.in_ok-turn.ensures.goes e.nodes
           c.loop-turn.invariant.nodes;
       paths = e.paths;
     }
 
-pub returns-in_err-settle-clause-over : goal.returns-in_err-settle-clause-over
-returns-in_err-settle-clause-over c =
+pub returns-in_err-decide_bit-clause-over : goal.returns-in_err-decide_bit-clause-over
+returns-in_err-decide_bit-clause-over c =
     let job = job_of c.args.job.now in
     let made = c.loop-turn.invariant.idle.cycles in
     let place =
     asked_at job _ _ _ _ _ _ c.in_ok-turn.turn c.in-Ask.kind c.in-Ask.term c.in-Ask.is c.in_ok-turn.ensures.turned in
-    let p = err_from_is_err_and c.from_residual-in_err-settle.result c.from_residual-in_err-settle.ensures.1 in
+    let p = err_from_is_err_and c.from_residual-in_err-decide_bit.result c.from_residual-in_err-decide_bit.ensures.1 in
     rw (p.1, p.2)
-    (stops_with job c.args.nodes c.args.way.now c.loop-turn.way c.settle.new.way c.args.self.now c.loop-turn.self
-    c.turn.new.self c.in_ok-turn.turn c.in-Ask.kind c.in-Ask.term c.in_err-settle.field-0.0 c.in-Ask.is made
-    (ap (λ (q : Place). q.cycle) place ∙ made) c.loop-turn.invariant.goes c.in_ok-turn.ensures.goes
-    c.in_err-settle.ensures.over)
+    (stops_with job c.args.nodes c.args.way.now c.loop-turn.way c.decide_bit.new.way c.args.self.now c.loop-turn.self
+    c.turn.new.self c.in_ok-turn.turn c.in-Ask.kind c.in-Ask.term c.in_err-decide_bit.field-0.0 c.in-Ask.is made
+    (ap (λ (q : Progress). q.cycle) place ∙ made) c.loop-turn.invariant.goes c.in_ok-turn.ensures.goes
+    c.in_err-decide_bit.ensures.over)

@@ -5,7 +5,7 @@ use Rattle.mw_cycle.specs.declared.elements.Element.TheVariants.{Mar}
 use Rattle.mw_term.specs.declared.word.Word.{Word}
 use Rattle.mw_symmem.proofs.Later.{goes_by_growth}
 use Rattle.mw_symboard.specs.Kinds.{AreInputs}
-use Rattle.mw_symboard.specs.Seen.{microword_of, Place}
+use Rattle.mw_symboard.specs.Seen.{microword_of, Progress}
 use Rattle.mw_symboard.specs.Turns.{AreNoLater, Symbolic, cycle_left}
 use Rattle.mw_symboard.proofs.Growing.{wide_later}
 use Rattle.mw_symboard.proofs.Staying.{events_stay, inputs_stay, none_stay, workspace_grown}
@@ -161,8 +161,8 @@ returns-clause-listed c =
     let events : e.events ≡ o.events = c.edge.ensures.events ∙ ap (λ (x : Symbolic). x.events) left in
     let edge = rw exact at c.in_ok-edge.ensures.is in
     let at : e.place.at ≡ number_in o.place.decided (bits_before m) 12 =
-    edge.at ∙ ap (λ (p : Place). number_in p.decided (bits_before m) 12) place in
-    let words = subst (λ (p : Place). edge_words board m (standing_of p writes o.events) (reading_of r) (leaving_of l)
+    edge.at ∙ ap (λ (p : Progress). number_in p.decided (bits_before m) 12) place in
+    let words = subst (λ (p : Progress). edge_words board m (standing_of p writes o.events) (reading_of r) (leaving_of l)
     (effect_by m p.decided) e.place.at l0
     ≡ stands (list_of tnew.ops wnew memory.reads) (standing_after m p e.place (reading_of r) writes o.events)) place
     (rw exact at (c.in_ok-edge.ensures.listed memory.reads writes o.events)) in

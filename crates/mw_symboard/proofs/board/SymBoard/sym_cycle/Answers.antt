@@ -4,7 +4,7 @@ use Rattle.std.specs.Prelude.{List}
 use Rattle.mw_symmem.specs.declared.side.Side.TheVariants as side
 use Rattle.mw_symmem.proofs.Later.{reads_itself}
 use Rattle.mw_symboard.specs.Kinds.{IsCycleKind}
-use Rattle.mw_symboard.specs.Seen.{Place}
+use Rattle.mw_symboard.specs.Seen.{Progress}
 use Rattle.mw_symboard.specs.Turns.{with_reads}
 use Rattle.mw_symboard.proofs.Growing.{grew_then}
 use Rattle.mw_symboard.proofs.Staying.{workspace_grown}
@@ -70,8 +70,8 @@ returns-clause-turn c =
     c.in_ok-begin.ensures.writes ∙ ap (λ (hs : List Held). with_reads c.args.memory.now hs) (sym e.reads) in (
       e.asked,
       e.decided,
-      e.cycle ∙ ap (λ (p : Place). p.cycle + 1) place,
-      omega (arith, e.inputs, ap (λ (p : Place). p.taken) place),
+      e.cycle ∙ ap (λ (p : Progress). p.cycle + 1) place,
+      omega (arith, e.inputs, ap (λ (p : Progress). p.taken) place),
       done_from c.args.board.now c.args.store.now.words c.finish.new.terms c.finish.new.words c.args.memory.now
           c.begin.new.memory c.finish.new.memory c.args.self.now c.prepare.new.self c.finish.new.self
           place (c.prepare.ensures.events ∙ c.begin.ensures.events) memory e.done,

@@ -5,7 +5,7 @@ use Rattle.mw_symboard.specs.Cycle.{IsCounter, effect_by}
 use Rattle.mw_symboard.specs.Made.{IsDirect}
 use Rattle.mw_symboard.specs.Parts.{AreParts}
 use Rattle.mw_cycle.specs.BoardTerms.{Parts}
-use Rattle.mw_symboard.specs.Seen.{Place}
+use Rattle.mw_symboard.specs.Seen.{Progress}
 use Rattle.mw_symboard.proofs.Ends.{leaving_is}
 use Rattle.mw_symboard.proofs.Growing.{grew_then, wide_later}
 use Rattle.mw_term.specs.WordList.{list_of}
@@ -19,7 +19,7 @@ pub direct-requires-clause-wide : goal.direct-requires-clause-wide
 direct-requires-clause-wide c =
     let b = c.args.board.now in
     let t = c.args.terms.now in
-    let placed = subst (λ (p : Place). AreParts b t p.parts) (sym c.place.view_is) c.requires.parts in
+    let placed = subst (λ (p : Progress). AreParts b t p.parts) (sym c.place.view_is) c.requires.parts in
     let are = subst (λ (p : Parts). AreParts b t p) (sym c.parts.view_is) placed in
     are.wide Ir tt
 
@@ -27,7 +27,7 @@ pub counter-requires-clause-old : goal.counter-requires-clause-old
 counter-requires-clause-old c =
     let b = c.args.board.now in
     let t = c.args.terms.now in
-    let placed = subst (λ (p : Place). AreParts b t p.parts) (sym c.place.view_is) c.requires.parts in
+    let placed = subst (λ (p : Progress). AreParts b t p.parts) (sym c.place.view_is) c.requires.parts in
     let are = subst (λ (p : Parts). AreParts b t p) (sym c.parts.view_is) placed in
     wide_later t c.direct.new.terms c.args.words.now c.direct.new.words 12 c.parts.inside.r c.in_ok-direct.ensures.grew
     (are.wide R tt)
@@ -61,12 +61,12 @@ returns-clause-listed c = λ reads.
     (let b = c.args.board.now in
     let m = c.args.microword.now in
     let p = c.args.place.now in
-    let parts = ap (λ (x : Place). x.parts) c.place.view_is in
-    let sp = ap (λ (x : Place). x.sp) c.place.view_is in
+    let parts = ap (λ (x : Progress). x.parts) c.place.view_is in
+    let sp = ap (λ (x : Progress). x.sp) c.place.view_is in
     let ir = ap (λ (x : Parts). x.ir) (c.parts.view_is ∙ parts) in
     let r = ap (λ (x : Parts). x.r) (c.parts.view_is ∙ parts) in
     let effect = c.effect-effect.result in
-    let by = c.effect-effect.ensures ∙ ap (λ (x : Place). effect_by m x.decided) c.place.view_is in
+    let by = c.effect-effect.ensures ∙ ap (λ (x : Progress). effect_by m x.decided) c.place.view_is in
     let direct = c.in_ok-direct.direct in
     let list = λ (t : Table) (words : List Word). list_of t.ops words reads in
     let l0 = list c.args.terms.now c.args.words.now in

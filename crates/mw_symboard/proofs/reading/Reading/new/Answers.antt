@@ -7,7 +7,7 @@ use Rattle.mw_symmem.specs.Workspace.{GoesOn}
 use Rattle.mw_symboard.specs.Kinds.{IsCycleKind, IsSourceKind}
 use Rattle.mw_symboard.specs.Made.{IsFrom, IsMasked, sources_of}
 use Rattle.mw_symboard.specs.Parts.{AreParts}
-use Rattle.mw_symboard.specs.Seen.{Place}
+use Rattle.mw_symboard.specs.Seen.{Progress}
 use Rattle.mw_symboard.specs.Turns.{AreNoLater}
 use Rattle.mw_symboard.proofs.Read.{goes_on, grew_four, parts_grew, parts_later, reading_is, y_wide}
 use Rattle.mw_symboard.proofs.Growing.{grew_then, wide_later}
@@ -33,7 +33,7 @@ from_source-requires-clause-parts c =
     let t0 = c.args.terms.now in
     let goes = c.in_ok-variables.ensures.goes c.place.inside.taken c.args.memory.now c.requires.workspace in
     parts_later b t0 c.line_and_noise.new.terms c.place.inside.parts goes.later
-    (subst (λ (q : Place). AreParts b t0 q.parts) (sym c.place.view_is) c.requires.parts)
+    (subst (λ (q : Progress). AreParts b t0 q.parts) (sym c.place.view_is) c.requires.parts)
 
 pub from_source-requires-clause-inputs : goal.from_source-requires-clause-inputs
 from_source-requires-clause-inputs c = c.in_ok-variables.ensures.inputs c.args.board.now c.requires.inputs
@@ -111,15 +111,15 @@ returns-clause-is c =
     let n = c.in_ok-sources.sources in
     let a = slice_index p.parts.regs m.a_address in
     let width : c.bits-width.result ≡ b.width = cc in
-    let goes = subst (λ (q : Place). GoesOn (IsCycleKind q.cycle q.taken) t0 t1 w0 w1 m0 m0) c.place.view_is
+    let goes = subst (λ (q : Progress). GoesOn (IsCycleKind q.cycle q.taken) t0 t1 w0 w1 m0 m0) c.place.view_is
     (e1.goes c.place.inside.taken m0 c.requires.workspace) in
-    let taken = subst (λ (q : Place). GoesOn (IsSourceKind q.taken) t1 t2 w1 w2 m0 m2) c.place.view_is e2.goes in
+    let taken = subst (λ (q : Progress). GoesOn (IsSourceKind q.taken) t1 t2 w1 w2 m0 m2) c.place.view_is e2.goes in
     let first = parts_stay b t0 t1 p.parts goes.later.extends goes.later.keeps c.requires.parts in
     let parts = parts_stay b t1 t2 p.parts taken.later.extends taken.later.keeps first in
     let all = grew_four t2 t3 t4 t5 t6 w2 w3 w4 w5 w6 e3.grew e4.grew e5.grew e6.grew in
     let late = grew_then t4 t5 t6 w4 w5 w6 e5.grew e6.grew in
-    let line_is = subst (λ (q : Place). term_of w1 (Line q.cycle) ≡ Some line) c.place.view_is e1.line in
-    let noise_is = subst (λ (q : Place). term_of w1 (Noise q.cycle) ≡ Some noise) c.place.view_is e1.noise in
+    let line_is = subst (λ (q : Progress). term_of w1 (Line q.cycle) ≡ Some line) c.place.view_is e1.line in
+    let noise_is = subst (λ (q : Progress). term_of w1 (Noise q.cycle) ≡ Some noise) c.place.view_is e1.noise in
     let a_wide = wide_later t2 t6 w2 w6 b.width a all
     (register_wide b t2 p.parts m.a_address parts c.requires.microword.a_address) in
     let f_wide = wide_later t4 t6 w4 w6 b.width n.f late e4.are.sources.f in
@@ -127,7 +127,7 @@ returns-clause-is c =
     (line_is ∙ ap (λ (x : ℕ). Some x) (sym e4.line))
     (noise_is ∙ ap (λ (x : ℕ). Some x) (sym e4.noise))
     parts
-    (subst (λ (q : Place). IsFrom b m.word t2 w2 m2 q.parts q.taken m.d.from source) c.place.view_is e2.is)
+    (subst (λ (q : Progress). IsFrom b m.word t2 w2 m2 q.parts q.taken m.d.from source) c.place.view_is e2.is)
     e2.wide
     (subst (λ (k : ℕ). IsMasked t3 k m.d.mask source d) width e3.is)
     (subst (λ (k : ℕ). IsOfWidth t3 k d) width e3.wide)
@@ -146,9 +146,9 @@ returns-clause-goes c =
     let w2 = c.from_source.new.words in
     let m0 = c.args.memory.now in
     let m2 = c.from_source.new.memory in
-    let goes = subst (λ (q : Place). GoesOn (IsCycleKind q.cycle q.taken) t0 t1 w0 w1 m0 m0) c.place.view_is
+    let goes = subst (λ (q : Progress). GoesOn (IsCycleKind q.cycle q.taken) t0 t1 w0 w1 m0 m0) c.place.view_is
     (c.in_ok-variables.ensures.goes c.place.inside.taken m0 c.requires.workspace) in
-    let taken = subst (λ (q : Place). GoesOn (IsSourceKind q.taken) t1 t2 w1 w2 m0 m2) c.place.view_is
+    let taken = subst (λ (q : Progress). GoesOn (IsSourceKind q.taken) t1 t2 w1 w2 m0 m2) c.place.view_is
     c.in_ok-source.ensures.goes in
     goes_on b c.args.microword.now c.args.place.now t0 t1 t2 c.masked.new.terms c.make_sources.new.terms
     c.make_bits.new.terms c.condition.new.terms w0 w1 w2 c.masked.new.words c.make_sources.new.words
@@ -178,7 +178,7 @@ returns-clause-none c =
     c.in_ok-make_bits.ensures.grew c.in_ok-condition.ensures.grew in
     let goes = c.in_ok-source.ensures.goes in
     let cycle = c.args.place.now.cycle in
-    let begun = subst (λ (q : Place). AreNoLater (q.cycle + 1) w1) c.place.view_is c.in_ok-variables.ensures.none in
+    let begun = subst (λ (q : Progress). AreNoLater (q.cycle + 1) w1) c.place.view_is c.in_ok-variables.ensures.none in
     grew_none_later (cycle + 1) t2 t6 w2 w6 all
     (source_none_later (cycle + 1) c.place.inside.taken w1 w2 goes.more goes.words goes.kinds begun)
 
@@ -190,9 +190,9 @@ returns-clause-listed c = λ events.
     let s = standing_of p c.args.memory.now.board events in
     let before = c.args.memory.now.reads in
     let reads = c.from_source.new.memory.reads in
-    let parts = ap (λ (x : Place). x.parts) c.place.view_is in
-    let cycle = ap (λ (x : Place). x.cycle) c.place.view_is in
-    let taken = ap (λ (x : Place). x.taken) c.place.view_is in
+    let parts = ap (λ (x : Progress). x.parts) c.place.view_is in
+    let cycle = ap (λ (x : Progress). x.cycle) c.place.view_is in
+    let taken = ap (λ (x : Progress). x.taken) c.place.view_is in
     let width : c.bits-width.result ≡ board.width = c.bits-width.ensures.exact ∙ c.width.ensures.exact in
     let list = λ (t : Table) (words : List Word) (reads : List Held). list_of t.ops words reads in
     let l0 = list c.args.terms.now c.args.words.now before in

@@ -4,7 +4,7 @@ use Rattle.mw_base.proofs.Lists.{next}
 use Rattle.mw_base.proofs.Steps.{goes_on, refused, done}
 use Rattle.mw_sim.specs.Views.{given_seen}
 use Rattle.mw_sim.proofs.Kept.{line_keeps, nothing_is}
-use Rattle.mw_sim.proofs.given.given_by.Goals as goal
+use Rattle.mw_sim.proofs.settings.given_by.Goals as goal
 
 pub loop-line-init : goal.loop-line-init
 loop-line-init c = record {

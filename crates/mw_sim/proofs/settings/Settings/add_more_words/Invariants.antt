@@ -1,8 +1,8 @@
 use Rattle.std.proofs.Common.{◌≡◌, ◌≤◌, drop}
 use Rattle.mw_base.specs.Steps.{steps}
-use Rattle.mw_sim.specs.Given.{Writing, HasImage, with_next_word}
+use Rattle.mw_sim.specs.Settings.{Writing, HasImage, with_next_word}
 use Rattle.mw_sim.specs.Views.{given_seen}
-use Rattle.mw_sim.proofs.given.Given.add_more_words.Given as goal
+use Rattle.mw_sim.proofs.settings.Settings.add_more_words.Given as goal
 
 abbrev pub invariant-loop-word : goal.invariant-loop-word
 invariant-loop-word l =

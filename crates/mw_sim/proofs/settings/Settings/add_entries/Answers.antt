@@ -2,7 +2,7 @@ use Rattle.std.proofs.lemmas.Result.{err_from_is_err_and}
 use Rattle.mw_base.proofs.Lists.{next_or}
 use Rattle.mw_base.proofs.Steps.{goes_on, refused, done}
 use Rattle.mw_sim.specs.Views.{given_seen}
-use Rattle.mw_sim.proofs.given.Given.add_entries.Goals as goal
+use Rattle.mw_sim.proofs.settings.Settings.add_entries.Goals as goal
 
 pub returns-in_err-add_entry : goal.returns-in_err-add_entry
 returns-in_err-add_entry c =

@@ -1,7 +1,7 @@
 use Rattle.std.proofs.Common.{◌≡◌}
 use Rattle.std.proofs.lemmas.Bool.{false≢true}
 use Rattle.mw_dd.proofs.Walks.{walk-low, walk-high, some_number}
-use Rattle.mw_dd.proofs.first.taken.Goals as goal
+use Rattle.mw_dd.proofs.first.first_branch.Goals as goal
 
 pub returns-then-raises-clause-walks : goal.returns-then-raises-clause-walks
 returns-then-raises-clause-walks c = λ whole walks.

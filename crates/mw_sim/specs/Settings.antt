@@ -19,9 +19,9 @@ use Rattle.mw_sim.specs.declared.lines.Series.{Series}
 use Rattle.mw_sim.specs.declared.lines.Series.TheVariants.{Inputs, Interrupts, Noise}
 use Rattle.mw_sim.specs.declared.lines.Statement.{Statement}
 use Rattle.mw_sim.specs.declared.lines.Statement.TheVariants as statements
-use Rattle.mw_sim.specs.declared.given.Owner.{Owner}
-use Rattle.mw_sim.specs.declared.given.Owner.TheVariants.{Board, Machine}
-use Rattle.mw_sim.specs.declared.given.Settable.{Settable}
+use Rattle.mw_sim.specs.declared.settings.Owner.{Owner}
+use Rattle.mw_sim.specs.declared.settings.Owner.TheVariants.{Board, Machine}
+use Rattle.mw_sim.specs.declared.settings.Settable.{Settable}
 use Rattle.mw_sim.specs.Lines.{statement_of}
 
 -- the letter of an element's owner in texts
@@ -36,7 +36,7 @@ number_named elements owner name = position (λ element. bytes_eq owner (owner_t
 
 -- What is given so far: the value of each element by number, and whether a line set it; each word of the memory, and
 -- whether a line gave it; the input words, the interrupt bits and the noise words.
-pub record Given : Type 0 where
+pub record Settings : Type 0 where
   pub values : List ℕ
   pub set : List Bool
   pub memory : List ℕ
@@ -46,7 +46,7 @@ pub record Given : Type 0 where
   pub noise : List ℕ
 
 -- nothing yet, of so many elements and so many words: what isn't given is 0
-abbrev pub nothing_given : ℕ → ℕ → Given
+abbrev pub nothing_given : ℕ → ℕ → Settings
 nothing_given elements words = record {
   values = replicate elements 0;
   set = replicate elements false;
@@ -73,7 +73,7 @@ bound_of (Some element) = element.bound
 bound_of None = 0
 
 -- the element with this number, whose name stands at this place, has a value: it is free, and no line before set it
-unfoldable pub with_value : List Settable → Token → ℕ → Numeral → Given → Result Given TextFault
+unfoldable pub with_value : List Settable → Token → ℕ → Numeral → Settings → Result Settings TextFault
 with_value elements place number numeral given =
     if is_free (slice_get elements number) then (
     if slice_index_or given.set number false then Err (fault_on place Twice)
@@ -82,7 +82,7 @@ with_value elements place number numeral given =
     else Err (fault_on place NotFree)
 
 -- set ELEMENT VALUE
-unfoldable pub with_set : List Settable → List ℕ → Dotted → Numeral → Given → Result Given TextFault
+unfoldable pub with_set : List Settable → List ℕ → Dotted → Numeral → Settings → Result Settings TextFault
 with_set elements text element numeral given = do
   number ← ok_or (number_named elements (spelled text element.owner) (spelled text element.name))
       (fault_on element.owner UnknownElement)
@@ -90,7 +90,7 @@ with_set elements text element numeral given = do
 
 -- a word of the memory, of so many bits, at an address that stands at this place: one of the memory's, which no line
 -- gave before
-unfoldable pub with_word : ℕ → Token → ℕ → Numeral → Given → Result Given TextFault
+unfoldable pub with_word : ℕ → Token → ℕ → Numeral → Settings → Result Settings TextFault
 with_word width place address numeral given =
     if nat_lt address (length given.memory) then (
     if slice_index_or given.written address false then Err (fault_on place Twice)
@@ -103,7 +103,7 @@ with_word width place address numeral given =
 
 -- what is given so far, and the address of the next word of a line
 pub record Writing : Type 0 where
-  pub given : Given
+  pub given : Settings
   pub next : ℕ
 
 -- a further word of a line; its place is its own
@@ -113,20 +113,20 @@ with_next_word width writing numeral = do
   Ok (record { given = given; next = writing.next + 1 })
 
 -- further words of a line, from an address on
-unfoldable pub with_more_words : ℕ → ℕ → List Numeral → Given → Result Given TextFault
+unfoldable pub with_more_words : ℕ → ℕ → List Numeral → Settings → Result Settings TextFault
 with_more_words width address values given = do
   writing ← steps (with_next_word width) (record { given = given; next = address }) values
   Ok writing.given
 
 -- mem ADDRESS VALUE ..: the place of the first word is ADDRESS
-unfoldable pub with_words : ℕ → Numeral → List Numeral → Given → Result Given TextFault
+unfoldable pub with_words : ℕ → Numeral → List Numeral → Settings → Result Settings TextFault
 with_words width address [] given = Ok given
 with_words width address (numeral ∷ rest) given = do
   more ← with_word width address.token address.value numeral given
   with_more_words width (address.value + 1) rest more
 
 -- what a list has so far
-abbrev pub series_so_far : Series → Given → List ℕ
+abbrev pub series_so_far : Series → Settings → List ℕ
 series_so_far Inputs given = given.inputs
 series_so_far Interrupts given = given.interrupts
 series_so_far Noise given = given.noise
@@ -138,20 +138,20 @@ series_bound width Interrupts = 2
 series_bound width Noise = 2 ^ 14
 
 -- a list with an entry more
-abbrev pub with_last : Series → ℕ → Given → Given
+abbrev pub with_last : Series → ℕ → Settings → Settings
 with_last Inputs value given = record given { inputs = given.inputs ++ (value ∷ []) }
 with_last Interrupts value given = record given { interrupts = given.interrupts ++ (value ∷ []) }
 with_last Noise value given = record given { noise = given.noise ++ (value ∷ []) }
 
 -- an entry of a list, which has at most 65,536
-unfoldable pub with_entry : ℕ → Series → Given → Numeral → Result Given TextFault
+unfoldable pub with_entry : ℕ → Series → Settings → Numeral → Result Settings TextFault
 with_entry width series given numeral =
     if nat_lt (length (series_so_far series given)) 65536 then (
     value_below (series_bound width series) numeral >>= λ value. Ok (with_last series value given))
     else Err (fault_on numeral.token TooMany)
 
 -- what is given after what a line says
-abbrev pub with_statement : List Settable → ℕ → List ℕ → Given → Statement → Result Given TextFault
+abbrev pub with_statement : List Settable → ℕ → List ℕ → Settings → Statement → Result Settings TextFault
 with_statement elements width text given statements.Blank = Ok given
 with_statement elements width text given (statements.Set element value) = with_set elements text element value given
 with_statement elements width text given (statements.Memory address values) = with_words width address values given
@@ -159,13 +159,13 @@ with_statement elements width text given (statements.Series series values) = ste
     values
 
 -- what is given after a line
-unfoldable pub with_line : List Settable → ℕ → List ℕ → Given → Line → Result Given TextFault
+unfoldable pub with_line : List Settable → ℕ → List ℕ → Settings → Line → Result Settings TextFault
 with_line elements width text given line = do
   statement ← statement_of (at_line text line BadSyntax)
   with_statement elements width text given statement
 
 -- what lines give of a board, or their first fault
-abbrev pub given_by : BoardParts → List Settable → List ℕ → List Line → Result Given TextFault
+abbrev pub given_by : BoardParts → List Settable → List ℕ → List Line → Result Settings TextFault
 given_by board elements text lines = steps (with_line elements board.width text)
     (nothing_given (length elements) (2 ^ board.address)) lines
 
@@ -184,25 +184,25 @@ abbrev pub AreBounded : List Settable → Type 0
 AreBounded elements = All (λ (element : Settable). (0 < element.bound) × (element.bound ≤ 2 ^ 32)) elements
 
 -- each element has a value below its bound
-pub record HasValues (elements : List Settable) (given : Given) : Type 0 where
+pub record HasValues (elements : List Settable) (given : Settings) : Type 0 where
   pub each : length given.values ≡ length elements
   pub set : length given.set ≡ length elements
   pub fit : (n : ℕ) → n < length elements → slice_index given.values n < bound_of (slice_get elements n)
 
 -- each address has a word of the board's width
-pub record HasImage (board : BoardParts) (given : Given) : Type 0 where
+pub record HasImage (board : BoardParts) (given : Settings) : Type 0 where
   pub each : length given.memory ≡ 2 ^ board.address
   pub written : length given.written ≡ 2 ^ board.address
   pub fit : (a : ℕ) → slice_index given.memory a < 2 ^ board.width
 
 -- each entry of a list is below its bound
-pub record HasSeries (board : BoardParts) (given : Given) : Type 0 where
+pub record HasSeries (board : BoardParts) (given : Settings) : Type 0 where
   pub inputs : (n : ℕ) → slice_index given.inputs n < 2 ^ board.width
   pub interrupts : (n : ℕ) → slice_index given.interrupts n < 2
   pub noise : (n : ℕ) → slice_index given.noise n < 2 ^ 14
 
 -- what is given of a board is in range
-pub record IsGiven (board : BoardParts) (elements : List Settable) (given : Given) : Type 0 where
+pub record AreSettings (board : BoardParts) (elements : List Settable) (given : Settings) : Type 0 where
   pub values : HasValues elements given
   pub image : HasImage board given
   pub series : HasSeries board given

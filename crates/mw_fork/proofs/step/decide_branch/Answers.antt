@@ -3,7 +3,7 @@ use Rattle.mw_macro.specs.Described.{description_of}
 use Rattle.mw_rel.specs.Views.{job_of}
 use Rattle.mw_fork.proofs.OnStep.{asks_where, takes}
 use Rattle.mw_fork.proofs.Steps.{decided_underway, goes_on, stops_early}
-use Rattle.mw_fork.proofs.step.settle.Goals as goal
+use Rattle.mw_fork.proofs.step.decide_branch.Goals as goal
 
 pub returns-clause-under : goal.returns-clause-under
 returns-clause-under c =

@@ -2,7 +2,7 @@
 ghost use Rattle.std.specs.Prelude.{◌≡◌, ◌<◌, ◌≤◌, ◌^◌, IfOk, OnOk, length, slice_get};
 ghost use Rattle.mw_base.specs.Reading.{Gives};
 ghost use Rattle.mw_base.specs.Steps.{steps};
-ghost use Rattle.mw_sim.specs.Given.{owner_text, number_named, nothing_given, value_below, is_free, bound_of, with_value, with_set, with_word, with_more_words, with_words, series_so_far, series_bound, with_last, with_entry, with_statement, with_line, given_by, AreBounded, HasValues, HasImage, IsGiven};
+ghost use Rattle.mw_sim.specs.Settings.{owner_text, number_named, nothing_given, value_below, is_free, bound_of, with_value, with_set, with_word, with_more_words, with_words, series_so_far, series_bound, with_last, with_entry, with_statement, with_line, given_by, AreBounded, HasValues, HasImage, AreSettings};
 ghost use Rattle.mw_sim.specs.Views.{given_seen};
 
 use crate::lines::{Series, Statement, statement_of};
@@ -40,7 +40,7 @@ pub struct Settable {
 
 /// What lines give: what isn't given is 0.
 #[derive(Debug, Drop)]
-pub struct Given {
+pub struct Settings {
     /// The value of each element, by number.
     pub values: Vec<u32>,
     /// For each element, whether a line set it.
@@ -133,15 +133,15 @@ fn bound_of(elements: &[Settable], number: usize) -> u64
     }
 }
 
-impl Given {
+impl Settings {
     /// Nothing yet.
-    fn nothing(alloc: Global, board: &Board, elements: &[Settable]) -> Result<Given, NoMemory>
+    fn nothing(alloc: Global, board: &Board, elements: &[Settable]) -> Result<Settings, NoMemory>
         ensures { IfOk result (λ given. given_seen given
             ≡ nothing_given (length elements.now) (2 ^ board.now.address)) }
     {
         let words = 1 << board.parts().address;
         let elements = elements.len();
-        Ok(Given {
+        Ok(Settings {
             values: vec![in alloc; 0; elements]?,
             set: vec![in alloc; false; elements]?,
             memory: vec![in alloc; 0; words]?,
@@ -154,7 +154,7 @@ impl Given {
 
     /// The element with this number, whose name stands at this place, has a value: cause 31 or 56 at the name, 33 at
     /// the value.
-    #[tactic(auto, unfolding(crate::specs::Given::with_value))]
+    #[tactic(auto, unfolding(crate::specs::Settings::with_value))]
     fn set_value(
         &mut self,
         elements: &[Settable],
@@ -181,7 +181,7 @@ impl Given {
     }
 
     /// set ELEMENT VALUE: cause 40, 31 or 56 at the element, 33 at the value.
-    #[tactic(auto, unfolding(crate::specs::Given::with_set))]
+    #[tactic(auto, unfolding(crate::specs::Settings::with_set))]
     fn set(
         &mut self,
         elements: &[Settable],
@@ -202,7 +202,7 @@ impl Given {
     }
 
     /// A word of the memory at an address that stands at this place: cause 31 or 33 there, 33 at the word.
-    #[tactic(auto, unfolding(crate::specs::Given::with_word))]
+    #[tactic(auto, unfolding(crate::specs::Settings::with_word))]
     fn add_word(
         &mut self,
         board: &Board,
@@ -229,7 +229,7 @@ impl Given {
     }
 
     /// Further words of a line, from an address on: cause 31 or 33 at each.
-    #[tactic(auto, unfolding(crate::specs::Given::with_more_words))]
+    #[tactic(auto, unfolding(crate::specs::Settings::with_more_words))]
     fn add_more_words(
         &mut self,
         board: &Board,
@@ -250,7 +250,7 @@ impl Given {
     }
 
     /// mem ADDRESS VALUE ..: cause 31 or 33 of the first word at ADDRESS, and those of the others at each.
-    #[tactic(auto, unfolding(crate::specs::Given::with_words))]
+    #[tactic(auto, unfolding(crate::specs::Settings::with_words))]
     fn add_words(
         &mut self,
         board: &Board,
@@ -294,7 +294,7 @@ impl Given {
     }
 
     /// An entry of a list: cause 14 or 33 at it.
-    #[tactic(auto, unfolding(crate::specs::Given::with_entry))]
+    #[tactic(auto, unfolding(crate::specs::Settings::with_entry))]
     fn add_entry(&mut self, board: &Board, series: Series, entry: Numeral) -> Result<(), Refusal>
         ensures { Gives (λ done. given_seen self.new) result
             (with_entry board.now.width series (given_seen self.old) entry) }
@@ -333,7 +333,7 @@ impl Given {
         statement: Statement,
     ) -> Result<(), Refusal>
         requires bounded { AreBounded elements.now }
-        requires given { IsGiven board.now elements.now (given_seen self.old) }
+        requires given { AreSettings board.now elements.now (given_seen self.old) }
         ensures { Gives (λ done. given_seen self.new) result
             (with_statement elements.now board.now.width text.now (given_seen self.old) statement) }
     {
@@ -348,7 +348,7 @@ impl Given {
     }
 
     /// A line: cause 60, then its other causes by place.
-    #[tactic(auto, unfolding(crate::specs::Given::with_line))]
+    #[tactic(auto, unfolding(crate::specs::Settings::with_line))]
     fn add_line(
         &mut self,
         alloc: Global,
@@ -358,7 +358,7 @@ impl Given {
         line: &Line,
     ) -> Result<(), Refusal>
         requires bounded { AreBounded elements.now }
-        requires given { IsGiven board.now elements.now (given_seen self.old) }
+        requires given { AreSettings board.now elements.now (given_seen self.old) }
         ensures { Gives (λ done. given_seen self.new) result
             (with_line elements.now board.now.width text.now (given_seen self.old) line.now) }
     {
@@ -380,12 +380,12 @@ pub fn given_by(
     elements: &[Settable],
     text: &[u8],
     lines: &[Line],
-) -> Result<Given, Refusal>
+) -> Result<Settings, Refusal>
     requires bounded { AreBounded elements.now }
     ensures gives { Gives given_seen result (given_by board.now elements.now text.now lines.now) }
-    ensures valid { IfOk result (λ given. IsGiven board.now elements.now (given_seen given)) }
+    ensures valid { IfOk result (λ given. AreSettings board.now elements.now (given_seen given)) }
 {
-    let mut given = Given::nothing(alloc, board, elements)?;
+    let mut given = Settings::nothing(alloc, board, elements)?;
     for line in lines {
         given.add_line(alloc, board, elements, text, line)?;
     }

@@ -5,7 +5,7 @@ use std::marker::Model;
 
 /// Where a symbolic board is.
 #[derive(Drop)]
-pub(crate) struct Place {
+pub(crate) struct Progress {
     /// The control address, 12 bits.
     pub(crate) at: u16,
     /// The stack pointer, which counts the words on the stack.
@@ -20,10 +20,10 @@ pub(crate) struct Place {
     pub(crate) decided: Path,
 }
 
-impl Model for Place {
+impl Model for Progress {
     ghost use Rattle.mw_symboard.specs.Seen as seen;
 
-    ghost Value = { seen.Place };
+    ghost Value = { seen.Progress };
 
     ghost view = { λ p. record { at = p.at; sp = p.sp; parts = p.parts; cycle = p.cycle; taken = p.taken; decided = p.decided } };
 }

@@ -1,5 +1,5 @@
 use Rattle.mw_sim.proofs.Kept.{image_keeps}
-use Rattle.mw_sim.proofs.given.Given.add_words.Goals as goal
+use Rattle.mw_sim.proofs.settings.Settings.add_words.Goals as goal
 
 pub add_more_words-requires-clause-image : goal.add_more_words-requires-clause-image
 add_more_words-requires-clause-image c = image_keeps c.args.board.now _ _ _ _ _

@@ -3,10 +3,10 @@ use Rattle.std.proofs.lemmas.Result.{err_from_is_err_and}
 use Rattle.mw_base.specs.Reading.{◌>>=◌}
 use Rattle.mw_base.proofs.Lists.{next_or}
 use Rattle.mw_base.proofs.Steps.{goes_on, refused, done}
-use Rattle.mw_sim.specs.Given.{Writing, with_more_words, with_next_word}
+use Rattle.mw_sim.specs.Settings.{Writing, with_more_words, with_next_word}
 use Rattle.mw_sim.specs.Views.{given_seen}
 use Rattle.mw_sim.proofs.Kept.{image_keeps, next_fails, next_is, more_fail}
-use Rattle.mw_sim.proofs.given.Given.add_more_words.Goals as goal
+use Rattle.mw_sim.proofs.settings.Settings.add_more_words.Goals as goal
 
 pub returns-in_err-add_word : goal.returns-in_err-add_word
 returns-in_err-add_word c =

@@ -5,7 +5,7 @@ use Rattle.mw_symboard.specs.Turns.{Symbolic}
 use Rattle.mw_rel.specs.Views.{job_of}
 use Rattle.mw_fork.proofs.OnRun.{next_of_case, on_decided}
 use Rattle.mw_fork.proofs.Runs.{decided_under}
-use Rattle.mw_fork.proofs.run.Run.settle.Goals as goal
+use Rattle.mw_fork.proofs.run.Run.decide_bit.Goals as goal
 
 pub returns-clause-under : goal.returns-clause-under
 returns-clause-under c =

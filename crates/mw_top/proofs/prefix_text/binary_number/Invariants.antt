@@ -1,10 +1,10 @@
 use Rattle.std.proofs.Common.{◌≡◌, ℕ, ◌<◌, ◌^◌, List, Bool, take}
-use Rattle.mw_top.specs.PrefixText.{number_of}
-use Rattle.mw_top.proofs.prefix_text.number_of.Given as goal
+use Rattle.mw_top.specs.PrefixText.{binary_number}
+use Rattle.mw_top.proofs.prefix_text.binary_number.Given as goal
 
 -- the number of the bits so far, which is below two to the power of their count
 pub record Counted (number index : ℕ) (bits : List Bool) : Type 0 where
-  pub is : number ≡ number_of (take index bits)
+  pub is : number ≡ binary_number (take index bits)
   pub below : number < 2 ^ index
 
 abbrev pub invariant-loop-bit : goal.invariant-loop-bit
