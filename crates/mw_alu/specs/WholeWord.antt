@@ -1,5 +1,6 @@
 -- The Am2901 as one word of w bits: whole numbers, and no slices (AMD Am2900 Family Data Book, Am2901).
-use Rattle.std.specs.Prelude.{ℕ, ◌+◌, ◌-◌, ◌*◌, ◌/◌, ◌%◌, ◌^◌, Bool, true, false, ◌&&◌, ◌==◌, nat_le, bit_and, bit_or, bit_xor}
+use Rattle.std.specs.Prelude.{ℕ, ◌+◌, ◌-◌, ◌*◌, ◌/◌, ◌%◌, ◌^◌, Bool, true, false, ◌&&◌, ◌==◌, nat_le, bit_and, bit_or}
+use Rattle.std.specs.Prelude.{bit_xor}
 use Rattle.mw_base.specs.Words.{num, complement, bit_of, differ}
 use Rattle.mw_alu.specs.declared.instruction.Source.{Source}
 use Rattle.mw_alu.specs.declared.instruction.Source.TheVariants.{Aq, Ab, Zq, Zb, Za, Da, Dq, Dz}
@@ -79,7 +80,8 @@ carry_of function w r s cn = is_sum function && carry_out function w r s cn
 
 -- a sum overflows where the carries into and out of the top bit differ
 unfoldable pub overflow_of : Function → ℕ → ℕ → ℕ → Bool → Bool
-overflow_of function w r s cn = is_sum function && differ (carry_into_top function w r s cn) (carry_out function w r s cn)
+overflow_of function w r s cn =
+    is_sum function && differ (carry_into_top function w r s cn) (carry_out function w r s cn)
 
 -- Y is A in RAMA, and else F
 abbrev pub y_of : Destination → ℕ → ℕ → ℕ

@@ -1,7 +1,8 @@
 // One instruction on one word.
 ghost use Rattle.std.specs.Prelude.{◌≡◌, ◌<◌, ◌≤◌, ◌^◌, ◌-◌, ◌+◌};
 ghost use Rattle.mw_base.specs.Words.{complement};
-ghost use Rattle.mw_alu.specs.WholeWord.{addend_r, addend_s, total, f_of, carry_out, carry_into_top, carry_of, overflow_of, alu_of};
+ghost use Rattle.mw_alu.specs.WholeWord.{addend_r, addend_s, total, f_of, carry_out, carry_into_top, carry_of};
+ghost use Rattle.mw_alu.specs.WholeWord.{overflow_of, alu_of};
 
 use crate::instruction::{Destination, Function, Source};
 use crate::size::{half, size};

@@ -1,5 +1,6 @@
 -- One token of a list of items.
-use Rattle.std.proofs.Common.{◌≡◌, ℕ, ◌+◌, ◌≤◌, List, [], ◌∷◌, ◌++◌, Some, None, Result, Ok, Err, true, false, refl, sym, ◌∙◌, drop, length}
+use Rattle.std.proofs.Common.{◌≡◌, ℕ, ◌+◌, ◌≤◌, List, [], ◌∷◌, ◌++◌, Some, None, Result, Ok, Err, true, false, refl}
+use Rattle.std.proofs.Common.{sym, ◌∙◌, drop, length}
 use Rattle.std.proofs.lemmas.List.{drop_all}
 use Rattle.mw_base.specs.declared.refusal.Refused.{Refused}
 use Rattle.mw_base.specs.declared.refusal.Refused.TheVariants.{At, NoMemory}
@@ -26,12 +27,15 @@ goes_on old line rest before token next other follows = rw (other, follows, with
 -- a comma that ends an item
 pub ends : (old : List Item) (line : Cursor) (rest : List Token) (before : Awaits) (token : Token) (item : Item)
     → is_sign Comma (symbol_of line.text token) ≡ true → ended before ≡ Some item
-    → with_front (old ++ item ∷ []) (items_from line awaits.Name rest) ≡ with_front old (items_from line before (token ∷ rest))
+    → with_front (old ++ item ∷ []) (items_from line awaits.Name rest)
+    ≡ with_front old (items_from line before (token ∷ rest))
 unfolding items_from
-ends old line rest before token item comma ended = rw (comma, ended, with_front_twice old (item ∷ []) (items_from line awaits.Name rest)) refl
+ends old line rest before token item comma ended =
+    rw (comma, ended, with_front_twice old (item ∷ []) (items_from line awaits.Name rest)) refl
 
 -- a token that can't stand where it does
-pub refused_at : (refusal : Refused TextFault) (old : List Item) (line : Cursor) (tokens : List Token) (n : ℕ) (token : Token) (before : Awaits) (total : Result (List Item) TextFault)
+pub refused_at : (refusal : Refused TextFault) (old : List Item) (line : Cursor) (tokens : List Token) (n : ℕ)
+    (token : Token) (before : Awaits) (total : Result (List Item) TextFault)
     → drop n tokens ≡ token ∷ drop (n + 1) tokens → Fails refusal (passed line before token)
     → with_front old (items_from line before (drop n tokens)) ≡ total → Fails refusal total
 unfolding items_from
@@ -41,18 +45,22 @@ refused_at (At fault) old line tokens n token before total at fails so_far =
     sym so_far ∙ one
 
 -- the line's end, which ends an item or can't stand where it does
-pub all_passed : (old : List Item) (line : Cursor) (tokens : List Token) (n : ℕ) (before : Awaits) (item : Item) (total : Result (List Item) TextFault)
+pub all_passed : (old : List Item) (line : Cursor) (tokens : List Token) (n : ℕ) (before : Awaits) (item : Item)
+    (total : Result (List Item) TextFault)
     → length tokens ≤ n → Some item ≡ ended before → with_front old (items_from line before (drop n tokens)) ≡ total
     → total ≡ Ok (old ++ item ∷ [])
 unfolding items_from
 all_passed old line tokens n before item total past is so_far =
-    let one : with_front old (items_from line before (drop n tokens)) ≡ Ok (old ++ item ∷ []) = rw (drop_all n tokens past, ← is) refl in
+    let one : with_front old (items_from line before (drop n tokens)) ≡ Ok (old ++ item ∷ []) =
+    rw (drop_all n tokens past, ← is) refl in
     sym so_far ∙ one
 
-pub ends_early : (old : List Item) (line : Cursor) (tokens : List Token) (n : ℕ) (before : Awaits) (total : Result (List Item) TextFault)
+pub ends_early : (old : List Item) (line : Cursor) (tokens : List Token) (n : ℕ) (before : Awaits)
+    (total : Result (List Item) TextFault)
     → length tokens ≤ n → None ≡ ended before → with_front old (items_from line before (drop n tokens)) ≡ total
     → total ≡ Err line.end
 unfolding items_from
 ends_early old line tokens n before total past is so_far =
-    let one : with_front old (items_from line before (drop n tokens)) ≡ Err line.end = rw (drop_all n tokens past, ← is) refl in
+    let one : with_front old (items_from line before (drop n tokens)) ≡ Err line.end =
+    rw (drop_all n tokens past, ← is) refl in
     sym so_far ∙ one

@@ -13,8 +13,12 @@ use Rattle.mw_asm.specs.Names.{Names}
 use Rattle.mw_base.proofs.Results.{ok_of}
 
 -- the store with the word of these bits, or their fault
-pub made : (board : BoardParts) (text : List ℕ) (names : Names) (store : List ℕ) (word : Word) (read : Result SetBits TextFault)
+pub made : (board : BoardParts) (text : List ℕ) (names : Names) (store : List ℕ) (word : Word)
+    (read : Result SetBits TextFault)
     → read ≡ bits_of board.fields text names scopes.Word no_bits word.items
-    → (read >>= (λ (bits : SetBits). ok_of {F = TextFault} (set store word.address (word_of board.unset bits)))) ≡ with_made board text names store word
+    → (read >>= (λ (bits : SetBits). ok_of {F = TextFault} (set store word.address (word_of board.unset bits))))
+    ≡ with_made board text names store word
 unfolding with_made
-made board text names store word read is = ap (λ (r : Result SetBits TextFault). r >>= (λ (bits : SetBits). ok_of {F = TextFault} (set store word.address (word_of board.unset bits)))) is
+made board text names store word read is =
+    ap (λ (r : Result SetBits TextFault).
+    r >>= (λ (bits : SetBits). ok_of {F = TextFault} (set store word.address (word_of board.unset bits)))) is

@@ -14,7 +14,8 @@ field_bits field value = record { mask = ones field.width * 2 ^ field.low; value
 
 -- each bit that both set has one value
 abbrev pub agree : SetBits → SetBits → Bool
-agree first second = bit_and (bit_and first.mask second.mask) first.value == bit_and (bit_and first.mask second.mask) second.value
+agree first second =
+    bit_and (bit_and first.mask second.mask) first.value == bit_and (bit_and first.mask second.mask) second.value
 
 -- the bits that either sets
 abbrev pub union : SetBits → SetBits → SetBits

@@ -1,5 +1,6 @@
 -- The first pass, over the lines of a text.
-use Rattle.std.specs.Prelude.{ℕ, ◌+◌, ◌-◌, List, [], ◌∷◌, ◌++◌, length, replicate, slice_set, slice_index_or, Bool, true, false, if◌then◌else◌, nat_lt, nat_le, is_some, Option, Some, None, Result, Ok, Err}
+use Rattle.std.specs.Prelude.{ℕ, ◌+◌, ◌-◌, List, [], ◌∷◌, ◌++◌, length, replicate, slice_set, slice_index_or, Bool}
+use Rattle.std.specs.Prelude.{true, false, if◌then◌else◌, nat_lt, nat_le, is_some, Option, Some, None, Result, Ok, Err}
 use Rattle.mw_base.specs.declared.cause.Cause.TheVariants.{StoreFull, Overlap, BadLine}
 use Rattle.mw_base.specs.declared.cursor.Numeral.{Numeral}
 use Rattle.mw_base.specs.declared.line.Line.{Line}
@@ -26,8 +27,8 @@ use Rattle.mw_asm.specs.ItemBits.{bits_of}
 use Rattle.mw_asm.specs.Names.{Names}
 use Rattle.mw_asm.specs.Statements.{keyword_of, statement_of}
 
--- what is known after some lines: what names stand for, the next word's address, for each address up to the last word's whether a word
--- stands there, the words to be made and the labels, both in file order
+-- what is known after some lines: what names stand for, the next word's address, for each address up to the last word's
+-- whether a word stands there, the words to be made and the labels, both in file order
 pub record Known : Type 0 where
   pub names : Names
   pub next : ℕ

@@ -1,5 +1,6 @@
 -- The bits that items set.
-use Rattle.std.specs.Prelude.{ℕ, ◌+◌, ◌^◌, ◌≤◌, List, if◌then◌else◌, nat_lt, option_map, Option, Some, None, ok_or, Result, Ok, Err}
+use Rattle.std.specs.Prelude.{ℕ, ◌+◌, ◌^◌, ◌≤◌, List, if◌then◌else◌, nat_lt, option_map, Option, Some, None, ok_or}
+use Rattle.std.specs.Prelude.{Result, Ok, Err}
 use Rattle.std.specs.List.{find}
 use Rattle.std.specs.Str.{bytes_eq}
 use Rattle.mw_base.specs.declared.cause.Cause.TheVariants.{UnknownName, FieldConflict, ValueTooWide}
@@ -21,12 +22,14 @@ use Rattle.mw_asm.specs.Names.{Names, number_named, bits_named}
 
 -- the field of this name
 unfoldable pub field_named : List NamedField → List ℕ → Option Field
-field_named fields name = option_map (λ (f : NamedField). f.field) (find (λ (f : NamedField). bytes_eq f.name name) fields)
+field_named fields name =
+    option_map (λ (f : NamedField). f.field) (find (λ (f : NamedField). bytes_eq f.name name) fields)
 
 -- the value of a token of this kind: a number, or that of the name of one
 abbrev pub value_of_kind : List ℕ → Names → Scope → Token → Kind → Result ℕ TextFault
 value_of_kind text names scope token (Number value) = Ok value
-value_of_kind text names scope token other = ok_or (number_named scope (names (spelled text token))) (fault_on token UnknownName)
+value_of_kind text names scope token other =
+    ok_or (number_named scope (names (spelled text token))) (fault_on token UnknownName)
 
 -- the value that a token gives
 unfoldable pub value_of : List ℕ → Names → Scope → Token → Result ℕ TextFault
@@ -34,7 +37,8 @@ value_of text names scope token = value_of_kind text names scope token token.kin
 
 -- a field set to a value
 unfoldable pub field_set : Field → Token → ℕ → Result SetBits TextFault
-field_set field token value = if nat_lt value (2 ^ field.width) then Ok (field_bits field value) else Err (fault_on token ValueTooWide)
+field_set field token value =
+    if nat_lt value (2 ^ field.width) then Ok (field_bits field value) else Err (fault_on token ValueTooWide)
 
 -- FIELD = VALUE
 unfoldable pub valued_bits : List NamedField → List ℕ → Names → Scope → Token → Token → Result SetBits TextFault

@@ -48,7 +48,9 @@ other_passed line before token = do
 
 -- the items that this token ends, and what can follow it
 abbrev pub passed : Cursor → Awaits → Token → Result (List Item × Awaits) TextFault
-passed line before token = if is_sign signs.Comma (symbol_of line.text token) then comma_passed line before token else other_passed line before token
+passed line before token =
+    if is_sign signs.Comma (symbol_of line.text token) then comma_passed line before token
+    else other_passed line before token
 
 -- the items of the rest of a line
 unfoldable pub items_from : Cursor → Awaits → List Token → Result (List Item) TextFault

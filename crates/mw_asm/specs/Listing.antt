@@ -16,8 +16,8 @@ labels_at at labels = filter (λ (label : Label). label.address == at) labels
 abbrev pub names_of : List Label → List ℕ
 names_of labels = flat_map (λ (label : Label). 32 ∷ label.name) labels
 
--- a line: an address in three digits, a space, a word in a digit for each four of its bits, rounded up, what is shown of labels, and a
--- line feed
+-- a line: an address in three digits, a space, a word in a digit for each four of its bits, rounded up, what is shown
+-- of labels, and a line feed
 unfoldable pub line_of : BoardParts → ℕ → ℕ → List ℕ → List ℕ
 line_of board at word names = padded 3 at ++ 32 ∷ padded (div_ceil board.microword 4) word ++ names ++ 10 ∷ []
 

@@ -28,7 +28,8 @@ second_pass board text names store words = steps (with_made board text names) st
 abbrev pub filled : ℕ → List Bool → List ℕ
 filled fill used = map (λ (word : Bool). fill) used
 
--- the microprogram of a text, or its first fault: those of its bytes, then those of the first pass, then those of the second
+-- the microprogram of a text, or its first fault: those of its bytes, then those of the first pass, then those
+-- of the second
 unfoldable pub store_of : BoardParts → List ℕ → Result Assembled TextFault
 store_of board text = do
   lines ← token_lines text
@@ -36,8 +37,8 @@ store_of board text = do
   words ← second_pass board text known.names (filled board.fill known.used) known.words
   Ok (record { store = record { words = words }; used = known.used; labels = known.labels })
 
--- what is so of every microprogram: at most 4,096 words of the board's microword, for each whether a line put it there, and labels of
--- addresses up to 4,096
+-- what is so of every microprogram: at most 4,096 words of the board's microword, for each whether a line put it there,
+-- and labels of addresses up to 4,096
 pub record IsAssembled (board : BoardParts) (made : Assembled) : Type 0 where
   pub few : length made.store.words ≤ 4096
   pub fit : All (λ word. word < 2 ^ board.microword) made.store.words

@@ -1,12 +1,14 @@
 -- What a line says.
-use Rattle.std.specs.Prelude.{ℕ, List, [], ◌∷◌, Bool, true, false, ◌&&◌, if◌then◌else◌, codes, Option, Some, None, Result, Ok}
+use Rattle.std.specs.Prelude.{ℕ, List, [], ◌∷◌, Bool, true, false, ◌&&◌, if◌then◌else◌, codes, Option, Some, None}
+use Rattle.std.specs.Prelude.{Result, Ok}
 use Rattle.std.specs.Str.{bytes_eq}
 use Rattle.mw_base.specs.declared.refusal.TextFault.{TextFault}
 use Rattle.mw_base.specs.declared.sign.Sign.TheVariants.{Equals, Colon, Comma}
 use Rattle.mw_base.specs.declared.symbol.Symbol.{Symbol}
 use Rattle.mw_base.specs.declared.symbol.Symbol.TheVariants.{Sign}
 use Rattle.mw_base.specs.declared.token.Token.{Token}
-use Rattle.mw_base.specs.Cursors.{Cursor, after, token_at, symbol_at, has_name, has_sign, name_at, sign_at, number_at, end_at}
+use Rattle.mw_base.specs.Cursors.{Cursor, after, token_at, symbol_at, has_name, has_sign, name_at, sign_at, number_at}
+use Rattle.mw_base.specs.Cursors.{end_at}
 use Rattle.mw_base.specs.Reading.{◌>>=◌}
 use Rattle.mw_base.specs.Symbols.{spelled}
 use Rattle.mw_asm.specs.declared.statement.Keyword.{Keyword}

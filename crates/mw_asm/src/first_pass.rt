@@ -1,7 +1,9 @@
 // The first pass, over the lines of a text.
 ghost use Rattle.std.specs.Prelude.{◌≡◌, ◌<◌, OnOk};
 ghost use Rattle.mw_base.specs.Reading.{Gives};
-ghost use Rattle.mw_asm.specs.FirstPass.{at_first, can_define, with_used, with_meaning, with_def, with_next, with_label, with_optional_label, with_word, with_optional_word, with_statement, with_line, first_pass};
+ghost use Rattle.mw_asm.specs.FirstPass.{at_first, can_define, with_used, with_meaning, with_def, with_next};
+ghost use Rattle.mw_asm.specs.FirstPass.{with_label, with_optional_label, with_word, with_optional_word};
+ghost use Rattle.mw_asm.specs.FirstPass.{with_statement, with_line, first_pass};
 ghost use Rattle.mw_asm.specs.Views.{known_seen};
 
 use crate::assembled::Label;
@@ -84,7 +86,8 @@ impl<'a> Known<'a> {
     /// Gives a name that a line defines its meaning: cause 31 or 33.
     #[tactic(auto, unfolding(crate::specs::FirstPass::with_meaning))]
     fn define(&mut self, text: &'a [u8], name: Token, meaning: Meaning) -> Result<(), Refusal>
-        ensures { Gives (λ done. known_seen self.new) result (with_meaning text.now name meaning (known_seen self.old)) }
+        ensures { Gives (λ done. known_seen self.new) result
+            (with_meaning text.now name meaning (known_seen self.old)) }
     {
         self.check_new(text, name).map_err(Refused::At)?;
         self.names.insert(spelled(text, name), meaning)?;
@@ -100,7 +103,8 @@ impl<'a> Known<'a> {
         name: Token,
         items: &[Item],
     ) -> Result<(), Refusal>
-        ensures { Gives (λ done. known_seen self.new) result (with_def board.now.fields text.now name items.now (known_seen self.old)) }
+        ensures { Gives (λ done. known_seen self.new) result
+            (with_def board.now.fields text.now name items.now (known_seen self.old)) }
     {
         self.check_new(text, name).map_err(Refused::At)?;
         let bits = bits_of(board, text, &self.names, Scope::Def, items).map_err(Refused::At)?;
@@ -186,7 +190,8 @@ impl<'a> Known<'a> {
         text: &'a [u8],
         statement: Statement,
     ) -> Result<(), Refusal>
-        ensures { Gives (λ done. known_seen self.new) result (with_statement board.now.fields text.now (known_seen self.old) statement) }
+        ensures { Gives (λ done. known_seen self.new) result
+            (with_statement board.now.fields text.now (known_seen self.old) statement) }
     {
         match statement {
             Statement::Equ(name, value) => self.define(text, name, Meaning::Number(value)),
@@ -208,7 +213,8 @@ impl<'a> Known<'a> {
         text: &'a [u8],
         line: &Line,
     ) -> Result<(), Refusal>
-        ensures { Gives (λ done. known_seen self.new) result (with_line board.now.fields text.now (known_seen self.old) line.now) }
+        ensures { Gives (λ done. known_seen self.new) result
+            (with_line board.now.fields text.now (known_seen self.old) line.now) }
     {
         let statement = statement_of(alloc, &Cursor::new(text, line, Cause::BadLine))?;
         self.add_statement(alloc, board, text, statement)

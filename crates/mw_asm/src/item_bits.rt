@@ -2,7 +2,8 @@
 ghost use Rattle.std.specs.Prelude.{◌≡◌, IfSome};
 ghost use Rattle.mw_base.specs.Named.{names_seen};
 ghost use Rattle.mw_asm.specs.Bits.{no_bits};
-ghost use Rattle.mw_asm.specs.ItemBits.{FitsWord, field_named, value_of, field_set, valued_bits, alone_bits, item_bits, beside, with_item, bits_of};
+ghost use Rattle.mw_asm.specs.ItemBits.{FitsWord, field_named, value_of, field_set, valued_bits, alone_bits, item_bits};
+ghost use Rattle.mw_asm.specs.ItemBits.{beside, with_item, bits_of};
 
 use crate::bits::{SetBits, power};
 use crate::items::Item;

@@ -77,7 +77,8 @@ fn pass(
     before: Awaits,
     token: Token,
 ) -> Result<Awaits, Refusal>
-    ensures goes { IfOk result (λ next. (rest : List Token) → with_front items.new.items (items_from line.now next rest) ≡ with_front items.old.items (items_from line.now before (token ∷ rest))) }
+    ensures goes { IfOk result (λ next. (rest : List Token) → with_front items.new.items (items_from line.now next rest)
+        ≡ with_front items.old.items (items_from line.now before (token ∷ rest))) }
     ensures refused { IfErr result (λ refusal. Fails refusal (passed line.now before token)) }
 {
     let symbol = symbol_of(line.text(), token);

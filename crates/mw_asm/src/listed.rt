@@ -64,7 +64,8 @@ fn names_by_address(
     labels: &[Label],
 ) -> Result<Vec<LabelText>, NoMemory>
     ensures len { IfOk result (λ names. length names.items ≡ count) }
-    ensures each { IfOk result (λ names. (at : ℕ) → at < count → slice_index_or names.items at [] ≡ names_of (labels_at at labels.now)) }
+    ensures each { IfOk result
+        (λ names. (at : ℕ) → at < count → slice_index_or names.items at [] ≡ names_of (labels_at at labels.now)) }
 {
     let mut names = no_names(alloc, count)?;
     for label in labels {
@@ -95,9 +96,9 @@ fn push_line(
     Ok(())
 }
 
-/// The listing: for each word that a line of the microprogram put somewhere, in rising order of addresses, a line with the address in
-/// three hexadecimal digits, the word in a digit for each four bits of it, rounded up, and the name of each label of the address in file
-/// order. Letters are upper case. A label without a word isn't listed.
+/// The listing: for each word that a line of the microprogram put somewhere, in rising order of addresses, a line with
+/// the address in three hexadecimal digits, the word in a digit for each four bits of it, rounded up, and the name of
+/// each label of the address in file order. Letters are upper case. A label without a word isn't listed.
 ///
 /// # Errors
 ///

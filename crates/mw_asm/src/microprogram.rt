@@ -16,9 +16,9 @@ use std::alloc::Global;
 ///
 /// # Errors
 ///
-/// The first fault of the text: causes 1 to 4 of its bytes; then, line by line, cause 36 of the line and, by place, 31 and 33 of a name
-/// that it defines, 30, 33 and 32 of the items of a `def`, 33 of an `org`, 34 and 35 of a word; then, word by word, 30, 33 and 32 of its
-/// items. Want of memory.
+/// The first fault of the text: causes 1 to 4 of its bytes; then, line by line, cause 36 of the line and, by place, 31
+/// and 33 of a name that it defines, 30, 33 and 32 of the items of a `def`, 33 of an `org`, 34 and 35 of a word; then,
+/// word by word, 30, 33 and 32 of its items. Want of memory.
 #[tactic(auto, unfolding(crate::specs::Microprogram::store_of))]
 pub fn assemble(alloc: Global, board: &Board, text: &[u8]) -> Result<Assembled, Refusal>
     requires { length text.now < 2 ^ 32 }

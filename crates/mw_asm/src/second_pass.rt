@@ -27,7 +27,8 @@ pub(crate) fn second_pass(
     mut store: Vec<u128>,
 ) -> Result<Vec<u128>, Refusal>
     requires { All (λ word. word.address < length store.items) words.now }
-    ensures { Gives (λ words. words.items) result (second_pass board.now text.now (names_seen names.now) store.items words.now) }
+    ensures { Gives (λ words. words.items) result
+        (second_pass board.now text.now (names_seen names.now) store.items words.now) }
 {
     let unset = board.parts().unset;
     for word in words {

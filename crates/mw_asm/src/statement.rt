@@ -1,7 +1,8 @@
 // What a line says.
 ghost use Rattle.std.specs.Prelude.{◌≡◌};
 ghost use Rattle.mw_base.specs.Reading.{Gives};
-ghost use Rattle.mw_asm.specs.Statements.{equ_of, def_of, org_of, labelled_of, unlabelled_of, keyword_of, leaves_keyword, keyword_in, statement_of};
+ghost use Rattle.mw_asm.specs.Statements.{equ_of, def_of, org_of, labelled_of, unlabelled_of, keyword_of};
+ghost use Rattle.mw_asm.specs.Statements.{leaves_keyword, keyword_in, statement_of};
 
 use crate::items::{Item, items_of, optional_items};
 use mw_base::{Cursor, Items, Numeral, Refusal, Refused, Sign, Symbol, TextFault, Token};

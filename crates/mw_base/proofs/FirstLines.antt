@@ -1,5 +1,6 @@
 -- The first line of a text, and the lines after it.
-use Rattle.std.proofs.Common.{◌≡◌, ℕ, suc, ◌+◌, ◌<◌, ◌≤◌, List, [], ◌∷◌, Bool, true, false, take, drop, length, cond, refl, ap, arith}
+use Rattle.std.proofs.Common.{◌≡◌, ℕ, suc, ◌+◌, ◌<◌, ◌≤◌, List, [], ◌∷◌, Bool, true, false, take, drop, length, cond}
+use Rattle.std.proofs.Common.{refl, ap, arith}
 use Rattle.std.specs.Prelude.{◌==◌, not, if◌then◌else◌}
 use Rattle.std.proofs.Math.Seq.{drop-length}
 use Rattle.mw_base.specs.Lines.{lines_of, with_byte, before_feed}
@@ -8,7 +9,8 @@ use Rattle.mw_base.specs.Lines.{lines_of, with_byte, before_feed}
 fed : (test : Bool) (c n : ℕ) (rest : List ℕ)
     → (n < length rest → lines_of rest ≡ take (n + 1) rest ∷ lines_of (drop (n + 1) rest))
     → cond (not test) (1 + n) 0 < length (c ∷ rest)
-    → (if test then (c ∷ []) ∷ lines_of rest else with_byte c (lines_of rest)) ≡ take (cond (not test) (1 + n) 0 + 1) (c ∷ rest) ∷ lines_of (drop (cond (not test) (1 + n) 0 + 1) (c ∷ rest))
+    → (if test then (c ∷ []) ∷ lines_of rest else with_byte c (lines_of rest))
+    ≡ take (cond (not test) (1 + n) 0 + 1) (c ∷ rest) ∷ lines_of (drop (cond (not test) (1 + n) 0 + 1) (c ∷ rest))
 fed true c n rest later h = refl
 fed false c n rest later h =
     let e : 1 + n + 1 ≡ suc (n + 1) = omega arith in

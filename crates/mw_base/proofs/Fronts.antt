@@ -1,5 +1,6 @@
 -- The sign at the front of a line is spelled there.
-use Rattle.std.proofs.Common.{◌≡◌, ℕ, ◌≤◌, List, [], ◌∷◌, Bool, true, false, Option, Some, None, take, length, length-take, min, cond, refl, ◌∙◌, arith}
+use Rattle.std.proofs.Common.{◌≡◌, ℕ, ◌≤◌, List, [], ◌∷◌, Bool, true, false, Option, Some, None, take, length}
+use Rattle.std.proofs.Common.{length-take, min, cond, refl, ◌∙◌, arith}
 use Rattle.std.specs.Option.{option_or}
 use Rattle.std.specs.List.{find}
 use Rattle.std.specs.Str.{bytes_eq}
@@ -21,7 +22,8 @@ found_passes test (y ∷ ys) x found = passes test x y (test y) (find test ys) r
 -- the sign of some bytes has these bytes
 pub spelled_so : (bytes : List ℕ) (sign : Sign) → sign_of bytes ≡ Some sign → bytes_of sign ≡ bytes
 unfolding sign_of
-spelled_so bytes sign is = (bytes_eq-Decides (bytes_of sign) bytes).0 (found_passes (λ sign. bytes_eq (bytes_of sign) bytes) signs sign is)
+spelled_so bytes sign is =
+    (bytes_eq-Decides (bytes_of sign) bytes).0 (found_passes (λ sign. bytes_eq (bytes_of sign) bytes) signs sign is)
 
 -- what the sign at the front of a line is there
 pub record BeginsWithSign (line : List ℕ) (sign : Sign) : Type 0 where

@@ -11,4 +11,5 @@ map-append f (x ∷ xs) ys = ap (λ (zs : List ℕ). f x ∷ zs) (map-append f x
 -- the last glyph
 pub glyphs_step : (base n : ℕ) → 2 ≤ base → 0 < n
     → map glyph (digits_of base n) ≡ map glyph (digits_of base (n / base)) ++ glyph (n % base) ∷ []
-glyphs_step base n b h = ap (map glyph) (digits_of_step base n b h) ∙ map-append glyph (digits_of base (n / base)) (n % base ∷ [])
+glyphs_step base n b h =
+    ap (map glyph) (digits_of_step base n b h) ∙ map-append glyph (digits_of base (n / base)) (n % base ∷ [])

@@ -24,5 +24,6 @@ kind_known bytes Sign spells = sign_known (sign_of bytes) spells
 pub are_known : (text : List ℕ) (place : ℕ) (tokens : List Token) → InOrder text place tokens → AreKnown text tokens
 unfolding symbol_of
 are_known text place tokens ordered =
-    All-weaker (λ (token : Token). Spells (spelled text token) token.kind) (λ (token : Token). symbol_of text token ≢ Other)
+    All-weaker (λ (token : Token). Spells (spelled text token) token.kind)
+    (λ (token : Token). symbol_of text token ≢ Other)
     (λ token spells. kind_known (spelled text token) token.kind spells) tokens ordered.spelled

@@ -1,5 +1,6 @@
 -- Lists that are gone through, and items before those that are read.
-use Rattle.std.proofs.Common.{◌≡◌, ℕ, ◌+◌, ◌<◌, List, [], ◌∷◌, ◌++◌, Result, Ok, Err, length, get_or, drop, drop-cons, add-one, append_assoc, refl, sym, ap, ◌∙◌}
+use Rattle.std.proofs.Common.{◌≡◌, ℕ, ◌+◌, ◌<◌, List, [], ◌∷◌, ◌++◌, Result, Ok, Err, length, get_or, drop, drop-cons}
+use Rattle.std.proofs.Common.{add-one, append_assoc, refl, sym, ap, ◌∙◌}
 use Rattle.mw_base.specs.Reading.{◌>>=◌, with_front}
 
 -- the item at a place, and those after it

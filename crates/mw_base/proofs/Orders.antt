@@ -1,5 +1,6 @@
 -- Tokens that stand one after another, and their slices of the text.
-use Rattle.std.proofs.Common.{◌≡◌, ℕ, ◌+◌, ◌-◌, ◌<◌, ◌≤◌, List, [], ◌∷◌, ◌++◌, take, drop, length, arith, sym, ap, ◌∙◌, append_assoc}
+use Rattle.std.proofs.Common.{◌≡◌, ℕ, ◌+◌, ◌-◌, ◌<◌, ◌≤◌, List, [], ◌∷◌, ◌++◌, take, drop, length, arith, sym, ap, ◌∙◌}
+use Rattle.std.proofs.Common.{append_assoc}
 use Rattle.std.proofs.lemmas.List.{take-take, drop-take, drop-drop}
 use Rattle.std.proofs.lemmas.List.Elements.{All-push}
 use Rattle.std.proofs.lemmas.List.Quantifiers.{all_pairs_push}
@@ -32,7 +33,8 @@ in_order_push text place next front tokens token old after some fits spells =
       within = All-push (EndsBefore next) (front ++ tokens) token kept.within (some, fits);
       apart = all_pairs_push (λ (first second : Token). first.end ≤ second.start) (front ++ tokens) token old.apart
           (λ k d below. let here = old.within k d below in omega arith);
-      spelled = All-push (λ (token : Token). Spells (slice text token.start token.end) token.kind) (front ++ tokens) token old.spelled spells;
+      spelled = All-push (λ (token : Token). Spells (slice text token.start token.end) token.kind)
+          (front ++ tokens) token old.spelled spells;
     })
 
 -- the bytes of a piece, of its line and of the text
@@ -42,7 +44,9 @@ slice_in text start at n line is fits =
     let size : start + at + n - (start + at) ≡ n = omega arith in
     let whole : start + length line - start ≡ at + (length line - at) = omega arith in
     let shown : take (at + (length line - at)) (drop start text) ≡ line = rw whole at is in
-    let left : drop at line ≡ take (length line - at) (drop (start + at) text) = ap (drop at) (sym shown) ∙ (drop-take at (length line - at) (drop start text) ∙ ap (take (length line - at)) (drop-drop at start text)) in
+    let left : drop at line ≡ take (length line - at) (drop (start + at) text) =
+    ap (drop at) (sym shown)
+    ∙ (drop-take at (length line - at) (drop start text) ∙ ap (take (length line - at)) (drop-drop at start text)) in
     rw (size, rest_is line at, left) (sym (take-take n (length line - at) (drop (start + at) text) (omega arith)))
 
 -- the front of a line is a slice of the text
@@ -50,5 +54,7 @@ pub slice_front : (text line front : List ℕ) (start : ℕ) → line ≡ take (
     → front ≡ take (length front) line → length front ≤ length line → slice text start (start + length front) ≡ front
 slice_front text line front start first second fits =
     let size : start + length front - start ≡ length front = omega arith in
-    let shown : take (length front) line ≡ take (length front) (drop start text) = ap (take (length front)) first ∙ (take-take (length front) (length line) (rest_of text start) fits ∙ ap (take (length front)) (rest_is text start)) in
+    let shown : take (length front) line ≡ take (length front) (drop start text) =
+    ap (take (length front)) first ∙ (take-take (length front) (length line) (rest_of text start) fits
+    ∙ ap (take (length front)) (rest_is text start)) in
     rw size (sym (second ∙ shown))

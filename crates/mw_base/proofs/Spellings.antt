@@ -1,5 +1,6 @@
 -- A word that begins as a name is a name.
-use Rattle.std.proofs.Common.{◌≡◌, ℕ, suc, ◌+◌, ◌≤◌, List, [], ◌∷◌, Bool, true, false, take, length, slice_index, cond, refl, arith}
+use Rattle.std.proofs.Common.{◌≡◌, ℕ, suc, ◌+◌, ◌≤◌, List, [], ◌∷◌, Bool, true, false, take, length, slice_index, cond}
+use Rattle.std.proofs.Common.{refl, arith}
 use Rattle.std.specs.Prelude.{◌||◌}
 use Rattle.std.specs.List.{list_all}
 use Rattle.std.specs.Char.{is_ascii_digit}
@@ -28,4 +29,5 @@ begun false digit c n rest is start all = cc
 pub name_spelled : (line : List ℕ) → 1 ≤ length line → is_name_start (slice_index line 0) ≡ true
     → is_spelled_as_name (take (word_length line) line) ≡ true
 name_spelled [] some start = absurd (omega arith)
-name_spelled (c ∷ rest) some start = begun (is_name_start c) (is_ascii_digit c) c (word_length rest) rest start start (word_passes rest)
+name_spelled (c ∷ rest) some start =
+    begun (is_name_start c) (is_ascii_digit c) c (word_length rest) rest start start (word_passes rest)

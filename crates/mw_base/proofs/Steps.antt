@@ -8,7 +8,8 @@ use Rattle.mw_base.specs.Steps.{steps}
 use Rattle.mw_base.proofs.Results.{ok_is, bind_ok}
 
 -- a step that did not fail
-pub goes_on : {A B F : Type 0} (step : B → A → Result B F) (before after : B) (xs : List A) (n : ℕ) (x : A) (total : Result B F)
+pub goes_on : {A B F : Type 0} (step : B → A → Result B F) (before after : B) (xs : List A) (n : ℕ) (x : A)
+    (total : Result B F)
     → drop n xs ≡ x ∷ drop (n + 1) xs → step before x ≡ Ok after → steps step before (drop n xs) ≡ total
     → steps step after (drop (n + 1) xs) ≡ total
 unfolding steps
@@ -17,7 +18,8 @@ goes_on step before after xs n x total at is so_far =
     sym one ∙ so_far
 
 -- a step with a fault
-pub fails : {A B F : Type 0} (step : B → A → Result B F) (before : B) (fault : F) (xs : List A) (n : ℕ) (x : A) (total : Result B F)
+pub fails : {A B F : Type 0} (step : B → A → Result B F) (before : B) (fault : F) (xs : List A) (n : ℕ) (x : A)
+    (total : Result B F)
     → drop n xs ≡ x ∷ drop (n + 1) xs → step before x ≡ Err fault → steps step before (drop n xs) ≡ total
     → total ≡ Err fault
 unfolding steps
@@ -26,7 +28,8 @@ fails step before fault xs n x total at is so_far =
     sym so_far ∙ one
 
 -- a step that was refused
-pub refused : {A B F : Type 0} (step : B → A → Result B F) (before : B) (refusal : Refused F) (xs : List A) (n : ℕ) (x : A) (total : Result B F)
+pub refused : {A B F : Type 0} (step : B → A → Result B F) (before : B) (refusal : Refused F) (xs : List A) (n : ℕ)
+    (x : A) (total : Result B F)
     → drop n xs ≡ x ∷ drop (n + 1) xs → Fails refusal (step before x) → steps step before (drop n xs) ≡ total
     → Fails refusal total
 refused step before NoMemory xs n x total at is so_far = tt

@@ -1,5 +1,6 @@
 -- Tokens of one stretch of a text and of the next.
-use Rattle.std.proofs.Common.{◌≡◌, ℕ, zero, suc, ◌+◌, ◌-◌, ◌<◌, ◌≤◌, List, [], ◌∷◌, take, drop, length, slice_index, refl, ap, arith, append-nil}
+use Rattle.std.proofs.Common.{◌≡◌, ℕ, zero, suc, ◌+◌, ◌-◌, ◌<◌, ◌≤◌, List, [], ◌∷◌, take, drop, length, slice_index}
+use Rattle.std.proofs.Common.{refl, ap, arith, append-nil}
 use Rattle.std.proofs.lemmas.List.{take_all, length-drop, drop-drop, drop_all}
 use Rattle.std.specs.Prelude.{Ok, Err}
 use Rattle.mw_base.specs.declared.cause.Cause.{Cause}
@@ -23,7 +24,8 @@ passed_over number start at (suc covered) (c ∷ rest) h =
 -- a piece at the front, and what follows it
 front_read : (number start at : ℕ) (rest : List ℕ) (piece : Piece) → piece_at (slice_index rest 0) rest ≡ Ok piece
     → 1 ≤ piece.length → piece.length ≤ length rest
-    → tokens_from number start at 0 rest ≡ with_front (token_at number start at piece.kind piece.length) (tokens_from number start (at + piece.length) 0 (drop piece.length rest))
+    → tokens_from number start at 0 rest ≡ with_front (token_at number start at piece.kind piece.length)
+    (tokens_from number start (at + piece.length) 0 (drop piece.length rest))
 unfolding tokens_from
 front_read number start at [] piece is least most = absurd (omega arith)
 front_read number start at (c ∷ rest) piece is least most =
@@ -52,7 +54,8 @@ rest_is line at = take_all (length line - at) (drop at line) (omega (arith, leng
 pub piece_read : (number start at : ℕ) (line : List ℕ) (piece : Piece) → at < length line
     → piece_at (slice_index (rest_of line at) 0) (rest_of line at) ≡ Ok piece → 1 ≤ piece.length
     → piece.length ≤ length (rest_of line at)
-    → tokens_from number start at 0 (drop at line) ≡ with_front (token_at number start at piece.kind piece.length) (tokens_from number start (at + piece.length) 0 (drop (at + piece.length) line))
+    → tokens_from number start at 0 (drop at line) ≡ with_front (token_at number start at piece.kind piece.length)
+    (tokens_from number start (at + piece.length) 0 (drop (at + piece.length) line))
 piece_read number start at line piece inside is least most =
     let at_front = rw (rest_is line at) at is in
     let inside_front = rw (rest_is line at) at most in

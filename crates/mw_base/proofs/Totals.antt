@@ -1,5 +1,6 @@
 -- More digits make no smaller number.
-use Rattle.std.proofs.Common.{◌≡◌, ℕ, ◌+◌, ◌*◌, ◌≤◌, ◌<◌, List, [], ◌∷◌, take, drop, length, get_or, arith, ap, ◌∙◌, sym}
+use Rattle.std.proofs.Common.{◌≡◌, ℕ, ◌+◌, ◌*◌, ◌≤◌, ◌<◌, List, [], ◌∷◌, take, drop, length, get_or, arith, ap, ◌∙◌}
+use Rattle.std.proofs.Common.{sym}
 use Rattle.std.specs.List.{fold}
 use Rattle.std.proofs.lemmas.List.{take-append-drop, take_more}
 use Rattle.std.proofs.lemmas.List.Sums.{fold-append}
@@ -18,10 +19,12 @@ fold_ge base n (c ∷ rest) h =
     omega arith
 
 -- what the digits so far and one more make is no more than the whole
-pub value_ge : (base i : ℕ) (text : List ℕ) → 1 ≤ base → i < length text → value_of base (take i text) * base + digit_of (get_or text i 0) ≤ value_of base text
+pub value_ge : (base i : ℕ) (text : List ℕ)
+    → 1 ≤ base → i < length text → value_of base (take i text) * base + digit_of (get_or text i 0) ≤ value_of base text
 value_ge base i text h lt =
     let whole : value_of base text ≡ fold (more base) (value_of base (take (i + 1) text)) (drop (i + 1) text) =
-    ap (value_of base) (sym (take-append-drop (i + 1) text)) ∙ fold-append (more base) 0 (take (i + 1) text) (drop (i + 1) text) in
+    ap (value_of base) (sym (take-append-drop (i + 1) text))
+    ∙ fold-append (more base) 0 (take (i + 1) text) (drop (i + 1) text) in
     let step : value_of base (take (i + 1) text) ≡ value_of base (take i text) * base + digit_of (get_or text i 0) =
     ap (value_of base) (take_more text i 0 lt) ∙ fold-append (more base) 0 (take i text) (get_or text i 0 ∷ []) in
     let bound = fold_ge base (value_of base (take (i + 1) text)) (drop (i + 1) text) h in

@@ -1,7 +1,14 @@
 -- The numbers of the causes of refusal.
 use Rattle.std.specs.Prelude.{ℕ}
 use Rattle.mw_base.specs.declared.cause.Cause.{Cause}
-use Rattle.mw_base.specs.declared.cause.Cause.TheVariants.{BadByte, BadNumber, TooWide, LineTooLong, FileTooLong, FieldOutside, SelectTooWide, BadWidth, MapSize, TooMany, NotToml, MissingKey, UnknownKey, WrongKind, BadValue, UnknownName, Twice, FieldConflict, ValueTooWide, StoreFull, Overlap, BadLine, UnknownElement, WidthsDiffer, TooDeep, LeftTwice, LeftUsedOnRight, NoStackPointer, NoBoundary, BadBound, ShapesDiffer, NotFree, BadSyntax, BadCommand, NoSuchElement, NothingToUndo}
+use Rattle.mw_base.specs.declared.cause.Cause.TheVariants.{BadByte, BadNumber, TooWide, LineTooLong, FileTooLong}
+use Rattle.mw_base.specs.declared.cause.Cause.TheVariants.{FieldOutside, SelectTooWide, BadWidth, MapSize, TooMany}
+use Rattle.mw_base.specs.declared.cause.Cause.TheVariants.{NotToml, MissingKey, UnknownKey, WrongKind, BadValue}
+use Rattle.mw_base.specs.declared.cause.Cause.TheVariants.{UnknownName, Twice, FieldConflict, ValueTooWide, StoreFull}
+use Rattle.mw_base.specs.declared.cause.Cause.TheVariants.{Overlap, BadLine, UnknownElement, WidthsDiffer, TooDeep}
+use Rattle.mw_base.specs.declared.cause.Cause.TheVariants.{LeftTwice, LeftUsedOnRight, NoStackPointer, NoBoundary}
+use Rattle.mw_base.specs.declared.cause.Cause.TheVariants.{BadBound, ShapesDiffer, NotFree, BadSyntax, BadCommand}
+use Rattle.mw_base.specs.declared.cause.Cause.TheVariants.{NoSuchElement, NothingToUndo}
 
 -- the number of a cause, which its reports print
 abbrev pub cause_number : Cause → ℕ

@@ -1,5 +1,6 @@
 -- What a grammar asks of the tokens of a line.
-use Rattle.std.specs.Prelude.{ℕ, List, drop, slice_get, option_map, Bool, true, false, if◌then◌else◌, Option, Some, None, ok_or, Result, Ok, Err}
+use Rattle.std.specs.Prelude.{ℕ, List, drop, slice_get, option_map, Bool, true, false, if◌then◌else◌, Option, Some}
+use Rattle.std.specs.Prelude.{None, ok_or, Result, Ok, Err}
 use Rattle.std.specs.Str.{bytes_eq}
 use Rattle.mw_base.specs.declared.cause.Cause.{Cause}
 use Rattle.mw_base.specs.declared.cursor.Dotted.{Dotted}

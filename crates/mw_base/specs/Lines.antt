@@ -1,4 +1,5 @@
--- The lines of a text as bytes; `TokenLines` has their tokens. Each ends with a line feed; the last may lack it. A carriage return just before a line feed is ignored.
+-- The lines of a text as bytes; `TokenLines` has their tokens. Each ends with a line feed; the last may lack it. A
+-- carriage return just before a line feed is ignored.
 use Rattle.std.specs.Prelude.{ℕ, ◌-◌, List, [], ◌∷◌, ◌==◌, if◌then◌else◌, length, take, nat_eq, not}
 use Rattle.std.specs.List.{ends_with, prefix_len}
 

@@ -1,5 +1,6 @@
 -- What names stand for, and which may be defined; `Names` has how they are spelled.
-use Rattle.std.specs.Prelude.{ℕ, List, length, Bool, ◌||◌, if◌then◌else◌, nat_le, is_some, Option, Some, None, Result, Ok, Err}
+use Rattle.std.specs.Prelude.{ℕ, List, length, Bool, ◌||◌, if◌then◌else◌, nat_le, is_some, Option, Some, None, Result}
+use Rattle.std.specs.Prelude.{Ok, Err}
 use Rattle.std.specs.HashMap.{get_by}
 use Rattle.std.specs.Map.{update}
 use Rattle.std.specs.Str.{bytes_eq}

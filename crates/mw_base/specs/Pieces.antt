@@ -1,5 +1,6 @@
 -- What a line is made of: blanks, a comment, names, numbers and signs.
-use Rattle.std.specs.Prelude.{◌≡◌, ℕ, IsTrue, IsSome, List, Bool, ◌||◌, ◌==◌, if◌then◌else◌, Option, Some, None, Result, Ok, Err, length, take}
+use Rattle.std.specs.Prelude.{◌≡◌, ℕ, IsTrue, IsSome, List, Bool, ◌||◌, ◌==◌, if◌then◌else◌, Option, Some, None, Result}
+use Rattle.std.specs.Prelude.{Ok, Err, length, take}
 use Rattle.std.specs.List.{prefix_len}
 use Rattle.std.specs.Char.{is_ascii_digit}
 use Rattle.mw_base.specs.declared.cause.Cause.{Cause}

@@ -4,7 +4,10 @@ use Rattle.std.specs.Option.{option_or}
 use Rattle.std.specs.List.{find}
 use Rattle.std.specs.Str.{bytes_eq}
 use Rattle.mw_base.specs.declared.sign.Sign.{Sign}
-use Rattle.mw_base.specs.declared.sign.Sign.TheVariants.{Equals, Colon, Comma, Hash, Plus, Minus, And, Or, Xor, Not, OpenParenthesis, CloseParenthesis, OpenBracket, CloseBracket, OpenBrace, CloseBrace, Question, Less, Dot, Assign, Same, Differ}
+use Rattle.mw_base.specs.declared.sign.Sign.TheVariants.{Equals, Colon, Comma, Hash, Plus, Minus, And, Or, Xor, Not}
+use Rattle.mw_base.specs.declared.sign.Sign.TheVariants.{OpenParenthesis, CloseParenthesis, OpenBracket, CloseBracket}
+use Rattle.mw_base.specs.declared.sign.Sign.TheVariants.{OpenBrace, CloseBrace, Question, Less, Dot, Assign, Same}
+use Rattle.mw_base.specs.declared.sign.Sign.TheVariants.{Differ}
 
 -- how a sign is spelled
 abbrev pub bytes_of : Sign → List ℕ
@@ -34,8 +37,8 @@ bytes_of Differ = codes "!="
 -- all of them
 abbrev pub signs : List Sign
 signs =
-    Equals ∷ Colon ∷ Comma ∷ Hash ∷ Plus ∷ Minus ∷ And ∷ Or ∷ Xor ∷ Not ∷ OpenParenthesis ∷ CloseParenthesis ∷ OpenBracket
-    ∷ CloseBracket ∷ OpenBrace ∷ CloseBrace ∷ Question ∷ Less ∷ Dot ∷ Assign ∷ Same ∷ Differ ∷ []
+    Equals ∷ Colon ∷ Comma ∷ Hash ∷ Plus ∷ Minus ∷ And ∷ Or ∷ Xor ∷ Not ∷ OpenParenthesis ∷ CloseParenthesis
+    ∷ OpenBracket ∷ CloseBracket ∷ OpenBrace ∷ CloseBrace ∷ Question ∷ Less ∷ Dot ∷ Assign ∷ Same ∷ Differ ∷ []
 
 -- the sign that is spelled so
 unfoldable pub sign_of : List ℕ → Option Sign

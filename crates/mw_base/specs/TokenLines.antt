@@ -1,4 +1,5 @@
--- The lines of a text, each with its tokens, as grammars read them: `Lines` cuts the bytes into lines, `Tokens` reads one of them.
+-- The lines of a text, each with its tokens, as grammars read them: `Lines` cuts the bytes into lines, `Tokens` reads
+-- one of them.
 use Rattle.std.specs.Prelude.{ℕ, ◌+◌, ◌-◌, List, [], ◌∷◌, length, slice_get, Option, Some, None, Result, Ok}
 use Rattle.std.specs.List.{flat_map}
 use Rattle.mw_base.specs.declared.cause.Cause.{Cause}
@@ -9,8 +10,8 @@ use Rattle.mw_base.specs.Lines.{lines_of, content}
 use Rattle.mw_base.specs.Reading.{◌>>=◌, with_front}
 use Rattle.mw_base.specs.Tokens.{line_tokens}
 
--- a line with its tokens, or the first fault of its bytes; it has this number, begins at this place of the text and ends just past its
--- last byte
+-- a line with its tokens, or the first fault of its bytes; it has this number, begins at this place of the text and
+-- ends just past its last byte
 unfoldable pub line_of : ℕ → ℕ → List ℕ → Result Line TextFault
 line_of number start line = do
   tokens ← line_tokens number start line

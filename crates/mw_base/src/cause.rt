@@ -17,7 +17,8 @@ pub enum Cause {
     FileTooLong,
     /// 10: a field passes the end of the microword.
     FieldOutside,
-    /// 11: a list has more entries than the field that selects among them has values, or a field is wider than what it controls.
+    /// 11: a list has more entries than the field that selects among them has values, or a field is wider than what
+    /// it controls.
     SelectTooWide,
     /// 12: a width is outside its range.
     BadWidth,

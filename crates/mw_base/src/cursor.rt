@@ -1,6 +1,8 @@
 // What a grammar asks of the tokens of a line.
 ghost use Rattle.std.specs.Prelude.{◌≡◌};
-ghost use Rattle.mw_base.specs.Cursors.{Cursor as Seen, at_line, after, misplaced, token_at, symbol_at, has_name, has_sign, name_at, number_at, sign_at, place_at, first_word, element_of, end_at};
+ghost use Rattle.mw_base.specs.Cursors.{Cursor as Seen, at_line, after, misplaced, token_at, symbol_at, has_name};
+ghost use Rattle.mw_base.specs.Cursors.{has_sign, name_at, number_at, sign_at, place_at, first_word, element_of};
+ghost use Rattle.mw_base.specs.Cursors.{end_at};
 ghost use Rattle.mw_base.specs.Symbols.{spelled};
 
 use crate::cause::Cause;
@@ -30,8 +32,9 @@ pub struct Dotted {
     pub name: Token,
 }
 
-/// The tokens of a line from one on, as a grammar reads them. What a method refuses has the grammar's cause, and stands at the first
-/// token that can't follow those before it, or at the line's end. Tokens are numbered from 0; each method takes constant time.
+/// The tokens of a line from one on, as a grammar reads them. What a method refuses has the grammar's cause, and stands
+/// at the first token that can't follow those before it, or at the line's end. Tokens are numbered from 0; each method
+/// takes constant time.
 #[derive(Drop)]
 pub struct Cursor<'a> {
     text: &'a [u8],

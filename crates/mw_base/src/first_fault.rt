@@ -14,7 +14,8 @@ fn is_before(a: TextFault, b: TextFault) -> bool
                 || (a.column == b.column && a.cause.number() < b.cause.number())))
 }
 
-/// Keeps the first of a fault and what was the first before it: by place, and at one place the one with the least number.
+/// Keeps the first of a fault and what was the first before it: by place, and at one place the one with the
+/// least number.
 pub fn note_fault(first: &mut Option<TextFault>, fault: TextFault)
     ensures exact { first.new ≡ first_of first.old fault }
 {

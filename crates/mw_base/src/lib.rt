@@ -1,5 +1,6 @@
-//! What every crate of the bench shares: widths, bits of a word, names, lists, the causes of refusal, events, the tokens of
-//! texts, their lines as a grammar reads them, what names stand for, and numbers as texts spell and reports print them.
+//! What every crate of the bench shares: widths, bits of a word, names, lists, the causes of refusal, events, the
+//! tokens of texts, their lines as a grammar reads them, what names stand for, and numbers as texts spell and
+//! reports print them.
 #![tactic(auto)]
 
 mod cause;

@@ -46,7 +46,8 @@ pub fn end_fault(line: &Line, cause: Cause) -> TextFault
     }
 }
 
-/// A fault at the end of a text of these lines: at the end of its last one, or at line 1 and column 1 where it has none.
+/// A fault at the end of a text of these lines: at the end of its last one, or at line 1 and column 1 where
+/// it has none.
 pub fn text_end(lines: &[Line], cause: Cause) -> TextFault
     ensures { result ≡ text_end lines.now cause }
 {
@@ -66,7 +67,8 @@ fn line_of(alloc: Global, number: u32, start: usize, line: &[u8]) -> Result<Line
     requires short { start + length line.now < 2 ^ 32 }
     ensures exact { Gives (λ made. made) result (line_of number start line.now) }
     ensures ordered { (text : List ℕ) (front : List Token) → slice text start (start + length line.now) ≡ line.now
-        → InOrder text start front → IfOk result (λ made. InOrder text (start + length line.now) (front ++ made.tokens)) }
+        → InOrder text start front
+        → IfOk result (λ made. InOrder text (start + length line.now) (front ++ made.tokens)) }
 {
     let mut tokens = Vec::new(alloc);
     push_line(&mut tokens, number, start, line)?;
@@ -83,9 +85,9 @@ fn line_of(alloc: Global, number: u32, start: usize, line: &[u8]) -> Result<Line
 ///
 /// # Errors
 ///
-/// The first fault of the text's bytes by line and column, with the least number at one place: cause 1 at a byte that no token,
-/// blank or comment has, cause 2 or 3 at a word that begins with a digit and is no number, or one of 2^128 or more, and cause 4 at
-/// column 4,097 of a line of over 4,096 bytes. Want of memory.
+/// The first fault of the text's bytes by line and column, with the least number at one place: cause 1 at a byte that
+/// no token, blank or comment has, cause 2 or 3 at a word that begins with a digit and is no number, or one of 2^128 or
+/// more, and cause 4 at column 4,097 of a line of over 4,096 bytes. Want of memory.
 pub fn lines(alloc: Global, text: &[u8]) -> Result<Vec<Line>, Refusal>
     requires short { length text.now < 2 ^ 32 }
     ensures exact { Gives (λ v. v.items) result (token_lines text.now) }

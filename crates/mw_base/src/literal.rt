@@ -62,8 +62,8 @@ fn base_named(letter: u8) -> Option<u8>
     }
 }
 
-/// The number that the whole text spells: decimal digits, or `0o`, `0x` or `0b` and digits of that base, hexadecimal ones of either
-/// case.
+/// The number that the whole text spells: decimal digits, or `0o`, `0x` or `0b` and digits of that base, hexadecimal
+/// ones of either case.
 ///
 /// # Errors
 ///

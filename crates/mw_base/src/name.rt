@@ -9,8 +9,8 @@ use std::marker::Model;
 /// The most bytes that a name may have.
 pub(crate) const LONGEST_NAME: usize = 64;
 
-/// Bytes that a value keeps, as a name or the dotted path of a key, seen as those bytes. Nothing is asked of them: `is_name` says which may
-/// be a name.
+/// Bytes that a value keeps, as a name or the dotted path of a key, seen as those bytes. Nothing is asked of them:
+/// `is_name` says which may be a name.
 #[derive(Debug, Drop)]
 pub struct Name {
     bytes: Vec<u8>,

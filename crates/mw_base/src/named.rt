@@ -52,7 +52,8 @@ impl<'a, M: Copy> Names<'a, M> {
     ///
     /// # Errors
     ///
-    /// Cause 31 where it stands for something already or is reserved, cause 33 where it has over 64 bytes, at the token.
+    /// Cause 31 where it stands for something already or is reserved, cause 33 where it has over 64 bytes,
+    /// at the token.
     #[tactic(auto, unfolding(crate::specs::Named::new_name))]
     pub fn check_new(&self, text: &[u8], token: Token, is_reserved: bool) -> Result<(), TextFault>
         ensures { result ≡ new_name text.now (names_seen self.now) is_reserved token }

@@ -29,7 +29,8 @@ pub(crate) fn piece_at(line: &[u8]) -> Result<Piece, Cause>
     requires { 1 ≤ length line.now }
     ensures exact { result ≡ piece_at (slice_index line.now 0) line.now }
     ensures within { IfOk result (λ piece. (1 ≤ piece.length) × (piece.length ≤ length line.now)) }
-    ensures spelled { IfOk result (λ piece. (kind : Kind) → piece.kind ≡ Some kind → Spells (take piece.length line.now) kind) }
+    ensures spelled { IfOk result
+        (λ piece. (kind : Kind) → piece.kind ≡ Some kind → Spells (take piece.length line.now) kind) }
 {
     let c = line[0];
     let word = word_length(line);

@@ -111,8 +111,8 @@ fn push_padded(text: &mut Vec<u8>, digits: u8, value: u128) -> Result<(), NoMemo
     Ok(())
 }
 
-/// Appends the lowest hexadecimal digits of a number, this many of them, leading zeros too: `00F` for three digits of 15.
-/// After want of memory the text is as before.
+/// Appends the lowest hexadecimal digits of a number, this many of them, leading zeros too: `00F` for three digits
+/// of 15. After want of memory the text is as before.
 pub fn append_padded(
     _alloc: Global,
     text: &mut Vec<u8>,

@@ -1,5 +1,6 @@
 // The scanner: the tokens of a line.
-ghost use Rattle.std.specs.Prelude.{◌≡◌, ℕ, List, Result, ◌+◌, ◌<◌, ◌≤◌, ◌^◌, ◌∷◌, ◌++◌, IfOk, IfErr, OnOk, Ok, Some, length, take, drop};
+ghost use Rattle.std.specs.Prelude.{◌≡◌, ℕ, List, Result, ◌+◌, ◌<◌, ◌≤◌, ◌^◌, ◌∷◌, ◌++◌, IfOk, IfErr, OnOk, Ok, Some};
+ghost use Rattle.std.specs.Prelude.{length, take, drop};
 ghost use Rattle.mw_base.specs.Lines.{lines_of, before_feed, content};
 ghost use Rattle.mw_base.specs.Pieces.{Spells};
 ghost use Rattle.mw_base.specs.Reading.{with_front, Fails};
@@ -82,7 +83,8 @@ fn push_token(
 ) -> Result<(), Refusal>
     requires some { 1 ≤ piece.length }
     requires short { start + at + piece.length < 2 ^ 32 }
-    ensures pushed { OnOk result (tokens.new.items ≡ tokens.old.items ++ token_at number start at piece.kind piece.length) }
+    ensures pushed { OnOk result
+        (tokens.new.items ≡ tokens.old.items ++ token_at number start at piece.kind piece.length) }
     ensures ordered { (text : List ℕ) (front : List Token)
         → ((kind : Kind) → piece.kind ≡ Some kind → Spells (slice text (start + at) (start + at + piece.length)) kind)
         → InOrder text (start + at) (front ++ tokens.old.items)
@@ -111,7 +113,8 @@ fn push_piece(
 ) -> Result<usize, Refusal>
     requires inside { at < length line.now }
     requires short { start + length line.now < 2 ^ 32 }
-    ensures goes { IfOk result (λ next. with_front tokens.new.items (tokens_from number start next 0 (drop next line.now))
+    ensures goes { IfOk result
+        (λ next. with_front tokens.new.items (tokens_from number start next 0 (drop next line.now))
         ≡ with_front tokens.old.items (tokens_from number start at 0 (drop at line.now))) }
     ensures ordered { (text : List ℕ) (front : List Token) → slice text start (start + length line.now) ≡ line.now
         → InOrder text (start + at) (front ++ tokens.old.items)
@@ -136,7 +139,8 @@ fn push_pieces(
     line: &[u8],
 ) -> Result<(), Refusal>
     requires short { start + length line.now < 2 ^ 32 }
-    ensures pushed { OnOk result (Ok tokens.new.items ≡ with_front tokens.old.items (tokens_from number start 0 0 line.now)) }
+    ensures pushed { OnOk result
+        (Ok tokens.new.items ≡ with_front tokens.old.items (tokens_from number start 0 0 line.now)) }
     ensures ordered { (text : List ℕ) (front : List Token) → slice text start (start + length line.now) ≡ line.now
         → InOrder text start (front ++ tokens.old.items)
         → OnOk result (InOrder text (start + length line.now) (front ++ tokens.new.items)) }
@@ -172,7 +176,8 @@ pub(crate) fn push_line(
     line: &[u8],
 ) -> Result<(), Refusal>
     requires short { start + length line.now < 2 ^ 32 }
-    ensures pushed { OnOk result (Ok tokens.new.items ≡ with_front tokens.old.items (line_tokens number start line.now)) }
+    ensures pushed { OnOk result
+        (Ok tokens.new.items ≡ with_front tokens.old.items (line_tokens number start line.now)) }
     ensures ordered { (text : List ℕ) (front : List Token) → slice text start (start + length line.now) ≡ line.now
         → InOrder text start (front ++ tokens.old.items)
         → OnOk result (InOrder text (start + length line.now) (front ++ tokens.new.items)) }

@@ -111,7 +111,8 @@ module _ (now new : List Node) (index : ℕ → Function) (n : ℕ) (all : List 
       }
 
   pub left_next : (halves : List ℕ) → t < n → (is : AreLeftOf now index n all t left)
-      → AreFor new (length (choices (index t) is.functions)) (function_at (map made (choices (index t) is.functions))) halves
+      → AreFor new (length (choices (index t) is.functions))
+      (function_at (map made (choices (index t) is.functions))) halves
       → AreLeftOf new index n all (t + 1) halves
   left_next halves below is are = bit_more halves is.bits is.rest below is.functions is.size is.over is.last are
 
@@ -121,7 +122,8 @@ module _ (now new : List Node) (index : ℕ → Function) (n : ℕ) (all : List 
       → IsRefused (choices (index t) fs) budget e → IsRefused (index_row index 0 n all) budget e
   bit_refused zero budget e rest below fs over refused = absurd (omega (arith, rest, below))
   bit_refused (suc bits) budget OverBudget rest below fs over refused =
-      over (over_before (choices (index t) fs) (index_row index (t + 1) bits (map made (choices (index t) fs))) budget refused)
+      over (over_before (choices (index t) fs)
+      (index_row index (t + 1) bits (map made (choices (index t) fs))) budget refused)
   bit_refused (suc bits) budget NoMemory rest below fs over refused = tt
 
   pub left_refused : (budget : ℕ) (e : DdFault) → t < n → (is : AreLeftOf now index n all t left)
@@ -217,8 +219,8 @@ Halves now new x left halves = (I : Function) (fs : List Function) → StandsFor
     → AreFor new (length (choices I fs)) (function_at (map made (choices I fs))) halves
 
 pub next_left : (old now new : List Node) (index : List ℕ) (all : List Function) (t x : ℕ) (left halves : List ℕ)
-    → IsLeftAt old now index all t left → t < length index → x ≡ slice_index index t → Keeps now new → AreThere new halves
-    → length halves ≡ length left / 2 → Halves now new x left halves
+    → IsLeftAt old now index all t left → t < length index → x ≡ slice_index index t → Keeps now new
+    → AreThere new halves → length halves ≡ length left / 2 → Halves now new x left halves
     → IsLeftAt old new index all (t + 1) halves
 next_left old now new index all t x left halves is below at keeps there count made_so =
     let n = length index in

@@ -105,7 +105,8 @@ made_more t nodes made term xs of there room are = record {
           there = kept.there;
           within = omega (arith, kept.within, length-append made.bits xs);
           each = λ j inside. subst (λ x. StandsFor nodes x (bit t other j))
-              (sym (get_or_append_left made.bits xs 0 (start + j) (omega (arith, kept.within, inside)))) (kept.each j inside);
+              (sym (get_or_append_left made.bits xs 0 (start + j) (omega (arith, kept.within, inside))))
+              (kept.each j inside);
         }
   ];
 }
@@ -191,7 +192,8 @@ first_missing made xs x is =
 
 -- what begins where it began and has the same bits is as right
 pub same_of : (t : Table) (nodes : List Node) (old new : Made)
-    → ((other : ℕ) → start_of new other ≡ start_of old other) → new.bits ≡ old.bits → IsOf t nodes old → IsOf t nodes new
+    → ((other : ℕ) → start_of new other ≡ start_of old other)
+    → new.bits ≡ old.bits → IsOf t nodes old → IsOf t nodes new
 same_of t nodes old new starts bits of = record {
   kept = λ term start at. subst (λ (xs : List ℕ). AreKept t nodes xs term start) (sym bits)
       (of.kept term start (sym (starts term) ∙ at));

@@ -1,6 +1,8 @@
 -- What rows make at one bit, and where they are over.
-use Rattle.std.proofs.Common.{◌≡◌, ℕ, zero, suc, ◌+◌, ◌<◌, List, [], ◌∷◌, ◌++◌, length, refl, ap, sym, ◌∙◌, arith, length-append, subst}
-use Rattle.std.specs.Prelude.{slice_index_or, Bool, if◌then◌else◌, Result, Ok, Err, IfOk, IsErrOf, IsErrAnd, MatchResult}
+use Rattle.std.proofs.Common.{◌≡◌, ℕ, zero, suc, ◌+◌, ◌<◌, List, [], ◌∷◌, ◌++◌, length, refl, ap, sym, ◌∙◌, arith}
+use Rattle.std.proofs.Common.{length-append, subst}
+use Rattle.std.specs.Prelude.{slice_index_or, Bool, if◌then◌else◌, Result, Ok, Err, IfOk, IsErrOf, IsErrAnd}
+use Rattle.std.specs.Prelude.{MatchResult}
 use Rattle.std.proofs.lemmas.List.{get_or_append_left, get_or-append-add}
 use Rattle.mw_term.specs.Cofactors.{Agree, HasMoreCofactors, AreSame}
 use Rattle.mw_term.specs.Functions.{Function, Triple, ite, made}
@@ -94,8 +96,9 @@ handed_on (Ok x) e P Q is q = absurd is
 handed_on (Err d) e P Q is q = subst Q (sym is) q
 
 -- of operations some of which come first
-pub refused_first : {T : Type 0} (result : Result T DdFault) (e : DdFault) (P : T → Type 0) (front row back : List Triple)
-    (budget : ℕ) → IsErrAnd result (λ x. x ≡ e) → IsRefused row budget e
+pub refused_first : {T : Type 0} (result : Result T DdFault) (e : DdFault) (P : T → Type 0)
+    (front row back : List Triple) (budget : ℕ)
+    → IsErrAnd result (λ x. x ≡ e) → IsRefused row budget e
     → MatchResult result P (IsRefused (front ++ (row ++ back)) budget)
 refused_first result e P front row back budget is refused =
     handed_on result e P (IsRefused (front ++ (row ++ back)) budget) is (refused_among front row back budget e refused)

@@ -3,7 +3,8 @@ use Rattle.std.proofs.Common.{◌≡◌, ℕ, zero, suc, ◌+◌, ◌-◌, ◌<�
 use Rattle.std.proofs.Common.{sym, ◌∙◌, arith, subst, inl, inr, length-append, take, drop}
 use Rattle.std.specs.Prelude.{Bool, true, if◌then◌else◌, ◌==◌, nat_lt, Result, Ok, Err, MatchResult, slice_get, Some}
 use Rattle.std.proofs.lemmas.Bool.{lt-ltb, le-ltb, cases_lt}
-use Rattle.std.proofs.lemmas.List.{get_or_append_left, get_or-append-add, get_or-take, get_or-drop, length-take-le, length-drop}
+use Rattle.std.proofs.lemmas.List.{get_or_append_left, get_or-append-add, get_or-take, get_or-drop, length-take-le}
+use Rattle.std.proofs.lemmas.List.{length-drop}
 use Rattle.std.proofs.lemmas.Bool.Decides.{nat_tests}
 use Rattle.mw_term.specs.declared.op.Op.{Op}
 use Rattle.mw_term.specs.declared.op.Op.TheVariants.{Con, Var, Not, And, Or, Xor, Sum, Cout, Ovf, Eq, Lt, Ite, Part}
@@ -11,7 +12,8 @@ use Rattle.mw_term.specs.declared.op.Op.TheVariants.{Join, Tab}
 use Rattle.mw_base.specs.Words.{bit_of}
 use Rattle.mw_term.specs.Cofactors.{variable, value_of}
 use Rattle.mw_term.specs.Functions.{Function, never, always, Triple, made}
-use Rattle.mw_term.specs.Rows.{bit, difference, next_carry, next_equal, next_less, carry_into, equal_before, less_before, xor_row}
+use Rattle.mw_term.specs.Rows.{bit, difference, next_carry, next_equal, next_less, carry_into, equal_before}
+use Rattle.mw_term.specs.Rows.{less_before, xor_row}
 use Rattle.mw_term.specs.Rows.{carry_row, operations, row_bits, row, last_made, fourth_made, bit_made}
 use Rattle.mw_term.specs.Table.{Table, IsTable, ArePair, op_width, widths_of, term_width, width_over}
 use Rattle.mw_term.proofs.Rows.{rows_make_values}
@@ -106,7 +108,8 @@ sum_same : (t : Table) (a b c j : ℕ)
     → operations_at rows.Sum (bit t a) (bit t b) (bit t c 0) j ≡ operations t (Sum a b c) j
 unfolding operations
 sum_same t a b c j =
-    ap (λ (k : Function). row_operations rows.Sum (bit t a j) (bit t b j) k) (carried_sum (bit t a) (bit t b) (bit t c 0) j)
+    ap (λ (k : Function). row_operations rows.Sum (bit t a j) (bit t b j) k)
+    (carried_sum (bit t a) (bit t b) (bit t c 0) j)
 
 pub sum_makes : (t : Table) (a b c : ℕ)
     → Makes t (Sum a b c) rows.Sum (bit t a) (bit t b) (bit t c 0) (term_width t a)
@@ -373,7 +376,8 @@ join_made t nodes high low xs ys above below = record {
   each = λ j inside. elim (cases_lt j (term_width t low)) [
     | inl in_low ↦
         let there : j < length ys = omega (arith, in_low, below.count) in
-        subst (λ x. StandsFor nodes x (if nat_lt j (term_width t low) then bit t low j else bit t high (j - term_width t low)))
+        subst (λ x.
+        StandsFor nodes x (if nat_lt j (term_width t low) then bit t low j else bit t high (j - term_width t low)))
         (sym (get_or_append_left ys xs 0 j there))
         (subst (λ (b : Bool). StandsFor nodes (slice_index ys j)
         (if b then bit t low j else bit t high (j - term_width t low))) (sym (lt-ltb j (term_width t low) in_low))
@@ -384,7 +388,8 @@ join_made t nodes high low xs ys above below = record {
         omega (arith, in_high, inside, length-append ys xs, above.count, below.count) in
         let at_xs : slice_index (ys ++ xs) j ≡ slice_index xs place =
         ap (slice_index (ys ++ xs)) (omega (arith, in_high, below.count)) ∙ get_or-append-add ys xs place 0 in
-        subst (λ x. StandsFor nodes x (if nat_lt j (term_width t low) then bit t low j else bit t high (j - term_width t low)))
+        subst (λ x.
+        StandsFor nodes x (if nat_lt j (term_width t low) then bit t low j else bit t high (j - term_width t low)))
         (sym at_xs)
         (subst (λ (b : Bool). StandsFor nodes (slice_index xs place)
         (if b then bit t low j else bit t high (j - term_width t low))) (sym (le-ltb j (term_width t low) in_high))
@@ -445,7 +450,8 @@ term_bits t nodes term op xs table its are =
           record {
             there = stands.there;
             exact = λ given. stands.exact given
-                ∙ sym (ap (λ (v : ℕ). bit_of v j) (has.is.value given) ∙ rows_make_values t op table has.fits given j below);
+                ∙ sym
+                (ap (λ (v : ℕ). bit_of v j) (has.is.value given) ∙ rows_make_values t op table has.fits given j below);
           };
     }
 

@@ -30,7 +30,8 @@ reached_on t from term operand op (through first_has first_among rest) has among
     through first_has first_among (reached_on t _ term operand op rest has among)
 
 -- reached from what is reached
-reached_through : (t : Table) (from term named : ℕ) → IsReached t from term → IsReached t term named → IsReached t from named
+reached_through : (t : Table) (from term named : ℕ)
+    → IsReached t from term → IsReached t term named → IsReached t from named
 reached_through t from term named itself further = further
 reached_through t from term named (through has among rest) further =
     through has among (reached_through t _ term named rest further)
@@ -57,14 +58,19 @@ operands_fit map widths (Not a) fits k d inside = one_of (λ x. x < length width
 operands_fit map widths (And a b) fits k d inside = two_of (λ x. x < length widths) a b fits.0 fits.1 k d inside
 operands_fit map widths (Or a b) fits k d inside = two_of (λ x. x < length widths) a b fits.0 fits.1 k d inside
 operands_fit map widths (Xor a b) fits k d inside = two_of (λ x. x < length widths) a b fits.0 fits.1 k d inside
-operands_fit map widths (Sum a b c) fits k d inside = three_of (λ x. x < length widths) a b c fits.0.0 fits.0.1 fits.1.0 k d inside
-operands_fit map widths (Cout a b c) fits k d inside = three_of (λ x. x < length widths) a b c fits.0.0 fits.0.1 fits.1.0 k d inside
-operands_fit map widths (Ovf a b c) fits k d inside = three_of (λ x. x < length widths) a b c fits.0.0 fits.0.1 fits.1.0 k d inside
+operands_fit map widths (Sum a b c) fits k d inside =
+    three_of (λ x. x < length widths) a b c fits.0.0 fits.0.1 fits.1.0 k d inside
+operands_fit map widths (Cout a b c) fits k d inside =
+    three_of (λ x. x < length widths) a b c fits.0.0 fits.0.1 fits.1.0 k d inside
+operands_fit map widths (Ovf a b c) fits k d inside =
+    three_of (λ x. x < length widths) a b c fits.0.0 fits.0.1 fits.1.0 k d inside
 operands_fit map widths (Eq a b) fits k d inside = two_of (λ x. x < length widths) a b fits.0 fits.1 k d inside
 operands_fit map widths (Lt a b) fits k d inside = two_of (λ x. x < length widths) a b fits.0 fits.1 k d inside
-operands_fit map widths (Ite c a b) fits k d inside = three_of (λ x. x < length widths) c a b fits.0.0 fits.1.0 fits.1.1 k d inside
+operands_fit map widths (Ite c a b) fits k d inside =
+    three_of (λ x. x < length widths) c a b fits.0.0 fits.1.0 fits.1.1 k d inside
 operands_fit map widths (Part a low w) fits k d inside = one_of (λ x. x < length widths) a fits.0 k d inside
-operands_fit map widths (Join high low) fits k d inside = two_of (λ x. x < length widths) high low fits.0 fits.1 k d inside
+operands_fit map widths (Join high low) fits k d inside =
+    two_of (λ x. x < length widths) high low fits.0 fits.1 k d inside
 operands_fit map widths (Tab i) fits k d inside = one_of (λ x. x < length widths) i fits.0 k d inside
 
 pub operand_before : (t : Table) (term a : ℕ) (op : Op) → IsTable t → slice_get t.ops term ≡ Some op
@@ -84,7 +90,8 @@ own_cause t term budget op NoMemory has refused = tt
 
 pub cause_on : (t : Table) (from term budget : ℕ) (e : BlastFault) → IsReached t from term → IsCause t term budget e
     → IsCause t from budget e
-cause_on t from term budget (blast.Over named j) reached cause = (reached_through t from term named reached cause.0, cause.1)
+cause_on t from term budget (blast.Over named j) reached cause =
+    (reached_through t from term named reached cause.0, cause.1)
 cause_on t from term budget blast.NoMemory reached cause = tt
 
 -- ---- paths

@@ -10,7 +10,8 @@ use Rattle.mw_dd.specs.Diagrams.{Keeps}
 use Rattle.mw_blast.specs.declared.rows.Row.{Row}
 use Rattle.mw_blast.specs.declared.rows.Step.{Step}
 use Rattle.mw_blast.specs.Bits.{StandsFor, StandEach}
-use Rattle.mw_blast.specs.Rows.{row_operations, carried, bit_at, operations_at, IsStep, IsRefused, IsRefusedAt, fault_at, IsSoFar}
+use Rattle.mw_blast.specs.Rows.{row_operations, carried, bit_at, operations_at, IsStep, IsRefused, IsRefusedAt}
+use Rattle.mw_blast.specs.Rows.{fault_at, IsSoFar}
 use Rattle.mw_blast.proofs.Bits.{operand, stay_each, stay_there, keeps-itself, keeps-then, each_push}
 
 pub none_so_far : (nodes : List Node) (row : Row) (a b : List ℕ) (first : ℕ) → IsDd nodes first

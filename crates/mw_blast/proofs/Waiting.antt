@@ -181,7 +181,8 @@ pub waits_room : (t : Table) (made : Made) (whole x : ℕ) (waiting : List ℕ) 
 waits_room t made whole x waiting way some at = omega (arith, at, last_room t made whole waiting way some)
 
 pub waits_operands : (t : Table) (made : Made) (x : ℕ) (op other : Op) → slice_get t.ops x ≡ Some op
-    → find (λ a. not (is_made made a)) (operands op) ≡ None → slice_get t.ops x ≡ Some other → AreMade made (operands other)
+    → find (λ a. not (is_made made a)) (operands op) ≡ None → slice_get t.ops x ≡ Some other
+    → AreMade made (operands other)
 waits_operands t made x op other has none also =
     let same : op ≡ other = cc in
     subst (λ (o : Op). AreMade made (operands o)) same (all_made made (operands op) none)
@@ -191,7 +192,8 @@ pub waits_cause : (t : Table) (made : Made) (whole x budget : ℕ) (waiting : Li
     → IsCause t whole budget e
 waits_cause t made whole x budget waiting e way some at cause =
     cause_on t whole x budget e
-    (subst (λ (y : ℕ). IsReached t whole y) (sym at) (way.terms.reached (length waiting - 1) (omega (arith, some)))) cause
+    (subst (λ (y : ℕ). IsReached t whole y) (sym at) (way.terms.reached (length waiting - 1) (omega (arith, some))))
+    cause
 
 pub operand_waits : (t : Table) (made : Made) (whole x operand : ℕ) (op : Op) (waiting new : List ℕ)
     → IsOnTheWay t made whole waiting → 0 < length waiting → x ≡ last waiting → IsTable t → slice_get t.ops x ≡ Some op

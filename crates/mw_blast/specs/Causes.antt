@@ -44,8 +44,8 @@ pub record IsOver (t : Table) (term j budget : ℕ) : Type 0 where
   pub its : slice_get t.ops term ≡ Some op
   pub over : IsOneOver (row t op j) budget
 
--- Why the bits of a term weren't made: an operation of a term that is reached from it, at the bit that is named, is over
--- the budget; or memory ran out.
+-- Why the bits of a term weren't made: an operation of a term that is reached from it, at the bit that is named, is
+-- over the budget; or memory ran out.
 abbrev pub IsCause : Table → (term budget : ℕ) → BlastFault → Type 0
 IsCause t term budget (Over named j) = IsReached t term named × IsOver t named j budget
 IsCause t term budget NoMemory = Unit {0}

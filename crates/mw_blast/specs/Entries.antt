@@ -37,7 +37,8 @@ pub record AreLeftOf (nodes : List Node) (index : ℕ → Function) (n : ℕ) (a
   pub functions : List Function
   pub size : length functions ≡ 2 ^ bits
   pub stand : AreFor nodes (length functions) (function_at functions) left
-  pub over : (budget : ℕ) → IsOneOver (index_row index t bits functions) budget → IsOneOver (index_row index 0 n all) budget
+  pub over : (budget : ℕ)
+      → IsOneOver (index_row index t bits functions) budget → IsOneOver (index_row index 0 n all) budget
   pub last : left_by index t bits functions ≡ left_by index 0 n all
 
 -- nodes for what is left at index bit t, along diagrams that grow

@@ -1,4 +1,5 @@
--- Which terms of a list have a number: each with an operation that is over a budget, and each operand that is no constant.
+-- Which terms of a list have a number: each with an operation that is over a budget, and each operand that is
+-- no constant.
 use Rattle.std.specs.Prelude.{◌≡◌, ℕ, ◌⊎◌, List, Contains, Some, IsSome, slice_get}
 use Rattle.mw_term.specs.declared.op.Op.{Op}
 use Rattle.mw_term.specs.declared.op.Op.TheVariants.{Con}

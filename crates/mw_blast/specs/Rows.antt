@@ -1,7 +1,8 @@
 -- The rows of the term table that are made bit by bit, over any functions.
 use Rattle.std.specs.Prelude.{◌≡◌, ℕ, zero, suc, ◌<◌, List, [], ◌∷◌, length}
 use Rattle.mw_term.specs.Functions.{Function, never, always, Triple, ite, made}
-use Rattle.mw_term.specs.Rows.{inverse, difference, sameness, next_carry, next_equal, next_less, xor_row, sum_row, carry_row}
+use Rattle.mw_term.specs.Rows.{inverse, difference, sameness, next_carry, next_equal, next_less, xor_row, sum_row}
+use Rattle.mw_term.specs.Rows.{carry_row}
 use Rattle.mw_dd.specs.declared.nodes.Node.{Node}
 use Rattle.mw_blast.specs.declared.fault.BlastFault.{BlastFault}
 use Rattle.mw_blast.specs.declared.fault.BlastFault.TheVariants as blast
@@ -83,7 +84,8 @@ fault_at j declared.TheVariants.OverBudget = Over j
 fault_at j declared.TheVariants.NoMemory = NoMemory
 
 -- nodes for what a row made at the bits before bit j, and for what is carried into it
-pub record IsSoFar (old new : List Node) (row : Row) (a b : List ℕ) (first into : ℕ) (j : ℕ) (made : List ℕ) : Type 0 where
+pub record IsSoFar (old new : List Node) (row : Row) (a b : List ℕ) (first into : ℕ) (j : ℕ)
+    (made : List ℕ) : Type 0 where
   pub count : length made ≡ j
   pub there : AreThere new made
   pub into_there : IsDd new into

@@ -1,5 +1,6 @@
 // The bits of terms, made when they are first asked for.
-ghost use Rattle.std.specs.Prelude.{◌≡◌, ◌-◌, ◌<◌, ◌≤◌, ℕ, List, [], ◌∷◌, ◌++◌, true, not, length, find, slice_get, slice_index, slice_set, Some, IfOk, IfErr, OnOk, OnErr};
+ghost use Rattle.std.specs.Prelude.{◌≡◌, ◌-◌, ◌<◌, ◌≤◌, ℕ, List, [], ◌∷◌, ◌++◌, true, not, length, find, slice_get};
+ghost use Rattle.std.specs.Prelude.{slice_index, slice_set, Some, IfOk, IfErr, OnOk, OnErr};
 ghost use Rattle.mw_term.specs.declared.op.Op as ops;
 ghost use Rattle.mw_term.specs.Rows.{bit};
 ghost use Rattle.mw_term.specs.Table.{Table, term_width};
@@ -200,7 +201,8 @@ impl Blast {
         budget: u32,
     ) -> Result<(), BlastFault>
         requires some { 0 < length waiting.old.items }
-        requires way { (whole : ℕ) × (whole < length terms.now.ops) × IsOnTheWay terms.now self.old whole waiting.old.items }
+        requires way { (whole : ℕ) × (whole < length terms.now.ops)
+            × IsOnTheWay terms.now self.old whole waiting.old.items }
         requires of { IsOf terms.now dds.old self.old }
         ensures way { OnOk result ((whole : ℕ) → IsOnTheWay terms.now self.old whole waiting.old.items
             → IsOnTheWay terms.now self.new whole waiting.new.items) }
@@ -221,7 +223,8 @@ impl Blast {
         Ok(())
     }
 
-    /// Makes the bits of a term, if they weren't made, and before them those of its operands, from the first to the last.
+    /// Makes the bits of a term, if they weren't made, and before them those of its operands, from the first
+    /// to the last.
     fn make_all(
         &mut self,
         alloc: Global,
@@ -249,15 +252,15 @@ impl Blast {
         Ok(())
     }
 
-    /// The functions of a term's bits, from the lowest. They are made, within the budget, when they are first asked for: a
-    /// term's bits after those of its operands, from the first to the last, and within them from bit 0 upward, by the
-    /// operations of the term table in their order. What was made is kept, also after a refusal. The term is one of the
-    /// table. Earlier functions of the diagrams stay as they are.
+    /// The functions of a term's bits, from the lowest. They are made, within the budget, when they are first asked
+    /// for: a term's bits after those of its operands, from the first to the last, and within them from bit 0 upward,
+    /// by the operations of the term table in their order. What was made is kept, also after a refusal. The term is one
+    /// of the table. Earlier functions of the diagrams stay as they are.
     ///
     /// # Errors
     ///
-    /// - `Over`: the term that is named is this one, or is reached from it through operands, and one of its operations at
-    ///   the bit that is named has more joint cofactors than the budget.
+    /// - `Over`: the term that is named is this one, or is reached from it through operands, and one of its operations
+    ///   at the bit that is named has more joint cofactors than the budget.
     /// - `NoMemory`: memory ran out.
     pub fn bits(
         &mut self,

@@ -32,7 +32,8 @@ fn halved(
     ensures count { IfOk result (λ v. length v.items ≡ length functions.now / 2) }
     ensures made { (I : Function) (fs : List Function) → StandsFor dds.old chosen I
         → AreFor dds.old (length fs) (function_at fs) functions.now
-        → MatchResult result (λ v. AreFor dds.new (length (choices I fs)) (function_at (map made (choices I fs))) v.items)
+        → MatchResult result
+        (λ v. AreFor dds.new (length (choices I fs)) (function_at (map made (choices I fs))) v.items)
         (IsRefused (choices I fs) budget) }
     ensures keeps { Keeps dds.old dds.new }
 {
@@ -88,7 +89,8 @@ pub(crate) fn entry(
     requires some { 1 ≤ length index.now }
     requires index { AreThere dds.old index.now }
     ensures made { (F : ℕ → Function) → StandEach dds.old index.now F
-        → MatchResult result (λ v. AreFor dds.new 12 (λ j. last_made (entry_row F (length index.now) map.now j)) v.items)
+        → MatchResult result
+        (λ v. AreFor dds.new 12 (λ j. last_made (entry_row F (length index.now) map.now j)) v.items)
         (IsRefusedAt (entry_row F (length index.now) map.now) 12 budget) }
     ensures keeps { Keeps dds.old dds.new }
 {

@@ -12,8 +12,8 @@ pub fn stays_with_diagrams()
     ensures { StaysWithDiagrams }
 {}
 
-/// The law of numbers: in a list in which each term that is no constant has a word, one with an operation that is over a
-/// budget has a word; and the operands of each term are constants or terms of words.
+/// The law of numbers: in a list in which each term that is no constant has a word, one with an operation that is over
+/// a budget has a word; and the operands of each term are constants or terms of words.
 pub fn over_have_numbers()
     ensures over { OverHaveNumbers }
     ensures operands { OperandsAreKnown }

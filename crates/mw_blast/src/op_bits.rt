@@ -63,7 +63,8 @@ impl Blast {
         ensures count { IfOk result (λ v. length v.items ≡ term_width terms.now a) }
         ensures there { IfOk result (λ v. AreThere dds.new v.items) }
         ensures made { (K : Function) → StandsFor dds.old first K
-            → MatchResult result (λ v. AreFor dds.new (term_width terms.now a) (bit_at row (bit terms.now a) (bit terms.now b) K) v.items)
+            → MatchResult result
+            (λ v. AreFor dds.new (term_width terms.now a) (bit_at row (bit terms.now a) (bit terms.now b) K) v.items)
             (IsRefusedAt (operations_at row (bit terms.now a) (bit terms.now b) K) (term_width terms.now a) budget) }
         ensures keeps { Keeps dds.old dds.new }
     {
@@ -142,7 +143,8 @@ impl Blast {
         requires fits { Fits terms.now op }
         requires made { AreMade self.now (operands op) }
         requires of { IsOf terms.now dds.old self.now }
-        ensures made { MatchResult result (λ v. AreFor dds.new (width_over terms.now op) (bit_made terms.now op) v.items)
+        ensures made { MatchResult result
+            (λ v. AreFor dds.new (width_over terms.now op) (bit_made terms.now op) v.items)
             (IsRefusedAt (row terms.now op) (row_bits terms.now op) budget) }
         ensures keeps { Keeps dds.old dds.new }
     {

@@ -84,7 +84,8 @@ fn inverse(dds: &mut Diagrams, alloc: Global, b: Dd, budget: u32) -> Result<Dd, 
     requires { IsDd dds.old b }
     ensures there { IfOk result (IsDd dds.new) }
     ensures made { (B : Function) → StandsFor dds.old b B
-        → MatchResult result (λ x. StandsFor dds.new x (made (table.inverse B))) (IsRefused (table.inverse B ∷ []) budget) }
+        → MatchResult result (λ x. StandsFor dds.new x (made (table.inverse B)))
+        (IsRefused (table.inverse B ∷ []) budget) }
     ensures keeps { Keeps dds.old dds.new }
 {
     let (never, always) = (dds.constant(false), dds.constant(true));
@@ -103,7 +104,8 @@ pub(crate) fn difference(
     requires b { IsDd dds.old b }
     ensures there { IfOk result (IsDd dds.new) }
     ensures made { (A B : Function) → StandsFor dds.old a A → StandsFor dds.old b B
-        → MatchResult result (λ x. StandsFor dds.new x (made (table.difference A B))) (IsRefused (table.xor_row A B) budget) }
+        → MatchResult result (λ x. StandsFor dds.new x (made (table.difference A B)))
+        (IsRefused (table.xor_row A B) budget) }
     ensures keeps { Keeps dds.old dds.new }
 {
     let inverse = inverse(dds, alloc, b, budget)?;
@@ -138,7 +140,8 @@ fn carry(
     requires into { IsDd dds.old into }
     ensures there { IfOk result (IsDd dds.new) }
     ensures made { (A B K : Function) → StandsFor dds.old a A → StandsFor dds.old b B → StandsFor dds.old into K
-        → MatchResult result (λ x. StandsFor dds.new x (row_bit Row.Carry A B K)) (IsRefused (row_operations Row.Carry A B K) budget) }
+        → MatchResult result (λ x. StandsFor dds.new x (row_bit Row.Carry A B K))
+        (IsRefused (row_operations Row.Carry A B K) budget) }
     ensures keeps { Keeps dds.old dds.new }
 {
     let differs = difference(dds, alloc, a, b, budget)?;
@@ -159,7 +162,8 @@ fn equal(
     requires before { IsDd dds.old before }
     ensures there { IfOk result (IsDd dds.new) }
     ensures made { (A B K : Function) → StandsFor dds.old a A → StandsFor dds.old b B → StandsFor dds.old before K
-        → MatchResult result (λ x. StandsFor dds.new x (row_bit Row.Equal A B K)) (IsRefused (row_operations Row.Equal A B K) budget) }
+        → MatchResult result (λ x. StandsFor dds.new x (row_bit Row.Equal A B K))
+        (IsRefused (row_operations Row.Equal A B K) budget) }
     ensures keeps { Keeps dds.old dds.new }
 {
     let same = sameness(dds, alloc, a, b, budget)?;
@@ -181,7 +185,8 @@ fn less(
     requires before { IsDd dds.old before }
     ensures there { IfOk result (IsDd dds.new) }
     ensures made { (A B K : Function) → StandsFor dds.old a A → StandsFor dds.old b B → StandsFor dds.old before K
-        → MatchResult result (λ x. StandsFor dds.new x (row_bit Row.Less A B K)) (IsRefused (row_operations Row.Less A B K) budget) }
+        → MatchResult result (λ x. StandsFor dds.new x (row_bit Row.Less A B K))
+        (IsRefused (row_operations Row.Less A B K) budget) }
     ensures keeps { Keeps dds.old dds.new }
 {
     let differs = difference(dds, alloc, a, b, budget)?;

@@ -22,8 +22,8 @@ fn push_step(bits: &mut Vec<Dd>, step: Step) -> Result<Dd, NoMemory>
     Ok(step.carried)
 }
 
-/// What a row makes at each bit of two words of one width, of at most 32 bits, from the lowest, and what is carried into
-/// that one.
+/// What a row makes at each bit of two words of one width, of at most 32 bits, from the lowest, and what is carried
+/// into that one.
 ///
 /// # Errors
 ///

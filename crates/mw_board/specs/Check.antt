@@ -1,4 +1,5 @@
--- The rules of boards in the order of a board file's keys, and within a key by the order of causes. Each stands with its key's number.
+-- The rules of boards in the order of a board file's keys, and within a key by the order of causes. Each stands with
+-- its key's number.
 use Rattle.std.specs.Prelude.{ℕ, ◌+◌, min, List, [], ◌∷◌, ◌++◌, length, Result, Ok, Err}
 use Rattle.mw_board.specs.declared.control.Control.{Control}
 use Rattle.mw_board.specs.declared.fault.PartFault.{PartFault}
@@ -7,9 +8,14 @@ use Rattle.mw_board.specs.declared.flipflop.FlipFlop.{FlipFlop}
 use Rattle.mw_board.specs.declared.control.Points.{Points}
 use Rattle.mw_board.specs.declared.parts.BoardParts.{BoardParts}
 use Rattle.mw_board.specs.declared.point.Point.{Point}
-use Rattle.mw_board.specs.Keys.{width_key, microword_key, address_key, fill_key, unset_key, vector_key, fields_key, flipflop_key, name_key, control_key, load_key, first_point_key, carry_in_key, condition_key, ram_link_key, q_link_key, d_key, map_bits_key, map_entries_key}
+use Rattle.mw_board.specs.Keys.{width_key, microword_key, address_key, fill_key, unset_key, vector_key, fields_key}
+use Rattle.mw_board.specs.Keys.{flipflop_key, name_key, control_key, load_key, first_point_key, carry_in_key}
+use Rattle.mw_board.specs.Keys.{condition_key, ram_link_key, q_link_key, d_key, map_bits_key, map_entries_key}
 use Rattle.mw_board.specs.Points.{all_points, driver_of}
-use Rattle.mw_board.specs.Rules.{Verdict, all_of, width_rule, microword_rule, address_rule, word_rule, vector_rule, fields_rule, name_rule, field_rule, flipflops_rule, flipflop_name_rule, control_rule, driver_rule, chosen_rule, list_rule, bit_rule, carry_in_rule, load_rule, d_source_rule, map_bits_rule, map_entry_rule, map_entries_rule}
+use Rattle.mw_board.specs.Rules.{Verdict, all_of, width_rule, microword_rule, address_rule, word_rule, vector_rule}
+use Rattle.mw_board.specs.Rules.{fields_rule, name_rule, field_rule, flipflops_rule, flipflop_name_rule, control_rule}
+use Rattle.mw_board.specs.Rules.{driver_rule, chosen_rule, list_rule, bit_rule, carry_in_rule, load_rule, d_source_rule}
+use Rattle.mw_board.specs.Rules.{map_bits_rule, map_entry_rule, map_entries_rule}
 
 -- what a board's parts, or some of them, are answered with
 abbrev pub Checked : Type 0
@@ -46,7 +52,8 @@ each_from rule n [] = Ok tt
 each_from rule n (first ∷ rest) = all_of (rule n first ∷ each_from rule (n + 1) rest ∷ [])
 
 -- a list from which a control chooses
-unfoldable pub list_check : {A : Type 0} → (ℕ → Verdict → Checked) → List NamedField → Control → (A → Verdict) → List A → Checked
+unfoldable pub list_check : {A : Type 0}
+    → (ℕ → Verdict → Checked) → List NamedField → Control → (A → Verdict) → List A → Checked
 list_check place fields control rule entries = all_of (
     place 0 (chosen_rule control (length entries))
     ∷ each_from (λ n entry. place n (rule entry)) 0 entries
@@ -77,7 +84,8 @@ field_check microword n f = all_of (
 
 -- fields
 unfoldable pub fields_check : BoardParts → Checked
-fields_check p = all_of (at_key fields_key (fields_rule (length p.fields)) ∷ each_from (field_check p.microword) 0 p.fields ∷ [])
+fields_check p =
+    all_of (at_key fields_key (fields_rule (length p.fields)) ∷ each_from (field_check p.microword) 0 p.fields ∷ [])
 
 -- a flip-flop's name, control and load, on a board of this width, of these fields and of so many flip-flops
 unfoldable pub flipflop_check : ℕ → List NamedField → ℕ → List FlipFlop → ℕ → FlipFlop → Checked
@@ -134,4 +142,5 @@ map_check p = all_of (
 
 -- all rules of a board
 unfoldable pub check_of : BoardParts → Checked
-check_of p = all_of (sizes_check p ∷ fields_check p ∷ flipflops_check p ∷ points_check p ∷ lists_check p ∷ map_check p ∷ [])
+check_of p =
+    all_of (sizes_check p ∷ fields_check p ∷ flipflops_check p ∷ points_check p ∷ lists_check p ∷ map_check p ∷ [])

@@ -1,5 +1,6 @@
 -- The table of a board's elements: what a name of a relation, an environment or a script can stand for, by number.
-use Rattle.std.specs.Prelude.{ℕ, List, [], ◌∷◌, ◌++◌, codes, map, take, length, slice_get, Bool, ◌||◌, Option, option_map}
+use Rattle.std.specs.Prelude.{ℕ, List, [], ◌∷◌, ◌++◌, codes, map, take, length, slice_get, Bool, ◌||◌, Option}
+use Rattle.std.specs.Prelude.{option_map}
 use Rattle.std.specs.List.{list_any, position}
 use Rattle.std.specs.Str.{bytes_eq}
 use Rattle.mw_board.specs.declared.parts.BoardParts.{BoardParts}
@@ -53,8 +54,9 @@ names_behind_of board = counter_names ++ take (depth_of board) stack_names
 abbrev pub of_width : ℕ → List (List ℕ) → List Element
 of_width width names = map (λ name. record { name = name; width = width }) names
 
--- The elements of a board in the order of their numbers: the registers and Q, the address register, the instruction register, the
--- flip-flops in their order, the microprogram counter, the register/counter, and as many words of the stack as it has.
+-- The elements of a board in the order of their numbers: the registers and Q, the address register, the instruction
+-- register, the flip-flops in their order, the microprogram counter, the register/counter, and as many words of the
+-- stack as it has.
 unfoldable pub elements_of : BoardParts → List Element
 elements_of board =
     of_width board.width register_names

@@ -10,7 +10,8 @@ use Rattle.mw_board.specs.Check.{Checked, placed, number_16}
 
 -- each call of a closure that returns answers as the rule does
 abbrev pub Follows : {T : Type 0} → (Bor T → Result (Unit {0}) Cause → Type 0) → (T → Verdict) → Type 0
-Follows {T} returns rule = (value : Bor T) (result : Result (Unit {0}) Cause) → returns value result → result ≡ rule value.now
+Follows {T} returns rule =
+    (value : Bor T) (result : Result (Unit {0}) Cause) → returns value result → result ≡ rule value.now
 
 -- the place of an entry of a list
 abbrev pub place_of : ListKey → ℕ → Verdict → Checked

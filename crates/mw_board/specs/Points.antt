@@ -4,7 +4,9 @@ use Rattle.mw_board.specs.declared.control.Control.{Control}
 use Rattle.mw_board.specs.declared.control.Control.TheVariants.{Fixed}
 use Rattle.mw_board.specs.declared.control.Points.{Points}
 use Rattle.mw_board.specs.declared.point.Point.{Point}
-use Rattle.mw_board.specs.declared.point.Point.TheVariants.{AluSource, AluFunction, AluDestination, AAddress, BAddress, Sequencer, Branch, TestDisable, Polarity, Ci, Rld, MarLoad, IrLoad, MemoryWrite, Out, CarryIn, D, Condition, Link}
+use Rattle.mw_board.specs.declared.point.Point.TheVariants.{AluSource, AluFunction, AluDestination, AAddress, BAddress}
+use Rattle.mw_board.specs.declared.point.Point.TheVariants.{Sequencer, Branch, TestDisable, Polarity, Ci, Rld, MarLoad}
+use Rattle.mw_board.specs.declared.point.Point.TheVariants.{IrLoad, MemoryWrite, Out, CarryIn, D, Condition, Link}
 
 -- the control points, in the order of their keys
 abbrev pub all_points : List Point

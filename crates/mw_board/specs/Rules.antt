@@ -1,9 +1,11 @@
 -- The rules of a board's parts, a definition each. A rule answers nothing, or why the part breaks it.
-use Rattle.std.specs.Prelude.{◌≡◌, ℕ, ◌+◌, ◌%◌, ◌^◌, List, [], ◌∷◌, length, slice_get, Bool, not, nat_lt, nat_le, ◌==◌, ◌&&◌, if◌then◌else◌, Option, Some, None, Result, Ok, Err}
+use Rattle.std.specs.Prelude.{◌≡◌, ℕ, ◌+◌, ◌%◌, ◌^◌, List, [], ◌∷◌, length, slice_get, Bool, not, nat_lt, nat_le, ◌==◌}
+use Rattle.std.specs.Prelude.{◌&&◌, if◌then◌else◌, Option, Some, None, Result, Ok, Err}
 use Rattle.std.specs.List.{list_any}
 use Rattle.std.specs.Str.{bytes_eq}
 use Rattle.mw_base.specs.declared.cause.Cause.{Cause}
-use Rattle.mw_base.specs.declared.cause.Cause.TheVariants.{FieldOutside, SelectTooWide, BadWidth, MapSize, TooMany, BadValue, Twice}
+use Rattle.mw_base.specs.declared.cause.Cause.TheVariants.{FieldOutside, SelectTooWide, BadWidth, MapSize, TooMany}
+use Rattle.mw_base.specs.declared.cause.Cause.TheVariants.{BadValue, Twice}
 use Rattle.mw_base.specs.Names.{is_name}
 use Rattle.mw_board.specs.declared.bit.Bit.{Bit}
 use Rattle.mw_board.specs.declared.bit.Bit.TheVariants as bits
@@ -172,7 +174,8 @@ mask_rule width (Some mask) = ask (nat_lt mask (2 ^ width)) BadValue
 
 -- a source of D
 unfoldable pub d_source_rule : ℕ → ℕ → ℕ → DSource → Verdict
-d_source_rule width fields flipflops source = all_of (source_rule fields flipflops source.from ∷ mask_rule width source.mask ∷ [])
+d_source_rule width fields flipflops source =
+    all_of (source_rule fields flipflops source.from ∷ mask_rule width source.mask ∷ [])
 
 -- ---- the map
 

@@ -91,7 +91,9 @@ pub record IsSource (width fields flipflops : ℕ) (source : DSource) : Type 0 w
   pub mask : IsMask width source.mask
 
 -- a list from which a control chooses has 1 to 64 entries
-pub record IsList {A : Type 0} (IsEntry : A → Type 0) (fields : List NamedField) (control : Control) (list : List A) : Type 0 where
+pub record IsList {
+    A : Type 0
+    } (IsEntry : A → Type 0) (fields : List NamedField) (control : Control) (list : List A) : Type 0 where
   pub chooser : IsControl fields control
   pub some : 1 ≤ length list
   pub few : length list ≤ 64

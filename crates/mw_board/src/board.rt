@@ -35,7 +35,8 @@ impl Board {
     ///
     /// # Errors
     ///
-    /// The first rule that the parts break, in the order of a board file's keys: cause 10 to 14, 24 or 31. The parts are dropped then.
+    /// The first rule that the parts break, in the order of a board file's keys: cause 10 to 14, 24 or 31. The parts
+    /// are dropped then.
     pub fn new(parts: BoardParts) -> Result<Board, PartFault>
         requires order { AreInOrder parts.fields }
         ensures ok { IfOk result (λ board. (board ≡ parts) × (check_of parts ≡ Ok tt)) }

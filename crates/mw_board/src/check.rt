@@ -237,7 +237,8 @@ fn check_flipflop(
     i: usize,
     flipflop: &FlipFlop,
 ) -> Result<(), PartFault>
-    ensures { result ≡ flipflop_check parts.now.width parts.now.fields (length parts.now.flipflop) earlier.now i flipflop.now }
+    ensures { result
+        ≡ flipflop_check parts.now.width parts.now.fields (length parts.now.flipflop) earlier.now i flipflop.now }
 {
     let fields = parts.fields.as_slice();
     let count = parts.flipflop.as_slice().len();

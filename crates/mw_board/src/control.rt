@@ -9,8 +9,9 @@ pub enum Control {
     Fixed(u32),
 }
 
-/// What drives each control point of a board. A point that takes a number has the bits that are said here, one where none are said; a point
-/// that chooses has the number of an entry of its list, and past the list's end it chooses entry 0.
+/// What drives each control point of a board. A point that takes a number has the bits that are said here, one where
+/// none are said; a point that chooses has the number of an entry of its list, and past the list's end it
+/// chooses entry 0.
 #[derive(Clone, Copy, Debug, PartialEq, Eq)]
 pub struct Points {
     /// The Am2901's source, 3 bits.

@@ -2,7 +2,8 @@
 ghost use Rattle.std.specs.Prelude.{◌≡◌, map, slice_get, option_map};
 ghost use Rattle.std.specs.List.{position};
 ghost use Rattle.std.specs.Str.{bytes_eq};
-ghost use Rattle.mw_board.specs.Elements.{is_reserved, element_count, element_name, element_width, element_number, names_behind_of, stack_pointer_name};
+ghost use Rattle.mw_board.specs.Elements.{is_reserved, element_count, element_name, element_width, element_number};
+ghost use Rattle.mw_board.specs.Elements.{names_behind_of, stack_pointer_name};
 
 use crate::board::Board;
 use crate::flipflop::FlipFlop;
@@ -79,9 +80,9 @@ impl Board {
         STACK_POINTER[0]
     }
 
-    /// How many elements it has: what a name of a relation, an environment or a script can stand for. Each has a number, from 0: the
-    /// registers `r0` to `r15`, `q`, `mar`, `ir`, the flip-flops in their order, `upc`, `count`, and the words of the stack, `stack0`
-    /// to `stack4`.
+    /// How many elements it has: what a name of a relation, an environment or a script can stand for. Each has a
+    /// number, from 0: the registers `r0` to `r15`, `q`, `mar`, `ir`, the flip-flops in their order, `upc`, `count`,
+    /// and the words of the stack, `stack0` to `stack4`.
     pub fn element_count(&self) -> usize
         ensures { result ≡ element_count self.now }
     {
@@ -103,8 +104,8 @@ impl Board {
         name_at(self.names_behind(), number - flipflops.len())
     }
 
-    /// How many bits the element with this number has: a register, `q` and `ir` the board's width, `mar` as many as a memory address, a
-    /// flip-flop 1, the others 12.
+    /// How many bits the element with this number has: a register, `q` and `ir` the board's width, `mar` as many as a
+    /// memory address, a flip-flop 1, the others 12.
     pub fn element_width(&self, number: usize) -> Option<u8>
         ensures { result ≡ element_width self.now number }
     {

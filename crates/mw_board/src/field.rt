@@ -29,7 +29,8 @@ impl NamedField {
     ///
     /// Memory ran out.
     pub fn new(alloc: Global, name: &[u8], low: u8, width: u8) -> Result<NamedField, NoMemory>
-        ensures { IfOk result (λ named. named ≡ record { name = name.now; field = record { low = low; width = width } }) }
+        ensures { IfOk result
+            (λ named. named ≡ record { name = name.now; field = record { low = low; width = width } }) }
     {
         Ok(NamedField {
             name: Name::new(alloc, name)?,

@@ -1,4 +1,5 @@
-//! What a board is: its fields, its control points, the lists that they choose from, and the rules that these have to keep.
+//! What a board is: its fields, its control points, the lists that they choose from, and the rules that these
+//! have to keep.
 #![tactic(auto)]
 
 mod bit;

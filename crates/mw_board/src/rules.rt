@@ -124,7 +124,8 @@ fn is_flipflop_name(flipflops: &[FlipFlop], name: &[u8]) -> bool
     flipflops.iter().any(|f| name == f.name.as_slice())
 }
 
-/// Cause 24 where the text is no name, then cause 31 where another element of the board, or a flip-flop before this one, has it.
+/// Cause 24 where the text is no name, then cause 31 where another element of the board, or a flip-flop before this
+/// one, has it.
 #[tactic(auto, unfolding(crate::specs::Rules::flipflop_name_rule))]
 pub fn flipflop_name_rule(earlier: &[FlipFlop], name: &[u8]) -> Result<(), Cause>
     ensures { result ≡ flipflop_name_rule earlier.now name.now }
@@ -155,8 +156,8 @@ pub fn control_rule(fields: &[NamedField], control: Control) -> Result<(), Cause
     }
 }
 
-/// The rule of a control point of so many bits: cause 24 where its control is a field that there isn't, or a constant of more bits, then
-/// cause 11 where it is a wider field.
+/// The rule of a control point of so many bits: cause 24 where its control is a field that there isn't, or a constant
+/// of more bits, then cause 11 where it is a wider field.
 #[tactic(auto, unfolding(crate::specs::Rules::point_rule))]
 pub fn point_rule(bits: u8, fields: &[NamedField], control: Control) -> Result<(), Cause>
     ensures { result ≡ point_rule bits fields.now control }
@@ -191,7 +192,8 @@ pub fn chosen_rule(control: Control, entries: usize) -> Result<(), Cause>
     }
 }
 
-/// Cause 11 where a list has more entries than the field that chooses from it has values, then cause 14 where it has more than 64.
+/// Cause 11 where a list has more entries than the field that chooses from it has values, then cause 14 where it has
+/// more than 64.
 #[tactic(auto, unfolding(crate::specs::Rules::list_rule))]
 pub fn list_rule(fields: &[NamedField], control: Control, entries: usize) -> Result<(), Cause>
     ensures { result ≡ list_rule fields.now control entries }

@@ -5,7 +5,8 @@ ghost use Rattle.mw_board.specs.Store.{word_at};
 use crate::board::Board;
 use mw_base::Items;
 
-/// The assembled microwords, from address 0. Nothing here bounds their number or their bits: whoever assembles them does.
+/// The assembled microwords, from address 0. Nothing here bounds their number or their bits: whoever
+/// assembles them does.
 #[derive(Debug, Drop)]
 pub struct Store {
     /// The words.

@@ -18,6 +18,7 @@ unfolding document_of
 none_from bytes h = by_test (is_utf8 bytes) (λ e. rw e (h (IsUtf8-from_is_utf8 bytes e))) (λ e. rw e refl)
 
 -- a refusal that is no want of memory is the fault of bytes that spell no document
-pub fails_from : {Y F : Type 0} (refusal : Refused F) (fault : F) (read : Result Y F) → Refuses refusal fault → (refusal ≢ NoMemory → read ≡ Err fault) → Fails refusal read
+pub fails_from : {Y F : Type 0} (refusal : Refused F) (fault : F) (read : Result Y F)
+    → Refuses refusal fault → (refusal ≢ NoMemory → read ≡ Err fault) → Fails refusal read
 fails_from NoMemory fault read is none = tt
 fails_from (At first) fault read is none = rw is (none (λ e. cc))

@@ -35,7 +35,8 @@ zero_alone fields control = do
   whole (list_rule fields control 1)
 
 -- a list that is there
-unfoldable pub given_list : {A : Type 0} → (Data → Result A Cause) → List NamedField → Control → Data → Result (List A) Fault
+unfoldable pub given_list : {A : Type 0}
+    → (Data → Result A Cause) → List NamedField → Control → Data → Result (List A) Fault
 given_list reader fields control value = do
   values ← whole (list value)
   chosen_list reader fields control values
@@ -47,19 +48,25 @@ zero_list zero fields control = do
   Ok (zero ∷ [])
 
 -- a list of the board, which has the one entry zero where it isn't there
-abbrev pub list_or_zero : {A : Type 0} → (Data → Result A Cause) → A → List NamedField → Control → Option Data → Result (List A) Fault
+abbrev pub list_or_zero : {A : Type 0}
+    → (Data → Result A Cause) → A → List NamedField → Control → Option Data → Result (List A) Fault
 list_or_zero reader zero fields control None = zero_list zero fields control
 list_or_zero reader zero fields control (Some value) = given_list reader fields control value
 
 -- select.LIST, of bits
-abbrev pub bits_of : (Data → Result Bit Cause) → List NamedField → Control → Members → List ℕ → Result (List Bit) KeyFault
+abbrev pub bits_of : (Data → Result Bit Cause)
+    → List NamedField → Control → Members → List ℕ → Result (List Bit) KeyFault
 bits_of reader fields control select name =
     under (below (codes "select") name) (list_or_zero reader bits.Zero fields control (get_member name select))
 
 -- select.d
-abbrev pub sources_of : (Data → Result DSource Cause) → List NamedField → Control → Members → Result (List DSource) KeyFault
+abbrev pub sources_of : (Data → Result DSource Cause)
+    → List NamedField → Control → Members → Result (List DSource) KeyFault
 sources_of reader fields control select =
-    under (codes "select.d") (list_or_zero reader (record { from = sources.Zero; mask = None }) fields control (get_member (codes "d") select))
+    under (codes "select.d") (list_or_zero reader (record {
+      from = sources.Zero;
+      mask = None;
+    }) fields control (get_member (codes "d") select))
 
 -- version to vector
 unfoldable pub sizes_of : Members → Result BoardSizes KeyFault
@@ -123,7 +130,8 @@ parts_of document = do
     map_entries = map.entries;
   })
 
--- the parts of the board that the bytes of a file spell, or the first fault: 20 at - , then unknown keys, then the keys in order
+-- the parts of the board that the bytes of a file spell, or the first fault: 20 at - , then unknown keys, then the
+-- keys in order
 unfoldable pub board_of : List ℕ → Result BoardParts KeyFault
 board_of bytes = do
   document ← document_or_fault (document_of bytes)

@@ -16,7 +16,8 @@ use Rattle.mw_boardfile.specs.Entries.{if_some, part_number}
 use Rattle.mw_boardfile.specs.Fields.{field_number}
 use Rattle.mw_boardfile.specs.Values.{below, under, whole, not_negative, table_or_none}
 
--- a constant. The greatest of 32 bits stands for each that is greater: neither fits a point, and both are past the end of every list
+-- a constant. The greatest of 32 bits stands for each that is greater: neither fits a point, and both are past the end
+-- of every list
 abbrev pub constant : ℤ → Result Control Cause
 constant integer = do
   value ← not_negative integer

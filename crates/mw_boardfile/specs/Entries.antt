@@ -1,5 +1,6 @@
 -- The entries of lists: bits, sources of D and loads. They are texts.
-use Rattle.std.specs.Prelude.{ℕ, ◌+◌, ◌^◌, List, codes, length, take, drop, Bool, false, nat_lt, Option, Some, None, Result, Ok, Err, if◌then◌else◌, ◌==◌}
+use Rattle.std.specs.Prelude.{ℕ, ◌+◌, ◌^◌, List, codes, length, take, drop, Bool, false, nat_lt, Option, Some, None}
+use Rattle.std.specs.Prelude.{Result, Ok, Err, if◌then◌else◌, ◌==◌}
 use Rattle.std.specs.Str.{bytes_eq}
 use Rattle.toml.specs.Data.{Data, Members, get_member, as_str, as_table, same_key}
 use Rattle.mw_base.specs.declared.cause.Cause.{Cause}

@@ -63,7 +63,8 @@ name_of key earlier table = under (below key (codes "name")) (whole (name_in ear
 
 -- the control of a flip-flop, at its key
 abbrev pub control_of : List ℕ → List NamedField → Members → Result Control KeyFault
-control_of key fields table = under (below key (codes "control")) (whole (flip_control_in fields (get_member (codes "control") table)))
+control_of key fields table =
+    under (below key (codes "control")) (whole (flip_control_in fields (get_member (codes "control") table)))
 
 -- the loads of a flip-flop, at their key
 abbrev pub loads_of : List ℕ → ℕ → List NamedField → List Data → Control → Members → Result (List Load) KeyFault
@@ -71,7 +72,8 @@ loads_of key width fields flipflops control table =
     under (below key (codes "load")) (loads_in width fields flipflops control (get_member (codes "load") table))
 
 -- a flip-flop, after the earlier ones
-unfoldable pub flipflop_of : ℕ → List NamedField → List Data → List FlipFlop → List ℕ → Members → Result FlipFlop KeyFault
+unfoldable pub flipflop_of : ℕ → List NamedField → List Data → List FlipFlop → List ℕ → Members
+    → Result FlipFlop KeyFault
 flipflop_of width fields flipflops earlier key table = do
   name ← name_of key earlier table
   control ← control_of key fields table
@@ -85,7 +87,8 @@ flipflop_at width fields flipflops earlier n value = do
   flipflop_of width fields flipflops earlier (below (codes "flipflop") (decimal n)) table
 
 -- the earlier flip-flops, and those of the values after them, of which the first has the number n
-unfoldable pub each_flipflop : ℕ → List NamedField → List Data → List FlipFlop → ℕ → List Data → Result (List FlipFlop) KeyFault
+unfoldable pub each_flipflop : ℕ → List NamedField → List Data → List FlipFlop → ℕ → List Data
+    → Result (List FlipFlop) KeyFault
 each_flipflop width fields flipflops earlier n [] = Ok earlier
 each_flipflop width fields flipflops earlier n (value ∷ rest) = do
   flipflop ← flipflop_at width fields flipflops earlier n value

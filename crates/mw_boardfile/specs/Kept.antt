@@ -1,4 +1,5 @@
--- The rules of boards of what was read, for private clauses: a reader asks them, so the board of what it read is never refused.
+-- The rules of boards of what was read, for private clauses: a reader asks them, so the board of what it read is
+-- never refused.
 use Rattle.std.specs.Prelude.{◌≡◌, ℕ, List, [], ◌∷◌, length, All, IfOk, Result, Ok}
 use Rattle.std.specs.Borrow.{Bor}
 use Rattle.toml.specs.Data.{Members, no_members, member}
@@ -9,7 +10,9 @@ use Rattle.mw_board.specs.declared.control.Points.{Points}
 use Rattle.mw_board.specs.declared.field.NamedField.{NamedField}
 use Rattle.mw_board.specs.declared.flipflop.FlipFlop.{FlipFlop}
 use Rattle.mw_board.specs.Check.{flipflop_check, flipflops_from}
-use Rattle.mw_board.specs.Rules.{Verdict, width_rule, microword_rule, address_rule, word_rule, vector_rule, fields_rule, name_rule, field_rule, bit_rule, carry_in_rule, d_source_rule, chosen_rule, list_rule, map_bits_rule, map_entry_rule, map_entries_rule}
+use Rattle.mw_board.specs.Rules.{Verdict, width_rule, microword_rule, address_rule, word_rule, vector_rule, fields_rule}
+use Rattle.mw_board.specs.Rules.{name_rule, field_rule, bit_rule, carry_in_rule, d_source_rule, chosen_rule, list_rule}
+use Rattle.mw_board.specs.Rules.{map_bits_rule, map_entry_rule, map_entries_rule}
 use Rattle.mw_boardfile.specs.declared.map.BoardMap.{BoardMap}
 use Rattle.mw_boardfile.specs.declared.select.BoardLists.{BoardLists}
 use Rattle.mw_boardfile.specs.declared.sizes.BoardSizes.{BoardSizes}
@@ -20,7 +23,8 @@ Kept verdict = verdict ≡ Ok tt
 
 -- each value that calls of a closure return keeps the rule
 abbrev pub Keeps : {A : Type 0} → (Bor Value → Result A Cause → Type 0) → (A → Verdict) → Type 0
-Keeps {A} returns rule = (value : Bor Value) (result : Result A Cause) → returns value result → IfOk result (λ x. Kept (rule x))
+Keeps {A} returns rule =
+    (value : Bor Value) (result : Result A Cause) → returns value result → IfOk result (λ x. Kept (rule x))
 
 -- a list of so many entries from which a control chooses
 pub record AreChosen (fields : List NamedField) (control : Control) (entries : ℕ) : Type 0 where
@@ -28,7 +32,9 @@ pub record AreChosen (fields : List NamedField) (control : Control) (entries : �
   pub right : Kept (list_rule fields control entries)
 
 -- one whose entries keep a rule
-pub record ListKeeps {A : Type 0} (rule : A → Verdict) (fields : List NamedField) (control : Control) (entries : List A) : Type 0 where
+pub record ListKeeps {
+    A : Type 0
+    } (rule : A → Verdict) (fields : List NamedField) (control : Control) (entries : List A) : Type 0 where
   pub whole : AreChosen fields control (length entries)
   pub each : All (λ entry. Kept (rule entry)) entries
 
@@ -64,7 +70,8 @@ abbrev pub FlipFlopsKeep : ℕ → List NamedField → ℕ → List FlipFlop →
 FlipFlopsKeep width fields flipflops fs = flipflops_from width fields flipflops [] 0 fs ≡ Ok tt
 
 -- select
-pub record ListsKeep (width : ℕ) (fields : List NamedField) (flipflops : ℕ) (control : Points) (lists : BoardLists) : Type 0 where
+pub record ListsKeep (width : ℕ) (fields : List NamedField) (flipflops : ℕ) (control : Points)
+    (lists : BoardLists) : Type 0 where
   pub carry_in : ListKeeps (carry_in_rule width flipflops) fields control.carry_in lists.carry_in
   pub condition : ListKeeps (bit_rule width flipflops) fields control.condition lists.condition
   pub ram_link : ListKeeps (bit_rule width flipflops) fields control.link lists.ram_link

@@ -1,5 +1,6 @@
 -- Lists of values.
-use Rattle.std.specs.Prelude.{ℕ, ◌+◌, List, [], ◌∷◌, length, Bool, false, Option, Some, None, Result, Ok, Err, if◌then◌else◌, ◌==◌}
+use Rattle.std.specs.Prelude.{ℕ, ◌+◌, List, [], ◌∷◌, length, Bool, false, Option, Some, None, Result, Ok, Err}
+use Rattle.std.specs.Prelude.{if◌then◌else◌, ◌==◌}
 use Rattle.toml.specs.Data.{Data}
 use Rattle.mw_base.specs.declared.cause.Cause.{Cause}
 use Rattle.mw_base.specs.declared.cause.Cause.TheVariants.{BadNumber, TooWide, WrongKind, BadValue}
@@ -25,7 +26,8 @@ is_refused cause (Err other) = cause_number other == cause_number cause
 unfoldable pub none_refused : {A : Type 0} → (Data → Result A Cause) → Cause → ℕ → List Data → Result (Unit {0}) Fault
 none_refused reader cause n [] = Ok tt
 none_refused reader cause n (value ∷ rest) =
-    if is_refused cause (reader value) then Err (record { cause = cause; entry = Some n }) else none_refused reader cause (n + 1) rest
+    if is_refused cause (reader value) then Err (record { cause = cause; entry = Some n })
+    else none_refused reader cause (n + 1) rest
 
 -- each entry, where the first has the number n
 unfoldable pub each_of : {A : Type 0} → (Data → Result A Cause) → ℕ → List Data → Result (List A) Fault
@@ -35,9 +37,10 @@ each_of reader n (value ∷ rest) = do
   others ← each_of reader (n + 1) rest
   Ok (first ∷ others)
 
--- the faults of a list from which a control chooses: those of the entries for one cause come one after the other, and that of the list as
--- a whole before those of its entries with the same cause
-unfoldable pub list_faults : {A : Type 0} → (Data → Result A Cause) → List NamedField → Control → List Data → Result (Unit {0}) Fault
+-- the faults of a list from which a control chooses: those of the entries for one cause come one after the other, and
+-- that of the list as a whole before those of its entries with the same cause
+unfoldable pub list_faults : {A : Type 0}
+    → (Data → Result A Cause) → List NamedField → Control → List Data → Result (Unit {0}) Fault
 list_faults reader fields control values = do
   kinds ← none_refused reader WrongKind 0 values
   numbers ← none_refused reader BadNumber 0 values
@@ -47,7 +50,8 @@ list_faults reader fields control values = do
   whole (list_rule fields control (length values))
 
 -- a list from which a control chooses
-unfoldable pub chosen_list : {A : Type 0} → (Data → Result A Cause) → List NamedField → Control → List Data → Result (List A) Fault
+unfoldable pub chosen_list : {A : Type 0}
+    → (Data → Result A Cause) → List NamedField → Control → List Data → Result (List A) Fault
 chosen_list reader fields control values = do
   right ← list_faults reader fields control values
   each_of reader 0 values

@@ -1,5 +1,6 @@
 -- Keys that the format doesn't have.
-use Rattle.std.specs.Prelude.{ℕ, ◌+◌, List, map, [], ◌∷◌, ◌++◌, codes, Bool, Option, Some, None, Result, Ok, Err, if◌then◌else◌}
+use Rattle.std.specs.Prelude.{ℕ, ◌+◌, List, map, [], ◌∷◌, ◌++◌, codes, Bool, Option, Some, None, Result, Ok, Err}
+use Rattle.std.specs.Prelude.{if◌then◌else◌}
 use Rattle.std.specs.List.{list_any}
 use Rattle.std.specs.Str.{bytes_eq}
 use Rattle.std.specs.Ordering.{nat_cmp, is_lt}
@@ -18,8 +19,8 @@ use Rattle.mw_boardfile.specs.Values.{values_of}
 -- the keys of the file itself
 abbrev pub file_keys : List (List ℕ)
 file_keys =
-    codes "version" ∷ codes "width" ∷ codes "microword" ∷ codes "address" ∷ codes "fill" ∷ codes "unset" ∷ codes "vector"
-    ∷ codes "fields" ∷ codes "flipflop" ∷ codes "control" ∷ codes "select" ∷ codes "map" ∷ []
+    codes "version" ∷ codes "width" ∷ codes "microword" ∷ codes "address" ∷ codes "fill" ∷ codes "unset"
+    ∷ codes "vector" ∷ codes "fields" ∷ codes "flipflop" ∷ codes "control" ∷ codes "select" ∷ codes "map" ∷ []
 
 -- the keys of a flip-flop
 abbrev pub flipflop_keys : List (List ℕ)
@@ -63,7 +64,8 @@ with_key known prefix key least = if is_one_of known key then least else lesser 
 -- with the keys of a table that aren't known
 abbrev pub with_members : List (List ℕ) → List ℕ → Members → Option (List ℕ) → Option (List ℕ)
 with_members known prefix no_members least = least
-with_members known prefix (member key value rest) least = with_members known prefix rest (with_key known prefix key least)
+with_members known prefix (member key value rest) least =
+    with_members known prefix rest (with_key known prefix key least)
 
 -- with those of a value, which has none where it is no table
 abbrev pub with_table : List (List ℕ) → List ℕ → Option Members → Option (List ℕ) → Option (List ℕ)
@@ -77,13 +79,15 @@ table_at (Some value) = as_table value
 
 -- with those of the table under a key of the file
 abbrev pub with_table_under : List (List ℕ) → List ℕ → Members → Option (List ℕ) → Option (List ℕ)
-with_table_under known key document least = with_table known (key ++ codes ".") (table_at (get_member key document)) least
+with_table_under known key document least =
+    with_table known (key ++ codes ".") (table_at (get_member key document)) least
 
 -- with those of the flip-flops, where the first of these has the number n
 abbrev pub with_flipflops : ℕ → List Data → Option (List ℕ) → Option (List ℕ)
 with_flipflops n [] least = least
 with_flipflops n (value ∷ rest) least =
-    with_flipflops (n + 1) rest (with_table flipflop_keys (codes "flipflop." ++ (decimal n ++ codes ".")) (as_table value) least)
+    with_flipflops (n + 1) rest
+    (with_table flipflop_keys (codes "flipflop." ++ (decimal n ++ codes ".")) (as_table value) least)
 
 -- the values of a list, if there is one
 abbrev pub flipflops_in : Option Items → List Data

@@ -24,7 +24,8 @@ data_of values = map view values
 
 -- each call of a closure that returns answers as the reader does at the value
 abbrev pub Reads : {A : Type 0} → (Bor Value → Result A Cause → Type 0) → (Data → Result A Cause) → Type 0
-Reads {A} returns reader = (value : Bor Value) (result : Result A Cause) → returns value result → result ≡ reader (view value.now)
+Reads {A} returns reader =
+    (value : Bor Value) (result : Result A Cause) → returns value result → result ≡ reader (view value.now)
 
 -- each call of a closure that returns answers as the test does
 abbrev pub Tests : {T : Type 0} → (Bor T → Bool → Type 0) → (T → Bool) → Type 0

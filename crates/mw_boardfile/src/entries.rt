@@ -3,7 +3,8 @@ ghost use Rattle.std.specs.Prelude.{◌≡◌, ◌<◌, ◌^◌, option_map, opt
 ghost use Rattle.std.specs.Str.{bytes_eq};
 ghost use Rattle.toml.specs.View.{view};
 ghost use Rattle.mw_boardfile.specs.Entries.{after, part_number, has_name, flip_number, named_bit, ir_bit};
-ghost use Rattle.mw_boardfile.specs.Entries.{flip_bit, bit_spelled, bit_in, carry_in_in, named_load, bit_load, load_spelled, load_in};
+ghost use Rattle.mw_boardfile.specs.Entries.{flip_bit, bit_spelled, bit_in, carry_in_in, named_load, bit_load};
+ghost use Rattle.mw_boardfile.specs.Entries.{load_spelled, load_in};
 ghost use Rattle.mw_boardfile.specs.Entries.{named_source, field_source, flip_source, source_spelled};
 ghost use Rattle.mw_boardfile.specs.Entries.{mask_number, masked, d_source_in, is_text_at};
 ghost use Rattle.mw_boardfile.specs.Fields.{field_number};
@@ -301,7 +302,8 @@ pub(crate) fn d_source(
     value: &Value,
 ) -> Result<DSource, Cause>
     ensures exact { result ≡ d_source_in width fields.now (data_of flipflops.now) (view value.now) }
-    ensures kept { IfOk result (λ source. Kept (d_source_rule width (length fields.now) (length flipflops.now) source)) }
+    ensures kept { IfOk result
+        (λ source. Kept (d_source_rule width (length fields.now) (length flipflops.now) source)) }
 {
     let bytes = text(value)?.as_bytes();
     let source = masked(fields, flipflops, bytes, first_place(bytes, |c| *c == b'&'))?;

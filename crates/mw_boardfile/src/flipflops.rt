@@ -95,7 +95,8 @@ fn loads(
     control: Control,
     value: Option<&Value>,
 ) -> Result<Items<Load>, Refused<Fault>>
-    ensures gives { Gives (λ loads. loads) result (loads_in width fields.now (data_of flipflops.now) control (given value.entry)) }
+    ensures gives { Gives (λ loads. loads) result
+        (loads_in width fields.now (data_of flipflops.now) control (given value.entry)) }
     ensures kept { IfOk result (ListKeeps (load_rule width (length flipflops.now)) fields.now control) }
 {
     match load_values(value) {

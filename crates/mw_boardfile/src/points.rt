@@ -20,8 +20,8 @@ use mw_board::{Control, NamedField, Point, Points, control_rule, driver_rule};
 use std::alloc::Global;
 use toml::{Table, Value};
 
-/// A constant: cause 24. The greatest number of 32 bits stands for each that is greater: it fits no point, and is past the end of every list,
-/// as they are.
+/// A constant: cause 24. The greatest number of 32 bits stands for each that is greater: it fits no point, and is past
+/// the end of every list, as they are.
 fn constant(integer: i64) -> Result<Control, Cause>
     ensures { result ≡ constant integer }
 {
@@ -105,7 +105,8 @@ fn each_point(
     table: Option<&Table>,
     points: &[Point],
 ) -> Result<Points, BoardRefusal>
-    ensures gives { Gives (λ points. points) result (each_point fields.now (members table.entry) default_points points.now) }
+    ensures gives { Gives (λ points. points) result
+        (each_point fields.now (members table.entry) default_points points.now) }
     ensures kept { IfOk result (DriversKeep fields.now) }
 {
     let mut drivers = Points::DEFAULT;

@@ -61,8 +61,8 @@ fn parts(alloc: Global, document: &Table) -> Result<BoardParts, BoardRefusal>
 ///
 /// # Errors
 ///
-/// The file's first fault, with its cause and key: cause 20 at `-` where the bytes are no TOML document; then cause 22 at the least unknown
-/// key; then the first fault of the keys in the order of the format. Or want of memory.
+/// The file's first fault, with its cause and key: cause 20 at `-` where the bytes are no TOML document; then cause 22
+/// at the least unknown key; then the first fault of the keys in the order of the format. Or want of memory.
 #[tactic(auto, unfolding(crate::specs::Board::board_of))]
 pub fn read_board(alloc: Global, bytes: &[u8]) -> Result<Board, BoardRefusal>
     ensures { Gives (λ board. board) result (board_of bytes.now) }

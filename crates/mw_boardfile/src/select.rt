@@ -4,7 +4,8 @@ ghost use Rattle.toml.specs.Data.{Data};
 ghost use Rattle.toml.specs.View.{view, table_view};
 ghost use Rattle.mw_base.specs.declared.cause.Cause.{Cause};
 ghost use Rattle.mw_base.specs.Reading.{Gives};
-ghost use Rattle.mw_boardfile.specs.Board.{zero_alone, zero_list, given_list, list_or_zero, bits_of, sources_of, lists_of};
+ghost use Rattle.mw_boardfile.specs.Board.{zero_alone, zero_list, given_list, list_or_zero, bits_of, sources_of};
+ghost use Rattle.mw_boardfile.specs.Board.{lists_of};
 ghost use Rattle.mw_boardfile.specs.Entries.{bit_in, carry_in_in, d_source_in};
 ghost use Rattle.mw_board.specs.Rules.{Verdict, bit_rule, carry_in_rule, d_source_rule};
 ghost use Rattle.mw_boardfile.specs.Kept.{Kept, Keeps, AreChosen, ListKeeps, ListsKeep};
@@ -113,7 +114,8 @@ fn carry_ins(
     select: Option<&Table>,
 ) -> Result<Items<Bit>, BoardRefusal>
     ensures gives { Gives (λ bits. bits) result
-        (bits_of (carry_in_in width (data_of flipflops.now)) fields.now control (members select.entry) (codes "carry_in")) }
+        (bits_of (carry_in_in width (data_of flipflops.now)) fields.now control (members select.entry)
+        (codes "carry_in")) }
     ensures kept { IfOk result (ListKeeps (carry_in_rule width (length flipflops.now)) fields.now control) }
 {
     let value = member_of(select, "carry_in");

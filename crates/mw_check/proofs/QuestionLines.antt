@@ -129,7 +129,8 @@ last_kept q line next kept is =
     let one = bind_ok (end_at 0 line) (λ end. ok_of {F = TextFault} (whole q)) next is in
     subst IsKnownQuestion (ok_is {F = TextFault} (whole q) next one.2) kept
 
-tokens_kept : (known next : Known) (line : Cursor) → IsKnownQuestion known → with_tokens known line ≡ Ok next → IsKnownQuestion next
+tokens_kept : (known next : Known) (line : Cursor)
+    → IsKnownQuestion known → with_tokens known line ≡ Ok next → IsKnownQuestion next
 tokens_kept (declaring v) next line kept is = first_kept v line next kept is
 tokens_kept (halved h) next line kept is = right_kept h line next kept is
 tokens_kept (whole q) next line kept is = last_kept q line next kept is
@@ -145,7 +146,8 @@ line_kept text known next line is kept = any_kept text known next line line.toke
 
 -- ---- whole texts
 
-finished_read : (known : Known) (fault : TextFault) (q : Asked) → IsKnownQuestion known → finished known fault ≡ Ok q → IsRead q
+finished_read : (known : Known) (fault : TextFault) (q : Asked)
+    → IsKnownQuestion known → finished known fault ≡ Ok q → IsRead q
 finished_read (declaring v) fault q kept is = absurd cc
 finished_read (halved h) fault q kept is = absurd cc
 finished_read (whole asked) fault q kept is = subst IsRead (ok_is {F = TextFault} asked q is) kept
@@ -157,8 +159,8 @@ texts_ask_questions text q is =
     let two = bind_ok (steps (with_line text) (declaring no_variables) one.0)
     (λ known. finished known (text_end one.0 BadSyntax)) q one.2 in
     finished_read two.0 (text_end one.0 BadSyntax) q
-    (steps_keep IsKnownQuestion (with_line text) (λ before after line. line_kept text before after line) (declaring no_variables)
-    two.0 one.0 two.1 none_kept)
+    (steps_keep IsKnownQuestion (with_line text) (λ before after line. line_kept text before after line)
+    (declaring no_variables) two.0 one.0 two.1 none_kept)
     two.2
 
 -- so is what a call gives that reads it

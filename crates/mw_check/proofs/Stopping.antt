@@ -45,7 +45,8 @@ pub record IsFaultAtNext (job : Job) (fork : Fork) (fault : ForkFault) : Type 0 
       → IsCase job boundary other → IsBefore other prefix → ¬ IsToCome fork.at other
 
 pub stops_at_next : (job : Job) (number : ℕ) (budget : Budget) (fork : Fork) (summary : Summary)
-    (cases : List (List Decided)) (fault : ForkFault) (stop : SearchStop) → IsStopOf fault stop → IsFaultAtNext job fork fault
+    (cases : List (List Decided)) (fault : ForkFault) (stop : SearchStop)
+    → IsStopOf fault stop → IsFaultAtNext job fork fault
     → HasGone job number budget fork summary cases → NoneDiffersBefore job number → StopsSearch job budget stop
 stops_at_next job number budget fork summary cases fault (Differs counter) of is gone none =
     absurd (of.differs counter refl)

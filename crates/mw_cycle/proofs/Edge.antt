@@ -1,5 +1,6 @@
 -- A state that fits its board still fits it after the edge.
-use Rattle.std.proofs.Common.{◌≡◌, ℕ, ◌%◌, ◌^◌, ◌<◌, List, length, slice_index, slice_set, Bool, true, false, cond, arith}
+use Rattle.std.proofs.Common.{◌≡◌, ℕ, ◌%◌, ◌^◌, ◌<◌, List, length, slice_index, slice_set, Bool, true, false, cond}
+use Rattle.std.proofs.Common.{arith}
 use Rattle.std.proofs.lemmas.Grind.{common_steps}
 use Rattle.std.proofs.lemmas.Nat.{pow_pos}
 use Rattle.mw_alu.specs.declared.answer.AluOut.{AluOut}
@@ -17,7 +18,8 @@ chosen_below true x y n h k = h
 chosen_below false x y n h k = k
 
 -- words that may change at one place stay below a bound
-pub words_below : (b : Bool) (xs : List ℕ) (k v n : ℕ) → ((i : ℕ) → slice_index xs i < n) → v < n → (i : ℕ) → slice_index (cond b (slice_set xs k v) xs) i < n
+pub words_below : (b : Bool) (xs : List ℕ) (k v n : ℕ)
+    → ((i : ℕ) → slice_index xs i < n) → v < n → (i : ℕ) → slice_index (cond b (slice_set xs k v) xs) i < n
 words_below true xs k v n h g i = grind (arith, common_steps, h i)
 words_below false xs k v n h g i = h i
 
@@ -30,10 +32,11 @@ same_length false xs k v n h = h
 low_bits : (y k : ℕ) → y % 2 ^ k < 2 ^ k
 low_bits y k = let some = pow_pos k in omega arith
 
-pub edge_fits : (board : BoardParts) (m : Microword) (answer : AluOut) (pass : Bool) (s : BoardState) (given : CycleIn) → Fits board s → next_address board m pass s given < 2 ^ 12
+pub edge_fits : (board : BoardParts) (m : Microword) (answer : AluOut) (pass : Bool) (s : BoardState) (given : CycleIn)
+    → Fits board s → next_address board m pass s given < 2 ^ 12
     → IsSequencer (depth_of board) (edge board m answer pass s given).seq → answer.y < 2 ^ board.width
-    → (writes_of board m answer s given).b < 2 ^ board.width → (writes_of board m answer s given).q < 2 ^ board.width → flips_after board m answer s given < 2 ^ length board.flipflop
-    → Fits board (edge board m answer pass s given)
+    → (writes_of board m answer s given).b < 2 ^ board.width → (writes_of board m answer s given).q < 2 ^ board.width
+    → flips_after board m answer s given < 2 ^ length board.flipflop → Fits board (edge board m answer pass s given)
 unfolding edge
 edge_fits board m answer pass s given fits next seq y b q flips = record {
   at = next;

@@ -1,5 +1,6 @@
 -- States that fit a board: the cleared one, and those that the tests of each part find.
-use Rattle.std.proofs.Common.{◌≡◌, ℕ, ◌+◌, ◌-◌, ◌*◌, ◌%◌, ◌^◌, ◌<◌, ◌≤◌, List, length, get_or, slice_index, replicate, Bool, true, false, ◌&&◌, nat_le, nat_lt, ◌==◌, inl, inr, refl, sym, arith}
+use Rattle.std.proofs.Common.{◌≡◌, ℕ, ◌+◌, ◌-◌, ◌*◌, ◌%◌, ◌^◌, ◌<◌, ◌≤◌, List, length, get_or, slice_index, replicate}
+use Rattle.std.proofs.Common.{Bool, true, false, ◌&&◌, nat_le, nat_lt, ◌==◌, inl, inr, refl, sym, arith}
 use Rattle.std.specs.List.{All, list_all}
 use Rattle.std.proofs.lemmas.Bool.{cases_lt, eqb-true, eq-eqb, ltb-true, lt-ltb}
 use Rattle.std.proofs.lemmas.List.{get_or-replicate, get_or_past}
@@ -39,7 +40,13 @@ begun_fits board at memory low size words =
       mar = omega arith;
       ir = omega arith;
       flips = omega arith;
-      seq = record { pc = omega arith; r = omega arith; words = λ i. zero_below (depth_of board) i 12; size = grind (arith, common_steps); sp = omega arith };
+      seq = record {
+        pc = omega arith;
+        r = omega arith;
+        words = λ i. zero_below (depth_of board) i 12;
+        size = grind (arith, common_steps);
+        sp = omega arith;
+      };
       size = size;
       memory = words;
     }
@@ -52,18 +59,22 @@ cleared_fits board =
     begun_fits board 0 (replicate (2 ^ board.address) 0) low size (λ i. zero_below (2 ^ board.address) i board.width)
 
 -- words that pass the test are words
-words_are : (w : ℕ) (words : List ℕ) → list_all (λ word. nat_lt word (2 ^ w)) words ≡ true → (i : ℕ) → slice_index words i < 2 ^ w
+words_are : (w : ℕ) (words : List ℕ)
+    → list_all (λ word. nat_lt word (2 ^ w)) words ≡ true → (i : ℕ) → slice_index words i < 2 ^ w
 words_are w words e i =
     let some = pow_pos w in
     elim (cases_lt i (length words)) [
-      | inl within ↦ ltb-true (get_or words i 0) (2 ^ w) (AllPass-from_list_all (λ word. nat_lt word (2 ^ w)) words e i 0 within)
+      | inl within ↦
+          ltb-true (get_or words i 0) (2 ^ w) (AllPass-from_list_all (λ word. nat_lt word (2 ^ w)) words e i 0 within)
       | inr past ↦ rw (get_or_past words i 0 past) (omega arith)
     ]
 
 -- and words pass it
-words_pass : (w : ℕ) (words : List ℕ) → ((i : ℕ) → slice_index words i < 2 ^ w) → list_all (λ word. nat_lt word (2 ^ w)) words ≡ true
+words_pass : (w : ℕ) (words : List ℕ)
+    → ((i : ℕ) → slice_index words i < 2 ^ w) → list_all (λ word. nat_lt word (2 ^ w)) words ≡ true
 words_pass w words below =
-    list_all-from_AllPass (λ word. nat_lt word (2 ^ w)) words (λ i d within. rw (get_or_default_zero words i d within) (lt-ltb (get_or words i 0) (2 ^ w) (below i)))
+    list_all-from_AllPass (λ word. nat_lt word (2 ^ w)) words
+    (λ i d within. rw (get_or_default_zero words i d within) (lt-ltb (get_or words i 0) (2 ^ w) (below i)))
 
 -- two tests that hold
 both : (a b : Bool) → (a && b) ≡ true → (a ≡ true) × (b ≡ true)
@@ -71,7 +82,8 @@ both true b e = (refl, e)
 both false b e = absurd cc
 
 -- a state in range fits
-pub in_range_fits : (board : BoardParts) (s : BoardState) → IsSequencer (depth_of board) s.seq → length s.regs ≡ 16 → (are_words board s && is_sized board s) ≡ true → Fits board s
+pub in_range_fits : (board : BoardParts) (s : BoardState) → IsSequencer (depth_of board) s.seq → length s.regs ≡ 16
+    → (are_words board s && is_sized board s) ≡ true → Fits board s
 unfolding are_words is_sized
 in_range_fits board s seq sixteen e =
     let words = λ (xs : List ℕ). list_all (λ word. nat_lt word (2 ^ board.width)) xs in
@@ -102,7 +114,8 @@ in_range_fits board s seq sixteen e =
     }
 
 -- and one that fits is in range
-pub fits_in_range : (board : BoardParts) (s : BoardState) → Fits board s → (are_words board s && is_sized board s) ≡ true
+pub fits_in_range : (board : BoardParts) (s : BoardState)
+    → Fits board s → (are_words board s && is_sized board s) ≡ true
 unfolding are_words is_sized
 fits_in_range board s fits =
     rw (

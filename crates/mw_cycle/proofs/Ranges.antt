@@ -1,5 +1,6 @@
 -- What is in range: words, what a list's control chooses, and the flip-flops as a number.
-use Rattle.std.proofs.Common.{◌≡◌, ℕ, ◌+◌, ◌*◌, ◌%◌, ◌^◌, ◌<◌, ◌≤◌, List, [], ◌∷◌, length, get_or, drop, bit_and, ◌-◌, Bool, true, false, inl, inr, refl, sym, ap, ◌∙◌, subst, arith}
+use Rattle.std.proofs.Common.{◌≡◌, ℕ, ◌+◌, ◌*◌, ◌%◌, ◌^◌, ◌<◌, ◌≤◌, List, [], ◌∷◌, length, get_or, drop, bit_and, ◌-◌}
+use Rattle.std.proofs.Common.{Bool, true, false, inl, inr, refl, sym, ap, ◌∙◌, subst, arith}
 use Rattle.std.specs.List.{All}
 use Rattle.std.proofs.Math.Pow.{pow_mono}
 use Rattle.std.proofs.lemmas.Bool.{cases_lt}
@@ -31,7 +32,8 @@ bit_below true w h = let some = pow_mono h in omega (arith, some)
 bit_below false w h = let some = pow_pos w in omega (arith, some)
 
 -- what is chosen from a list of some entries is one of them
-pub chosen_is : {A : Type 0} (Is : A → Type 0) (none : A) (entries : List A) (n : ℕ) → 1 ≤ length entries → All Is entries → Is (chosen none entries n)
+pub chosen_is : {A : Type 0} (Is : A → Type 0) (none : A) (entries : List A) (n : ℕ)
+    → 1 ≤ length entries → All Is entries → Is (chosen none entries n)
 chosen_is Is none entries n some all =
     elim (cases_lt n (length entries)) [
       | inl within ↦ all n (get_or entries 0 none) within
@@ -39,8 +41,10 @@ chosen_is Is none entries n some all =
     ]
 
 -- and what was picked from a list that is this one
-pub picked_is : {A : Type 0} (Is : A → Type 0) (none : A) (entries list : List A) (n : ℕ) (picked : A) → entries ≡ list → picked ≡ chosen none entries n → 1 ≤ length list → All Is list → Is picked
-picked_is Is none entries list n picked same is some all = subst Is (sym (is ∙ ap (λ xs. chosen none xs n) same)) (chosen_is Is none list n some all)
+pub picked_is : {A : Type 0} (Is : A → Type 0) (none : A) (entries list : List A) (n : ℕ) (picked : A)
+    → entries ≡ list → picked ≡ chosen none entries n → 1 ≤ length list → All Is list → Is picked
+picked_is Is none entries list n picked same is some all =
+    subst Is (sym (is ∙ ap (λ xs. chosen none xs n) same)) (chosen_is Is none list n some all)
 
 -- ---- flip-flops
 
@@ -59,19 +63,27 @@ one_more_bit true n flips h = let power = twice n in omega (arith, power)
 one_more_bit false n flips h = let power = twice n in omega (arith, power)
 
 -- so far, and the rest from flip-flop n on, are all flip-flops
-pub one_more_flip : (board : BoardParts) (m : Microword) (answer : AluOut) (s : BoardState) (given : CycleIn) (fs : List FlipFlop) (f : FlipFlop) (n flips total : ℕ) → n < length fs → f ≡ get_or fs n f
-    → flips + 2 ^ n * flips_from board m answer s given n (drop n fs) ≡ total
-    → flips + num (flip_of board m n f answer s given) * 2 ^ n + 2 ^ (n + 1) * flips_from board m answer s given (n + 1) (drop (n + 1) fs) ≡ total
+pub one_more_flip : (board : BoardParts) (m : Microword) (answer : AluOut) (s : BoardState) (given : CycleIn)
+    (fs : List FlipFlop) (f : FlipFlop) (n flips total : ℕ)
+    → n < length fs → f ≡ get_or fs n f → flips + 2 ^ n * flips_from board m answer s given n (drop n fs) ≡ total
+    → flips + num (flip_of board m n f answer s given) * 2 ^ n
+    + 2 ^ (n + 1) * flips_from board m answer s given (n + 1) (drop (n + 1) fs) ≡ total
 unfolding flips_from
 one_more_flip board m answer s given fs f n flips total within is so_far =
-    let taken : flips_from board m answer s given n (drop n fs) ≡ num (flip_of board m n f answer s given) + 2 * flips_from board m answer s given (n + 1) (drop (n + 1) fs) = rw (next fs n f within is) refl in
-    let all : flips + 2 ^ n * (num (flip_of board m n f answer s given) + 2 * flips_from board m answer s given (n + 1) (drop (n + 1) fs)) ≡ total = rw taken at so_far in
+    let taken : flips_from board m answer s given n (drop n fs)
+    ≡ num (flip_of board m n f answer s given) + 2 * flips_from board m answer s given (n + 1) (drop (n + 1) fs) =
+    rw (next fs n f within is) refl in
+    let all : flips + 2 ^ n
+    * (num (flip_of board m n f answer s given) + 2 * flips_from board m answer s given (n + 1) (drop (n + 1) fs))
+    ≡ total =
+    rw taken at so_far in
     let power = twice n in
     rw power (omega (arith, all))
 
 -- no flip-flop is left
-pub no_more_flips : (board : BoardParts) (m : Microword) (answer : AluOut) (s : BoardState) (given : CycleIn) (fs : List FlipFlop) (n flips total : ℕ) → length fs ≤ n
-    → flips + 2 ^ n * flips_from board m answer s given n (drop n fs) ≡ total → flips ≡ total
+pub no_more_flips : (board : BoardParts) (m : Microword) (answer : AluOut) (s : BoardState) (given : CycleIn)
+    (fs : List FlipFlop) (n flips total : ℕ)
+    → length fs ≤ n → flips + 2 ^ n * flips_from board m answer s given n (drop n fs) ≡ total → flips ≡ total
 unfolding flips_from
 no_more_flips board m answer s given fs n flips total past so_far =
     let none : flips_from board m answer s given n (drop n fs) ≡ 0 = rw (drop_all n fs past) refl in

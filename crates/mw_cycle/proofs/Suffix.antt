@@ -1,5 +1,7 @@
 -- Runs and boundaries go on from the place that they have reached.
-use Rattle.std.proofs.Common.{◌≡◌, ℕ, zero, suc, ◌+◌, ◌<◌, ◌≤◌, List, [], ◌∷◌, ◌++◌, drop, Option, Some, None, slice_index, slice_index_or, Bool, true, false, refl, ap, sym, ◌∙◌, subst, add-one, add-zero, add_assoc, ◌-◌, append_assoc, arith}
+use Rattle.std.proofs.Common.{◌≡◌, ℕ, zero, suc, ◌+◌, ◌<◌, ◌≤◌, List, [], ◌∷◌, ◌++◌, drop, Option, Some, None}
+use Rattle.std.proofs.Common.{slice_index, slice_index_or, Bool, true, false, refl, ap, sym, ◌∙◌, subst, add-one}
+use Rattle.std.proofs.Common.{add-zero, add_assoc, ◌-◌, append_assoc, arith}
 use Rattle.std.specs.Option.{option_to_list}
 use Rattle.std.proofs.lemmas.List.{get_or-drop, append-nil}
 use Rattle.mw_base.specs.declared.event.Event.{Event}
@@ -14,32 +16,53 @@ use Rattle.mw_cycle.specs.Run.{BoardRun, clock_after, longer_run, run_of, furthe
 use Rattle.mw_cycle.specs.Boundary.{is_named, IsNextBoundary, IsBoundary}
 
 -- what is left of an environment is one
-pub rest_is_environment : (board : BoardParts) (env : Environment) (place : Clock) → IsEnvironment board env → IsEnvironment board (rest_at env place)
+pub rest_is_environment : (board : BoardParts) (env : Environment) (place : Clock)
+    → IsEnvironment board env → IsEnvironment board (rest_at env place)
 rest_is_environment board env place is = record {
   noise = λ i. rw (get_or-drop place.cycle env.noise i 0) (is.noise (place.cycle + i));
   inputs = λ i. rw (get_or-drop place.taken env.inputs i 0) (is.inputs (place.taken + i));
 }
 
 -- what is given at a place of the rest is what the whole gives further on
-pub given_further : (env : Environment) (place by : Clock) → given_at (rest_at env place) by ≡ given_at env (further place by)
+pub given_further : (env : Environment) (place by : Clock)
+    → given_at (rest_at env place) by ≡ given_at env (further place by)
 given_further env place by =
-    rw (get_or-drop place.cycle env.noise by.cycle 0, get_or-drop place.cycle env.line by.cycle false, get_or-drop place.taken env.inputs by.taken 0) refl
+    rw (
+      get_or-drop place.cycle env.noise by.cycle 0,
+      get_or-drop place.cycle env.line by.cycle false,
+      get_or-drop place.taken env.inputs by.taken 0,
+    ) refl
 
 -- a cycle more, further on
-clock_further : (event : Option Event) (place by : Clock) → further place (clock_after event by) ≡ clock_after event (further place by)
-clock_further (Some (Taken v)) place by = rw (sym (add_assoc place.cycle by.cycle 1), sym (add_assoc place.taken by.taken 1)) refl
+clock_further : (event : Option Event) (place by : Clock)
+    → further place (clock_after event by) ≡ clock_after event (further place by)
+clock_further (Some (Taken v)) place by =
+    rw (sym (add_assoc place.cycle by.cycle 1), sym (add_assoc place.taken by.taken 1)) refl
 clock_further (Some (Out y)) place by = rw (sym (add_assoc place.cycle by.cycle 1)) refl
 clock_further None place by = rw (sym (add_assoc place.cycle by.cycle 1)) refl
 
 -- one event more, or none, after both runs
 joined : (state : BoardState) (event : Option Event) (first second : BoardRun)
-    → (let run : BoardRun = record { state = state; events = (first.events ++ second.events) ++ option_to_list event; clock = clock_after event (further first.clock second.clock) } in run)
-    ≡ then_run first (record { state = state; events = second.events ++ option_to_list event; clock = clock_after event second.clock })
-joined state event first second = rw (append_assoc first.events second.events (option_to_list event), sym (clock_further event first.clock second.clock)) refl
+    → (let run : BoardRun = record {
+      state = state;
+      events = (first.events ++ second.events) ++ option_to_list event;
+      clock = clock_after event (further first.clock second.clock);
+    } in
+    run)
+    ≡ then_run first (record {
+      state = state;
+      events = second.events ++ option_to_list event;
+      clock = clock_after event second.clock;
+    })
+joined state event first second = rw (
+  append_assoc first.events second.events (option_to_list event),
+  sym (clock_further event first.clock second.clock),
+) refl
 
 -- a cycle more of what is left of a run is a cycle more of the whole
 pub longer_further : (board : BoardParts) (store : List ℕ) (env : Environment) (first second : BoardRun)
-    → longer_run board store env (then_run first second) ≡ then_run first (longer_run board store (rest_at env first.clock) second)
+    → longer_run board store env (then_run first second)
+    ≡ then_run first (longer_run board store (rest_at env first.clock) second)
 unfolding longer_run
 longer_further board store env first second =
     let event : CycleIn → Option Event = λ given. (nets_of board store second.state given).event in
@@ -49,7 +72,8 @@ longer_further board store env first second =
       clock = clock_after (event given) (further first.clock second.clock);
     } in
     let given = given_at (rest_at env first.clock) second.clock in
-    ap run (sym (given_further env first.clock second.clock)) ∙ joined (state_after board store second.state given) (event given) first second
+    ap run (sym (given_further env first.clock second.clock))
+    ∙ joined (state_after board store second.state given) (event given) first second
 
 -- after no cycle more
 pub no_further : (run : BoardRun) → then_run run (record { state = run.state; events = []; clock = at_start }) ≡ run
@@ -57,7 +81,8 @@ no_further run = rw (append-nil run.events, add-zero run.clock.cycle, add-zero r
 
 -- a run goes on
 pub run_further : (board : BoardParts) (store : List ℕ) (env : Environment) (start : BoardState) (n m : ℕ)
-    → run_of board store env start (n + m) ≡ then_run (run_of board store env start n) (run_of board store (rest_at env (run_of board store env start n).clock) (run_of board store env start n).state m)
+    → run_of board store env start (n + m) ≡ then_run (run_of board store env start n)
+    (run_of board store (rest_at env (run_of board store env start n).clock) (run_of board store env start n).state m)
 unfolding run_of
 run_further board store env start n zero = rw (add-zero n) (sym (no_further (run_of board store env start n)))
 run_further board store env start n (suc m) =
@@ -68,7 +93,8 @@ run_further board store env start n (suc m) =
     ∙ longer_further board store env first (run_of board store (rest_at env first.clock) first.state m)
 
 -- the next boundary of what is left of a run is the next of the whole
-next_further : (addresses : List ℕ) (at : ℕ → ℕ) (c d e : ℕ) → IsNextBoundary addresses (λ n. at (c + n)) d e → IsNextBoundary addresses at (c + d) (c + e)
+next_further : (addresses : List ℕ) (at : ℕ → ℕ) (c d e : ℕ)
+    → IsNextBoundary addresses (λ n. at (c + n)) d e → IsNextBoundary addresses at (c + d) (c + e)
 next_further addresses at c d e next = record {
   later = omega (arith, next.later);
   named = next.named;
@@ -78,7 +104,11 @@ next_further addresses at c d e next = record {
 }
 
 -- boundaries go on
-pub boundary_further : (addresses : List ℕ) (at : ℕ → ℕ) (k c j d : ℕ) → IsBoundary addresses at k c → IsBoundary addresses (λ n. at (c + n)) j d → IsBoundary addresses at (k + j) (c + d)
-boundary_further addresses at k c j d from IsBoundary.first = subst (λ x. IsBoundary addresses at x (c + 0)) (sym (add-zero k)) (subst (λ x. IsBoundary addresses at k x) (sym (add-zero c)) from)
+pub boundary_further : (addresses : List ℕ) (at : ℕ → ℕ) (k c j d : ℕ)
+    → IsBoundary addresses at k c → IsBoundary addresses (λ n. at (c + n)) j d → IsBoundary addresses at (k + j) (c + d)
+boundary_further addresses at k c j d from IsBoundary.first =
+    subst (λ x. IsBoundary addresses at x (c + 0)) (sym (add-zero k))
+    (subst (λ x. IsBoundary addresses at k x) (sym (add-zero c)) from)
 boundary_further addresses at k c j d from (IsBoundary.next i b e before is_next) =
-    subst (λ x. IsBoundary addresses at x (c + e)) (add_assoc k i 1) (IsBoundary.next (k + i) (c + b) (c + e) (boundary_further addresses at k c i b from before) (next_further addresses at c b e is_next))
+    subst (λ x. IsBoundary addresses at x (c + e)) (add_assoc k i 1) (IsBoundary.next (k + i) (c + b) (c + e)
+    (boundary_further addresses at k c i b from before) (next_further addresses at c b e is_next))

@@ -1,5 +1,6 @@
 -- The boundaries at which a run is compared, as control addresses, and the times at which it reaches them.
-use Rattle.std.specs.Prelude.{◌≡◌, ℕ, zero, suc, ◌+◌, ◌<◌, List, [], ◌∷◌, Bool, true, false, ◌==◌, ◌≤◌, Option, Some, None, find, option_map}
+use Rattle.std.specs.Prelude.{◌≡◌, ℕ, zero, suc, ◌+◌, ◌<◌, List, [], ◌∷◌, Bool, true, false, ◌==◌, ◌≤◌, Option, Some}
+use Rattle.std.specs.Prelude.{None, find, option_map}
 use Rattle.std.specs.List.{list_any}
 use Rattle.mw_board.specs.declared.parts.BoardParts.{BoardParts}
 use Rattle.mw_cycle.specs.State.{BoardState}
@@ -33,7 +34,8 @@ first_boundary addresses at limit = find (λ n. is_named addresses (at n)) (numb
 -- the first segment of a run, where it keeps its bound; nothing where it is late
 unfoldable pub first_segment : BoardParts → List ℕ → Environment → BoardState → List ℕ → ℕ → Option BoardRun
 first_segment board store env start addresses limit =
-    option_map (run_of board store env start) (first_boundary addresses (λ n. (run_of board store env start n).state.at) limit)
+    option_map (run_of board store env start)
+    (first_boundary addresses (λ n. (run_of board store env start n).state.at) limit)
 
 -- A segment that keeps its limit ends at the next boundary of the run, and one that is late has none so soon.
 abbrev pub SegmentsEndAtBoundaries : Type 0
@@ -41,7 +43,8 @@ SegmentsEndAtBoundaries = (addresses : List ℕ) (at : ℕ → ℕ) (limit : ℕ
     → ((n : ℕ) → first_boundary addresses at limit ≡ Some n → IsNextBoundary addresses at 0 n × (n ≤ limit))
     × (first_boundary addresses at limit ≡ None → (e : ℕ) → 0 < e → e ≤ limit → is_named addresses (at e) ≡ false)
 
--- Boundaries go on: from boundary k of a run, at cycle c, boundary j of what is left of it is boundary k + j of the whole.
+-- Boundaries go on: from boundary k of a run, at cycle c, boundary j of what is left of it is boundary k + j
+-- of the whole.
 abbrev pub BoundariesGoOn : Type 0
 BoundariesGoOn = (addresses : List ℕ) (at : ℕ → ℕ) (k c j d : ℕ)
     → IsBoundary addresses at k c → IsBoundary addresses (λ n. at (c + n)) j d → IsBoundary addresses at (k + j) (c + d)

@@ -19,7 +19,7 @@ value_at fields word (Fixed value) = value
 abbrev pub is_on : List NamedField → ℕ → Control → Bool
 is_on fields word control = value_at fields word control == 1
 
--- what the entry with a number is, of a list from which a control chooses: past the list's end it is entry 0. A board's lists have an
--- entry, so what stands for none is never chosen.
+-- what the entry with a number is, of a list from which a control chooses: past the list's end it is entry 0. A board's
+-- lists have an entry, so what stands for none is never chosen.
 abbrev pub chosen : {A : Type 0} → A → List A → ℕ → A
 chosen none entries n = slice_index_or entries n (slice_index_or entries 0 none)

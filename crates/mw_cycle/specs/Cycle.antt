@@ -1,6 +1,7 @@
--- One cycle of a board (Mick and Brick: one pipeline register), in the seven points of its order. All that is read is read
--- before the edge.
-use Rattle.std.specs.Prelude.{ℕ, ◌+◌, ◌-◌, ◌*◌, ◌%◌, ◌^◌, List, [], ◌∷◌, Bool, true, false, not, if◌then◌else◌, ◌==◌, ◌||◌, slice_get, slice_index, slice_set, bit_and, Option, Some, None}
+-- One cycle of a board (Mick and Brick: one pipeline register), in the seven points of its order. All that is read is
+-- read before the edge.
+use Rattle.std.specs.Prelude.{ℕ, ◌+◌, ◌-◌, ◌*◌, ◌%◌, ◌^◌, List, [], ◌∷◌, Bool, true, false, not, if◌then◌else◌, ◌==◌}
+use Rattle.std.specs.Prelude.{◌||◌, slice_get, slice_index, slice_set, bit_and, Option, Some, None}
 use Rattle.mw_base.specs.Words.{bit_of, differ, num, part}
 use Rattle.mw_base.specs.declared.event.Event.{Event}
 use Rattle.mw_base.specs.declared.event.Event.TheVariants.{Out, Taken}
@@ -13,7 +14,8 @@ use Rattle.mw_seq.specs.declared.instruction.Instruction.TheVariants.{Jmap, Cjv}
 use Rattle.mw_seq.specs.Instruction.{instruction_of}
 use Rattle.mw_seq.specs.Sequencer.{is_full, next_of, step_of}
 use Rattle.mw_board.specs.declared.bit.Bit.{Bit}
-use Rattle.mw_board.specs.declared.bit.Bit.TheVariants.{One, Carry, Overflow, FZero, Sign, FLow, FHigh, QLow, QHigh, Line, Full, Ir, Flip}
+use Rattle.mw_board.specs.declared.bit.Bit.TheVariants.{One, Carry, Overflow, FZero, Sign, FLow, FHigh, QLow, QHigh}
+use Rattle.mw_board.specs.declared.bit.Bit.TheVariants.{Line, Full, Ir, Flip}
 use Rattle.mw_board.specs.declared.bit.DFrom.{DFrom}
 use Rattle.mw_board.specs.declared.bit.DFrom.TheVariants as sources
 use Rattle.mw_board.specs.declared.bit.Load.{Load}
@@ -172,7 +174,8 @@ edge board m answer pass s given =
       memory = if m.memory_write then slice_set s.memory s.mar answer.y else s.memory;
     }
 
--- 7. A cycle whose D is the input takes the offered word, whatever its mask; another that puts out shows Y; the rest show nothing.
+-- 7. A cycle whose D is the input takes the offered word, whatever its mask; another that puts out shows Y; the rest
+--    show nothing.
 abbrev pub event_from : DFrom → Bool → ℕ → CycleIn → Option Event
 event_from sources.Input out y given = Some (Taken given.input)
 event_from _ out y given = if out then Some (Out y) else None

@@ -1,5 +1,5 @@
--- The decided bits of a cycle: what a run has to know of it to go on, with their values in a cycle of a state; and those of
--- the cycles of a run.
+-- The decided bits of a cycle: what a run has to know of it to go on, with their values in a cycle of a state; and
+-- those of the cycles of a run.
 use Rattle.std.specs.Prelude.{◌≡◌, ℕ, zero, ◌+◌, suc, List, [], ◌∷◌, ◌++◌, Bool, not, ◌&&◌, ◌==◌, if◌then◌else◌}
 use Rattle.std.specs.List.{list_any}
 use Rattle.mw_base.specs.Words.{bit_of}
@@ -18,8 +18,8 @@ use Rattle.mw_cycle.specs.State.{BoardState}
 abbrev pub decided : DecidedKind → Bool → Decided
 decided kind value = record { kind = kind; value = value }
 
--- the instructions of the Am2910 whose two entries, where the test fails and where it passes, are the same: JZ, JMAP, RFCT, RPCT,
--- LDCT and CONT
+-- the instructions of the Am2910 whose two entries, where the test fails and where it passes, are the same: JZ, JMAP,
+-- RFCT, RPCT, LDCT and CONT
 abbrev pub is_untested : (code : ℕ) → Bool
 is_untested code = list_any (λ untested. untested == code) (0 ∷ 2 ∷ 8 ∷ 9 ∷ 12 ∷ 14 ∷ [])
 
@@ -65,8 +65,8 @@ bits_of_cycles board store env start zero = []
 bits_of_cycles board store env start (suc n) =
     bits_of_cycles board store env start n ++ bits_of_cycle board store env start n
 
--- The decided bits of n + m cycles are those of n, and then those of m from the state that these reached, over what is left of the
--- environment at the place that they reached.
+-- The decided bits of n + m cycles are those of n, and then those of m from the state that these reached, over what is
+-- left of the environment at the place that they reached.
 abbrev pub BitsGoOn : Type 0
 BitsGoOn = (board : BoardParts) (store : List ℕ) (env : Environment) (start : BoardState) (n m : ℕ)
     → let first = run_of board store env start n in

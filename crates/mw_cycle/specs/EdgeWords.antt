@@ -1,5 +1,6 @@
 -- The words of the edge, and where a board then is.
-use Rattle.std.specs.Prelude.{ℕ, ◌+◌, ◌-◌, ◌%◌, ◌^◌, List, [], ◌∷◌, ◌++◌, Bool, true, false, nat_lt, if◌then◌else◌, slice_index, slice_set, Option, Some, None}
+use Rattle.std.specs.Prelude.{ℕ, ◌+◌, ◌-◌, ◌%◌, ◌^◌, List, [], ◌∷◌, ◌++◌, Bool, true, false, nat_lt, if◌then◌else◌}
+use Rattle.std.specs.Prelude.{slice_index, slice_set, Option, Some, None}
 use Rattle.mw_base.specs.Words.{num}
 use Rattle.mw_alu.specs.declared.instruction.Destination.{Destination}
 use Rattle.mw_alu.specs.declared.instruction.Destination.TheVariants as destinations
@@ -115,7 +116,8 @@ abbrev pub with_flip : List ℕ → BitEnded → Loaded
 with_flip flips e = record { list = e.list; bits = e.bits; flips = flips ++ e.term ∷ [] }
 
 -- what some flip-flops take, whose old values these are, behind those before them
-abbrev pub flips_words : BoardParts → Microword → Parts → (sp : ℕ) → Sources → List FlipFlop → (old : List ℕ) → Loaded → Loaded
+abbrev pub flips_words : BoardParts → Microword → Parts → (sp : ℕ) → Sources → List FlipFlop → (old : List ℕ)
+    → Loaded → Loaded
 flips_words board m p sp n [] old so_far = so_far
 flips_words board m p sp n (f ∷ rest) [] so_far = so_far
 flips_words board m p sp n (f ∷ rest) (value ∷ old) so_far =
@@ -157,7 +159,8 @@ abbrev pub with_pushed : List ℕ → Option ℕ → (taken : ℕ) → List ℕ
 with_pushed items None taken = items
 with_pushed items (Some place) taken = slice_set items place taken
 
--- the event of a cycle whose D before its mask is one term and whose Y is another: an input that is taken hides an output
+-- the event of a cycle whose D before its mask is one term and whose Y is another: an input that is taken
+-- hides an output
 abbrev pub shown : DFrom → (out : Bool) → (source y : ℕ) → List SymEvent
 shown sources.Input out source y = Taken source ∷ []
 shown from true source y = Out y ∷ []
@@ -185,9 +188,19 @@ pub record Made : Type 0 where
 abbrev pub edge_made : BoardParts → Microword → Parts → (sp : ℕ) → Reading → WordList → Made
 edge_made board m p sp reading l =
     let n = reading.sources in
-    let register = register_words (destination_of m.instruction) board m p sp n (record { list = l; bits = reading.bits }) in
-    let q = q_words (destination_of m.instruction) board m p sp n (record { list = register.list; bits = register.bits }) in
-    let loaded = flips_words board m p sp n board.flipflop p.flips (record { list = q.list; bits = q.bits; flips = [] }) in
+    let register = register_words (destination_of m.instruction) board m p sp n (record {
+      list = l;
+      bits = reading.bits;
+    }) in
+    let q = q_words (destination_of m.instruction) board m p sp n (record {
+      list = register.list;
+      bits = register.bits;
+    }) in
+    let loaded = flips_words board m p sp n board.flipflop p.flips (record {
+      list = q.list;
+      bits = q.bits;
+      flips = [];
+    }) in
     let mar = mar_words m.mar_load board p.mar reading.y loaded.list in
     record { list = mar.list; register = register.taken; q = q.taken; flips = loaded.flips; mar = mar.term }
 
@@ -209,8 +222,10 @@ pub record Stands : Type 0 where
   pub list : WordList
   pub standing : Standing
 
--- The words of the edge, and where the board then is: at an address, by the entry of the Am2910's table. PC is a constant.
-unfoldable pub edge_words : BoardParts → Microword → Standing → Reading → Leaving → Effect → (next : ℕ) → WordList → Stands
+-- The words of the edge, and where the board then is: at an address, by the entry of the Am2910's table. PC
+-- is a constant.
+unfoldable pub edge_words : BoardParts → Microword → Standing → Reading → Leaving → Effect → (next : ℕ)
+    → WordList → Stands
 edge_words board m s reading leaving effect next l =
     let made = edge_made board m s.parts s.sp reading l in
     let pc = with_constant ((next + num m.ci) % 2 ^ 12) 12 made.list in

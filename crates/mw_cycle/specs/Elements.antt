@@ -1,5 +1,6 @@
 -- The values of a board's elements in a state, by the numbers of the table of elements.
-use Rattle.std.specs.Prelude.{ℕ, ◌+◌, ◌-◌, ◌<◌, ◌^◌, List, length, Bool, if◌then◌else◌, ◌==◌, nat_lt, slice_index, slice_set, bit_and, bit_or, Option, IfSome}
+use Rattle.std.specs.Prelude.{ℕ, ◌+◌, ◌-◌, ◌<◌, ◌^◌, List, length, Bool, if◌then◌else◌, ◌==◌, nat_lt, slice_index}
+use Rattle.std.specs.Prelude.{slice_set, bit_and, bit_or, Option, IfSome}
 use Rattle.mw_base.specs.Words.{bit_of, num, complement}
 use Rattle.mw_board.specs.declared.parts.BoardParts.{BoardParts}
 use Rattle.mw_board.specs.Depth.{depth_of}
@@ -12,8 +13,8 @@ use Rattle.mw_cycle.specs.State.{BoardState}
 abbrev pub pc_number : BoardParts → ℕ
 pc_number board = 19 + length board.flipflop
 
--- What has this number: the registers are 0 to 15, then Q, mar and ir, from 19 on the flip-flops in their order, then PC, R, and the
--- words of the stack.
+-- What has this number: the registers are 0 to 15, then Q, mar and ir, from 19 on the flip-flops in their order, then
+-- PC, R, and the words of the stack.
 unfoldable pub element_of : BoardParts → ℕ → Element
 element_of board n =
     if nat_lt n 16 then Register n

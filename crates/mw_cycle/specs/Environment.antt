@@ -9,7 +9,8 @@ use Rattle.mw_cycle.specs.declared.series.Series.TheVariants.{Inputs, Line, Nois
 use Rattle.mw_cycle.specs.declared.state.CycleIn.{CycleIn}
 use Rattle.mw_cycle.specs.Series.{width_of}
 
--- the interrupt bit per cycle, the noise word per cycle, and the input words by number taken; past its end each list is 0
+-- the interrupt bit per cycle, the noise word per cycle, and the input words by number taken; past its end
+-- each list is 0
 pub record Environment : Type 0 where
   pub line : List Bool
   pub noise : List ℕ
@@ -42,7 +43,8 @@ rest_at env place = record {
 
 -- what is left of an environment is again one
 abbrev pub RestsAreEnvironments : Type 0
-RestsAreEnvironments = (board : BoardParts) (env : Environment) (place : Clock) → IsEnvironment board env → IsEnvironment board (rest_at env place)
+RestsAreEnvironments = (board : BoardParts) (env : Environment) (place : Clock)
+    → IsEnvironment board env → IsEnvironment board (rest_at env place)
 
 -- ---- list by list
 

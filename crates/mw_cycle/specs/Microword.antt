@@ -13,7 +13,8 @@ use Rattle.mw_cycle.specs.Control.{value_at, is_on, chosen}
 abbrev pub instruction_of : BoardParts → ℕ → ℕ
 instruction_of board word =
     join 6 (value_at board.fields word board.control.alu_destination)
-    (join 3 (value_at board.fields word board.control.alu_function) (value_at board.fields word board.control.alu_source))
+    (join 3 (value_at board.fields word board.control.alu_function)
+    (value_at board.fields word board.control.alu_source))
 
 -- D is 0
 abbrev pub no_source : DSource

@@ -1,6 +1,7 @@
 -- The words of what a cycle reads before its edge, by the points of its order: D, the carry in, F, the bits that are
 -- read, and the condition.
-use Rattle.std.specs.Prelude.{ℕ, ◌+◌, ◌-◌, ◌%◌, ◌^◌, List, [], ◌∷◌, ◌++◌, map, Bool, true, false, ◌||◌, ◌==◌, if◌then◌else◌, slice_get, slice_index, Option, Some, None}
+use Rattle.std.specs.Prelude.{ℕ, ◌+◌, ◌-◌, ◌%◌, ◌^◌, List, [], ◌∷◌, ◌++◌, map, Bool, true, false, ◌||◌, ◌==◌}
+use Rattle.std.specs.Prelude.{if◌then◌else◌, slice_get, slice_index, Option, Some, None}
 use Rattle.std.specs.List.{list_any}
 use Rattle.mw_base.specs.Words.{num}
 use Rattle.mw_alu.specs.declared.instruction.Destination.{Destination}
@@ -28,12 +29,14 @@ use Rattle.mw_term.specs.declared.kinds.WordKind.TheVariants.{Line, Noise}
 use Rattle.mw_term.specs.declared.op.Op.{Op}
 use Rattle.mw_term.specs.declared.op.Op.TheVariants.{And, Or, Xor, Sum, Cout, Ovf, Eq, Part}
 use Rattle.mw_term.specs.MemoryRead.{Held}
-use Rattle.mw_term.specs.WordList.{WordList, Ended, ended, with_constant, with_word, with_variable, with_input, with_complement, with_zeros_above, memory_read_words}
+use Rattle.mw_term.specs.WordList.{WordList, Ended, ended, with_constant, with_word, with_variable, with_input}
+use Rattle.mw_term.specs.WordList.{with_complement, with_zeros_above, memory_read_words}
 
 -- ---- D
 
 -- D before its mask, where the board's side has these writes and so many inputs were taken
-abbrev pub source_words : BoardParts → (word : ℕ) → Parts → (writes : List Held) → (taken : ℕ) → DFrom → WordList → Ended
+abbrev pub source_words : BoardParts → (word : ℕ) → Parts → (writes : List Held) → (taken : ℕ) → DFrom
+    → WordList → Ended
 source_words board word p writes taken sources.Zero l = with_constant 0 board.width l
 source_words board word p writes taken sources.Memory l = memory_read_words board.width p.mar writes l
 source_words board word p writes taken sources.Ir l = ended p.ir l
@@ -192,8 +195,8 @@ late_once bit make made l =
     let e = made_or there make l in
     bit_ended (record made { late = kept_or there made.late bit e.term }) e
 
--- A bit that a carry in may read: a bit of Q or of the instruction register, the line, a flip-flop, or a constant. The bits
--- of F are 0 to it.
+-- A bit that a carry in may read: a bit of Q or of the instruction register, the line, a flip-flop, or a constant. The
+-- bits of F are 0 to it.
 abbrev pub early_words : BoardParts → Parts → (sp line : ℕ) → Bit → Bits → WordList → BitEnded
 early_words board p sp line bits.One made l = bit_ended made (with_constant 1 1 l)
 early_words board p sp line bits.QLow made l = early_once bits.QLow (with_word (Part p.q 0 1)) made l
@@ -360,8 +363,8 @@ condition_words board m p sp n b =
     let bit = bit_words board p sp n m.condition b.bits b.list in
     bit_ended bit.bits (turned_words m.polarity bit.term bit.list)
 
--- The words that a cycle reads before its edge: the variables of its line and noise, D, what F is made of, the bits that
--- are read, each once, in the order of a board's lists, and the condition.
+-- The words that a cycle reads before its edge: the variables of its line and noise, D, what F is made of, the bits
+-- that are read, each once, in the order of a board's lists, and the condition.
 unfoldable pub reading_words : BoardParts → Microword → Standing → WordList → HasRead
 reading_words board m s l =
     let line = with_variable (Line s.cycle) 1 l in

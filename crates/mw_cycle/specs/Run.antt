@@ -51,8 +51,8 @@ then_run first second = record {
   clock = further first.clock second.clock;
 }
 
--- A run of n + m cycles is a run of n, and then of m from the state that it reached, over what is left of the environment at the place
--- that it reached.
+-- A run of n + m cycles is a run of n, and then of m from the state that it reached, over what is left of the
+-- environment at the place that it reached.
 abbrev pub RunsGoOn : Type 0
 RunsGoOn = (board : BoardParts) (store : List ℕ) (env : Environment) (start : BoardState) (n m : ℕ)
     → let first = run_of board store env start n in

@@ -5,8 +5,8 @@ use Rattle.mw_seq.specs.Sequencer.{Sequencer, IsSequencer, cleared_sequencer}
 use Rattle.mw_board.specs.declared.parts.BoardParts.{BoardParts}
 use Rattle.mw_board.specs.Depth.{depth_of}
 
--- the control address in the pipeline register, the Am2901's registers and Q, the memory address register, the instruction
--- register, the flip-flops (flip-flop n is bit n), the Am2910, and the memory image
+-- the control address in the pipeline register, the Am2901's registers and Q, the memory address register, the
+-- instruction register, the flip-flops (flip-flop n is bit n), the Am2910, and the memory image
 pub record BoardState : Type 0 where
   pub at : ℕ
   pub regs : List ℕ

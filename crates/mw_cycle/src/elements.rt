@@ -4,7 +4,8 @@ ghost use Rattle.mw_seq.specs.Sequencer.{IsSequencer};
 ghost use Rattle.mw_board.specs.Depth.{depth_of};
 ghost use Rattle.mw_board.specs.Elements.{element_count};
 ghost use Rattle.mw_cycle.specs.State.{Fits};
-ghost use Rattle.mw_cycle.specs.Elements.{IsElement, IsValueOf, bits_of, element, element_of, value_of, with_element, with_flip, with_value};
+ghost use Rattle.mw_cycle.specs.Elements.{IsElement, IsValueOf, bits_of, element, element_of, value_of, with_element};
+ghost use Rattle.mw_cycle.specs.Elements.{with_flip, with_value};
 
 use crate::bits::{bit_number, flip};
 use crate::state::State;
@@ -115,7 +116,8 @@ impl State {
         }
     }
 
-    /// The value of the board's element with this number, from 0, in the order of the table of elements ([`Board::element_name`]).
+    /// The value of the board's element with this number, from 0, in the order of the table of elements
+    /// ([`Board::element_name`]).
     pub fn element(&self, board: &Board, number: usize) -> u32
         requires fits { Fits board.now self.now }
         requires there { number < element_count board.now }
@@ -125,7 +127,8 @@ impl State {
         self.value_of(board, element_of(board, number))
     }
 
-    /// Gives the board's element with this number a value of no more bits than it has ([`Board::element_width`]). All else stays as it was.
+    /// Gives the board's element with this number a value of no more bits than it has ([`Board::element_width`]). All
+    /// else stays as it was.
     pub fn set_element(&mut self, board: &Board, number: usize, value: u32)
         requires fits { Fits board.now self.old }
         requires there { number < element_count board.now }
@@ -133,7 +136,8 @@ impl State {
         ensures exact { self.new ≡ with_element board.now self.old number value }
         ensures fits { Fits board.now self.new }
         ensures set { element board.now self.new number ≡ value }
-        ensures others { (other : ℕ) → other < element_count board.now → other ≢ number → element board.now self.new other ≡ element board.now self.old other }
+        ensures others { (other : ℕ) → other < element_count board.now → other ≢ number
+            → element board.now self.new other ≡ element board.now self.old other }
     {
         // A call for the proof: its clause `valid` says that the flip-flops of every board are few.
         let _ = board.parts();

@@ -11,13 +11,14 @@ pub fn segments_end_at_boundaries()
     ensures { SegmentsEndAtBoundaries }
 {}
 
-/// The law of suffixes: a run of n + m cycles is a run of n, and then of m from the state that it reached, over what is left of the
-/// environment at the place that it reached.
+/// The law of suffixes: a run of n + m cycles is a run of n, and then of m from the state that it reached, over what is
+/// left of the environment at the place that it reached.
 pub fn runs_go_on()
     ensures { RunsGoOn }
 {}
 
-/// The law of decided bits: those of n + m cycles of a run are those of its first n, and then those of the m that follow.
+/// The law of decided bits: those of n + m cycles of a run are those of its first n, and then those of the m
+/// that follow.
 pub fn bits_go_on()
     ensures { BitsGoOn }
 {}

@@ -5,7 +5,8 @@ ghost use Rattle.mw_board.specs.Depth.{depth_of};
 ghost use Rattle.mw_board.specs.Valid.{IsFrom, IsMask};
 ghost use Rattle.mw_cycle.specs.Microword.{IsMicroword};
 ghost use Rattle.mw_cycle.specs.State.{Fits};
-ghost use Rattle.mw_cycle.specs.Cycle.{from_source, masked, d_of, operands_of, answer_of, pass_of, map_of, direct_address, next_address};
+ghost use Rattle.mw_cycle.specs.Cycle.{from_source, masked, d_of, operands_of, answer_of, pass_of, map_of};
+ghost use Rattle.mw_cycle.specs.Cycle.{direct_address, next_address};
 ghost use Rattle.mw_cycle.specs.Cycle.{pins_of, writes_of, flips_after, edge, event_of, state_after, nets_of};
 
 use crate::bits::{bit_number, bit_value, carry_net, early_bit, flip, overflow_net};
@@ -252,7 +253,8 @@ fn take_edge(
     next
 }
 
-/// One cycle of a board whose state fits it: the state after it, and the values that it read and made. It takes no memory.
+/// One cycle of a board whose state fits it: the state after it, and the values that it read and made. It
+/// takes no memory.
 #[tactic(auto, unfolding(crate::specs::Cycle::state_after, crate::specs::Cycle::nets_of, crate::specs::Cycle::answer_of))]
 pub fn cycle<A: Datapath>(
     part: &A,

@@ -38,7 +38,16 @@ impl Model for State {
 
     ghost invariant = { λ s. IsSequencer DEPTH s.seq };
 
-    ghost view = { λ s. record { at = s.at; regs = s.regs; q = s.q; mar = s.mar; ir = s.ir; flips = s.flips; seq = s.seq; memory = s.memory.items } };
+    ghost view = { λ s. record {
+      at = s.at;
+      regs = s.regs;
+      q = s.q;
+      mar = s.mar;
+      ir = s.ir;
+      flips = s.flips;
+      seq = s.seq;
+      memory = s.memory.items;
+    } };
 }
 
 /// Whether a number has no more than so many bits.
@@ -157,8 +166,8 @@ impl State {
 /// What the outside has for one cycle.
 #[derive(Clone, Copy, Debug, PartialEq, Eq)]
 pub struct CycleIn {
-    /// Fourteen undefined bits: an empty stack's F in bits 0 to 11, an undefined carry in bit 12, an undefined overflow in
-    /// bit 13.
+    /// Fourteen undefined bits: an empty stack's F in bits 0 to 11, an undefined carry in bit 12, an undefined
+    /// overflow in bit 13.
     pub noise: u16,
     /// The interrupt line.
     pub line: bool,

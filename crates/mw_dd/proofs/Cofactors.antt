@@ -28,7 +28,11 @@ pub same_itself : (t : functions.Triple) → AreSame t t
 same_itself t = record { f = λ given. refl; g = λ given. refl; h = λ given. refl }
 
 pub same_back : (t u : functions.Triple) → AreSame t u → AreSame u t
-same_back t u is = record { f = λ given. sym (is.f given); g = λ given. sym (is.g given); h = λ given. sym (is.h given) }
+same_back t u is = record {
+  f = λ given. sym (is.f given);
+  g = λ given. sym (is.g given);
+  h = λ given. sym (is.h given);
+}
 
 pub same_then : (t u w : functions.Triple) → AreSame t u → AreSame u w → AreSame t w
 same_then t u w first second = record {
@@ -158,9 +162,12 @@ module _ (nodes : List Node) (r : IsReduced nodes) (t : Triple) (there : AreDds 
       → is_before v place ≡ true → value_of v fixed ≡ b → AreSame u (left_of (meaning nodes t) place fixed)
       → AreSame u (left_of (meaning nodes s) place fixed)
   left_side u place fixed b s is before value left = record {
-    f = λ given. left.f given ∙ sym (is.f (with_fixed place fixed given) (fixed_before place v fixed given before ∙ value));
-    g = λ given. left.g given ∙ sym (is.g (with_fixed place fixed given) (fixed_before place v fixed given before ∙ value));
-    h = λ given. left.h given ∙ sym (is.h (with_fixed place fixed given) (fixed_before place v fixed given before ∙ value));
+    f = λ given.
+        left.f given ∙ sym (is.f (with_fixed place fixed given) (fixed_before place v fixed given before ∙ value));
+    g = λ given.
+        left.g given ∙ sym (is.g (with_fixed place fixed given) (fixed_before place v fixed given before ∙ value));
+    h = λ given.
+        left.h given ∙ sym (is.h (with_fixed place fixed given) (fixed_before place v fixed given before ∙ value));
   }
 
   side_cofactor : (u : functions.Triple) (b : Bool) (s : Triple) → IsSide nodes t v b s
@@ -271,10 +278,12 @@ module _ (nodes : List Node) (r : IsReduced nodes) (whole : Triple) (all : AreDd
   counted_choice : (t : Triple) → AreDds nodes t → ends t ≡ false → (b : Bool)
       → ((given : Given) → value_at given nodes t.f ≡ b) → ⊥
   counted_choice t there counts true agree =
-      let same : t.f ≡ 1 = canonical nodes r t.f 1 there.f (omega arith) (λ given. agree given ∙ sym (value-one given nodes)) in
+      let same : t.f ≡ 1 =
+      canonical nodes r t.f 1 there.f (omega arith) (λ given. agree given ∙ sym (value-one given nodes)) in
       omega (arith, same, inner_of t counts)
   counted_choice t there counts false agree =
-      let same : t.f ≡ 0 = canonical nodes r t.f 0 there.f (omega arith) (λ given. agree given ∙ sym (value-zero given nodes)) in
+      let same : t.f ≡ 0 =
+      canonical nodes r t.f 0 there.f (omega arith) (λ given. agree given ∙ sym (value-zero given nodes)) in
       omega (arith, same, inner_of t counts)
 
   -- where something is left to choose, what is left is a joint cofactor
@@ -325,7 +334,8 @@ module _ (nodes : List Node) (r : IsReduced nodes) (whole : Triple) (all : AreDd
       each = λ i d below.
           let found = at triples i d below in
           subst (IsCofactor (meaning nodes whole)) (sym found.2)
-          (left_counts found.0 (are.there i found.0 found.1) (are.counted i found.0 found.1) (are.left i found.0 found.1));
+          (left_counts found.0 (are.there i found.0 found.1) (are.counted i found.0 found.1)
+          (are.left i found.0 found.1));
       different = λ i j d first second same.
           let one = at triples i d (omega (arith, first, second)) in
           let other = at triples j d second in
@@ -406,7 +416,8 @@ module _ (nodes : List Node) (triples : List Triple) where
     no_member (eqb i) is
         (never_found u us is i t there same rest (λ j below. different 0 (suc j) u (omega arith) (omega (arith, below)))
         (list_any (eqb i) is) refl),
-    distinct us is rest (λ j k d first second. different (suc j) (suc k) d (omega (arith, first)) (omega (arith, second))),
+    distinct us is rest
+        (λ j k d first second. different (suc j) (suc k) d (omega (arith, first)) (omega (arith, second))),
   )
 
   -- where all joint cofactors are among some triples, they are no more than these
@@ -429,4 +440,5 @@ most-same t u n same most us are =
 pub at_most_before : (old new : List Node) (triples : List Triple) (t : Triple) (n : ℕ) → Grows old new → AreDds old t
     → AreAmong new triples t → length triples ≤ n → HasAtMostCofactors (meaning old t) n
 at_most_before old new triples t n grows there among few =
-    most-same (meaning new t) (meaning old t) n (meaning-grows old new t grows there) (at_most new triples t n among few)
+    most-same (meaning new t) (meaning old t) n (meaning-grows old new t grows there)
+    (at_most new triples t n among few)

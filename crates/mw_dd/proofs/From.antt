@@ -87,8 +87,14 @@ module _ (nodes : List Node) (r : IsReduced nodes) (place : Variable) (a b : Giv
       (from-after nodes n.variable place n.low i.low_later own) in
       let high = ih n.high (omega (arith, i.high, e, h)) (omega (arith, i.high, e, t))
       (from-after nodes n.variable place n.high i.high_later own) in
-      rw (e, value-node a nodes k n at i.low i.high, value-node b nodes k n at i.low i.high, same n.variable own, low, high)
-      refl
+      rw (
+        e,
+        value-node a nodes k n at i.low i.high,
+        value-node b nodes k n at i.low i.high,
+        same n.variable own,
+        low,
+        high,
+      ) refl
 
   alike : (bound : ℕ) → Alike bound
   alike zero x h t from = absurd (omega (arith, h))

@@ -43,7 +43,8 @@ module _ {K : Type 0} where
         elim (cases_eq c own) [
           | inl same ↦
               let head : slice_index (set heads own (length entries)) c ≡ length entries =
-              ap (slice_index (set heads own (length entries))) same ∙ get_or-set_same heads own (length entries) 0 below in
+              ap (slice_index (set heads own (length entries))) same
+              ∙ get_or-set_same heads own (length entries) 0 below in
               let old : slice_index heads c ≡ entry.next =
               ap (slice_index heads) same
               ∙ sym (next (subst (λ (b : ℕ). slice_index heads b < length entries) same

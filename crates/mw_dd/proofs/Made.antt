@@ -89,8 +89,10 @@ module _ (nodes : List Node) (r : IsReduced nodes) (n : Node) (can : CanBeMade n
         bit = i.bit;
         low = i.low;
         high = i.high;
-        low_later = from-grows nodes (nodes ++ n ∷ []) (after m.variable) m.low grows (omega (arith, i.low, within)) i.low_later;
-        high_later = from-grows nodes (nodes ++ n ∷ []) (after m.variable) m.high grows (omega (arith, i.high, within)) i.high_later;
+        low_later = from-grows nodes (nodes ++ n ∷ []) (after m.variable) m.low grows
+            (omega (arith, i.low, within)) i.low_later;
+        high_later = from-grows nodes (nodes ++ n ∷ []) (after m.variable) m.high grows
+            (omega (arith, i.high, within)) i.high_later;
         differ = i.differ;
       }
 

@@ -212,12 +212,14 @@ pub record IsBegun (before now : Memo) (t : Triple) : Type 0 where
   pub triples : now.triples ≡ before.triples ++ t ∷ []
   pub results : now.results.items ≡ before.results.items ++ 0 ∷ []
 
-module _ (nodes : List Node) (before now : Memo) (t : Triple) (begun : IsBegun before now t) (keys : AreKeys nodes before) where
+module _ (nodes : List Node) (before now : Memo) (t : Triple) (begun : IsBegun before now t)
+    (keys : AreKeys nodes before) where
   begun_stay : Stay before.triples now.triples
   begun_stay i s at = rw begun.triples (get-push_old before.triples t i s at)
 
   begun_cases : (i : ℕ) (s : Triple) → IsMet now i s → IsMet before i s ⊎ ((i ≡ length before.triples) × (t ≡ s))
-  begun_cases i s at = get-push before.triples t i s (sym (ap (λ (ts : List Triple). slice_get ts i) begun.triples) ∙ at)
+  begun_cases i s at =
+      get-push before.triples t i s (sym (ap (λ (ts : List Triple). slice_get ts i) begun.triples) ∙ at)
 
   pub begun_at : IsMet now (length before.triples) t
   begun_at = rw begun.triples (get-push_new before.triples t)
@@ -303,7 +305,8 @@ module _ (nodes : List Node) (before now : Memo) (t : Triple) (begun : IsBegun b
             elim (cases_eq i place) [
               | inl same ↦
                   let one : t ≡ s = some_triple t s (sym at_place ∙ ap (slice_get third.triples) (sym same) ∙ met) in
-                  inl (subst (λ (x : Triple). IsDone n4 last i x) one (subst (λ (j : ℕ). IsDone n4 last j t) (sym same) own))
+                  inl (subst (λ (x : Triple). IsDone n4 last i x) one
+                  (subst (λ (j : ℕ). IsDone n4 last j t) (sym same) own))
               | inr differ ↦ elim (settles.since i s met) [
                 | inl is ↦ inl (other i s differ met is)
                 | inr old ↦ elim (begun_cases i s old) [

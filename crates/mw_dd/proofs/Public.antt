@@ -32,7 +32,8 @@ false_exact nodes r x position there same = (
       let none : x ≡ 0 = grind (arith, nat_tests) in
       ap (value_at given nodes) none ∙ value-zero given nodes),
   (λ agree.
-      let none : x ≡ 0 = canonical nodes r x 0 there (omega arith) (λ given. agree given ∙ sym (value-zero given nodes)) in
+      let none : x ≡ 0 =
+      canonical nodes r x 0 there (omega arith) (λ given. agree given ∙ sym (value-zero given nodes)) in
       let at : position ≡ 0 = same ∙ none in
       grind (arith, nat_tests)),
 )

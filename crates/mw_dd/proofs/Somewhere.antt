@@ -30,7 +30,8 @@ module _ (nodes : List Node) (r : IsReduced nodes) where
   HoldBelow bound = (x : ℕ) → x < bound → IsDd nodes x → 0 < x → Holds x
 
   -- of a node's branches one isn't the first constant
-  node_holds : (bound k : ℕ) (n : Node) → HoldBelow bound → k + 2 < suc bound → slice_get nodes k ≡ Some n → Holds (k + 2)
+  node_holds : (bound k : ℕ) (n : Node)
+      → HoldBelow bound → k + 2 < suc bound → slice_get nodes k ≡ Some n → Holds (k + 2)
   node_holds bound k n ih h at =
       let i = r.inner k n at in
       let within = slice_get_within nodes k n at in

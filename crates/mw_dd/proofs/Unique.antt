@@ -10,14 +10,16 @@ use Rattle.mw_dd.specs.Nodes.{value_at, function_of, IsDd, IsFrom, IsReduced, af
 use Rattle.mw_dd.specs.Diagrams.{IsCanonical}
 use Rattle.mw_dd.proofs.Order.{later_after, order_cases}
 use Rattle.mw_dd.proofs.Values.{value-high, value-low, value-zero, value-one}
-use Rattle.mw_dd.proofs.From.{NodeCase, is_false, is_true, is_node, place_of, from_constant, from_node, same_fixed, only}
+use Rattle.mw_dd.proofs.From.{NodeCase, is_false, is_true, is_node, place_of, from_constant, from_node, same_fixed}
+use Rattle.mw_dd.proofs.From.{only}
 use Rattle.mw_dd.proofs.From.{fixed_only}
 
 -- a node by its parts
 same_node : (n m : Node) → n.variable ≡ m.variable → n.low ≡ m.low → n.high ≡ m.high → n ≡ m
 same_node n m v l h =
     let made : Variable × ℕ × ℕ → Node = λ p. record { variable = p.0; low = p.1; high = p.2 } in
-    let parts : ◌≡◌ {A = Variable × ℕ × ℕ} (n.variable, n.low, n.high) (m.variable, m.low, m.high) = rw (v, l, h) refl in
+    let parts : ◌≡◌ {A = Variable × ℕ × ℕ} (n.variable, n.low, n.high) (m.variable, m.low, m.high) =
+    rw (v, l, h) refl in
     ap made parts
 
 module _ (nodes : List Node) (r : IsReduced nodes) where
@@ -26,27 +28,31 @@ module _ (nodes : List Node) (r : IsReduced nodes) where
 
   -- a branch's value is the node's where all variables up to its own are fixed
   pub high_is : (k : ℕ) (n : Node) (given : Given) → slice_get nodes k ≡ Some n
-      → value_at (with_fixed (after n.variable) (only n.variable true) given) nodes (k + 2) ≡ value_at given nodes n.high
+      → value_at (with_fixed (after n.variable) (only n.variable true) given) nodes (k + 2)
+      ≡ value_at given nodes n.high
   high_is k n given at =
       let i = r.inner k n at in
       let within = slice_get_within nodes k n at in
       value-high _ nodes k n at i.low i.high (fixed_only n.variable true given)
-      ∙ same_fixed nodes r (after n.variable) (only n.variable true) given n.high (omega (arith, i.high, within)) i.high_later
+      ∙ same_fixed nodes r (after n.variable) (only n.variable true) given n.high
+      (omega (arith, i.high, within)) i.high_later
 
   pub low_is : (k : ℕ) (n : Node) (given : Given) → slice_get nodes k ≡ Some n
-      → value_at (with_fixed (after n.variable) (only n.variable false) given) nodes (k + 2) ≡ value_at given nodes n.low
+      → value_at (with_fixed (after n.variable) (only n.variable false) given) nodes (k + 2)
+      ≡ value_at given nodes n.low
   low_is k n given at =
       let i = r.inner k n at in
       let within = slice_get_within nodes k n at in
       value-low _ nodes k n at i.low i.high (fixed_only n.variable false given)
-      ∙ same_fixed nodes r (after n.variable) (only n.variable false) given n.low (omega (arith, i.low, within)) i.low_later
+      ∙ same_fixed nodes r (after n.variable) (only n.variable false) given n.low
+      (omega (arith, i.low, within)) i.low_later
 
   abbrev OneBelow : ℕ → Type 0
   OneBelow bound = (x y : ℕ) → x < bound → y < bound → IsDd nodes x → IsDd nodes y → SameFunction x y → x ≡ y
 
   -- a node has no function of later variables alone
-  not_later : (bound k y : ℕ) (n : Node) → OneBelow bound → k + 2 < suc bound → slice_get nodes k ≡ Some n → IsDd nodes y
-      → IsFrom nodes (after n.variable) y → SameFunction (k + 2) y → ⊥
+  not_later : (bound k y : ℕ) (n : Node) → OneBelow bound → k + 2 < suc bound → slice_get nodes k ≡ Some n
+      → IsDd nodes y → IsFrom nodes (after n.variable) y → SameFunction (k + 2) y → ⊥
   not_later bound k y n ih h at there from same =
       let i = r.inner k n at in
       let within = slice_get_within nodes k n at in
@@ -67,7 +73,8 @@ module _ (nodes : List Node) (r : IsReduced nodes) where
       let b = r.inner j m of in
       let p = slice_get_within nodes k n at in
       let q = slice_get_within nodes j m of in
-      let low : n.low ≡ m.low = ih n.low m.low (omega (arith, a.low, h)) (omega (arith, b.low, g)) (omega (arith, a.low, p))
+      let low : n.low ≡ m.low =
+      ih n.low m.low (omega (arith, a.low, h)) (omega (arith, b.low, g)) (omega (arith, a.low, p))
       (omega (arith, b.low, q))
       (λ given. sym (low_is k n given at)
       ∙ same (with_fixed (after n.variable) (only n.variable false) given)
@@ -114,7 +121,8 @@ module _ (nodes : List Node) (r : IsReduced nodes) where
           | inl less ↦ absurd (not_later bound k (l + 2) n ih p at (rw f at u)
               (from_node nodes (after n.variable) l m of (later_after n.variable m.variable less)) s)
           | inr more ↦ absurd (not_later bound l (k + 2) m ih q of (rw e at t)
-              (from_node nodes (after m.variable) k n at (later_after m.variable n.variable more)) (λ given. sym (s given)))
+              (from_node nodes (after m.variable) k n at (later_after m.variable n.variable more))
+              (λ given. sym (s given)))
         ]
       ]
 

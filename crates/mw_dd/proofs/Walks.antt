@@ -126,8 +126,10 @@ same_or_not : (v u : Variable) → (v ≡ u) ⊎ ¬ (v ≡ u)
 same_or_not v u = elim (order_cases v u) [
   | inl same ↦ inl same
   | inr other ↦ elim other [
-    | inl before ↦ inr (λ same. false≢true (sym (not_before_itself u) ∙ ap (λ (x : Variable). is_before x u) (sym same) ∙ before))
-    | inr before ↦ inr (λ same. false≢true (sym (not_before_itself u) ∙ ap (λ (x : Variable). is_before u x) (sym same) ∙ before))
+    | inl before ↦
+        inr (λ same. false≢true (sym (not_before_itself u) ∙ ap (λ (x : Variable). is_before x u) (sym same) ∙ before))
+    | inr before ↦
+        inr (λ same. false≢true (sym (not_before_itself u) ∙ ap (λ (x : Variable). is_before u x) (sym same) ∙ before))
   ]
 ]
 
@@ -225,7 +227,8 @@ module _ (nodes : List Node) (r : IsReduced nodes) (whole : ℕ) (x : ℕ) (n : 
         → (v ≡ n.variable) ⊎ ¬ (v ≡ n.variable) → (b : Bool) → is_before v walks.place ≡ b → value_of v given ≡ true
     first_high given holds v agree one which true earlier =
         walks.first given holds v earlier
-        (λ u before. sym (others u (before_differs u walks.place n.variable (earlier_of u v walks.place before earlier) own))
+        (λ u before.
+        sym (others u (before_differs u walks.place n.variable (earlier_of u v walks.place before earlier) own))
         ∙ agree u before)
         (sym (others v (before_differs v walks.place n.variable earlier own)) ∙ one)
     first_high given holds v agree one (inl same) false later =

@@ -48,7 +48,8 @@ meaning nodes t = functions_of nodes t.f t.g t.h
 pub record IsResult (nodes : List Node) (t : Triple) (r : ℕ) : Type 0 where
   pub there : IsDd nodes r
   pub value : (given : Given)
-      → value_at given nodes r ≡ (if value_at given nodes t.f then value_at given nodes t.g else value_at given nodes t.h)
+      → value_at given nodes r
+      ≡ (if value_at given nodes t.f then value_at given nodes t.g else value_at given nodes t.h)
   pub from : (place : Variable) → AreFrom nodes place t → IsFrom nodes place r
 
 -- nothing is left to choose by, or to choose from

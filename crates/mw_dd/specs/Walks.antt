@@ -6,10 +6,10 @@ use Rattle.mw_dd.specs.declared.nodes.Node.{Node}
 use Rattle.mw_dd.specs.Nodes.{value_at, IsDd, IsFrom}
 use Rattle.mw_dd.specs.Diagrams.{AgreeBefore}
 
--- The way has come down from a whole function to a node of it. The assignment so far has values for the variables before
--- the node's place, and 0 for the others. It fixes the whole to the node: under each assignment that agrees with it before
--- the place, both have one value. And it is still the first: under no assignment that is before it, as far as the place, does
--- the whole hold.
+-- The way has come down from a whole function to a node of it. The assignment so far has values for the variables
+-- before the node's place, and 0 for the others. It fixes the whole to the node: under each assignment that agrees with
+-- it before the place, both have one value. And it is still the first: under no assignment that is before it, as far as
+-- the place, does the whole hold.
 pub record Walks (nodes : List Node) (whole : ℕ) (numbers : Numbers) (x : ℕ) : Type 0 where
   pub place : Variable
   pub there : IsDd nodes x

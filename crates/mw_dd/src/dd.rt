@@ -3,8 +3,8 @@ use mw_base::NoMemory;
 use std::marker::Model;
 use thiserror::Error;
 
-/// A Boolean function: a node of the diagrams that made it, seen as its number. Two that the same diagrams made are equal
-/// exactly where their functions are.
+/// A Boolean function: a node of the diagrams that made it, seen as its number. Two that the same diagrams made are
+/// equal exactly where their functions are.
 #[derive(Clone, Copy, Debug, PartialEq, Eq)]
 pub struct Dd {
     position: u32,

@@ -1,5 +1,6 @@
 // Diagrams: a table of nodes, of which each stands for a function.
-ghost use Rattle.std.specs.Prelude.{◌≡◌, ◌<◌, ◌↔◌, ℕ, [], Option, Some, None, true, false, IfOk, IfSome, OnOk, IsTrue, IsErrOf};
+ghost use Rattle.std.specs.Prelude.{◌≡◌, ◌<◌, ◌↔◌, ℕ, [], Option, Some, None, true, false, IfOk, IfSome, OnOk, IsTrue};
+ghost use Rattle.std.specs.Prelude.{IsErrOf};
 ghost use Rattle.std.specs.FinMap as map;
 ghost use Rattle.mw_term.specs.Assigned.{Given};
 ghost use Rattle.mw_term.specs.Cofactors.{value_of, Agree, HasAtMostCofactors, HasMoreCofactors};
@@ -63,8 +64,8 @@ impl Diagrams {
         if value { Dd::at(1) } else { Dd::at(0) }
     }
 
-    /// The function that is a bit, 0 to 31, of the variable word of this number. Earlier functions stay as they are, also
-    /// after a refusal.
+    /// The function that is a bit, 0 to 31, of the variable word of this number. Earlier functions stay as they are,
+    /// also after a refusal.
     ///
     /// # Errors
     ///
@@ -87,8 +88,8 @@ impl Diagrams {
         )
     }
 
-    /// The function that is the second where the first holds, and else the third. Earlier functions stay as they are, also
-    /// after a refusal. It goes as deep into the stack as the three have different variables.
+    /// The function that is the second where the first holds, and else the third. Earlier functions stay as they are,
+    /// also after a refusal. It goes as deep into the stack as the three have different variables.
     ///
     /// # Errors
     ///

@@ -27,9 +27,9 @@ pub(crate) fn scatter(a: u64, b: u64, c: u64, d: u64) -> u32
 /// How many numbers make a group whose buckets lie together: as many as heads fill a page of memory.
 const GROUP: u32 = 1024;
 
-/// A number that depends on each bit of four others. Where these differ in the last alone, and the two are of one group,
-/// so are the results, and they differ too. An operation goes through nodes about in the order in which they were made, so
-/// that buckets that lie together are asked one soon after another, and are still in the cache.
+/// A number that depends on each bit of four others. Where these differ in the last alone, and the two are of one
+/// group, so are the results, and they differ too. An operation goes through nodes about in the order in which they
+/// were made, so that buckets that lie together are asked one soon after another, and are still in the cache.
 #[tactic(auto, unfolding(crate::specs::Hash::scattered_near))]
 pub(crate) fn scatter_near(a: u64, b: u64, c: u64, near: u32) -> u32
     ensures { result ≡ scattered_near a b c near }

@@ -50,7 +50,8 @@ pub(crate) fn choose(
     ensures left { OnOk result ((whole : declared.Triple) → AreDds nodes.old whole → IsLeft nodes.old whole t
         → AreLeft nodes.old memo.old whole → AreLeft nodes.new memo.new whole) }
     ensures over { IsErrOf result DdFault.OverBudget → (whole : declared.Triple) → AreDds nodes.old whole
-        → IsLeft nodes.old whole t → AreLeft nodes.old memo.old whole → HasMoreCofactors (meaning nodes.old whole) budget }
+        → IsLeft nodes.old whole t → AreLeft nodes.old memo.old whole
+        → HasMoreCofactors (meaning nodes.old whole) budget }
 {
     if let Some(result) = end(t) {
         return Ok(result);

@@ -1,5 +1,6 @@
 // Nodes, ordered and reduced.
-ghost use Rattle.std.specs.Prelude.{◌≡◌, ◌⊎◌, ◌-◌, ◌<◌, ◌≤◌, ◌↔◌, ℕ, Bool, false, Some, slice_get, IsTrue, IfOk, if◌then◌else◌};
+ghost use Rattle.std.specs.Prelude.{◌≡◌, ◌⊎◌, ◌-◌, ◌<◌, ◌≤◌, ◌↔◌, ℕ, Bool, false, Some, slice_get, IsTrue, IfOk};
+ghost use Rattle.std.specs.Prelude.{if◌then◌else◌};
 ghost use Rattle.mw_term.specs.Assigned.{Given};
 ghost use Rattle.mw_term.specs.Cofactors.{value_of, is_before};
 ghost use Rattle.mw_term.specs.Cofactors as cofactors;
@@ -94,7 +95,8 @@ fn half(nodes: &Table<Node>, x: Dd, variable: Variable, side: bool) -> Dd
     ensures there { IsDd nodes.now result }
     ensures no_later { result ≤ x }
     ensures earlier { HasVariable nodes.now x variable → result < x }
-    ensures value { (given : Given) → value_of variable given ≡ side → value_at given nodes.now result ≡ value_at given nodes.now x }
+    ensures value { (given : Given)
+        → value_of variable given ≡ side → value_at given nodes.now result ≡ value_at given nodes.now x }
     ensures from { IsFrom nodes.now (after variable) result }
 {
     if x.position() < 2 {
@@ -143,9 +145,12 @@ pub(crate) fn side(nodes: &Table<Node>, t: Triple, variable: Variable, side: boo
     requires top { IsTop nodes.now t variable }
     ensures there { AreDds nodes.now result }
     ensures earlier { size result < size t }
-    ensures f { (given : Given) → value_of variable given ≡ side → value_at given nodes.now result.f ≡ value_at given nodes.now t.f }
-    ensures g { (given : Given) → value_of variable given ≡ side → value_at given nodes.now result.g ≡ value_at given nodes.now t.g }
-    ensures h { (given : Given) → value_of variable given ≡ side → value_at given nodes.now result.h ≡ value_at given nodes.now t.h }
+    ensures f { (given : Given)
+        → value_of variable given ≡ side → value_at given nodes.now result.f ≡ value_at given nodes.now t.f }
+    ensures g { (given : Given)
+        → value_of variable given ≡ side → value_at given nodes.now result.g ≡ value_at given nodes.now t.g }
+    ensures h { (given : Given)
+        → value_of variable given ≡ side → value_at given nodes.now result.h ≡ value_at given nodes.now t.h }
     ensures from { AreFrom nodes.now (after variable) result }
 {
     Triple {
@@ -167,7 +172,8 @@ pub(crate) fn make(nodes: &mut Table<Node>, alloc: Global, node: Node) -> Result
     ensures grows { Grows nodes.old nodes.new }
     ensures there { IfOk result (λ r. IsDd nodes.new r) }
     ensures value { IfOk result (λ r. (given : Given) → value_at given nodes.new r
-        ≡ (if value_of node.variable given then value_at given nodes.old node.high else value_at given nodes.old node.low)) }
+        ≡ (if value_of node.variable given then value_at given nodes.old node.high
+        else value_at given nodes.old node.low)) }
     ensures from { IfOk result (λ r. IsFrom nodes.new node.variable r) }
 {
     if node.is_redundant() {

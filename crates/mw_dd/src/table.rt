@@ -27,8 +27,8 @@ const NOWHERE: u32 = 0xffff_ffff;
 /// The most keys that a table can have: less than `NOWHERE`, with room for the numbers that users put before places.
 const MOST: usize = 0xffff_fff0;
 
-/// How many buckets a new table has: a power of two, as they always are, so that a mask finds a hash's bucket, and enough
-/// for the diagrams of a few words.
+/// How many buckets a new table has: a power of two, as they always are, so that a mask finds a hash's bucket, and
+/// enough for the diagrams of a few words.
 const FIRST_BUCKETS: usize = 2048;
 
 /// A key, and the place of an earlier one of the same bucket.

@@ -1,5 +1,7 @@
 -- What is kept of a moment gives it back.
-use Rattle.std.proofs.Common.{◌≡◌, ℕ, suc, ◌+◌, ◌≤◌, ◌<◌, ◌^◌, List, [], ◌∷◌, ◌++◌, All, length, subst, reverse, slice_index, slice_set, Bool, true, false, cond, nat_lt, Option, Some, None, refl, sym, ap, ◌∙◌, arith}
+use Rattle.std.proofs.Common.{◌≡◌, ℕ, suc, ◌+◌, ◌≤◌, ◌<◌, ◌^◌, List, [], ◌∷◌, ◌++◌, All, length, subst, reverse}
+use Rattle.std.proofs.Common.{slice_index, slice_set, Bool, true, false, cond, nat_lt, Option, Some, None, refl, sym}
+use Rattle.std.proofs.Common.{ap, ◌∙◌, arith}
 use Rattle.std.proofs.lemmas.List.{length-reverse, reverse-append, set-get_or, set-set}
 use Rattle.std.proofs.lemmas.List.Elements.{All-nil}
 use Rattle.mw_base.specs.declared.event.Event.{Event}
@@ -29,7 +31,8 @@ put_back xs i y true = set-set xs i y (slice_index xs i) ∙ set-get_or xs i 0
 put_back xs i y false = set-get_or xs i 0
 
 -- a state with the memory that it had
-with_memory : (s : BoardState) (clock : Clock) (memory : List ℕ) → slice_set memory s.mar (slice_index s.memory s.mar) ≡ s.memory
+with_memory : (s : BoardState) (clock : Clock) (memory : List ℕ)
+    → slice_set memory s.mar (slice_index s.memory s.mar) ≡ s.memory
     → moment_of (undo_of s clock) memory ≡ record { state = s; clock = clock }
 with_memory s clock memory is =
     ap (λ (words : List ℕ). let m : Moment = record { state = record s { memory = words }; clock = clock } in m) is

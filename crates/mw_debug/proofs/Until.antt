@@ -1,5 +1,6 @@
 -- The cycles of a command, and how many `until` makes.
-use Rattle.std.proofs.Common.{◌≡◌, ℕ, ◌+◌, ◌-◌, ◌<◌, ◌≤◌, [], ◌∷◌, Bool, true, false, find, List, Option, Some, None, add-one, ◌==◌, refl, ap, ◌∙◌}
+use Rattle.std.proofs.Common.{◌≡◌, ℕ, ◌+◌, ◌-◌, ◌<◌, ◌≤◌, [], ◌∷◌, Bool, true, false, find, List, Option, Some, None}
+use Rattle.std.proofs.Common.{add-one, ◌==◌, refl, ap, ◌∙◌}
 use Rattle.std.specs.Option.{unwrap_or}
 use Rattle.mw_cycle.specs.Boundary.{first_boundary, is_named, numbers}
 use Rattle.mw_cycle.specs.Environment.{Environment}

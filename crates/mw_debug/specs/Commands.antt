@@ -1,5 +1,6 @@
 -- What a line of a script says, by its tokens.
-use Rattle.std.specs.Prelude.{ℕ, List, codes, slice_get, Bool, false, not, ◌&&◌, if◌then◌else◌, Option, Some, None, Result, Ok, Err}
+use Rattle.std.specs.Prelude.{ℕ, List, codes, slice_get, Bool, false, not, ◌&&◌, if◌then◌else◌, Option, Some, None}
+use Rattle.std.specs.Prelude.{Result, Ok, Err}
 use Rattle.std.specs.Str.{bytes_eq}
 use Rattle.mw_base.specs.declared.cursor.Dotted.{Dotted}
 use Rattle.mw_base.specs.declared.cursor.Numeral.{Numeral}
@@ -93,7 +94,8 @@ abbrev pub or_fault : {A : Type 0} → TextFault → Result A TextFault → Resu
 or_fault fault (Ok x) = Ok x
 or_fault fault (Err other) = Err fault
 
--- the command of a line that begins with this token; a line that is none is at fault there, whichever token can't follow
+-- the command of a line that begins with this token; a line that is none is at fault there, whichever token
+-- can't follow
 unfoldable pub command_of : Cursor → Token → Result Command TextFault
 command_of line first =
     or_fault (misplaced first line) (command_after line first (keyword_of (spelled line.text first)))

@@ -1,5 +1,6 @@
 -- The script of a text.
-use Rattle.std.specs.Prelude.{ℕ, ◌+◌, ◌^◌, List, [], ◌∷◌, ◌++◌, ◌&&◌, if◌then◌else◌, nat_le, ok_or, Option, Result, Ok, Err}
+use Rattle.std.specs.Prelude.{ℕ, ◌+◌, ◌^◌, List, [], ◌∷◌, ◌++◌, ◌&&◌, if◌then◌else◌, nat_le, ok_or, Option, Result, Ok}
+use Rattle.std.specs.Prelude.{Err}
 use Rattle.mw_base.specs.declared.cause.Cause.TheVariants.{BadCommand, NoSuchElement, ValueTooWide}
 use Rattle.mw_base.specs.declared.cursor.Dotted.{Dotted}
 use Rattle.mw_base.specs.declared.cursor.Numeral.{Numeral}
@@ -90,13 +91,15 @@ counted_of board labels text first so_far command = do
   Ok (record { entry = record { line = first.line; column = first.column; act = act }; cycles = cycles })
 
 -- with a command that begins with this token
-unfoldable pub with_command : BoardParts → (List ℕ → Option ℕ) → List ℕ → Token → Reading → Command → Result Reading TextFault
+unfoldable pub with_command : BoardParts → (List ℕ → Option ℕ) → List ℕ → Token → Reading → Command
+    → Result Reading TextFault
 with_command board labels text first reading command = do
   counted ← counted_of board labels text first reading.cycles command
   Ok (record { entries = reading.entries ++ counted.entry ∷ []; cycles = counted.cycles })
 
 -- with a line that has these tokens; a blank one says nothing
-abbrev pub with_tokens : BoardParts → (List ℕ → Option ℕ) → List ℕ → Reading → Line → List Token → Result Reading TextFault
+abbrev pub with_tokens : BoardParts → (List ℕ → Option ℕ) → List ℕ → Reading → Line → List Token
+    → Result Reading TextFault
 with_tokens board labels text reading line [] = Ok reading
 with_tokens board labels text reading line (first ∷ rest) =
     command_of (at_line text line BadCommand) first >>= λ command.

@@ -1,7 +1,8 @@
 // What a line of a script says, by its tokens.
 ghost use Rattle.std.specs.Prelude.{◌≡◌, slice_get};
 ghost use Rattle.mw_base.specs.Symbols.{spelled};
-ghost use Rattle.mw_debug.specs.Commands.{count_alone, element_alone, until_of, set_of, memory_shown_of, is_word, shows_memory, show_of, keyword_of, command_after, command_of};
+ghost use Rattle.mw_debug.specs.Commands.{count_alone, element_alone, until_of, set_of, memory_shown_of, is_word};
+ghost use Rattle.mw_debug.specs.Commands.{shows_memory, show_of, keyword_of, command_after, command_of};
 
 use mw_base::{Cursor, Dotted, Numeral, Place, Sign, TextFault, Token};
 

@@ -5,7 +5,8 @@ ghost use Rattle.mw_base.specs.Reading.{Gives};
 ghost use Rattle.mw_base.specs.Steps.{steps};
 ghost use Rattle.mw_board.specs.declared.parts.BoardParts.{BoardParts};
 ghost use Rattle.mw_debug.specs.Kept.{IsAct, IsCount, IsElement, IsReading, IsScript, cycles_in};
-ghost use Rattle.mw_debug.specs.Script.{act_of, count_of, counted_of, cycles_asked, element_number_of, nothing_read, script_of, set_act, until_act, with_command, with_cycles_asked, with_line};
+ghost use Rattle.mw_debug.specs.Script.{act_of, count_of, counted_of, cycles_asked, element_number_of, nothing_read};
+ghost use Rattle.mw_debug.specs.Script.{script_of, set_act, until_act, with_command, with_cycles_asked, with_line};
 ghost use Rattle.mw_debug.specs.Views.{reading_seen};
 
 use crate::command::{Command, command_of};
@@ -249,7 +250,8 @@ fn reading_of(
     text: &[u8],
     lines: &[Line],
 ) -> Result<Reading, Refusal>
-    ensures gives { Gives reading_seen result (steps (with_line board.now (names_seen labels.now) text.now) nothing_read lines.now) }
+    ensures gives { Gives reading_seen result
+        (steps (with_line board.now (names_seen labels.now) text.now) nothing_read lines.now) }
     ensures kept { IfOk result (λ reading. IsReading board.now (reading_seen reading)) }
 {
     let mut reading = Reading::nothing(alloc);
@@ -266,8 +268,8 @@ fn reading_of(
 /// # Errors
 ///
 /// The first fault of the text: causes 1 to 4 of its bytes; then, line by line, cause 70 at the first token of a line
-/// that is no command, or with whose cycles the script would make more than 100,000, and after that, by place, 30 and 33
-/// of a place, 71 of an element, and 33 of a number. Want of memory.
+/// that is no command, or with whose cycles the script would make more than 100,000, and after that, by place, 30 and
+/// 33 of a place, 71 of an element, and 33 of a number. Want of memory.
 #[tactic(auto, unfolding(crate::specs::Script::script_of))]
 pub fn read_script(
     alloc: Global,

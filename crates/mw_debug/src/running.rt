@@ -7,7 +7,8 @@ ghost use Rattle.mw_cycle.specs.Environment.{IsEnvironment};
 ghost use Rattle.mw_cycle.specs.State.{Fits};
 ghost use Rattle.mw_debug.specs.Kept.{AreActs, IsAct, IsSession};
 ghost use Rattle.mw_debug.specs.Session.{begun};
-ghost use Rattle.mw_debug.specs.Trace.{element_text, word_text, place_text, shown_by, with_last_line, done_by, with_entry, trace_of};
+ghost use Rattle.mw_debug.specs.Trace.{element_text, word_text, place_text, shown_by, with_last_line, done_by};
+ghost use Rattle.mw_debug.specs.Trace.{with_entry, trace_of};
 ghost use Rattle.mw_debug.specs.Views.{session_seen};
 
 use crate::element::{name_of, value_in};
@@ -235,12 +236,12 @@ fn session_after(
 }
 
 /// What a script prints from a start, command by command: each line begins with the number of its command's line. First
-/// come the events of a command's cycles, `out V` and `taken V`; then `show` prints `b.ELEMENT=V` or `mem A=V`, and every
-/// other command `at A` and the elements that are watched, in the order in which they were first watched. It takes a
-/// hundred and some bytes for each cycle and each `set` that can be undone.
+/// come the events of a command's cycles, `out V` and `taken V`; then `show` prints `b.ELEMENT=V` or `mem A=V`, and
+/// every other command `at A` and the elements that are watched, in the order in which they were first watched. It
+/// takes a hundred and some bytes for each cycle and each `set` that can be undone.
 ///
-/// The start fits the board, and the acts of the script keep its ranges, as those of [`read_script`](crate::read_script)
-/// do.
+/// The start fits the board, and the acts of the script keep its ranges, as those of
+/// [`read_script`](crate::read_script) do.
 ///
 /// # Errors
 ///

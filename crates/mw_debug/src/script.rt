@@ -20,7 +20,8 @@ pub enum Act {
     ShowMemory(u32),
     /// From now on the element of this number is printed with each control address. It keeps its first place.
     Watch(u32),
-    /// The last so many entries of the history are undone: each cycle that was made is one, and each element that was set.
+    /// The last so many entries of the history are undone: each cycle that was made is one, and each element
+    /// that was set.
     Back(u32),
 }
 

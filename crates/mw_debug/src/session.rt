@@ -7,7 +7,8 @@ ghost use Rattle.mw_cycle.specs.Environment.{IsEnvironment};
 ghost use Rattle.mw_cycle.specs.State.{Fits};
 ghost use Rattle.mw_debug.specs.Kept.{IsElement, IsSession};
 ghost use Rattle.mw_debug.specs.Elements.{bound_of};
-ghost use Rattle.mw_debug.specs.Session.{begun, numbered_event, with_cycle, with_cycles, cycles_until, with_set, with_watched, with_back};
+ghost use Rattle.mw_debug.specs.Session.{begun, numbered_event, with_cycle, with_cycles, cycles_until, with_set};
+ghost use Rattle.mw_debug.specs.Session.{with_watched, with_back};
 ghost use Rattle.mw_debug.specs.Views.{moment_of, session_seen, undo_of};
 
 use crate::element::set_value;

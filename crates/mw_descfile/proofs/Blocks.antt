@@ -189,7 +189,8 @@ stack_pointer_kept s word value before block next is_open is =
 
 -- no element is left of two lines
 
-left_more : (before : List PlacedLine) (g : PlacedLine) (n : ℕ) → is_left before n ≡ true → is_left (before ++ g ∷ []) n ≡ true
+left_more : (before : List PlacedLine) (g : PlacedLine) (n : ℕ)
+    → is_left before n ≡ true → is_left (before ++ g ∷ []) n ≡ true
 left_more before g n is = list_any-append (λ (h : PlacedLine). h.line.left == n) before (g ∷ [])
     ∙ first_is (is_left before n) (is_left (g ∷ []) n) is
 
@@ -240,8 +241,8 @@ no_use all (u ∷ rest) n is left =
     apart (is_left all u.number) (subst (λ k. is_left all k ≡ true) (sym (eqb-true u.number n same)) left) not_left) in
     rw differs (no_use all rest n later left)
 
-reads_none : (s : Shape) (all front others : List PlacedLine) (g : PlacedLine) → all ≡ front ++ others → IsPlacedLine s g
-    → flat_map (used_left all) g.uses ≡ []
+reads_none : (s : Shape) (all front others : List PlacedLine) (g : PlacedLine)
+    → all ≡ front ++ others → IsPlacedLine s g → flat_map (used_left all) g.uses ≡ []
     → list_all (λ (other : Line). not (stands_in other.left g.line.right)) (lines_in others) ≡ true
 reads_none s all front [] g is given free = refl
 reads_none s all front (o ∷ rest) g is given free =
@@ -285,8 +286,8 @@ line_more all ys first next total n g at taken is so_far =
     (unsolved all (take n ys ++ g ∷ []) (drop (n + 1) ys))) ∙ rw at at so_far)
 
 -- the same for lines that the code keeps
-pub line_at : (lines : List KeptPlacedLine) (first next total : Option TextFault) (n : ℕ) (x : KeptPlacedLine) → n < length lines
-    → x ≡ get_or lines n x
+pub line_at : (lines : List KeptPlacedLine) (first next total : Option TextFault) (n : ℕ) (x : KeptPlacedLine)
+    → n < length lines → x ≡ get_or lines n x
     → next ≡ first_in first (line_faults (map given_seen lines) (map given_seen (take n lines)) (given_seen x))
     → first_in first (unsolved (map given_seen lines) (take n (map given_seen lines)) (drop n (map given_seen lines)))
     ≡ total
@@ -304,7 +305,8 @@ line_at lines first next total n x within at is so_far =
 
 -- its lines
 
-all_even : (s : Shape) (lines : List PlacedLine) → All (IsPlacedLine s) lines → list_all (is_even s) (lines_in lines) ≡ true
+all_even : (s : Shape) (lines : List PlacedLine)
+    → All (IsPlacedLine s) lines → list_all (is_even s) (lines_in lines) ≡ true
 all_even s [] given = refl
 all_even s (g ∷ rest) given = and_from (is_even s g.line) _ (All-head (IsPlacedLine s) g rest given).even
     (all_even s rest (All-tail (IsPlacedLine s) g rest given))

@@ -11,7 +11,8 @@ use Rattle.mw_descfile.specs.RelationViews.{given_seen}
 -- the lines of some that were given and one more
 pub last_line : (before : List Line) (now : List KeptLine) (front : List KeptPlacedLine) (last : KeptPlacedLine)
     → lines_of now ≡ before ++ map (λ (g : PlacedLine). g.line) (map given_seen front)
-    → lines_of (now ++ last.line ∷ []) ≡ before ++ map (λ (g : PlacedLine). g.line) (map given_seen (front ++ last ∷ []))
+    → lines_of (now ++ last.line ∷ [])
+    ≡ before ++ map (λ (g : PlacedLine). g.line) (map given_seen (front ++ last ∷ []))
 last_line before now front last is =
     map-append line_of now (last.line ∷ []) ∙ ap (λ (lines : List Line). lines ++ line_of last.line ∷ []) is
     ∙ append_assoc before (map (λ (g : PlacedLine). g.line) (map given_seen front)) (line_of last.line ∷ [])

@@ -124,4 +124,9 @@ unfoldable pub closed_block : Block → Token → Result Boundary TextFault
 closed_block block word = do
   solved ← solved_unless (first_in None (unsolved block.lines [] block.lines))
   sp ← ok_or block.sp (fault_on word NoStackPointer)
-  Ok (record { address = block.address; bound = block.bound; sp = sp; lines = map (λ (g : PlacedLine). g.line) block.lines })
+  Ok (record {
+    address = block.address;
+    bound = block.bound;
+    sp = sp;
+    lines = map (λ (g : PlacedLine). g.line) block.lines;
+  })

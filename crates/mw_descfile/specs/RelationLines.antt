@@ -6,7 +6,8 @@ use Rattle.mw_base.specs.declared.cursor.Numeral.{Numeral}
 use Rattle.mw_base.specs.declared.refusal.TextFault.{TextFault}
 use Rattle.mw_base.specs.declared.sign.Sign.TheVariants.{Equals, Dot}
 use Rattle.mw_base.specs.declared.token.Token.{Token}
-use Rattle.mw_base.specs.Cursors.{Cursor, after, token_at, has_sign, number_at, sign_at, place_at, first_word, element_of, end_at}
+use Rattle.mw_base.specs.Cursors.{Cursor, after, token_at, has_sign, number_at, sign_at, place_at, first_word}
+use Rattle.mw_base.specs.Cursors.{element_of, end_at}
 use Rattle.mw_base.specs.Reading.{◌>>=◌}
 use Rattle.mw_base.specs.Symbols.{spelled, symbol_of, is_sign}
 use Rattle.mw_expr.specs.Grammar.{number_by_name}

@@ -7,9 +7,11 @@ use Rattle.std.proofs.lemmas.Bool.Decides.{nat_tests}
 use Rattle.std.proofs.lemmas.List.Elements.{All-nil, All-cons}
 use Rattle.mw_expr.specs.declared.expr.Pair2.{Pair2}
 use Rattle.mw_expr.specs.declared.shape.Shape.{Shape}
-use Rattle.mw_expr.specs.Tree.{Tree, element, constant, complement, pair, choice, part, join, widened, memory, Trees, none, more}
+use Rattle.mw_expr.specs.Tree.{Tree, element, constant, complement, pair, choice, part, join, widened, memory, Trees}
+use Rattle.mw_expr.specs.Tree.{none, more}
 use Rattle.mw_expr.specs.Parts.{listed, parts_of, PartsHaveWidths, WidthsAreByRule}
-use Rattle.mw_expr.specs.Widths.{width, total_width, pair_width, choice_width, part_width, join_width, widened_width, memory_width, added, is_known, are_known, depth, deepest, width_at, width_of}
+use Rattle.mw_expr.specs.Widths.{width, total_width, pair_width, choice_width, part_width, join_width, widened_width}
+use Rattle.mw_expr.specs.Widths.{memory_width, added, is_known, are_known, depth, deepest, width_at, width_of}
 
 -- a tree has a width
 abbrev Accepts : Shape → Tree → Type 0

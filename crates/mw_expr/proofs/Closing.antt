@@ -1,5 +1,6 @@
 -- Whatever is open, further tokens end the expression.
-use Rattle.std.proofs.Common.{◌≡◌, ℕ, ◌+◌, ◌-◌, List, [], ◌∷◌, ◌++◌, length, length-append, append_assoc, true, refl, sym, ap, ◌∙◌, subst, arith}
+use Rattle.std.proofs.Common.{◌≡◌, ℕ, ◌+◌, ◌-◌, List, [], ◌∷◌, ◌++◌, length, length-append, append_assoc, true, refl}
+use Rattle.std.proofs.Common.{sym, ap, ◌∙◌, subst, arith}
 use Rattle.std.proofs.Math.Seq.{drop-append-add}
 use Rattle.std.proofs.lemmas.List.{take_all}
 use Rattle.std.proofs.lemmas.List.Elements.{All-cons, All-nil}
@@ -18,7 +19,11 @@ use Rattle.mw_base.specs.Signs.{bytes_of, sign_of}
 use Rattle.mw_base.specs.Symbols.{spelled, symbol_of, symbol_of_kind, of_sign}
 use Rattle.mw_expr.specs.Fronts.{IsInText, longer}
 use Rattle.mw_expr.specs.Grammar.{Meaning, strength, reduced, follows, tree_from, state}
-use Rattle.mw_expr.specs.Placed.{Placed, constant, complement, pair, choice, part, join, widened, memory, group, parts_of, Open, nothing, complementing, pairing, choosing, otherwise, grouping, joining, widening, reading, Awaits, an_operand, a_dot, a_member, a_bracket, a_parenthesis, a_hash, a_width, a_high, a_colon, a_low, a_close, a_new_width, a_widen_end, a_sign, State}
+use Rattle.mw_expr.specs.Placed.{Placed, constant, complement, pair, choice, part, join, widened, memory, group}
+use Rattle.mw_expr.specs.Placed.{parts_of, Open, nothing, complementing, pairing, choosing, otherwise, grouping}
+use Rattle.mw_expr.specs.Placed.{joining, widening, reading, Awaits, an_operand, a_dot, a_member, a_bracket}
+use Rattle.mw_expr.specs.Placed.{a_parenthesis, a_hash, a_width, a_high, a_colon, a_low, a_close, a_new_width}
+use Rattle.mw_expr.specs.Placed.{a_widen_end, a_sign, State}
 use Rattle.mw_expr.proofs.Complete.{step}
 use Rattle.mw_expr.proofs.Longer.{HasRead, follows_longer, spelled_longer}
 use Rattle.mw_expr.proofs.Strengths.{found_again}

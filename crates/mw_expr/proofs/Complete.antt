@@ -1,5 +1,6 @@
 -- What is an expression by the rules is read, to its tree.
-use Rattle.std.proofs.Common.{◌≡◌, ℕ, suc, ◌≤◌, List, [], ◌∷◌, ◌++◌, length, true, false, refl, sym, ap, ap₂, ◌∙◌, arith}
+use Rattle.std.proofs.Common.{◌≡◌, ℕ, suc, ◌≤◌, List, [], ◌∷◌, ◌++◌, length, true, false, refl, sym, ap, ap₂, ◌∙◌}
+use Rattle.std.proofs.Common.{arith}
 use Rattle.std.specs.Prelude.{codes, Some, None, nat_le, if◌then◌else◌, ◌==◌}
 use Rattle.std.specs.Str.{bytes_eq}
 use Rattle.std.proofs.lemmas.Bool.Decides.{nat_tests}
@@ -14,9 +15,17 @@ use Rattle.mw_base.specs.Cursors.{Cursor}
 use Rattle.mw_base.specs.Signs.{bytes_of}
 use Rattle.mw_base.specs.Symbols.{spelled, symbol_of, is_sign}
 use Rattle.mw_expr.specs.declared.expr.Pair2.{Pair2}
-use Rattle.mw_expr.specs.Grammar.{Meaning, strength, reduced, state, pair_of, follows, sign_follows, pair_follows, tree_from, element, dotted_element, name_begins, brace_ends}
-use Rattle.mw_expr.specs.Placed.{Placed, constant, complement, pair, choice, part, join, widened, memory, group, parts_of, Open, nothing, complementing, pairing, choosing, otherwise, grouping, joining, widening, reading, Awaits, an_operand, a_dot, a_member, a_bracket, a_parenthesis, a_hash, a_width, a_high, a_colon, a_low, a_close, a_new_width, a_widen_end, a_sign, State}
-use Rattle.mw_expr.specs.Syntax.{IsSign, IsNumber, IsKeyword, IsElementName, prefix, suffix, Begin, BeginParts, by_choice, by_pair, by_complement, by_part, by_bit, by_constant, by_name, by_dotted_name, by_memory, by_group, by_join, by_widening, first_part, next_part, IsReadWhereRuled}
+use Rattle.mw_expr.specs.Grammar.{Meaning, strength, reduced, state, pair_of, follows, sign_follows, pair_follows}
+use Rattle.mw_expr.specs.Grammar.{tree_from, element, dotted_element, name_begins, brace_ends}
+use Rattle.mw_expr.specs.Placed.{Placed, constant, complement, pair, choice, part, join, widened, memory, group}
+use Rattle.mw_expr.specs.Placed.{parts_of, Open, nothing, complementing, pairing, choosing, otherwise, grouping}
+use Rattle.mw_expr.specs.Placed.{joining, widening, reading, Awaits, an_operand, a_dot, a_member, a_bracket}
+use Rattle.mw_expr.specs.Placed.{a_parenthesis, a_hash, a_width, a_high, a_colon, a_low, a_close, a_new_width}
+use Rattle.mw_expr.specs.Placed.{a_widen_end, a_sign, State}
+use Rattle.mw_expr.specs.Syntax.{IsSign, IsNumber, IsKeyword, IsElementName, prefix, suffix, Begin, BeginParts}
+use Rattle.mw_expr.specs.Syntax.{by_choice, by_pair, by_complement, by_part, by_bit, by_constant, by_name}
+use Rattle.mw_expr.specs.Syntax.{by_dotted_name, by_memory, by_group, by_join, by_widening, first_part, next_part}
+use Rattle.mw_expr.specs.Syntax.{IsReadWhereRuled}
 use Rattle.mw_expr.proofs.Strengths.{floor, floor_most, strength_most, strength_least}
 
 -- an operand that what is open asks to bind so strongly ends nothing of it

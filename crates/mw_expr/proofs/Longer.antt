@@ -1,5 +1,6 @@
 -- What tokens mean where the text goes on behind them.
-use Rattle.std.proofs.Common.{◌≡◌, ℕ, ◌-◌, ◌≤◌, List, ◌∷◌, ◌++◌, length, drop, take, Bool, true, false, refl, ap, ◌∙◌, arith}
+use Rattle.std.proofs.Common.{◌≡◌, ℕ, ◌-◌, ◌≤◌, List, ◌∷◌, ◌++◌, length, drop, take, Bool, true, false, refl, ap, ◌∙◌}
+use Rattle.std.proofs.Common.{arith}
 use Rattle.std.proofs.lemmas.List.{drop-append-le, take-append-le, length-drop}
 use Rattle.std.specs.Str.{bytes_eq}
 use Rattle.std.specs.Prelude.{codes, Option, Some, None, option_map, if◌then◌else◌}
@@ -10,8 +11,12 @@ use Rattle.mw_base.specs.declared.symbol.Symbol.TheVariants.{Name, Number, Sign,
 use Rattle.mw_base.specs.declared.token.Token.{Token}
 use Rattle.mw_base.specs.Symbols.{spelled, symbol_of, symbol_of_kind, is_sign}
 use Rattle.mw_expr.specs.declared.expr.Pair2.{Pair2}
-use Rattle.mw_expr.specs.Grammar.{Meaning, begins, sign_begins, colon_ends, parenthesis_ends, bracket_ends, comma_ends, brace_ends, pair_follows, sign_follows, pair_of, reduced, operand_follows, name_follows, number_in, follows, state, this_follows, element, dotted_element}
-use Rattle.mw_expr.specs.Placed.{Placed, constant, part, widened, Open, choosing, grouping, joining, widening, reading, Awaits, an_operand, a_dot, a_member, a_bracket, a_parenthesis, a_hash, a_width, a_high, a_colon, a_low, a_close, a_new_width, a_widen_end, a_sign, State}
+use Rattle.mw_expr.specs.Grammar.{Meaning, begins, sign_begins, colon_ends, parenthesis_ends, bracket_ends, comma_ends}
+use Rattle.mw_expr.specs.Grammar.{brace_ends, pair_follows, sign_follows, pair_of, reduced, operand_follows}
+use Rattle.mw_expr.specs.Grammar.{name_follows, number_in, follows, state, this_follows, element, dotted_element}
+use Rattle.mw_expr.specs.Placed.{Placed, constant, part, widened, Open, choosing, grouping, joining, widening, reading}
+use Rattle.mw_expr.specs.Placed.{Awaits, an_operand, a_dot, a_member, a_bracket, a_parenthesis, a_hash, a_width, a_high}
+use Rattle.mw_expr.specs.Placed.{a_colon, a_low, a_close, a_new_width, a_widen_end, a_sign, State}
 use Rattle.mw_expr.specs.Fronts.{IsInText, longer}
 
 -- ---- a token is spelled as before

@@ -8,14 +8,17 @@ use Rattle.mw_base.specs.declared.cursor.Numeral.{Numeral}
 use Rattle.mw_base.specs.declared.token.Token.{Token}
 use Rattle.mw_expr.specs.declared.expr.Pair2.TheVariants.{And, Or, Xor, Add, Sub, Same, Differ, Less}
 use Rattle.mw_expr.specs.declared.shape.Shape.{Shape}
-use Rattle.mw_expr.specs.Placed.{Placed, named, constant, complement, pair, choice, part, join, widened, memory, group, Parts, none, more}
+use Rattle.mw_expr.specs.Placed.{Placed, named, constant, complement, pair, choice, part, join, widened, memory, group}
+use Rattle.mw_expr.specs.Placed.{Parts, none, more}
 use Rattle.mw_expr.specs.Plain.{is_small_number, is_small, are_small}
 use Rattle.mw_base.specs.declared.cause.Cause.TheVariants.{TooWide}
 use Rattle.mw_base.specs.TokenLines.{fault_on}
 use Rattle.mw_expr.specs.Text.{IsShape}
 use Rattle.mw_expr.specs.Widths.{width_if, part_width}
 use Rattle.mw_base.proofs.Widths.{below_wider}
-use Rattle.mw_expr.specs.Faults.{named_width, same_width, seen_choice, within_32, seen_width, seen_total, pair_breaks, is_other, part_breaks, is_past, deep, below, broken, unknown, is_improper, too_wide, faults, faults_in, first_fault}
+use Rattle.mw_expr.specs.Faults.{named_width, same_width, seen_choice, within_32, seen_width, seen_total, pair_breaks}
+use Rattle.mw_expr.specs.Faults.{is_other, part_breaks, is_past, deep, below, broken, unknown, is_improper, too_wide}
+use Rattle.mw_expr.specs.Faults.{faults, faults_in, first_fault}
 use Rattle.mw_base.proofs.FirstFaults.{no_first}
 
 -- ---- lists of faults

@@ -1,5 +1,6 @@
 -- What the grammar takes is an expression by the rules.
-use Rattle.std.proofs.Common.{◌≡◌, ℕ, suc, ◌≤◌, List, [], ◌∷◌, ◌++◌, length, length-append, Bool, true, false, refl, sym, arith}
+use Rattle.std.proofs.Common.{◌≡◌, ℕ, suc, ◌≤◌, List, [], ◌∷◌, ◌++◌, length, length-append, Bool, true, false, refl}
+use Rattle.std.proofs.Common.{sym, arith}
 use Rattle.std.specs.Prelude.{codes, Option, Some, None, option_map, ok_or, nat_le, if◌then◌else◌, ◌==◌, Ok}
 use Rattle.std.specs.Str.{bytes_eq}
 use Rattle.std.proofs.lemmas.Bool.Decides.{nat_tests}
@@ -13,9 +14,18 @@ use Rattle.mw_base.specs.Cursors.{Cursor, misplaced}
 use Rattle.mw_base.specs.Reading.{◌>>=◌}
 use Rattle.mw_base.specs.Symbols.{spelled, symbol_of, is_sign}
 use Rattle.mw_expr.specs.declared.expr.Pair2.{Pair2}
-use Rattle.mw_expr.specs.Grammar.{Meaning, strength, Reduced, reduced, state, pair_of, name_begins, sign_begins, begins, sign_follows, pair_follows, this_follows, number_in, name_follows, operand_follows, beginning, colon_ends, parenthesis_ends, bracket_ends, comma_ends, brace_ends, follows, whole, ended, tree_from, element, dotted_element}
-use Rattle.mw_expr.specs.Placed.{Placed, constant, complement, pair, choice, part, widened, Open, nothing, complementing, pairing, choosing, otherwise, grouping, joining, widening, reading, Awaits, an_operand, a_dot, a_member, a_bracket, a_parenthesis, a_hash, a_width, a_high, a_colon, a_low, a_close, a_new_width, a_widen_end, a_sign, State}
-use Rattle.mw_expr.specs.Syntax.{IsSign, IsNumber, IsKeyword, IsElementName, prefix, suffix, Begin, BeginParts, by_choice, by_pair, by_complement, by_part, by_bit, by_constant, by_name, by_dotted_name, by_memory, by_group, by_join, by_widening, first_part, next_part, IsReadByRule}
+use Rattle.mw_expr.specs.Grammar.{Meaning, strength, Reduced, reduced, state, pair_of, name_begins, sign_begins, begins}
+use Rattle.mw_expr.specs.Grammar.{sign_follows, pair_follows, this_follows, number_in, name_follows, operand_follows}
+use Rattle.mw_expr.specs.Grammar.{beginning, colon_ends, parenthesis_ends, bracket_ends, comma_ends, brace_ends}
+use Rattle.mw_expr.specs.Grammar.{follows, whole, ended, tree_from, element, dotted_element}
+use Rattle.mw_expr.specs.Placed.{Placed, constant, complement, pair, choice, part, widened, Open, nothing}
+use Rattle.mw_expr.specs.Placed.{complementing, pairing, choosing, otherwise, grouping, joining, widening, reading}
+use Rattle.mw_expr.specs.Placed.{Awaits, an_operand, a_dot, a_member, a_bracket, a_parenthesis, a_hash, a_width, a_high}
+use Rattle.mw_expr.specs.Placed.{a_colon, a_low, a_close, a_new_width, a_widen_end, a_sign, State}
+use Rattle.mw_expr.specs.Syntax.{IsSign, IsNumber, IsKeyword, IsElementName, prefix, suffix, Begin, BeginParts}
+use Rattle.mw_expr.specs.Syntax.{by_choice, by_pair, by_complement, by_part, by_bit, by_constant, by_name}
+use Rattle.mw_expr.specs.Syntax.{by_dotted_name, by_memory, by_group, by_join, by_widening, first_part, next_part}
+use Rattle.mw_expr.specs.Syntax.{IsReadByRule}
 use Rattle.mw_expr.proofs.Strengths.{floor, floor_most, floor_none, strength_most, weaker, some_same, sign_is}
 
 -- what is open was opened by the tokens from the first ones up to these

@@ -13,8 +13,10 @@ use Rattle.mw_base.specs.Symbols.{is_sign}
 use Rattle.mw_expr.specs.declared.expr.Pair2.{Pair2}
 use Rattle.mw_expr.specs.declared.expr.Pair2.TheVariants.{And, Or, Xor, Add, Sub, Same, Differ, Less}
 use Rattle.mw_expr.specs.Grammar.{Meaning, strength}
-use Rattle.mw_expr.specs.Placed.{Placed, Open, nothing, complementing, pairing, choosing, otherwise, grouping, joining, widening, reading}
-use Rattle.mw_expr.specs.Syntax.{prefix, Begin, by_choice, by_pair, by_complement, by_part, by_bit, by_constant, by_name, by_dotted_name, by_memory, by_group, by_join, by_widening}
+use Rattle.mw_expr.specs.Placed.{Placed, Open, nothing, complementing, pairing, choosing, otherwise, grouping, joining}
+use Rattle.mw_expr.specs.Placed.{widening, reading}
+use Rattle.mw_expr.specs.Syntax.{prefix, Begin, by_choice, by_pair, by_complement, by_part, by_bit, by_constant}
+use Rattle.mw_expr.specs.Syntax.{by_name, by_dotted_name, by_memory, by_group, by_join, by_widening}
 
 -- an operand of what is open binds at least so strongly
 abbrev pub floor : Open → ℕ

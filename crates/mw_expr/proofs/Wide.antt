@@ -1,5 +1,6 @@
 -- A whole expression at which nothing is at fault has a width.
-use Rattle.std.proofs.Common.{◌≡◌, ℕ, zero, suc, ◌+◌, ◌-◌, ◌≤◌, ◌^◌, List, [], ◌∷◌, ◌++◌, length, Bool, true, false, refl, ap, ◌∙◌, sym, max, arith}
+use Rattle.std.proofs.Common.{◌≡◌, ℕ, zero, suc, ◌+◌, ◌-◌, ◌≤◌, ◌^◌, List, [], ◌∷◌, ◌++◌, length, Bool, true, false}
+use Rattle.std.proofs.Common.{refl, ap, ◌∙◌, sym, max, arith}
 use Rattle.std.specs.Prelude.{Option, Some, None, min, nat_lt, ◌||◌, slice_get, Ok, IsOk}
 use Rattle.std.proofs.lemmas.Bool.{and_from}
 use Rattle.std.proofs.lemmas.Bool.Decides.{nat_tests}
@@ -10,13 +11,19 @@ use Rattle.mw_base.specs.Cursors.{Cursor}
 use Rattle.mw_expr.specs.declared.expr.Pair2.{Pair2}
 use Rattle.mw_expr.specs.declared.expr.Pair2.TheVariants.{And, Or, Xor, Add, Sub, Same, Differ, Less}
 use Rattle.mw_expr.specs.declared.shape.Shape.{Shape}
-use Rattle.mw_expr.specs.Faults.{named_width, seen_pair, seen_choice, within_32, seen_width, seen_total, pair_breaks, is_other, part_breaks, is_past, broken, unknown, is_improper, too_wide, faults, faults_in, first_fault}
+use Rattle.mw_expr.specs.Faults.{named_width, seen_pair, seen_choice, within_32, seen_width, seen_total, pair_breaks}
+use Rattle.mw_expr.specs.Faults.{is_other, part_breaks, is_past, broken, unknown, is_improper, too_wide, faults}
+use Rattle.mw_expr.specs.Faults.{faults_in, first_fault}
 use Rattle.mw_expr.specs.Grammar.{Meaning, tree_of}
-use Rattle.mw_expr.specs.Placed.{Placed, named, constant, complement, pair, choice, part, join, widened, memory, group, Parts, none, more, parts_of}
+use Rattle.mw_expr.specs.Placed.{Placed, named, constant, complement, pair, choice, part, join, widened, memory, group}
+use Rattle.mw_expr.specs.Placed.{Parts, none, more, parts_of}
 use Rattle.mw_expr.specs.Plain.{plain, plain_parts}
-use Rattle.mw_expr.specs.Syntax.{Begin, BeginParts, by_choice, by_pair, by_complement, by_part, by_bit, by_constant, by_name, by_dotted_name, by_memory, by_group, by_join, by_widening, first_part, next_part}
+use Rattle.mw_expr.specs.Syntax.{Begin, BeginParts, by_choice, by_pair, by_complement, by_part, by_bit, by_constant}
+use Rattle.mw_expr.specs.Syntax.{by_name, by_dotted_name, by_memory, by_group, by_join, by_widening, first_part}
+use Rattle.mw_expr.specs.Syntax.{next_part}
 use Rattle.mw_expr.specs.Text.{IsShape}
-use Rattle.mw_expr.specs.Widths.{width_if, width_after, pair_width, choice_width, part_width, join_width, widened_width, memory_width, count, width, total_width, is_known, are_known, depth, deepest, width_of}
+use Rattle.mw_expr.specs.Widths.{width_if, width_after, pair_width, choice_width, part_width, join_width, widened_width}
+use Rattle.mw_expr.specs.Widths.{memory_width, count, width, total_width, is_known, are_known, depth, deepest, width_of}
 use Rattle.mw_expr.proofs.Accepted.{of_width}
 use Rattle.mw_base.proofs.FirstFaults.{no_first}
 use Rattle.mw_expr.proofs.Small.{nil_front, nil_back, not_broken, value_fits, named-most}
@@ -233,7 +240,15 @@ sees_part : (s : Shape) (k : ℕ) (token : Token) (high low : ℕ) (e : Placed) 
 sees_part s k token high low e he is =
     let inside = rw he.seen at (not_broken _ token is) in
     let h = part_sees high low he.w he.most inside in
-    record { w = high - low + 1; known = he.known; wide = rw he.wide h.0; seen = rw he.seen h.0; least = h.1; most = h.2; shallow = omega (arith, he.shallow) }
+    record {
+      w = high - low + 1;
+      known = he.known;
+      wide = rw he.wide h.0;
+      seen = rw he.seen h.0;
+      least = h.1;
+      most = h.2;
+      shallow = omega (arith, he.shallow);
+    }
 
 sees_join : (s : Shape) (k : ℕ) (token : Token) (parts : Parts) → SeesParts s k parts → 2 ≤ count (plain_parts parts)
     → broken (is_past 32 (seen_total s (Some 0) parts)) token ≡ [] → Sees s (suc k) (join token parts)
@@ -272,7 +287,15 @@ sees_memory : (s : Shape) (k : ℕ) (token : Token) (e : Placed) → IsShape s �
 sees_memory s k token e shape he is =
     let same = rw he.seen at (not_broken _ token is) in
     let h = memory_sees s he.w shape he.least same in
-    record { w = s.word; known = he.known; wide = rw he.wide h.0; seen = refl; least = h.1; most = h.2; shallow = omega (arith, he.shallow) }
+    record {
+      w = s.word;
+      known = he.known;
+      wide = rw he.wide h.0;
+      seen = refl;
+      least = h.1;
+      most = h.2;
+      shallow = omega (arith, he.shallow);
+    }
 
 mutual
   sees : (s : Shape) (n : ℕ) (tree : Placed) → IsShape s → faults s (Some n) tree ≡ [] → Paired tree → Sees s n tree
@@ -379,8 +402,8 @@ pub record HasSeenWidth (s : Shape) (tree : Placed) : Type 0 where
   pub wide : width s (plain tree) ≡ Some w
   pub shallow : depth (plain tree) ≤ 64
 
-pub seen_whole : (m : Meaning) (cursor : Cursor) (s : Shape) (tree : Placed) → IsShape s → tree_of m cursor ≡ Ok tree → faults s (Some 64) tree ≡ []
-    → HasSeenWidth s tree
+pub seen_whole : (m : Meaning) (cursor : Cursor) (s : Shape) (tree : Placed)
+    → IsShape s → tree_of m cursor ≡ Ok tree → faults s (Some 64) tree ≡ [] → HasSeenWidth s tree
 seen_whole m cursor s tree shape read no_fault =
     let h = sees s 64 tree shape no_fault (paired (is_read_by_rule m cursor tree read)) in
     record { w = h.w; seen = h.seen; known = h.known; wide = h.wide; shallow = h.shallow }

@@ -1,7 +1,8 @@
 -- The memory reads of an expression in a text.
 use Rattle.std.specs.Prelude.{List, [], ◌∷◌, ◌++◌}
 use Rattle.mw_base.specs.declared.token.Token.{Token}
-use Rattle.mw_expr.specs.Placed.{Placed, named, constant, complement, pair, choice, part, join, widened, memory, group, Parts, none, more}
+use Rattle.mw_expr.specs.Placed.{Placed, named, constant, complement, pair, choice, part, join, widened, memory, group}
+use Rattle.mw_expr.specs.Placed.{Parts, none, more}
 
 -- the word `mem` of each memory read of an expression, in their order in the text
 abbrev mutual

@@ -1,6 +1,7 @@
 -- The expression that a tree of a text is, without the places of its tokens and without parentheses.
 use Rattle.std.specs.Prelude.{ℕ, ◌^◌, Bool, true, false, ◌&&◌, nat_lt, Option, Some, None, unwrap_or}
-use Rattle.mw_expr.specs.Placed.{Placed, named, constant, complement, pair, choice, part, join, widened, memory, group, Parts, none, more}
+use Rattle.mw_expr.specs.Placed.{Placed, named, constant, complement, pair, choice, part, join, widened, memory, group}
+use Rattle.mw_expr.specs.Placed.{Parts, none, more}
 use Rattle.mw_expr.specs.Tree as trees
 
 -- the expression that a tree of a text is

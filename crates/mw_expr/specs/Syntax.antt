@@ -13,7 +13,8 @@ use Rattle.mw_base.specs.Cursors.{Cursor}
 use Rattle.mw_base.specs.Symbols.{spelled, symbol_of}
 use Rattle.mw_expr.specs.declared.expr.Pair2.{Pair2}
 use Rattle.mw_expr.specs.Grammar.{Meaning, element, dotted_element, strength, pair_of, tree_of}
-use Rattle.mw_expr.specs.Placed.{Placed, constant, complement, pair, choice, part, join, widened, memory, group, parts_of}
+use Rattle.mw_expr.specs.Placed.{Placed, constant, complement, pair, choice, part, join, widened, memory, group}
+use Rattle.mw_expr.specs.Placed.{parts_of}
 
 -- a token is this sign
 abbrev pub IsSign : Meaning → SignOf → Token → Type 0

@@ -1,10 +1,12 @@
 -- The value of an expression, from those of the elements and from a memory.
-use Rattle.std.specs.Prelude.{◌≡◌, ℕ, ◌+◌, ◌-◌, ◌%◌, ◌^◌, ◌<◌, List, length, Bool, true, false, not, ◌||◌, nat_lt, ◌==◌, if◌then◌else◌, unwrap_or, slice_index, bit_and, bit_or, bit_xor}
+use Rattle.std.specs.Prelude.{◌≡◌, ℕ, ◌+◌, ◌-◌, ◌%◌, ◌^◌, ◌<◌, List, length, Bool, true, false, not, ◌||◌, nat_lt, ◌==◌}
+use Rattle.std.specs.Prelude.{if◌then◌else◌, unwrap_or, slice_index, bit_and, bit_or, bit_xor}
 use Rattle.mw_base.specs.Words as words
 use Rattle.mw_expr.specs.declared.expr.Pair2.{Pair2}
 use Rattle.mw_expr.specs.declared.expr.Pair2.TheVariants.{And, Or, Xor, Add, Sub, Same, Differ, Less}
 use Rattle.mw_expr.specs.declared.shape.Shape.{Shape}
-use Rattle.mw_expr.specs.Tree.{Tree, element, constant, complement, pair, choice, part, join, widened, memory, Trees, none, more}
+use Rattle.mw_expr.specs.Tree.{Tree, element, constant, complement, pair, choice, part, join, widened, memory, Trees}
+use Rattle.mw_expr.specs.Tree.{none, more}
 use Rattle.mw_expr.specs.Widths.{width, total_width}
 
 -- what a sign makes of two words of w bits; sums and differences are modulo 2 ^ w, and words are compared as numbers
@@ -29,7 +31,8 @@ abbrev mutual
   value s values image (constant number w) = number
   value s values image (complement e) = words.complement (bits s e) (value s values image e)
   value s values image (pair sign a b) = pair_value sign (bits s a) (value s values image a) (value s values image b)
-  value s values image (choice c a b) = if value s values image c == 1 then value s values image a else value s values image b
+  value s values image (choice c a b) =
+      if value s values image c == 1 then value s values image a else value s values image b
   value s values image (part e high low) = words.part low (high - low + 1) (value s values image e)
   value s values image (join parts) = joined s values image parts
   value s values image (widened e w) = value s values image e

@@ -3,7 +3,9 @@ ghost use Rattle.std.specs.Prelude.{◌≡◌, ◌^◌, nat_lt, Option, Some, tr
 ghost use Rattle.mw_expr.specs.Widths.{width_if, part_width};
 ghost use Rattle.mw_expr.specs.Placed.{placed, parts_of, named, constant, pair, choice, part, join, widened, memory};
 ghost use Rattle.mw_expr.specs.declared.shape.Shape.{Shape};
-ghost use Rattle.mw_expr.specs.Faults.{named_width, same_width, seen_pair, seen_choice, beside, within_32, seen_width, seen_total, pair_breaks, is_other, part_breaks, is_past, deep, below, broken, unknown, is_improper, too_wide, faults, faults_in, first_fault};
+ghost use Rattle.mw_expr.specs.Faults.{named_width, same_width, seen_pair, seen_choice, beside, within_32, seen_width};
+ghost use Rattle.mw_expr.specs.Faults.{seen_total, pair_breaks, is_other, part_breaks, is_past, deep, below, broken};
+ghost use Rattle.mw_expr.specs.Faults.{unknown, is_improper, too_wide, faults, faults_in, first_fault};
 ghost use Rattle.mw_base.specs.FirstFaults.{first_in};
 
 use crate::expr::Pair2;
@@ -274,7 +276,8 @@ fn check_pair(
     first: &mut Option<TextFault>,
 ) -> Option<u8>
     ensures width { result ≡ seen_width shape.now (pair op token (placed a.now) (placed b.now)) }
-    ensures faults { first.new ≡ first_in first.old (faults shape.now levels (pair op token (placed a.now) (placed b.now))) }
+    ensures faults { first.new
+        ≡ first_in first.old (faults shape.now levels (pair op token (placed a.now) (placed b.now))) }
 {
     note_deep(first, levels, token);
     let one = check(shape, below(levels), a, first);
@@ -296,7 +299,8 @@ fn check_choice(
 ) -> Option<u8>
     ensures width { result ≡ seen_width shape.now (choice token (placed condition.now) (placed a.now) (placed b.now)) }
     ensures faults { first.new
-        ≡ first_in first.old (faults shape.now levels (choice token (placed condition.now) (placed a.now) (placed b.now))) }
+        ≡ first_in first.old
+        (faults shape.now levels (choice token (placed condition.now) (placed a.now) (placed b.now))) }
 {
     note_deep(first, levels, token);
     let chosen_by = check(shape, below(levels), condition, first);
@@ -336,7 +340,8 @@ fn check_join(
     first: &mut Option<TextFault>,
 ) -> Option<u8>
     ensures width { result ≡ seen_width shape.now (join token (parts_of (map placed parts.now))) }
-    ensures faults { first.new ≡ first_in first.old (faults shape.now levels (join token (parts_of (map placed parts.now)))) }
+    ensures faults { first.new
+        ≡ first_in first.old (faults shape.now levels (join token (parts_of (map placed parts.now)))) }
 {
     note_deep(first, levels, token);
     let whole = check_parts(shape, below(levels), parts, first);

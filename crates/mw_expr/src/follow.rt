@@ -2,7 +2,10 @@
 ghost use Rattle.std.specs.Prelude.{◌≡◌, ℕ, List, ◌∷◌, ◌++◌, Option, option_map, IfOk};
 ghost use Rattle.mw_base.specs.Symbols.{spelled};
 ghost use Rattle.mw_expr.specs.Placed.{placed, opened, awaited, known};
-ghost use Rattle.mw_expr.specs.Grammar.{number_by_name, pair_of, name_begins, sign_begins, begins, colon_ends, parenthesis_ends, bracket_ends, comma_ends, brace_ends, pair_follows, choice_follows, sign_follows, number_in, name_follows, this_follows, operand_follows, follows, whole, ended, reduced};
+ghost use Rattle.mw_expr.specs.Grammar.{number_by_name, pair_of, name_begins, sign_begins, begins, colon_ends};
+ghost use Rattle.mw_expr.specs.Grammar.{parenthesis_ends, bracket_ends, comma_ends, brace_ends, pair_follows};
+ghost use Rattle.mw_expr.specs.Grammar.{choice_follows, sign_follows, number_in, name_follows, this_follows};
+ghost use Rattle.mw_expr.specs.Grammar.{operand_follows, follows, whole, ended, reduced};
 ghost use Rattle.mw_expr.specs.Words.{meaning_seen};
 
 use crate::expr::Pair2;
@@ -126,7 +129,8 @@ fn begins(
     symbol: Symbol,
     below: Open,
 ) -> Result<Option<State>, NoMemory>
-    ensures { IfOk result (λ next. option_map known next ≡ begins (meaning_seen meaning.entry) token symbol (opened below)) }
+    ensures { IfOk result
+        (λ next. option_map known next ≡ begins (meaning_seen meaning.entry) token symbol (opened below)) }
 {
     match symbol {
         Symbol::Name => Ok(name_begins(meaning, token, spelled(meaning.text, token), below)),

@@ -138,11 +138,14 @@ fn word_of(expr: &Expr, shape: &Shape, values: &[u32], memory: &[u32]) -> Word
 /// The word that the parts of a join with a width are, the first highest.
 #[cycle(words)]
 fn joined(parts: &[Expr], shape: &Shape, values: &[u32], memory: &[u32]) -> Word
-    requires wide { IsSome (join_width (count (trees_of (map view parts.now))) (total_width shape.now (trees_of (map view parts.now)))) }
+    requires wide { IsSome
+        (join_width (count (trees_of (map view parts.now))) (total_width shape.now (trees_of (map view parts.now)))) }
     requires values_fit { AreWords shape.now.widths values.now }
     requires memory_fits { read_memory (trees_of (map view parts.now)) ≡ true → IsImage shape.now memory.now }
     ensures exact { result.value ≡ joined shape.now values.now memory.now (trees_of (map view parts.now)) }
-    ensures wide { join_width (count (trees_of (map view parts.now))) (total_width shape.now (trees_of (map view parts.now))) ≡ Some result.width }
+    ensures wide { join_width (count (trees_of (map view parts.now)))
+        (total_width shape.now (trees_of (map view parts.now)))
+        ≡ Some result.width }
     ensures below { result.value < 2 ^ result.width }
     ensures range { (1 ≤ result.width) × (result.width ≤ 32) }
 {

@@ -1,7 +1,10 @@
 // Widths.
-ghost use Rattle.std.specs.Prelude.{◌≡◌, ℕ, ◌+◌, ◌≤◌, ◌^◌, ◌&&◌, List, Option, Some, nat_le, nat_lt, IfSome, IfOk, length, map, slice_get};
+ghost use Rattle.std.specs.Prelude.{◌≡◌, ℕ, ◌+◌, ◌≤◌, ◌^◌, ◌&&◌, List, Option, Some, nat_le, nat_lt, IfSome, IfOk};
+ghost use Rattle.std.specs.Prelude.{length, map, slice_get};
 ghost use Rattle.mw_expr.specs.Tree.{view, trees_of};
-ghost use Rattle.mw_expr.specs.Widths.{width_if, element_width, width_after, pair_width, choice_width, part_width, count, join_width, total_width, width, is_known, are_known, depth, deepest, width_of};
+ghost use Rattle.mw_expr.specs.Widths.{width_if, element_width, width_after, pair_width, choice_width, part_width};
+ghost use Rattle.mw_expr.specs.Widths.{count, join_width, total_width, width, is_known, are_known, depth, deepest};
+ghost use Rattle.mw_expr.specs.Widths.{width_of};
 
 use crate::expr::{Expr, Pair2};
 use crate::shape::Shape;
@@ -105,7 +108,8 @@ pub fn width_by_rules(expr: &Expr, shape: &Shape) -> Option<u8>
 #[cycle(widths)]
 #[tactic(auto, using(crate::proofs::Trees::count_view))]
 fn joined_width(parts: &[Expr], shape: &Shape) -> Option<u8>
-    ensures exact { result ≡ join_width (count (trees_of (map view parts.now))) (total_width shape.now (trees_of (map view parts.now))) }
+    ensures exact { result
+        ≡ join_width (count (trees_of (map view parts.now))) (total_width shape.now (trees_of (map view parts.now))) }
     ensures range { IfSome result (λ w. (1 ≤ w) × (w ≤ 32)) }
 {
     let mut whole = 0u8;

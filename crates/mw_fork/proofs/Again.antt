@@ -156,8 +156,9 @@ within_again job f boundary kept way last nodes again here budget within =
     (subst (ComparisonsAreWithin job boundary nodes) (again.met last here) within))
 
 -- an operation that stops the comparison is one of the list of the case given last
-pub found_over : (job : Job) (f : Fork) (boundary nodes : ℕ) (kept : List Kept) (way : Way) (stop : RunStop) (number : ℕ)
-    (prefix : List Decided) (word j : ℕ) → HasMetAgain job f boundary kept way → f.budget.nodes ≡ nodes
+pub found_over : (job : Job) (f : Fork) (boundary nodes : ℕ) (kept : List Kept) (way : Way) (stop : RunStop)
+    (number : ℕ) (prefix : List Decided) (word j : ℕ)
+    → HasMetAgain job f boundary kept way → f.budget.nodes ≡ nodes
     → ComparisonStops job boundary nodes (met_of way) stop
     → (number ≡ boundary) × (prefix ≡ met_of way) × (stop ≡ Over word j)
     → (number ≡ f.boundary) × (f.at ≡ At prefix) × AreNodesOver job number f.budget.nodes prefix word j

@@ -86,7 +86,8 @@ pub start_begun : (job : Job) (number : ℕ) (space : Space) (elements : List �
     → begin.values ≡ map (own_value space.terms space.words given) (free_elements job (numbered job number))
     → IsImage space.memory begin.memory → FitImage space.terms given space.memory.reads begin.memory
     → HasEntries space.terms space.words given begin.env
-    → (start : Start) × IsChosen job number begin start × StandsForStart job number (ground_in space elements) given start
+    → (start : Start) × IsChosen job number begin start
+    × StandsForStart job number (ground_in space elements) given start
 start_begun job number space elements given begin is ground values image fit entries =
     let g = ground_in space elements in
     let outside = environment_of job.board g.table g.words ground.cycles given begin.env ground.space.workspace.table

@@ -41,7 +41,8 @@ pub within_none : (job : Job) (number nodes : ℕ) → AreDecidedWithin job numb
 within_none job number nodes before k rest same = absurd (no_item before k rest same)
 
 -- one more is
-pub within_more : (job : Job) (number nodes : ℕ) (bits : List Decided) (k : Decided) → AreDecidedWithin job number nodes bits
+pub within_more : (job : Job) (number nodes : ℕ) (bits : List Decided) (k : Decided)
+    → AreDecidedWithin job number nodes bits
     → IsDecidedWithin job number nodes bits k → AreDecidedWithin job number nodes (bits ++ k ∷ [])
 within_more job number nodes bits k are is before other rest same =
     elim (last_or_before bits before rest k other same) [

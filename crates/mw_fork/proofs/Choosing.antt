@@ -166,7 +166,8 @@ choice job number g bits path low high kind term feasible starts cases asked by_
 -- ---- bits that are kept
 
 -- one bit more is kept
-kept_one : (job : Job) (number : ℕ) (before : List Decided) (xs : List Kept) (k : Kept) → AreKeptBits job number before xs
+kept_one : (job : Job) (number : ℕ) (before : List Decided) (xs : List Kept) (k : Kept)
+    → AreKeptBits job number before xs
     → IsKeptBit job number (before ++ bits_of xs) k → AreKeptBits job number before (xs ++ k ∷ [])
 kept_one job number before [] k are is =
     (subst (λ (bits : List Decided). IsKeptBit job number bits k) (append-nil before) is, tt)

@@ -28,7 +28,8 @@ use Rattle.mw_fork.specs.CasePaths.{IsCasePath, OnPath}
 use Rattle.mw_fork.specs.declared.elements.Space.{Space}
 use Rattle.mw_fork.specs.declared.way.Kept.{Kept}
 use Rattle.mw_fork.specs.OnWay.{IsOnWay, ground_in}
-use Rattle.mw_fork.specs.Starts.{GoesTo, Ground, HaveValues, IsGround, StandsForStart, course_of, origin_of, registers_of}
+use Rattle.mw_fork.specs.Starts.{GoesTo, Ground, HaveValues, IsGround, StandsForStart, course_of, origin_of}
+use Rattle.mw_fork.specs.Starts.{registers_of}
 use Rattle.mw_fork.specs.Ways.{Way, met_of}
 use Rattle.mw_fork.proofs.Boundaries.{space_later}
 use Rattle.mw_fork.proofs.Runs.{board_elements}

@@ -99,7 +99,8 @@ pub has_given : (job : Job) (f : Fork) (boundary given : ℕ) (budget : Budget) 
     → fork_of boundary budget given stage kept ≡ f → IsForkOf job f → LeadOn stage kept from
     → (AreKeptBits job boundary [] from
     → (elements : List ℕ) × HasMetCase job boundary elements from cycles late way run step)
-    → (AreKeptBits job boundary [] from → AreDecidedWithin job boundary budget.nodes (met_of way)) → HasGiven job f way cycles late
+    → (AreKeptBits job boundary [] from → AreDecidedWithin job boundary budget.nodes (met_of way))
+    → HasGiven job f way cycles late
 has_given job f boundary given budget stage kept from way cycles late run step valid is of lead traced within =
     let before = subst (IsForkOf job) (sym is) of in
     let leads = lead job boundary valid before.there before.keeps in

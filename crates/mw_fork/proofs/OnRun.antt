@@ -235,8 +235,9 @@ StaysOnRun job old new before after count =
     → count < (numbered job number).bound → IsOnRun job number elements from new after count
 
 -- it asks where it was
-pub asked_at : (job : Job) (at : Progress) (t : Table) (words : List Word) (m : Memory) (o : Symbolic) (registers : List ℕ)
-    (turn : Turn) (kind : DecidedKind) (term : ℕ) → turn ≡ Ask kind term → IsTurned job at t words m o registers turn
+pub asked_at : (job : Job) (at : Progress) (t : Table) (words : List Word) (m : Memory) (o : Symbolic)
+    (registers : List ℕ) (turn : Turn) (kind : DecidedKind) (term : ℕ)
+    → turn ≡ Ask kind term → IsTurned job at t words m o registers turn
     → o.place ≡ at
 asked_at job at t words m o registers turn kind term asks turned =
     (subst (λ (next : Turn). IsTurned job at t words m o registers next) asks turned).1

@@ -88,8 +88,8 @@ next_of job cycles segment start bits value ends next =
 -- ---- the scene of a start
 
 -- a step is seen in the scene of a start
-seen_in : (job : Job) (number : ℕ) (g : Ground) (given : Given) (start : Start) → StandsForStart job number g given start
-    → IsSeen g.table g.words g.memory given (scene_of start)
+seen_in : (job : Job) (number : ℕ) (g : Ground) (given : Given) (start : Start)
+    → StandsForStart job number g given start → IsSeen g.table g.words g.memory given (scene_of start)
 seen_in job number g given start one = record {
   image = one.board.fits.image;
   fit = one.board.fits.fit;

@@ -139,7 +139,8 @@ none_turned k (Some rest) is = absurd cc
 none_turned k None is = (refl, not_turned k.other (turned k ∷ []) is)
 
 -- nothing that is feasible comes behind bits of which none can be turned
-none_behind : (job : Job) (number : ℕ) (kept : List Kept) (before rest : List Decided) → AreKeptBits job number before kept
+none_behind : (job : Job) (number : ℕ) (kept : List Kept) (before rest : List Decided)
+    → AreKeptBits job number before kept
     → turned_last kept ≡ None → IsBefore (bits_of kept) rest → IsFeasiblePrefix job number (before ++ rest) → ⊥
 none_behind job number [] before rest are none b f = none_after rest b
 none_behind job number (k ∷ kept) before [] are none b f = none_before (bits_of (k ∷ kept)) b
@@ -402,8 +403,8 @@ run_on job number front now bit way now_is bits =
 
 -- no case that is to come behind the last one comes before the bits of a run that began with those turned
 none_at_turned : (job : Job) (number : ℕ) (kept now : List Kept) (way : Way) (other : List Decided)
-    → AreKeptBits job number [] kept → turned_last kept ≡ Some now → IsWayFrom job number now way → IsCase job number other
-    → IsBefore (bits_of kept) other → ¬ IsBefore other (met_of way)
+    → AreKeptBits job number [] kept → turned_last kept ≡ Some now → IsWayFrom job number now way
+    → IsCase job number other → IsBefore (bits_of kept) other → ¬ IsBefore other (met_of way)
 none_at_turned job number kept now way other are turns bits case come before =
     let t = turned_at kept now turns in
     none_between job number t.front t.bit t.behind bits.more [] other

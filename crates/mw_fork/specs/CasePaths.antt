@@ -21,8 +21,8 @@ OnPath job number g path Holds =
 -- a path of these decided bits: it is true exactly where they are the first of the start's case
 pub record IsCasePath (job : Job) (number : ℕ) (g : Ground) (bits : List Decided) (path : Function) : Type 0 where
   pub first : OnPath job number g path (λ start. AreFirst bits (case_of job start))
-  pub only : (given : Given) (start : Start) → StandsForStart job number g given start → AreFirst bits (case_of job start)
-      → path given ≡ true
+  pub only : (given : Given) (start : Start)
+      → StandsForStart job number g given start → AreFirst bits (case_of job start) → path given ≡ true
 
 -- where the path is true, the next decided bit of the start's case is of this kind, and has the value of this term
 abbrev pub IsNextOfCase : Job → (number : ℕ) → Ground → (bits : List Decided) → (path : Function) → DecidedKind

@@ -262,7 +262,8 @@ CyclesStop job nodes old new before stop =
     → before.board.place.cycle < (numbered job number).bound → StopsBy job number nodes from new stop
 
 -- it stops at the bit that was asked for
-abbrev pub SettlesNot : Job → (nodes : ℕ) → (old new : Way) → (before : Run) → DecidedKind → (term : ℕ) → RunStop → Type 0
+abbrev pub SettlesNot : Job → (nodes : ℕ) → (old new : Way) → (before : Run) → DecidedKind → (term : ℕ)
+    → RunStop → Type 0
 SettlesNot job nodes old new before kind term stop =
     (number : ℕ) (elements : List ℕ) (from : List Kept)
     → IsTurnedOnRun job number elements from old before before.board.place.cycle (Ask kind term)

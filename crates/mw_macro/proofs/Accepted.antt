@@ -6,7 +6,8 @@ use Rattle.std.specs.List.{list_all}
 use Rattle.std.proofs.lemmas.Bool.{and_parts}
 use Rattle.std.proofs.lemmas.Bool.Decides.{nat_tests}
 use Rattle.mw_base.specs.declared.cause.Cause.{Cause}
-use Rattle.mw_base.specs.declared.cause.Cause.TheVariants.{TooMany, Twice, ValueTooWide, UnknownElement, WidthsDiffer, TooDeep}
+use Rattle.mw_base.specs.declared.cause.Cause.TheVariants.{TooMany, Twice, ValueTooWide, UnknownElement, WidthsDiffer}
+use Rattle.mw_base.specs.declared.cause.Cause.TheVariants.{TooDeep}
 use Rattle.mw_expr.specs.declared.shape.Shape.{Shape}
 use Rattle.mw_expr.specs.Tree.{Tree}
 use Rattle.mw_expr.specs.Widths.{width, is_known, depth, width_at, width_of}
@@ -15,7 +16,8 @@ use Rattle.mw_macro.specs.declared.rules.Fault.TheVariants.{NoElement, OtherWidt
 use Rattle.mw_macro.specs.Counts.{count, total}
 use Rattle.mw_macro.specs.Machine.{Description}
 use Rattle.mw_macro.specs.Right.{IsBetween, is_asked, is_right, are_right, nesting, nesting_in, AcceptedAreRight}
-use Rattle.mw_macro.specs.Rules.{is_within, is_within_limits, are_free, are_ranges, is_width, is_fault, has_fault, have_fault, is_free_of, refusal_of}
+use Rattle.mw_macro.specs.Rules.{is_within, is_within_limits, are_free, are_ranges, is_width, is_fault, has_fault}
+use Rattle.mw_macro.specs.Rules.{have_fault, is_free_of, refusal_of}
 use Rattle.mw_macro.specs.Statements.{Act, assign, write, put, take_in, choose, Acts, nothing, next}
 
 -- a rule before others, where none is broken

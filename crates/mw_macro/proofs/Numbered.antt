@@ -4,17 +4,20 @@ use Rattle.std.specs.Prelude.{Bool, true, false, drop, take, if◌then◌else◌
 use Rattle.mw_expr.specs.declared.expr.Pair2.{Pair2}
 use Rattle.mw_expr.specs.declared.expr.Pair2.TheVariants as sign
 use Rattle.mw_expr.specs.declared.shape.Shape.{Shape}
-use Rattle.mw_expr.specs.Tree.{element, constant, complement, pair, choice, part, join, widened, memory, Trees, none, more}
+use Rattle.mw_expr.specs.Tree.{element, constant, complement, pair, choice, part, join, widened, memory, Trees, none}
+use Rattle.mw_expr.specs.Tree.{more}
 use Rattle.mw_expr.specs.Values.{bits}
 use Rattle.mw_macro.specs.ExpressionWords.{expression_words, words_of_parts, sign_words, beside_words, join_words}
 use Rattle.mw_macro.specs.Laws.{ExpressionsAreNumbered, ActsAreNumbered, StepsAreNumbered}
 use Rattle.mw_macro.specs.Statements.{Act, assign, write, put, take_in, choose, nothing, next}
-use Rattle.mw_macro.specs.StepWords.{Underway, Come, then_by, act_words, acts_words, condition_words, with_list, with_zeros, begun_words, step_words}
+use Rattle.mw_macro.specs.StepWords.{Underway, Come, then_by, act_words, acts_words, condition_words, with_list}
+use Rattle.mw_macro.specs.StepWords.{with_zeros, begun_words, step_words}
 use Rattle.mw_term.specs.declared.op.Op.TheVariants.{Not, And, Or, Xor, Eq, Lt, Ite, Join}
 use Rattle.mw_term.specs.MemoryRead.{Held}
 use Rattle.mw_term.specs.Numbered.{IsNumbered}
 use Rattle.mw_term.specs.WordList.{WordList, with_constant, with_word}
-use Rattle.mw_term.proofs.Numbered.{numbered_constant, numbered_word, numbered_sum, numbered_part, numbered_zeros_above, numbered_input, numbered_read}
+use Rattle.mw_term.proofs.Numbered.{numbered_constant, numbered_word, numbered_sum, numbered_part, numbered_zeros_above}
+use Rattle.mw_term.proofs.Numbered.{numbered_input, numbered_read}
 
 -- ---- expressions
 

@@ -1,5 +1,6 @@
 -- A machine whose parts are right is accepted.
-use Rattle.std.proofs.Common.{◌≡◌, ℕ, zero, suc, ◌+◌, ◌-◌, ◌<◌, ◌≤◌, List, [], ◌∷◌, length, Bool, true, false, refl, ap, arith}
+use Rattle.std.proofs.Common.{◌≡◌, ℕ, zero, suc, ◌+◌, ◌-◌, ◌<◌, ◌≤◌, List, [], ◌∷◌, length, Bool, true, false, refl, ap}
+use Rattle.std.proofs.Common.{arith}
 use Rattle.std.specs.Prelude.{Option, Some, None, Ok, Err, not, ◌||◌, nat_le, nat_lt, ◌==◌, if◌then◌else◌, slice_index}
 use Rattle.std.specs.List.{list_all}
 use Rattle.std.proofs.Math.Nat.{le-max_left, le-max_right}
@@ -12,7 +13,8 @@ use Rattle.mw_expr.specs.Widths.{width, is_known, depth, width_at, width_of}
 use Rattle.mw_macro.specs.declared.rules.Fault.{Fault}
 use Rattle.mw_macro.specs.declared.rules.Fault.TheVariants.{NoElement, OtherWidth, TooNested}
 use Rattle.mw_macro.specs.Right.{IsBetween, is_asked, is_right, are_right, nesting, nesting_in, RightAreAccepted}
-use Rattle.mw_macro.specs.Rules.{is_within, is_within_limits, are_ranges, is_width, is_fault, is_target_fault, is_input_fault, is_nesting_fault, has_fault, have_fault, is_free_of, refusal_of}
+use Rattle.mw_macro.specs.Rules.{is_within, is_within_limits, are_ranges, is_width, is_fault, is_target_fault}
+use Rattle.mw_macro.specs.Rules.{is_input_fault, is_nesting_fault, has_fault, have_fault, is_free_of, refusal_of}
 use Rattle.mw_macro.specs.Statements.{Act, assign, write, put, take_in, choose, Acts, nothing, next}
 use Rattle.mw_macro.proofs.Accepted.{both}
 

@@ -1,5 +1,6 @@
 -- Steps of described machines.
-use Rattle.std.proofs.Common.{◌≡◌, ℕ, zero, suc, ◌+◌, ◌-◌, ◌<◌, ◌≤◌, ◌^◌, List, [], ◌∷◌, ◌++◌, length, drop, take, Bool, true, false, refl, ap, arith, ◌∙◌, append_assoc}
+use Rattle.std.proofs.Common.{◌≡◌, ℕ, zero, suc, ◌+◌, ◌-◌, ◌<◌, ◌≤◌, ◌^◌, List, [], ◌∷◌, ◌++◌, length, drop, take, Bool}
+use Rattle.std.proofs.Common.{true, false, refl, ap, arith, ◌∙◌, append_assoc}
 use Rattle.std.specs.Prelude.{replicate, slice_index, slice_set, ◌==◌, if◌then◌else◌}
 use Rattle.std.proofs.Math.Seq.{take-nil}
 use Rattle.std.proofs.lemmas.List.{append-nil, length-take-le}
@@ -33,9 +34,11 @@ mutual
       → after s inputs first act (behind earlier x) ≡ behind earlier (after s inputs first act x)
   act_behind s inputs first (assign target e) earlier x = refl
   act_behind s inputs first (write address e) earlier x = refl
-  act_behind s inputs first (put e) earlier x = ap (λ es. now x.values x.memory es x.taken) (append_assoc earlier x.events _)
+  act_behind s inputs first (put e) earlier x =
+      ap (λ es. now x.values x.memory es x.taken) (append_assoc earlier x.events _)
   act_behind s inputs first (take_in target) earlier x =
-      ap (λ es. now (slice_set x.values target (slice_index inputs (first + x.taken))) x.memory es (x.taken + 1)) (append_assoc earlier x.events _)
+      ap (λ es. now (slice_set x.values target (slice_index inputs (first + x.taken))) x.memory es (x.taken + 1))
+      (append_assoc earlier x.events _)
   act_behind s inputs first (choose condition one other) earlier x =
       either_behind (value s x.values x.memory condition == 1) earlier _ _ _ _
       (acts_behind s inputs first one earlier x) (acts_behind s inputs first other earlier x)
@@ -44,7 +47,8 @@ mutual
       → after_all s inputs first all (behind earlier x) ≡ behind earlier (after_all s inputs first all x)
   acts_behind s inputs first nothing earlier x = refl
   acts_behind s inputs first (next act rest) earlier x =
-      ap (after_all s inputs first rest) (act_behind s inputs first act earlier x) ∙ acts_behind s inputs first rest earlier (after s inputs first act x)
+      ap (after_all s inputs first rest) (act_behind s inputs first act earlier x)
+      ∙ acts_behind s inputs first rest earlier (after s inputs first act x)
 
 -- ---- the laws
 
@@ -53,7 +57,8 @@ either_few : (test : Bool) (n p q : ℕ) (a b : Now) → length a.events ≤ n +
 either_few true n p q a b one other = omega arith
 either_few false n p q a b one other = omega arith
 
-either_taken : (test : Bool) (n t : ℕ) (a b : Now) → inputs_in a.events + t ≡ n + a.taken → inputs_in b.events + t ≡ n + b.taken
+either_taken : (test : Bool) (n t : ℕ) (a b : Now)
+    → inputs_in a.events + t ≡ n + a.taken → inputs_in b.events + t ≡ n + b.taken
     → inputs_in (if test then a else b).events + t ≡ n + (if test then a else b).taken
 either_taken true n t a b one other = one
 either_taken false n t a b one other = other
@@ -74,10 +79,11 @@ mutual
   act_few s inputs first (assign target e) x = omega arith
   act_few s inputs first (write address e) x = omega arith
   act_few s inputs first (put e) x = omega (arith, length-append x.events (Out (value s x.values x.memory e) ∷ []))
-  act_few s inputs first (take_in target) x = omega (arith, length-append x.events (Taken (slice_index inputs (first + x.taken)) ∷ []))
+  act_few s inputs first (take_in target) x =
+      omega (arith, length-append x.events (Taken (slice_index inputs (first + x.taken)) ∷ []))
   act_few s inputs first (choose condition one other) x =
-      either_few (value s x.values x.memory condition == 1) (length x.events) (total Events one) (total Events other) _ _
-      (acts_few s inputs first one x) (acts_few s inputs first other x)
+      either_few (value s x.values x.memory condition == 1) (length x.events) (total Events one)
+      (total Events other) _ _ (acts_few s inputs first one x) (acts_few s inputs first other x)
 
   acts_few : (s : Shape) (inputs : List ℕ) (first : ℕ) (all : Acts) (x : Now)
       → length (after_all s inputs first all x).events ≤ length x.events + total Events all
@@ -87,28 +93,33 @@ mutual
 
 pub events_are_few : EventsAreFew
 unfolding step_of
-events_are_few m state request inputs first = omega (arith, acts_few m.shape inputs first m.acts (begun m state request))
+events_are_few m state request inputs first =
+    omega (arith, acts_few m.shape inputs first m.acts (begun m state request))
 
 mutual
   act_taken : (s : Shape) (inputs : List ℕ) (first : ℕ) (act : Act) (x : Now)
-      → inputs_in (after s inputs first act x).events + x.taken ≡ inputs_in x.events + (after s inputs first act x).taken
+      → inputs_in (after s inputs first act x).events + x.taken
+      ≡ inputs_in x.events + (after s inputs first act x).taken
   act_taken s inputs first (assign target e) x = refl
   act_taken s inputs first (write address e) x = refl
   act_taken s inputs first (put e) x = ap (λ n. n + x.taken) (inputs_out x.events (value s x.values x.memory e))
-  act_taken s inputs first (take_in target) x = omega (arith, inputs_taken x.events (slice_index inputs (first + x.taken)))
+  act_taken s inputs first (take_in target) x =
+      omega (arith, inputs_taken x.events (slice_index inputs (first + x.taken)))
   act_taken s inputs first (choose condition one other) x =
       either_taken (value s x.values x.memory condition == 1) (inputs_in x.events) x.taken _ _
       (acts_taken s inputs first one x) (acts_taken s inputs first other x)
 
   acts_taken : (s : Shape) (inputs : List ℕ) (first : ℕ) (all : Acts) (x : Now)
-      → inputs_in (after_all s inputs first all x).events + x.taken ≡ inputs_in x.events + (after_all s inputs first all x).taken
+      → inputs_in (after_all s inputs first all x).events + x.taken
+      ≡ inputs_in x.events + (after_all s inputs first all x).taken
   acts_taken s inputs first nothing x = refl
   acts_taken s inputs first (next act rest) x =
       omega (arith, act_taken s inputs first act x, acts_taken s inputs first rest (after s inputs first act x))
 
 pub taken_are_events : TakenAreEvents
 unfolding step_of
-taken_are_events m state request inputs first = omega (arith, acts_taken m.shape inputs first m.acts (begun m state request))
+taken_are_events m state request inputs first =
+    omega (arith, acts_taken m.shape inputs first m.acts (begun m state request))
 
 -- an input from a number on
 input_from : (inputs : List ℕ) (first n : ℕ) → slice_index inputs (first + n) ≡ slice_index (drop first inputs) n
@@ -134,17 +145,20 @@ mutual
       rw from_zero (input_from inputs first x.taken) in
       ap (λ v. now (slice_set x.values target v) x.memory (x.events ++ Taken v ∷ []) (x.taken + 1)) same
   act_from s inputs first (choose condition one other) x =
-      either_same (value s x.values x.memory condition == 1) _ _ _ _ (acts_from s inputs first one x) (acts_from s inputs first other x)
+      either_same (value s x.values x.memory condition == 1) _ _ _ _ (acts_from s inputs first one x)
+      (acts_from s inputs first other x)
 
   acts_from : (s : Shape) (inputs : List ℕ) (first : ℕ) (all : Acts) (x : Now)
       → after_all s inputs first all x ≡ after_all s (drop first inputs) 0 all x
   acts_from s inputs first nothing x = refl
   acts_from s inputs first (next act rest) x =
-      acts_from s inputs first rest (after s inputs first act x) ∙ ap (after_all s (drop first inputs) 0 rest) (act_from s inputs first act x)
+      acts_from s inputs first rest (after s inputs first act x)
+      ∙ ap (after_all s (drop first inputs) 0 rest) (act_from s inputs first act x)
 
 pub steps_take_from_first : StepsTakeFromFirst
 unfolding step_of
-steps_take_from_first m state request inputs first = ap (ended m) (acts_from m.shape inputs first m.acts (begun m state request))
+steps_take_from_first m state request inputs first =
+    ap (ended m) (acts_from m.shape inputs first m.acts (begun m state request))
 
 -- ---- what a step begins with
 
@@ -194,8 +208,8 @@ begun_words m state request formed fits =
 
 -- ---- what a step leaves
 
-pub leaves : (m : Description) (state : MachineState) (request : Bool) (inputs : List ℕ) (first : ℕ) (earlier : List Event)
-    (values memory : List ℕ) (events : List Event) (taken : ℕ)
+pub leaves : (m : Description) (state : MachineState) (request : Bool) (inputs : List ℕ) (first : ℕ)
+    (earlier : List Event) (values memory : List ℕ) (events : List Event) (taken : ℕ)
     → now values memory events taken
     ≡ after_all m.shape inputs first m.acts (now (begun m state request).values state.memory earlier 0)
     → Leaves m state request inputs first earlier (take m.registers values) memory events taken
@@ -216,11 +230,12 @@ take_index (suc n) (x ∷ rest) zero below = refl
 take_index (suc n) (x ∷ rest) (suc i) below = take_index n rest i (omega arith)
 
 -- the state that a step leaves fits
-pub left_fits : (m : Description) (values memory : List ℕ) → IsFormed m → AreWords m.shape.widths values → IsImage m.shape memory
-    → Fits m (kept (take m.registers values) memory)
+pub left_fits : (m : Description) (values memory : List ℕ) → IsFormed m → AreWords m.shape.widths values
+    → IsImage m.shape memory → Fits m (kept (take m.registers values) memory)
 left_fits m values memory formed fits image = record {
   count = length-take-le m.registers values (omega (arith, fits.count, formed.elements, formed.registers));
-  registers = λ i below. rw (take_index m.registers values i below) (fits.each i (omega (arith, formed.elements, formed.registers)));
+  registers = λ i below.
+      rw (take_index m.registers values i below) (fits.each i (omega (arith, formed.elements, formed.registers)));
   size = image.size;
   memory = image.words;
 }

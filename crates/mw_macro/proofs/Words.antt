@@ -1,6 +1,7 @@
 -- Lists of words.
 use Rattle.std.proofs.Common.{◌≡◌, ℕ, zero, suc, ◌<◌, ◌^◌, List, [], ◌∷◌, length, refl, arith, ◌∙◌}
-use Rattle.std.specs.Prelude.{replicate, slice_index, slice_set, nat_le, Bool, true, Result, Ok, Err, IsOk, IfOk, IsTrue, ◌↔◌}
+use Rattle.std.specs.Prelude.{replicate, slice_index, slice_set, nat_le, Bool, true, Result, Ok, Err, IsOk, IfOk}
+use Rattle.std.specs.Prelude.{IsTrue, ◌↔◌}
 use Rattle.std.proofs.lemmas.Bool.{and_parts}
 use Rattle.std.proofs.lemmas.Bool.Decides.{nat_tests}
 use Rattle.std.proofs.lemmas.List.{length-replicate}
@@ -54,7 +55,8 @@ fits_if m s words count size registers memory = (
 )
 
 -- a word put into a list is where it was put, and nowhere else
-pub set_below : (xs : List ℕ) (n v i most : ℕ) → slice_index xs i < most → v < most → slice_index (slice_set xs n v) i < most
+pub set_below : (xs : List ℕ) (n v i most : ℕ)
+    → slice_index xs i < most → v < most → slice_index (slice_set xs n v) i < most
 set_below [] n v i most old new = old
 set_below (x ∷ rest) zero v zero most old new = new
 set_below (x ∷ rest) zero v (suc i) most old new = old
@@ -85,7 +87,8 @@ set_words widths values n v fits below = record {
   each = λ i inside. set_each values widths n v i (fits.each i inside) below;
 }
 
-pub set_image : (s : Shape) (image : List ℕ) (n v : ℕ) → IsImage s image → v < 2 ^ s.word → IsImage s (slice_set image n v)
+pub set_image : (s : Shape) (image : List ℕ) (n v : ℕ)
+    → IsImage s image → v < 2 ^ s.word → IsImage s (slice_set image n v)
 set_image s image n v fits below = record {
   size = length_set image n v ∙ fits.size;
   words = λ i. set_below image n v i (2 ^ s.word) (fits.words i) below;

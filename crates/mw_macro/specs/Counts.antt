@@ -1,6 +1,7 @@
 -- How much there is in a machine of what its limits count.
 use Rattle.std.specs.Prelude.{ℕ, ◌+◌}
-use Rattle.mw_expr.specs.Tree.{Tree, element, constant, complement, pair, choice, part, join, widened, memory, Trees, none, more}
+use Rattle.mw_expr.specs.Tree.{Tree, element, constant, complement, pair, choice, part, join, widened, memory, Trees}
+use Rattle.mw_expr.specs.Tree.{none, more}
 use Rattle.mw_macro.specs.declared.counts.Counted.{Counted}
 use Rattle.mw_macro.specs.declared.counts.Counted.TheVariants.{Statements, Reads, Events}
 use Rattle.mw_macro.specs.Machine.{Description}
@@ -53,7 +54,8 @@ abbrev mutual
   count what (write address e) = own what (write address e)
   count what (put e) = own what (put e)
   count what (take_in target) = own what (take_in target)
-  count what (choose condition first second) = own what (choose condition first second) + (total what first + total what second)
+  count what (choose condition first second) =
+      own what (choose condition first second) + (total what first + total what second)
 
   -- what some acts count for together
   pub total : Counted → Acts → ℕ

@@ -1,5 +1,6 @@
 -- One step of a described machine: what a macro instruction means on numbers.
-use Rattle.std.specs.Prelude.{◌≡◌, ℕ, ◌+◌, ◌-◌, ◌<◌, ◌^◌, List, [], ◌∷◌, ◌++◌, length, replicate, take, Bool, ◌==◌, if◌then◌else◌, slice_index, slice_set}
+use Rattle.std.specs.Prelude.{◌≡◌, ℕ, ◌+◌, ◌-◌, ◌<◌, ◌^◌, List, [], ◌∷◌, ◌++◌, length, replicate, take, Bool, ◌==◌}
+use Rattle.std.specs.Prelude.{if◌then◌else◌, slice_index, slice_set}
 use Rattle.mw_base.specs.Words as words
 use Rattle.mw_base.specs.declared.event.Event.{Event}
 use Rattle.mw_base.specs.declared.event.Event.TheVariants.{Out, Taken}
@@ -9,8 +10,8 @@ use Rattle.mw_macro.specs.Machine.{Description}
 use Rattle.mw_macro.specs.State.{MachineState}
 use Rattle.mw_macro.specs.Statements.{Act, assign, write, put, take_in, choose, Acts, nothing, next}
 
--- what there is between two statements: the values of the registers, the temporaries and the request, the memory's words, the events so
--- far, and how many inputs were taken
+-- what there is between two statements: the values of the registers, the temporaries and the request, the memory's
+-- words, the events so far, and how many inputs were taken
 pub record Now : Type 0 where
   pub values : List ℕ
   pub memory : List ℕ
@@ -37,15 +38,18 @@ put_out v old = now old.values old.memory (old.events ++ Out v ∷ []) old.taken
 abbrev pub taken_in : (target v : ℕ) → Now → Now
 taken_in target v old = now (slice_set old.values target v) old.memory (old.events ++ Taken v ∷ []) (old.taken + 1)
 
--- what there is after an act, where the inputs of this step are those from the number first on; past their end they are 0
+-- what there is after an act, where the inputs of this step are those from the number first on; past their
+-- end they are 0
 abbrev mutual
   pub after : Shape → (inputs : List ℕ) (first : ℕ) → Act → Now → Now
   after s inputs first (assign target e) old = assigned target (value s old.values old.memory e) old
-  after s inputs first (write address e) old = written (value s old.values old.memory address) (value s old.values old.memory e) old
+  after s inputs first (write address e) old =
+      written (value s old.values old.memory address) (value s old.values old.memory e) old
   after s inputs first (put e) old = put_out (value s old.values old.memory e) old
   after s inputs first (take_in target) old = taken_in target (slice_index inputs (first + old.taken)) old
   after s inputs first (choose condition one other) old =
-      if value s old.values old.memory condition == 1 then after_all s inputs first one old else after_all s inputs first other old
+      if value s old.values old.memory condition == 1 then after_all s inputs first one old
+      else after_all s inputs first other old
 
   -- and after acts, each in its turn
   pub after_all : Shape → (inputs : List ℕ) (first : ℕ) → Acts → Now → Now
@@ -84,8 +88,8 @@ abbrev pub kept : (registers memory : List ℕ) → MachineState
 kept registers memory = record { registers = registers; memory = memory }
 
 -- a step leaves these registers and this memory, its events behind earlier ones, and has taken so many inputs
-pub record Leaves (m : Description) (before : MachineState) (request : Bool) (inputs : List ℕ) (first : ℕ) (earlier : List Event)
-    (registers memory : List ℕ) (now_events : List Event) (inputs_taken : ℕ) : Type 0 where
+pub record Leaves (m : Description) (before : MachineState) (request : Bool) (inputs : List ℕ) (first : ℕ)
+    (earlier : List Event) (registers memory : List ℕ) (now_events : List Event) (inputs_taken : ℕ) : Type 0 where
   pub state : kept registers memory ≡ (step_of m before request inputs first).state
   pub events : now_events ≡ earlier ++ (step_of m before request inputs first).events
   pub taken : inputs_taken ≡ (step_of m before request inputs first).taken

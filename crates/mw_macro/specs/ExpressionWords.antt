@@ -3,11 +3,13 @@ use Rattle.std.specs.Prelude.{ℕ, ◌+◌, ◌-◌, List, [], ◌∷◌, slice_
 use Rattle.mw_expr.specs.declared.expr.Pair2.{Pair2}
 use Rattle.mw_expr.specs.declared.expr.Pair2.TheVariants as sign
 use Rattle.mw_expr.specs.declared.shape.Shape.{Shape}
-use Rattle.mw_expr.specs.Tree.{Tree, element, constant, complement, pair, choice, part, join, widened, memory, Trees, none, more}
+use Rattle.mw_expr.specs.Tree.{Tree, element, constant, complement, pair, choice, part, join, widened, memory, Trees}
+use Rattle.mw_expr.specs.Tree.{none, more}
 use Rattle.mw_expr.specs.Values.{bits}
 use Rattle.mw_term.specs.declared.op.Op.TheVariants.{And, Or, Xor, Eq, Lt, Ite, Join}
 use Rattle.mw_term.specs.MemoryRead.{Held}
-use Rattle.mw_term.specs.WordList.{WordList, Ended, AllEnded, ended, with_constant, with_word, with_complement, with_sum, with_part, with_zeros_above, memory_read_words}
+use Rattle.mw_term.specs.WordList.{WordList, Ended, AllEnded, ended, with_constant, with_word, with_complement}
+use Rattle.mw_term.specs.WordList.{with_sum, with_part, with_zeros_above, memory_read_words}
 
 -- A difference is the sum of the first term, the complement of the second and a carry in of 1.
 abbrev pub difference_words : (a b : ℕ) → WordList → Ended

@@ -5,8 +5,8 @@ use Rattle.mw_base.specs.Names.{is_spelled_as_name}
 use Rattle.mw_expr.specs.declared.shape.Shape.{Shape}
 use Rattle.mw_macro.specs.Statements.{Acts}
 
--- The names of the registers and then of the temporaries, how many registers there are, the widths of the elements, which are the
--- registers, the temporaries and, last, the request, with those of the memory, and what a step does.
+-- The names of the registers and then of the temporaries, how many registers there are, the widths of the elements,
+-- which are the registers, the temporaries and, last, the request, with those of the memory, and what a step does.
 pub record Description : Type 0 where
   pub names : List (List ℕ)
   pub registers : ℕ

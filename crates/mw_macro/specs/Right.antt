@@ -1,5 +1,6 @@
 -- What the statements of an accepted machine have.
-use Rattle.std.specs.Prelude.{◌≡◌, ℕ, ◌+◌, ◌-◌, ◌<◌, ◌≤◌, max, length, Bool, true, false, ◌&&◌, nat_lt, ◌==◌, None, Result, Ok, Err, slice_index}
+use Rattle.std.specs.Prelude.{◌≡◌, ℕ, ◌+◌, ◌-◌, ◌<◌, ◌≤◌, max, length, Bool, true, false, ◌&&◌, nat_lt, ◌==◌, None}
+use Rattle.std.specs.Prelude.{Result, Ok, Err, slice_index}
 use Rattle.mw_base.specs.declared.cause.Cause.{Cause}
 use Rattle.mw_expr.specs.declared.shape.Shape.{Shape}
 use Rattle.mw_expr.specs.Widths.{width_of}
@@ -17,11 +18,13 @@ is_asked asked (Err cause) = false
 -- each target is a register or a temporary, and each expression has the width that its place asks for
 abbrev mutual
   pub is_right : Shape → Act → Bool
-  is_right s (assign target e) = nat_lt (target + 1) (length s.widths) && is_asked (slice_index s.widths target) (width_of s e)
+  is_right s (assign target e) =
+      nat_lt (target + 1) (length s.widths) && is_asked (slice_index s.widths target) (width_of s e)
   is_right s (write address e) = is_asked s.address (width_of s address) && is_asked s.word (width_of s e)
   is_right s (put e) = is_asked s.word (width_of s e)
   is_right s (take_in target) = nat_lt (target + 1) (length s.widths) && (s.word == slice_index s.widths target)
-  is_right s (choose condition first second) = is_asked 1 (width_of s condition) && (are_right s first && are_right s second)
+  is_right s (choose condition first second) =
+      is_asked 1 (width_of s condition) && (are_right s first && are_right s second)
 
   -- each of some acts is right
   pub are_right : Shape → Acts → Bool
@@ -43,8 +46,8 @@ abbrev mutual
 abbrev pub IsBetween : (low n high : ℕ) → Type 0
 IsBetween low n high = (low ≤ n) × (n ≤ high)
 
--- what an accepted machine has: counts within their limits, names that are free and short, widths in their ranges, and statements that
--- are right, with at most 64 `if`s in one another
+-- what an accepted machine has: counts within their limits, names that are free and short, widths in their ranges, and
+-- statements that are right, with at most 64 `if`s in one another
 pub record IsRight (m : Description) : Type 0 where
   pub registers : m.registers ≤ 128
   pub temporaries : length m.names - m.registers ≤ 128

@@ -1,8 +1,10 @@
 -- The rules of described machines.
-use Rattle.std.specs.Prelude.{ℕ, ◌+◌, ◌-◌, List, [], ◌∷◌, codes, length, Bool, true, false, not, ◌&&◌, ◌||◌, nat_le, nat_lt, ◌==◌, bytes_eq, if◌then◌else◌, Option, Some, None, slice_index}
+use Rattle.std.specs.Prelude.{ℕ, ◌+◌, ◌-◌, List, [], ◌∷◌, codes, length, Bool, true, false, not, ◌&&◌, ◌||◌, nat_le}
+use Rattle.std.specs.Prelude.{nat_lt, ◌==◌, bytes_eq, if◌then◌else◌, Option, Some, None, slice_index}
 use Rattle.std.specs.List.{list_all, list_any}
 use Rattle.mw_base.specs.declared.cause.Cause.{Cause}
-use Rattle.mw_base.specs.declared.cause.Cause.TheVariants.{TooMany, Twice, ValueTooWide, UnknownElement, WidthsDiffer, TooDeep}
+use Rattle.mw_base.specs.declared.cause.Cause.TheVariants.{TooMany, Twice, ValueTooWide, UnknownElement, WidthsDiffer}
+use Rattle.mw_base.specs.declared.cause.Cause.TheVariants.{TooDeep}
 use Rattle.mw_expr.specs.declared.shape.Shape.{Shape}
 use Rattle.mw_expr.specs.Tree.{Tree}
 use Rattle.mw_expr.specs.Widths.{width, is_known, depth}
@@ -48,7 +50,8 @@ abbrev pub is_width : (asked : ℕ) → Option ℕ → Bool
 is_width asked None = false
 is_width asked (Some w) = w == asked
 
--- an expression names an element that there isn't; or its width isn't the one asked for, however deep it is; or it is more than 64 deep
+-- an expression names an element that there isn't; or its width isn't the one asked for, however deep it is; or it is
+-- more than 64 deep
 abbrev pub is_fault : Fault → Shape → (asked : ℕ) → Tree → Bool
 is_fault NoElement s asked e = not (is_known (length s.widths) e)
 is_fault OtherWidth s asked e = not (is_width asked (width s e))
@@ -69,19 +72,21 @@ abbrev pub is_nesting_fault : Fault → (levels : ℕ) → Bool
 is_nesting_fault TooNested levels = not (nat_le 1 levels)
 is_nesting_fault fault levels = false
 
--- An act has this fault, in itself or in its lists, where so many `if`s may stand in one another. An assigned value is as wide as its
--- target; what is written, put out or taken has the width of the memory's words, and an address that of its addresses; a condition has
--- one bit.
+-- An act has this fault, in itself or in its lists, where so many `if`s may stand in one another. An assigned value is
+-- as wide as its target; what is written, put out or taken has the width of the memory's words, and an address that of
+-- its addresses; a condition has one bit.
 abbrev mutual
   pub has_fault : Fault → Shape → (levels : ℕ) → Act → Bool
-  has_fault fault s levels (assign target e) = is_target_fault fault s target || is_fault fault s (slice_index s.widths target) e
+  has_fault fault s levels (assign target e) =
+      is_target_fault fault s target || is_fault fault s (slice_index s.widths target) e
   has_fault fault s levels (write address e) = is_fault fault s s.address address || is_fault fault s s.word e
   has_fault fault s levels (put e) = is_fault fault s s.word e
   has_fault fault s levels (take_in target) =
       is_target_fault fault s target || is_input_fault fault (slice_index s.widths target) s.word
   has_fault fault s levels (choose condition first second) =
       is_nesting_fault fault levels
-      || (is_fault fault s 1 condition || (have_fault fault s (levels - 1) first || have_fault fault s (levels - 1) second))
+      || (is_fault fault s 1 condition
+      || (have_fault fault s (levels - 1) first || have_fault fault s (levels - 1) second))
 
   -- one of some acts has this fault
   pub have_fault : Fault → Shape → (levels : ℕ) → Acts → Bool

@@ -1,5 +1,6 @@
 -- The words of a described step, along the branch bits that are known.
-use Rattle.std.specs.Prelude.{ℕ, ◌+◌, ◌-◌, List, [], ◌∷◌, ◌++◌, length, drop, take, Bool, if◌then◌else◌, slice_set, Option, Some, None}
+use Rattle.std.specs.Prelude.{ℕ, ◌+◌, ◌-◌, List, [], ◌∷◌, ◌++◌, length, drop, take, Bool, if◌then◌else◌, slice_set}
+use Rattle.std.specs.Prelude.{Option, Some, None}
 use Rattle.mw_expr.specs.declared.shape.Shape.{Shape}
 use Rattle.mw_expr.specs.Tree.{Tree}
 use Rattle.mw_macro.specs.ExpressionWords.{expression_words}
@@ -10,8 +11,8 @@ use Rattle.mw_term.specs.declared.event.SymEvent.TheVariants.{Out, Taken}
 use Rattle.mw_term.specs.MemoryRead.{Held, held}
 use Rattle.mw_term.specs.WordList.{WordList, Ended, AllEnded, with_constant, with_input}
 
--- What there is between two statements: the list, the terms of the elements, the machine's writes, the events so far, and
--- how many inputs were taken.
+-- What there is between two statements: the list, the terms of the elements, the machine's writes, the events so far,
+-- and how many inputs were taken.
 pub record Underway : Type 0 where
   pub list : WordList
   pub elements : List ℕ
@@ -24,8 +25,8 @@ abbrev pub underway : WordList → (elements : List ℕ) → (writes : List Held
 underway list elements writes events taken =
     record { list = list; elements = elements; writes = writes; events = events; taken = taken }
 
--- How far a step has come: what there is, the bits that it hasn't met, and where an `if` wants another one, the term of its
--- condition.
+-- How far a step has come: what there is, the bits that it hasn't met, and where an `if` wants another one, the term of
+-- its condition.
 pub record Come : Type 0 where
   pub to : Underway
   pub bits : List Bool
@@ -67,7 +68,8 @@ put_words s e u =
 abbrev pub take_words : Shape → (target : ℕ) → Underway → Underway
 take_words s target u =
     let input = with_input u.taken s.word u.list in
-    underway input.list (slice_set u.elements target input.term) u.writes (u.events ++ Taken input.term ∷ []) (u.taken + 1)
+    underway input.list (slice_set u.elements target input.term) u.writes
+    (u.events ++ Taken input.term ∷ []) (u.taken + 1)
 
 -- the words of a condition, and the term at which they end
 abbrev pub condition_words : Shape → Tree → Underway → Ended
@@ -115,13 +117,14 @@ with_zeros (w ∷ widths) terms l =
     let zero = with_constant 0 w l in
     with_zeros widths (terms ++ zero.term ∷ []) zero.list
 
--- The temporaries are 0, and the last element is the request; nothing was written yet on this side but these writes, there
--- is no event, and no input was taken.
+-- The temporaries are 0, and the last element is the request; nothing was written yet on this side but these writes,
+-- there is no event, and no input was taken.
 abbrev pub begun_words : Description → (registers : List ℕ) → (request : ℕ) → (writes : List Held) → WordList → Underway
 begun_words d registers request writes l =
     let elements = with_zeros (take (length d.names - d.registers) (drop d.registers d.shape.widths)) registers l in
     underway elements.list (elements.terms ++ request ∷ []) writes [] 0
 
 -- The words of a step from terms for the registers and the request, along its branch bits.
-unfoldable pub step_words : Description → (registers : List ℕ) → (request : ℕ) → (writes : List Held) → List Bool → WordList → Come
+unfoldable pub step_words : Description → (registers : List ℕ) → (request : ℕ) → (writes : List Held) → List Bool
+    → WordList → Come
 step_words d registers request writes bits l = acts_words d.shape d.acts bits (begun_words d registers request writes l)

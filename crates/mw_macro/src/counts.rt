@@ -99,8 +99,8 @@ fn left(what: Counted, statement: &Statement, budget: u32) -> u32
     }
 }
 
-/// What is left of a budget after some statements. Where nothing is left the rest isn't visited, so a count of statements goes no deeper
-/// than its budget.
+/// What is left of a budget after some statements. Where nothing is left the rest isn't visited, so a count of
+/// statements goes no deeper than its budget.
 #[cycle(counts)]
 pub(crate) fn left_after(what: Counted, statements: &[Statement], budget: u32) -> u32
     ensures { result ≡ budget - total what (acts statements.now) }

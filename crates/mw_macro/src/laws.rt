@@ -3,9 +3,9 @@ ghost use Rattle.mw_macro.specs.Laws.{ActsAreNumbered, EventsAreFew, Expressions
 ghost use Rattle.mw_macro.specs.Laws.{StepsTakeFromFirst, TakenAreEvents};
 ghost use Rattle.mw_macro.specs.Right.{AcceptedAreRight, RightAreAccepted};
 
-/// The law of accepted machines: they are those whose elements, statements and memory reads are few, whose names are free and
-/// short, whose widths are in range, where each target is a register or a temporary and each expression has the width that
-/// its place asks for, and where at most 64 `if`s stand in one another.
+/// The law of accepted machines: they are those whose elements, statements and memory reads are few, whose names are
+/// free and short, whose widths are in range, where each target is a register or a temporary and each expression has
+/// the width that its place asks for, and where at most 64 `if`s stand in one another.
 pub fn accepted_are_right()
     ensures right { AcceptedAreRight }
     ensures accepted { RightAreAccepted }
@@ -21,7 +21,8 @@ pub fn taken_are_events()
     ensures { TakenAreEvents }
 {}
 
-/// The law of first inputs: a step that takes inputs from a number on is the step from 0 over the inputs without those before it.
+/// The law of first inputs: a step that takes inputs from a number on is the step from 0 over the inputs without
+/// those before it.
 pub fn steps_take_from_first()
     ensures { StepsTakeFromFirst }
 {}

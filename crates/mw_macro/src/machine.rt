@@ -10,8 +10,8 @@ use crate::statement::Statement;
 use mw_base::{Cause, Name};
 use mw_expr::Shape;
 
-/// A described machine that keeps the rules of machines, seen by contracts as its description. `is_machine` says of it that it is formed
-/// as it has to be, accepted, and what it has for that.
+/// A described machine that keeps the rules of machines, seen by contracts as its description. `is_machine` says of it
+/// that it is formed as it has to be, accepted, and what it has for that.
 #[derive(Drop)]
 pub struct Machine {
     names: Vec<Name>,
@@ -28,18 +28,18 @@ impl Machine {
     ghost use Rattle.mw_macro.specs.Machine.{IsFormed};
     ghost use Rattle.mw_macro.specs.Rules.{refusal_of};
 
-    /// The machine with these elements and statements: the names of its registers and then of its temporaries, how many of them are
-    /// registers, the widths of the elements in this order, with 1 at the end for the request, and those of the memory. Each name is
-    /// spelled as one: a letter or `_`, and then letters, digits or `_`.
+    /// The machine with these elements and statements: the names of its registers and then of its temporaries, how many
+    /// of them are registers, the widths of the elements in this order, with 1 at the end for the request, and those of
+    /// the memory. Each name is spelled as one: a letter or `_`, and then letters, digits or `_`.
     ///
     /// # Errors
     ///
-    /// The least cause that holds: 14 where there are more than 128 registers, 128 temporaries, 4,096 statements or 256 memory reads;
-    /// 31 where a name is `mem`, `zext` or `request` or stands twice; 33 where a name is longer than 64 bytes, an element isn't of 1 to
-    /// 32 bits, an address of 1 to 16 or a word of 4 to 32; 40 where an expression names no element, or a target is neither a register
-    /// nor a temporary; 41 where the widths of operands break their rule, or an expression or a target hasn't the width that its
-    /// statement asks for; 42 where an expression is more than 64 deep, or an `if` stands inside 64 others. What was handed in is
-    /// dropped then.
+    /// The least cause that holds: 14 where there are more than 128 registers, 128 temporaries, 4,096 statements or 256
+    /// memory reads; 31 where a name is `mem`, `zext` or `request` or stands twice; 33 where a name is longer than 64
+    /// bytes, an element isn't of 1 to 32 bits, an address of 1 to 16 or a word of 4 to 32; 40 where an expression
+    /// names no element, or a target is neither a register nor a temporary; 41 where the widths of operands break their
+    /// rule, or an expression or a target hasn't the width that its statement asks for; 42 where an expression is more
+    /// than 64 deep, or an `if` stands inside 64 others. What was handed in is dropped then.
     pub fn new(
         names: Vec<Name>,
         registers: u32,
@@ -92,7 +92,8 @@ impl Machine {
         &self.statements
     }
 
-    /// The most events that a step makes: how many `put` and `take` statements it has, those in both lists of each `if` with them.
+    /// The most events that a step makes: how many `put` and `take` statements it has, those in both lists of each
+    /// `if` with them.
     pub fn most_events(&self) -> usize
         ensures { result ≡ most_events (description_of self.now) }
     {

@@ -1,5 +1,6 @@
 // One step of a described machine.
-ghost use Rattle.std.specs.Prelude.{◌≡◌, ℕ, ◌+◌, ◌-◌, ◌<◌, ◌≤◌, ◌^◌, List, [], ◌∷◌, ◌++◌, true, length, map, replicate, slice_index, slice_set, vec_len, vec_capacity};
+ghost use Rattle.std.specs.Prelude.{◌≡◌, ℕ, ◌+◌, ◌-◌, ◌<◌, ◌≤◌, ◌^◌, List, [], ◌∷◌, ◌++◌, true, length, map, replicate};
+ghost use Rattle.std.specs.Prelude.{slice_index, slice_set, vec_len, vec_capacity};
 ghost use Rattle.mw_base.specs.Words as words;
 ghost use Rattle.mw_base.specs.declared.event.Event.TheVariants.{Out, Taken};
 ghost use Rattle.mw_expr.specs.Tree.{view};
@@ -114,7 +115,8 @@ fn take_word(
     requires inputs_fit { (i : ℕ) → slice_index given.now.inputs.now i < 2 ^ given.now.shape.now.word }
     requires within { given.now.first + taken < 2 ^ 64 }
     requires room { vec_len events.old < vec_capacity events.old }
-    ensures exact { values.new ≡ slice_set values.old target (slice_index given.now.inputs.now (given.now.first + taken)) }
+    ensures exact { values.new
+        ≡ slice_set values.old target (slice_index given.now.inputs.now (given.now.first + taken)) }
     ensures fits { AreWords given.now.shape.now.widths values.new }
     ensures items { events.new.items
         ≡ events.old.items ++ Taken (slice_index given.now.inputs.now (given.now.first + taken)) ∷ [] }
@@ -232,7 +234,8 @@ fn end_with(values: &mut [u32], bit: bool)
     values[last] = u32::from(bit);
 }
 
-/// The values of the elements before the first statement: those of the registers, 0 for each temporary, and the request.
+/// The values of the elements before the first statement: those of the registers, 0 for each temporary, and
+/// the request.
 fn begin(values: &mut [u32], registers: &[u32], request: bool)
     requires { length registers.now + 1 ≤ length values.old }
     ensures { (n : ℕ) → length registers.now + n + 1 ≡ length values.old
@@ -270,13 +273,13 @@ fn step_over(
     taken
 }
 
-/// One step of a machine from a state, with a request bit, that takes the inputs from the number `first` on. It changes the state, appends
-/// the step's events, and answers how many inputs it took. It takes no memory. `temps` is empty, isn't touched and stays empty: the
-/// signature leaves room for a step that keeps its temporaries there, while this one has all elements in one list on the stack, from
-/// which an expression reads them.
+/// One step of a machine from a state, with a request bit, that takes the inputs from the number `first` on. It changes
+/// the state, appends the step's events, and answers how many inputs it took. It takes no memory. `temps` is empty,
+/// isn't touched and stays empty: the signature leaves room for a step that keeps its temporaries there, while this one
+/// has all elements in one list on the stack, from which an expression reads them.
 ///
-/// The state fits the machine and does so afterwards. An input is a word of the memory's width. There is room for `most_events` more
-/// events, and the numbers of the inputs that the step may take fit 64 bits.
+/// The state fits the machine and does so afterwards. An input is a word of the memory's width. There is room for
+/// `most_events` more events, and the numbers of the inputs that the step may take fit 64 bits.
 pub fn step(
     machine: &Machine,
     state: &mut MacState,

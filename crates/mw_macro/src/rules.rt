@@ -1,9 +1,12 @@
 // The rules of described machines.
-ghost use Rattle.std.specs.Prelude.{◌≡◌, ℕ, ◌≤◌, ◌<◌, ◌||◌, ◌-◌, nat_le, List, Option, None, Some, not, length, bytes_eq, slice_index};
+ghost use Rattle.std.specs.Prelude.{◌≡◌, ℕ, ◌≤◌, ◌<◌, ◌||◌, ◌-◌, nat_le, List, Option, None, Some, not, length};
+ghost use Rattle.std.specs.Prelude.{bytes_eq, slice_index};
 ghost use Rattle.std.specs.List.{list_all, list_any};
 ghost use Rattle.mw_expr.specs.Tree.{view};
 ghost use Rattle.mw_macro.specs.Machine.{described};
-ghost use Rattle.mw_macro.specs.Rules.{is_within_limits, is_reserved, are_free, is_within, are_short, are_ranges, is_width, is_fault, is_target_fault, is_input_fault, is_nesting_fault, has_fault, have_fault, refusal_of};
+ghost use Rattle.mw_macro.specs.Rules.{is_within_limits, is_reserved, are_free, is_within, are_short, are_ranges};
+ghost use Rattle.mw_macro.specs.Rules.{is_width, is_fault, is_target_fault, is_input_fault, is_nesting_fault};
+ghost use Rattle.mw_macro.specs.Rules.{has_fault, have_fault, refusal_of};
 ghost use Rattle.mw_macro.specs.Statements.{act_of, acts};
 
 use crate::counts::{Counted, left_after};
@@ -23,7 +26,8 @@ const MOST_READS: u32 = 256;
 /// How many `if`s may stand in one another.
 const MOST_LEVELS: u8 = 64;
 
-/// What may be wrong with statements, each with a cause of its own. More than one may hold of a machine, so each is asked apart.
+/// What may be wrong with statements, each with a cause of its own. More than one may hold of a machine, so each is
+/// asked apart.
 #[derive(Clone, Copy)]
 pub enum Fault {
     /// An expression names an element that there isn't, or a target is neither a register nor a temporary.
@@ -71,7 +75,8 @@ fn stands_in(names: &[Name], name: &[u8]) -> bool
     names.iter().any(|other| name == other.as_slice())
 }
 
-/// Whether no name is reserved, and none stands twice. A machine within its limits has few names, so each is compared with each.
+/// Whether no name is reserved, and none stands twice. A machine within its limits has few names, so each is
+/// compared with each.
 fn are_free(names: &[Name]) -> bool
     ensures { result ≡ are_free names.now }
 {
@@ -225,8 +230,9 @@ fn have_fault(fault: Fault, shape: &Shape, levels: u8, statements: &[Statement])
     false
 }
 
-/// The least cause for which a machine is refused, if there is one. The number of statements is asked first, so that later visits of
-/// statements in one another go no deeper than its limit; how deep a visit of an expression goes is the expression's own depth.
+/// The least cause for which a machine is refused, if there is one. The number of statements is asked first, so that
+/// later visits of statements in one another go no deeper than its limit; how deep a visit of an expression goes is the
+/// expression's own depth.
 #[tactic(auto, unfolding(crate::specs::Rules::refusal_of))]
 pub(crate) fn refusal(
     names: &[Name],

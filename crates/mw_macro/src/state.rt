@@ -36,7 +36,8 @@ fn has_bits(number: u32, bits: u8) -> bool
 fn have_widths(numbers: &[u32], widths: &[u8]) -> bool
     requires count { length numbers.now ≤ length widths.now }
     requires most { (i : ℕ) → i < length widths.now → slice_index widths.now i ≤ 32 }
-    ensures { IsTrue result ↔ ((i : ℕ) → i < length numbers.now → slice_index numbers.now i < 2 ^ slice_index widths.now i) }
+    ensures { IsTrue result
+        ↔ ((i : ℕ) → i < length numbers.now → slice_index numbers.now i < 2 ^ slice_index widths.now i) }
 {
     for (i, number) in numbers.iter().enumerate() {
         if !has_bits(*number, widths[i]) {
@@ -84,7 +85,8 @@ impl MacState {
         Ok(MacState::cleared(alloc, machine)?)
     }
 
-    /// Whether the state fits a machine: it has a word of its width for each register, and one for each address of the memory.
+    /// Whether the state fits a machine: it has a word of its width for each register, and one for each address
+    /// of the memory.
     pub fn fits(&self, machine: &Machine) -> bool
         ensures { IsTrue result ↔ Fits (description_of machine.now) self.now }
     {

@@ -1,5 +1,6 @@
 // The trusted edge: a folder of files and standard output. No contract tells what they hold.
-ghost use Rattle.std.specs.Prelude.{◌≡◌, ◌≤◌, ◌<◌, ◌↔◌, None, Some, IsNone, IsErr, IfOk, IfSome, OnOk, OnErr, length, take, []};
+ghost use Rattle.std.specs.Prelude.{◌≡◌, ◌≤◌, ◌<◌, ◌↔◌, None, Some, IsNone, IsErr, IfOk, IfSome, OnOk, OnErr, length};
+ghost use Rattle.std.specs.Prelude.{take, []};
 ghost use Rattle.mw_outside.specs.Causes.{Rose, one_more};
 ghost use Rattle.mw_outside.specs.Contents.{Gives, with_more};
 

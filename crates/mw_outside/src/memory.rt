@@ -1,5 +1,6 @@
 // Files and a sink in memory, with calls that fail by their numbers.
-ghost use Rattle.std.specs.Prelude.{◌≡◌, ◌≢◌, ◌<◌, ◌≤◌, ◌-◌, ◌++◌, ◌↔◌, ◌⊎◌, [], List, ℕ, Some, None, min, take, length, IsErr, IsNone, IfOk, IfSome, OnOk, OnErr};
+ghost use Rattle.std.specs.Prelude.{◌≡◌, ◌≢◌, ◌<◌, ◌≤◌, ◌-◌, ◌++◌, ◌↔◌, ◌⊎◌, [], List, ℕ, Some, None, min, take};
+ghost use Rattle.std.specs.Prelude.{length, IsErr, IsNone, IfOk, IfSome, OnOk, OnErr};
 ghost use Rattle.mw_outside.specs.Calls.{no_calls, FailsNext, after_call, with_fault};
 ghost use Rattle.mw_outside.specs.Causes.{Rose};
 ghost use Rattle.mw_outside.specs.Contents.{Gives};
@@ -57,7 +58,8 @@ impl Shelf for MemoryShelf {
 
     fn fetch(&mut self, name: &str, at: u64, into: &mut [u8]) -> Result<usize, Failed>
         ensures bound { IfOk result (λ n. n ≤ length into.old) }
-        ensures bytes { IfOk result (λ n. IfSome (contents self.old name.now) (λ bytes. Gives bytes at n into.old into.new)) }
+        ensures bytes { IfOk result
+            (λ n. IfSome (contents self.old name.now) (λ bytes. Gives bytes at n into.old into.new)) }
         ensures same { (other : List ℕ) → contents self.new other ≡ contents self.old other }
         ensures later { (calls_of self.old).faults ≤ (calls_of self.new).faults }
         ensures cause { OnErr result (Rose (calls_of self.old).faults (calls_of self.new).faults) }

@@ -60,8 +60,10 @@ pub fn read_whole<S: Shelf>(
 ) -> Result<Vec<u8>, ReadRefusal>
     ensures whole { IfOk result (λ v. IfSome (S.told shelf.old name.now) (λ bytes. v.items ≡ bytes)) }
     ensures short { IfOk result (λ v. length v.items ≤ 1048576) }
-    ensures fault { IsErrOf result ReadRefusal.Fault → Rose (S.faults shelf.old name.now) (S.faults shelf.new name.now) }
-    ensures too_long { IsErrOf result ReadRefusal.TooLong → IfSome (S.told shelf.old name.now) (λ bytes. 1048576 < length bytes) }
+    ensures fault { IsErrOf result ReadRefusal.Fault
+        → Rose (S.faults shelf.old name.now) (S.faults shelf.new name.now) }
+    ensures too_long { IsErrOf result ReadRefusal.TooLong
+        → IfSome (S.told shelf.old name.now) (λ bytes. 1048576 < length bytes) }
     ensures long { IfSome (S.told shelf.old name.now) (λ bytes. 1048576 < length bytes → IsErr result) }
     ensures same { (other : List ℕ) → S.told shelf.new other ≡ S.told shelf.old other }
     ensures later { (other : List ℕ) → S.faults shelf.old other ≤ S.faults shelf.new other }

@@ -22,7 +22,8 @@ pub trait Shelf {
     /// many. `Failed`: the count of this name rose.
     fn fetch(&mut self, name: &str, at: u64, into: &mut [u8]) -> Result<usize, Failed>
         ensures bound { IfOk result (λ n. n ≤ length into.old) }
-        ensures bytes { IfOk result (λ n. IfSome (told self.old name.now) (λ bytes. Gives bytes at n into.old into.new)) }
+        ensures bytes { IfOk result
+            (λ n. IfSome (told self.old name.now) (λ bytes. Gives bytes at n into.old into.new)) }
         ensures same { (other : List ℕ) → told self.new other ≡ told self.old other }
         ensures later { (other : List ℕ) → faults self.old other ≤ faults self.new other }
         ensures cause { OnErr result (Rose (faults self.old name.now) (faults self.new name.now)) };

@@ -1,5 +1,6 @@
 -- Boundaries of runs: each number has one time.
-use Rattle.std.proofs.Common.{◌≡◌, ℕ, ◌+◌, ◌-◌, ◌<◌, ◌≤◌, List, Option, Some, None, refl, sym, ap, ◌∙◌, subst, inl, inr, arith}
+use Rattle.std.proofs.Common.{◌≡◌, ℕ, ◌+◌, ◌-◌, ◌<◌, ◌≤◌, List, Option, Some, None, refl, sym, ap, ◌∙◌, subst, inl, inr}
+use Rattle.std.proofs.Common.{arith}
 use Rattle.std.proofs.lemmas.Bool.{cases_lt}
 use Rattle.mw_cycle.specs.Boundary.{is_named, first_boundary, IsNextBoundary, IsBoundary}
 use Rattle.mw_cycle.proofs.Times.{next_boundary, no_boundary}

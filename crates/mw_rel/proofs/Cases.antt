@@ -1,5 +1,6 @@
 -- The cases of two starts at one boundary are one, or part at a bit.
-use Rattle.std.proofs.Common.{◌≡◌, ◌⊎◌, inl, inr, ℕ, zero, suc, ◌+◌, ◌<◌, ◌≤◌, List, [], ◌∷◌, ◌++◌, Bool, true, false, Option, Some, None, option_map, refl, sym, ap, ap₂, ◌∙◌, subst, arith}
+use Rattle.std.proofs.Common.{◌≡◌, ◌⊎◌, inl, inr, ℕ, zero, suc, ◌+◌, ◌<◌, ◌≤◌, List, [], ◌∷◌, ◌++◌, Bool, true, false}
+use Rattle.std.proofs.Common.{Option, Some, None, option_map, refl, sym, ap, ap₂, ◌∙◌, subst, arith}
 use Rattle.std.specs.Prelude.{if◌then◌else◌, slice_index_or}
 use Rattle.std.specs.Option.{is_none, unwrap_or}
 use Rattle.std.proofs.lemmas.Bool.{cases_lt}
@@ -12,8 +13,11 @@ use Rattle.mw_cycle.specs.Environment.{given_at}
 use Rattle.mw_cycle.specs.Run.{run_of, longer_run}
 use Rattle.mw_cycle.specs.State.{Fits}
 use Rattle.mw_cycle.proofs.Times.{next_boundary}
-use Rattle.mw_rel.specs.Case.{bits_of_cycle, bits_of_cycles, end_of, cycles_of, is_late, bits_of_step, case_of, IsStartAt, IsCase}
-use Rattle.mw_rel.specs.CaseLaws.{AreTogether, KindsAreFixed, NoCaseGoesOn, OneCaseIsFirst, CasesHaveOneEnd, SegmentsHaveCycles, StartsGoTogether, HasNoBoundaryYet, SegmentsEnd, CasesBeginWithCycles}
+use Rattle.mw_rel.specs.Case.{bits_of_cycle, bits_of_cycles, end_of, cycles_of, is_late, bits_of_step, case_of}
+use Rattle.mw_rel.specs.Case.{IsStartAt, IsCase}
+use Rattle.mw_rel.specs.CaseLaws.{AreTogether, KindsAreFixed, NoCaseGoesOn, OneCaseIsFirst, CasesHaveOneEnd}
+use Rattle.mw_rel.specs.CaseLaws.{SegmentsHaveCycles, StartsGoTogether, HasNoBoundaryYet, SegmentsEnd}
+use Rattle.mw_rel.specs.CaseLaws.{CasesBeginWithCycles}
 use Rattle.mw_rel.specs.Certified.{board_run, at_cycle}
 use Rattle.mw_rel.specs.Free.{no_boundary, numbered}
 use Rattle.mw_rel.specs.Job.{Job, IsJob}
@@ -24,7 +28,8 @@ use Rattle.mw_rel.proofs.Branching.{steps_meet}
 use Rattle.mw_rel.proofs.Cycles.{run_fits}
 use Rattle.mw_rel.proofs.Deciding.{cycles_meet, cycles_together}
 use Rattle.mw_rel.proofs.Relations.{solved_at}
-use Rattle.mw_rel.proofs.Parting.{ArePart, Meet, meet_on, part_on, part_behind, part_apart, no_prefix, next_kind, one_before}
+use Rattle.mw_rel.proofs.Parting.{ArePart, Meet, meet_on, part_on, part_behind, part_apart, no_prefix, next_kind}
+use Rattle.mw_rel.proofs.Parting.{one_before}
 
 -- ---- the end of a segment
 

@@ -1,5 +1,6 @@
 -- When values and a memory are a choice at a boundary.
-use Rattle.std.proofs.Common.{◌≡◌, ◌↔◌, ℕ, zero, suc, ◌+◌, ◌<◌, ◌^◌, List, [], ◌∷◌, length, Bool, true, false, ◌&&◌, ◌==◌, nat_lt, refl, sym, ◌∙◌, subst, inl, inr, arith}
+use Rattle.std.proofs.Common.{◌≡◌, ◌↔◌, ℕ, zero, suc, ◌+◌, ◌<◌, ◌^◌, List, [], ◌∷◌, length, Bool, true, false, ◌&&◌}
+use Rattle.std.proofs.Common.{◌==◌, nat_lt, refl, sym, ◌∙◌, subst, inl, inr, arith}
 use Rattle.std.specs.Prelude.{IsTrue, filter, slice_index}
 use Rattle.std.specs.List.{list_all}
 use Rattle.std.proofs.lemmas.Bool.{and_parts, cases_lt, eqb-true, eq-eqb, ltb-true, lt-ltb}
@@ -70,7 +71,8 @@ given_if job boundary begin is =
     record {
       count = is.count;
       each = λ e below free.
-          let inside : free_before p e < length begin.values = omega (arith, is.count, place_within p e n free below) in (
+          let inside : free_before p e < length begin.values =
+          omega (arith, is.count, place_within p e n free below) in (
             inside,
             subst (λ k. slice_index begin.values (free_before p e) < 2 ^ slice_index widths k)
                 (place_is p n e free below) (is.values (free_before p e) inside),

@@ -1,5 +1,6 @@
 -- Each choice of free values and a memory gives a pair in relation.
-use Rattle.std.proofs.Common.{◌≡◌, ℕ, zero, suc, ◌+◌, ◌<◌, ◌≤◌, ◌^◌, List, [], ◌∷◌, map, drop, length, Bool, true, false, ◌==◌, refl, sym, ap, ◌∙◌, subst, add-one, inl, inr, arith}
+use Rattle.std.proofs.Common.{◌≡◌, ℕ, zero, suc, ◌+◌, ◌<◌, ◌≤◌, ◌^◌, List, [], ◌∷◌, map, drop, length, Bool, true}
+use Rattle.std.proofs.Common.{false, ◌==◌, refl, sym, ap, ◌∙◌, subst, add-one, inl, inr, arith}
 use Rattle.std.specs.Prelude.{All, slice_index, if◌then◌else◌}
 use Rattle.std.proofs.lemmas.Bool.{cases_lt, eqb-true}
 use Rattle.std.proofs.lemmas.List.{length-map}
@@ -52,8 +53,8 @@ one_more board values n few there is before =
       fits = still_fits board before.state e v before.fits valid below;
       set = λ other within. elim (cases_lt other n) [
         | inl earlier ↦
-            leaves board before.state e (element_of board other) v few valid (is_element board other (omega arith)) below
-            (apart board other n (λ same. absurd (omega arith)))
+            leaves board before.state e (element_of board other) v few valid (is_element board other (omega arith))
+            below (apart board other n (λ same. absurd (omega arith)))
             ∙ before.set other earlier
         | inr late ↦ (let same : other ≡ n = omega arith in
             subst (λ k. element board (with_value before.state e v) k ≡ slice_index values k) (sym same)
@@ -156,5 +157,6 @@ each_choice_gives_a_pair job n begin is there begins =
           (sym (set_values job state values begin.memory is words set)) refl
           (all_hold s places begin.memory values boundary.lines free.count (size ∙ sym free.count) each solved.lines
           solved.once solved.free)
-          (chosen_values job boundary begin places values size (λ e below. placed e (omega (arith, size, below))) each begins),
+          (chosen_values job boundary begin places values size
+          (λ e below. placed e (omega (arith, size, below))) each begins),
     )

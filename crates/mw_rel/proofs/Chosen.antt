@@ -1,5 +1,6 @@
 -- The pair that has the values of all elements is the one that was asked for.
-use Rattle.std.proofs.Common.{◌≡◌, ℕ, zero, suc, ◌+◌, ◌-◌, ◌<◌, ◌^◌, List, [], ◌∷◌, ◌++◌, map, drop, length, Bool, true, false, not, refl, sym, ap, ◌∙◌, subst, inl, inr, arith}
+use Rattle.std.proofs.Common.{◌≡◌, ℕ, zero, suc, ◌+◌, ◌-◌, ◌<◌, ◌^◌, List, [], ◌∷◌, ◌++◌, map, drop, length, Bool, true}
+use Rattle.std.proofs.Common.{false, not, refl, sym, ap, ◌∙◌, subst, inl, inr, arith}
 use Rattle.std.specs.Prelude.{All, filter, cond, slice_index, if◌then◌else◌}
 use Rattle.std.proofs.lemmas.Bool.{cases_lt}
 use Rattle.std.proofs.lemmas.List.{take_all}
@@ -101,8 +102,8 @@ pub chosen_values : (job : Job) (boundary : Boundary) (begin : Begin) (places va
     → length values ≡ length job.relation.shape.widths
     → ((e : ℕ) → e < length values → slice_index places e ≡ free_value (is_free boundary) begin.values e)
     → ((e : ℕ) → e < length values
-    → slice_index values e ≡ value_by job.relation.shape places begin.memory boundary.lines e) → IsBegin job boundary begin
-    → map (slice_index values) (free_elements job boundary) ≡ begin.values
+    → slice_index values e ≡ value_by job.relation.shape places begin.memory boundary.lines e)
+    → IsBegin job boundary begin → map (slice_index values) (free_elements job boundary) ≡ begin.values
 chosen_values job boundary begin places values size placed each is =
     let n = length job.relation.shape.widths in
     let p = is_free boundary in

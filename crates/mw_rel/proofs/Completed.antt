@@ -1,5 +1,6 @@
 -- The pair in relation that free values and a memory give.
-use Rattle.std.proofs.Common.{◌≡◌, ℕ, zero, suc, ◌+◌, ◌-◌, ◌<◌, ◌≤◌, List, [], ◌∷◌, ◌++◌, map, take, length, Bool, true, false, not, ◌==◌, refl, sym, ap, ap₂, ◌∙◌, subst, arith, inl, inr, length-append}
+use Rattle.std.proofs.Common.{◌≡◌, ℕ, zero, suc, ◌+◌, ◌-◌, ◌<◌, ◌≤◌, List, [], ◌∷◌, ◌++◌, map, take, length, Bool, true}
+use Rattle.std.proofs.Common.{false, not, ◌==◌, refl, sym, ap, ap₂, ◌∙◌, subst, arith, inl, inr, length-append}
 use Rattle.std.specs.Prelude.{All, filter, cond, slice_index, slice_index_or}
 use Rattle.std.specs.List.{list_all, list_any}
 use Rattle.std.proofs.lemmas.Bool.{and_parts, or_parts, cases_lt, eq-eqb}
@@ -57,7 +58,8 @@ pub place_within : (p : ℕ → Bool) (n most : ℕ) → p n ≡ true → n < mo
 place_within p n most is below =
     let rest = most - (n + 1) in
     let same : n + 1 + rest ≡ most = omega arith in
-    omega (arith, before_free p n is, subst (λ k. free_before p (n + 1) ≤ free_before p k) same (before_grows p (n + 1) rest))
+    omega
+    (arith, before_free p n is, subst (λ k. free_before p (n + 1) ≤ free_before p k) same (before_grows p (n + 1) rest))
 
 -- up to a free element there are no more than in all
 pub up_to : (p : ℕ → Bool) (n most : ℕ) → n < most → free_before p (n + 1) ≤ free_before p most
@@ -116,7 +118,8 @@ own_value s values memory (line ∷ rest) e none =
     rw parts.0 (own_value s values memory rest e parts.1)
 
 -- an element that none of some lines has on its left side is apart from each
-lefts_apart : (lines : List Line) (e : ℕ) → not (list_any (λ other. other == e) (map (λ (line : Line). line.left) lines)) ≡ true
+lefts_apart : (lines : List Line) (e : ℕ)
+    → not (list_any (λ other. other == e) (map (λ (line : Line). line.left) lines)) ≡ true
     → All (λ (line : Line). (e == line.left) ≡ false) lines
 lefts_apart [] e none = All-nil (λ (line : Line). (e == line.left) ≡ false)
 lefts_apart (line ∷ rest) e none =

@@ -1,5 +1,6 @@
 -- What a cycle keeps: each part of the state stays in its range.
-use Rattle.std.proofs.Common.{◌≡◌, ℕ, zero, suc, ◌+◌, ◌-◌, ◌*◌, ◌/◌, ◌%◌, ◌^◌, ◌<◌, ◌≤◌, List, [], ◌∷◌, length, Bool, true, false, ◌==◌, inl, inr, refl, ap, ◌∙◌, arith}
+use Rattle.std.proofs.Common.{◌≡◌, ℕ, zero, suc, ◌+◌, ◌-◌, ◌*◌, ◌/◌, ◌%◌, ◌^◌, ◌<◌, ◌≤◌, List, [], ◌∷◌, length, Bool}
+use Rattle.std.proofs.Common.{true, false, ◌==◌, inl, inr, refl, ap, ◌∙◌, arith}
 use Rattle.std.specs.Prelude.{Option, Some, None, nat_lt, if◌then◌else◌, slice_get, slice_index, slice_set}
 use Rattle.std.specs.List.{All}
 use Rattle.std.proofs.lemmas.Bool.{cases_lt, ltb-true}
@@ -25,7 +26,8 @@ use Rattle.mw_seq.specs.declared.instruction.Instruction.TheVariants as codes
 use Rattle.mw_seq.specs.declared.instruction.StackMove.{StackMove}
 use Rattle.mw_seq.specs.declared.instruction.StackMove.TheVariants.{Held, Pushed, Popped, Cleared}
 use Rattle.mw_seq.specs.Instruction.{instruction_of}
-use Rattle.mw_seq.specs.Sequencer.{Sequencer, IsSequencer, top, pushed, stack_after, counter_after, address, effect, next_of, step_of}
+use Rattle.mw_seq.specs.Sequencer.{Sequencer, IsSequencer, top, pushed, stack_after, counter_after, address, effect}
+use Rattle.mw_seq.specs.Sequencer.{next_of, step_of}
 use Rattle.mw_board.specs.declared.bit.DFrom.{DFrom}
 use Rattle.mw_board.specs.declared.bit.DFrom.TheVariants as sources
 use Rattle.mw_board.specs.declared.control.Control.{Control}
@@ -40,7 +42,8 @@ use Rattle.mw_alu.specs.declared.answer.AluOut.{AluOut}
 use Rattle.mw_cycle.specs.declared.microword.Microword.{Microword}
 use Rattle.mw_cycle.specs.declared.state.CycleIn.{CycleIn}
 use Rattle.mw_cycle.specs.Control.{in_field, value_at}
-use Rattle.mw_cycle.specs.Cycle.{microword_at, from_source, masked, operands_of, answer_of, direct_for, direct_address, next_address, pins_of, writes_of, flip_of, flips_from, edge, pass_of, state_after}
+use Rattle.mw_cycle.specs.Cycle.{microword_at, from_source, masked, operands_of, answer_of, direct_for, direct_address}
+use Rattle.mw_cycle.specs.Cycle.{next_address, pins_of, writes_of, flip_of, flips_from, edge, pass_of, state_after}
 use Rattle.mw_cycle.specs.Environment.{Environment, IsEnvironment, given_at}
 use Rattle.mw_cycle.specs.Microword.{points_of}
 use Rattle.mw_cycle.specs.Run.{run_of, longer_run}
@@ -152,7 +155,9 @@ record IsStack (depth : ℕ) (s : Sequencer) : Type 0 where
   sp : s.sp ≤ depth
 
 pushed_at : (depth : ℕ) (s : Sequencer) (room : Bool) → nat_lt s.sp depth ≡ room → IsSequencer depth s
-    → IsStack depth (if room then record s { stack = slice_set s.stack s.sp s.pc; sp = s.sp + 1 } else record s { stack = slice_set s.stack (depth - 1) s.pc })
+    → IsStack depth (if room then record s { stack = slice_set s.stack s.sp s.pc; sp = s.sp + 1 } else record s {
+      stack = slice_set s.stack (depth - 1) s.pc;
+    })
 pushed_at depth s true is fits = record {
   words = λ i. set_word s.stack s.sp s.pc i (2 ^ 12) fits.words fits.pc;
   size = set_length s.stack s.sp s.pc ∙ fits.size;
@@ -239,7 +244,8 @@ unfolding from_source
 source_below board word sources.Zero s given is fits input = pow_pos board.width
 source_below board word sources.Memory s given is fits input = fits.memory s.mar
 source_below board word sources.Ir s given is fits input = fits.ir
-source_below board word sources.Mar s given is fits input = short_below s.mar board.address board.width is.sizes.address_within fits.mar
+source_below board word sources.Mar s given is fits input =
+    short_below s.mar board.address board.width is.sizes.address_within fits.mar
 source_below board word sources.Input s given is fits input = input
 source_below board word (sources.Field n) s given is fits input = mod_below (in_field (slice_get board.fields n) word)
     (2 ^ board.width) (pow_pos board.width)

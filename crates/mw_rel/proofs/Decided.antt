@@ -1,5 +1,6 @@
 -- Free values and the memory decide a pair in relation.
-use Rattle.std.proofs.Common.{◌≡◌, ℕ, zero, suc, ◌<◌, ◌+◌, length, ◌-◌, List, [], ◌∷◌, Bool, true, false, not, ◌||◌, ◌==◌, refl, sym, ap, ap₂, ◌∙◌, subst}
+use Rattle.std.proofs.Common.{◌≡◌, ℕ, zero, suc, ◌<◌, ◌+◌, length, ◌-◌, List, [], ◌∷◌, Bool, true, false, not, ◌||◌}
+use Rattle.std.proofs.Common.{◌==◌, refl, sym, ap, ap₂, ◌∙◌, subst}
 use Rattle.std.specs.Prelude.{All, if◌then◌else◌, Some, slice_get, slice_index, unwrap_or}
 use Rattle.std.specs.List.{list_all, list_any}
 use Rattle.std.proofs.lemmas.Bool.{and_parts, eqb-true, eq-eqb}
@@ -8,7 +9,8 @@ use Rattle.std.proofs.lemmas.Grind.{same_number_lists}
 use Rattle.mw_base.specs.Words as words
 use Rattle.mw_board.specs.Elements.{element_count}
 use Rattle.mw_expr.specs.declared.shape.Shape.{Shape}
-use Rattle.mw_expr.specs.Tree.{Tree, element, constant, complement, pair, choice, part, join, widened, memory, Trees, none, more}
+use Rattle.mw_expr.specs.Tree.{Tree, element, constant, complement, pair, choice, part, join, widened, memory, Trees}
+use Rattle.mw_expr.specs.Tree.{none, more}
 use Rattle.mw_expr.specs.Values.{pair_value, bits, value, joined}
 use Rattle.mw_expr.specs.Widths.{total_width}
 use Rattle.mw_macro.specs.DescribedStep.{kept}
@@ -80,8 +82,8 @@ free_on other rest line e true is apart stands behind =
     absurd cc
 free_on other rest line e false is apart stands behind = rw is behind
 
-pub no_left : (lines : List Line) (line : Line) (e : ℕ) → reads_no_left lines line ≡ true → stands_in e line.right ≡ true
-    → list_any (λ l. l.left == e) lines ≡ false
+pub no_left : (lines : List Line) (line : Line) (e : ℕ)
+    → reads_no_left lines line ≡ true → stands_in e line.right ≡ true → list_any (λ l. l.left == e) lines ≡ false
 no_left [] line e free stands = refl
 no_left (other ∷ rest) line e free stands =
     let parts = and_parts _ _ free in
@@ -147,7 +149,8 @@ by_freedom : (job : Job) (boundary : Boundary) (p q : Pair) (e : ℕ) (left : Bo
     → AreFreelyAlike job boundary p q → list_all (reads_no_left boundary.lines) boundary.lines ≡ true
     → All (Holds job p) boundary.lines → All (Holds job q) boundary.lines
     → slice_index (values_of job.board p) e ≡ slice_index (values_of job.board q) e
-by_freedom job boundary p q e true is alike free one other = left_same job boundary p q boundary.lines e alike free one other is
+by_freedom job boundary p q e true is alike free one other =
+    left_same job boundary p q boundary.lines e alike free one other is
 by_freedom job boundary p q e false is alike free one other = alike.values e (ap not is)
 
 one_value : (job : Job) (n : ℕ) (p q : Pair) → IsJob job → n < length job.relation.boundaries

@@ -1,5 +1,6 @@
 -- What the decided bits of a cycle fix: the next address, and the stack pointer.
-use Rattle.std.proofs.Common.{◌≡◌, inl, ℕ, zero, suc, ◌+◌, ◌-◌, ◌*◌, ◌%◌, ◌^◌, ◌<◌, List, [], ◌∷◌, ◌++◌, Bool, true, false, not, ◌&&◌, ◌||◌, ◌==◌, refl, sym, ap, ap₂, ◌∙◌, subst, arith}
+use Rattle.std.proofs.Common.{◌≡◌, inl, ℕ, zero, suc, ◌+◌, ◌-◌, ◌*◌, ◌%◌, ◌^◌, ◌<◌, List, [], ◌∷◌, ◌++◌, Bool, true}
+use Rattle.std.proofs.Common.{false, not, ◌&&◌, ◌||◌, ◌==◌, refl, sym, ap, ap₂, ◌∙◌, subst, arith}
 use Rattle.std.specs.Prelude.{if◌then◌else◌, nat_lt, slice_set}
 use Rattle.mw_base.specs.Words.{bit_of, differ, num}
 use Rattle.mw_base.proofs.Carries.{low-suc}
@@ -17,8 +18,10 @@ use Rattle.mw_board.specs.Valid.{IsBoard}
 use Rattle.mw_term.specs.declared.decided.Decided.{Decided}
 use Rattle.mw_cycle.specs.declared.microword.Microword.{Microword}
 use Rattle.mw_cycle.specs.declared.state.CycleIn.{CycleIn}
-use Rattle.mw_cycle.specs.Cycle.{microword_at, answer_of, bit_value, pass_of, direct_address, next_address, edge, state_after}
-use Rattle.mw_cycle.specs.Decided.{decided, is_untested, decides_pass, decides_counter, address_bits, pass_bits, counter_bits, decided_of}
+use Rattle.mw_cycle.specs.Cycle.{microword_at, answer_of, bit_value, pass_of, direct_address, next_address, edge}
+use Rattle.mw_cycle.specs.Cycle.{state_after}
+use Rattle.mw_cycle.specs.Decided.{decided, is_untested, decides_pass, decides_counter, address_bits, pass_bits}
+use Rattle.mw_cycle.specs.Decided.{counter_bits, decided_of}
 use Rattle.mw_cycle.specs.Microword.{points_of}
 use Rattle.mw_cycle.specs.State.{BoardState}
 use Rattle.mw_cycle.proofs.Tested.{tests, counts, tests_is, counts_is, untested_same, uncounted_same}

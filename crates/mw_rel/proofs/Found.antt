@@ -1,5 +1,6 @@
 -- Where a difference is the first of the five, the start shows it.
-use Rattle.std.proofs.Common.{◌≡◌, ℕ, zero, suc, ◌+◌, List, [], ◌∷◌, take, Bool, true, false, not, ◌==◌, ◌≢◌, Some, None, find, refl, ap, ◌∙◌, subst, arith}
+use Rattle.std.proofs.Common.{◌≡◌, ℕ, zero, suc, ◌+◌, List, [], ◌∷◌, take, Bool, true, false, not, ◌==◌, ◌≢◌, Some}
+use Rattle.std.proofs.Common.{None, find, refl, ap, ◌∙◌, subst, arith}
 use Rattle.std.specs.Prelude.{All, slice_get}
 use Rattle.std.proofs.lemmas.Bool.{eqb-true, eq-eqb, false_from_ne_true}
 use Rattle.std.proofs.lemmas.List.Elements.{All-head, All-tail}
@@ -7,7 +8,8 @@ use Rattle.mw_cycle.specs.Run.{BoardRun}
 use Rattle.mw_macro.specs.DescribedStep.{Stepped}
 use Rattle.mw_rel.specs.declared.difference.Difference.{Difference}
 use Rattle.mw_rel.specs.declared.difference.Difference.TheVariants.{Late, Event, StackPointer, Element, Memory}
-use Rattle.mw_rel.specs.Differs.{same_event, unlike_from, first_unlike, difference_at, first_step, shown_at, shown_by, difference_of}
+use Rattle.mw_rel.specs.Differs.{same_event, unlike_from, first_unlike, difference_at, first_step, shown_at, shown_by}
+use Rattle.mw_rel.specs.Differs.{difference_of}
 use Rattle.mw_rel.specs.InRelation.{Pair, pair_of, Holds, line_holds}
 use Rattle.mw_rel.specs.Job.{Job}
 use Rattle.mw_rel.specs.Lines.{Line}

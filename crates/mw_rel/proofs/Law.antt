@@ -1,5 +1,6 @@
 -- The law of certification: a job is certified exactly where no start differs.
-use Rattle.std.proofs.Common.{◌≡◌, ℕ, zero, suc, ◌+◌, ◌<◌, ◌≤◌, ◌++◌, drop, Some, None, slice_index_or, false, refl, sym, ap, ap₂, ◌∙◌, subst, add-one, inl, inr, arith}
+use Rattle.std.proofs.Common.{◌≡◌, ℕ, zero, suc, ◌+◌, ◌<◌, ◌≤◌, ◌++◌, drop, Some, None, slice_index_or, false, refl}
+use Rattle.std.proofs.Common.{sym, ap, ap₂, ◌∙◌, subst, add-one, inl, inr, arith}
 use Rattle.std.proofs.lemmas.Bool.{cases_lt}
 use Rattle.mw_cycle.specs.Boundary.{IsBoundary}
 use Rattle.mw_cycle.specs.Environment.{rest_at}

@@ -5,7 +5,9 @@ use Rattle.std.proofs.lemmas.Option.{same_Some}
 use Rattle.mw_expr.specs.declared.shape.Shape.{Shape}
 use Rattle.mw_macro.specs.ExpressionWords.{expression_words}
 use Rattle.mw_macro.proofs.Numbered.{numbered_expression}
-use Rattle.mw_rel.specs.ComparisonWords.{Sides, Subject, event, Compared, compared_in, with_comparison, with_events, with_line, with_lines, with_memory, is_unlike, all_compared, comparison_words, ComparisonsAreNumbered}
+use Rattle.mw_rel.specs.ComparisonWords.{Sides, Subject, event, Compared, compared_in, with_comparison, with_events}
+use Rattle.mw_rel.specs.ComparisonWords.{with_line, with_lines, with_memory, is_unlike, all_compared, comparison_words}
+use Rattle.mw_rel.specs.ComparisonWords.{ComparisonsAreNumbered}
 use Rattle.mw_rel.specs.Free.{is_free}
 use Rattle.mw_rel.specs.Lines.{Line}
 use Rattle.mw_rel.specs.Relation.{Boundary}
@@ -16,7 +18,8 @@ use Rattle.mw_term.specs.declared.kinds.WordKind.TheVariants.{Element, Probe}
 use Rattle.mw_term.specs.declared.op.Op.TheVariants.{Eq}
 use Rattle.mw_term.specs.Numbered.{IsNumbered}
 use Rattle.mw_term.specs.WordList.{WordList, AllEnded, list_of, with_constant, with_variable, memory_read_words}
-use Rattle.mw_term.proofs.Numbered.{numbered_at_first, numbered_constant, numbered_variable, numbered_word, numbered_read}
+use Rattle.mw_term.proofs.Numbered.{numbered_at_first, numbered_constant, numbered_variable, numbered_word}
+use Rattle.mw_term.proofs.Numbered.{numbered_read}
 
 -- ---- a start
 

@@ -12,7 +12,8 @@ use Rattle.mw_rel.specs.Examples.{machine_with}
 use Rattle.mw_rel.specs.Job.{shape_of}
 
 unfoldable pub start_on_literals : ⊤
-unfolding elements_of element_of step_of difference_at difference_of small_fields small_points small_board machine_with shape_of
+unfolding elements_of element_of step_of difference_at difference_of small_fields small_points small_board
+    machine_with shape_of
 start_on_literals = tt
 
 -- And to compute what they decide.

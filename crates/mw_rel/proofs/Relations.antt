@@ -1,5 +1,6 @@
 -- What an accepted relation has: each address is that of one boundary.
-use Rattle.std.proofs.Common.{◌≡◌, ℕ, zero, suc, List, [], ◌∷◌, map, length, Bool, true, false, not, ◌&&◌, ◌||◌, ◌==◌, nat_lt, ◌<◌, ◌≤◌, cond, find, Option, Some, None, refl, sym, ap, ◌∙◌, arith}
+use Rattle.std.proofs.Common.{◌≡◌, ℕ, zero, suc, List, [], ◌∷◌, map, length, Bool, true, false, not, ◌&&◌, ◌||◌, ◌==◌}
+use Rattle.std.proofs.Common.{nat_lt, ◌<◌, ◌≤◌, cond, find, Option, Some, None, refl, sym, ap, ◌∙◌, arith}
 use Rattle.std.specs.Prelude.{All, Result, Ok, Err, nat_le, slice_get, slice_index, if◌then◌else◌}
 use Rattle.std.specs.List.{list_all, list_any, position_or_len}
 use Rattle.std.proofs.lemmas.Bool.{and_parts, eqb-true, eq-eqb, leb-true, ltb-true}
@@ -8,7 +9,8 @@ use Rattle.std.proofs.lemmas.List.Elements.{All-nil, All-cons, All-head, All-tai
 use Rattle.std.proofs.lemmas.List.Folds.{find_at}
 use Rattle.std.proofs.lemmas.List.Sums.{list_all-from_AllPass}
 use Rattle.mw_base.specs.declared.cause.Cause.{Cause}
-use Rattle.mw_base.specs.declared.cause.Cause.TheVariants.{Twice, WidthsDiffer, LeftTwice, LeftUsedOnRight, NoBoundary, BadBound}
+use Rattle.mw_base.specs.declared.cause.Cause.TheVariants.{Twice, WidthsDiffer, LeftTwice, LeftUsedOnRight, NoBoundary}
+use Rattle.mw_base.specs.declared.cause.Cause.TheVariants.{BadBound}
 use Rattle.mw_expr.specs.declared.shape.Shape.{Shape}
 use Rattle.mw_expr.specs.Widths.{width_of}
 use Rattle.mw_macro.specs.Right.{is_asked}
@@ -17,7 +19,8 @@ use Rattle.mw_rel.specs.Certified.{boundary_at}
 use Rattle.mw_rel.specs.Job.{Job, IsJob}
 use Rattle.mw_rel.specs.Lines.{Line}
 use Rattle.mw_rel.specs.Relation.{Boundary, Relation, IsFormed, IsFormedLine, IsFormedBoundary}
-use Rattle.mw_rel.specs.Rules.{are_once, addresses_are_once, is_even, are_even, lefts_are_once, rights_are_free, is_bounded, refusal_of, IsLineOf, IsSolved, IsSolvedRelation, AcceptedAreSolved}
+use Rattle.mw_rel.specs.Rules.{are_once, addresses_are_once, is_even, are_even, lefts_are_once, rights_are_free}
+use Rattle.mw_rel.specs.Rules.{is_bounded, refusal_of, IsLineOf, IsSolved, IsSolvedRelation, AcceptedAreSolved}
 
 -- a rule before others, where none is broken
 kept : (k : Bool) (cause : Cause) (rest : Option Cause) → (if k then rest else Some cause) ≡ None
@@ -161,7 +164,8 @@ lt_if n some = grind (arith, nat_tests)
 
 evens_if : (s : Shape) (b : Boundary) → IsSolved s b → are_even s b ≡ true
 evens_if s b solved = list_all-from_AllPass (is_even s) b.lines
-    (All-weaker (IsLineOf s) (λ (line : Line). is_even s line ≡ true) (λ line is. even_if s line is) b.lines solved.lines)
+    (All-weaker (IsLineOf s) (λ (line : Line). is_even s line ≡ true)
+    (λ line is. even_if s line is) b.lines solved.lines)
 
 -- a test that each solved boundary passes
 all_pass : (s : Shape) (test : Boundary → Bool) (boundaries : List Boundary) → All (IsSolved s) boundaries

@@ -1,5 +1,6 @@
 -- Runs of both machines: how far they have come, and how they go on.
-use Rattle.std.proofs.Common.{◌≡◌, ℕ, zero, suc, ◌+◌, List, [], ◌∷◌, ◌++◌, drop, Option, Some, None, slice_index_or, false, refl, ap, sym, ap₂, ◌∙◌, add-zero, arith}
+use Rattle.std.proofs.Common.{◌≡◌, ℕ, zero, suc, ◌+◌, List, [], ◌∷◌, ◌++◌, drop, Option, Some, None, slice_index_or}
+use Rattle.std.proofs.Common.{false, refl, ap, sym, ap₂, ◌∙◌, add-zero, arith}
 use Rattle.std.specs.Option.{option_to_list}
 use Rattle.std.proofs.lemmas.List.{get_or-drop}
 use Rattle.mw_base.specs.declared.event.Event.{Event}

@@ -12,7 +12,8 @@ use Rattle.mw_rel.proofs.Steps.{step_fits}
 use Rattle.mw_macro.specs.State as machines
 use Rattle.mw_rel.specs.Relation.{Boundary}
 use Rattle.mw_rel.specs.Certified.{board_run, at_cycle, boundary_at}
-use Rattle.mw_rel.specs.Differs.{same_event, event_difference, pointer_difference, line_difference, memory_difference, difference_at, first_step, segment_of, shown_at, shown_by, difference_of}
+use Rattle.mw_rel.specs.Differs.{same_event, event_difference, pointer_difference, line_difference, memory_difference}
+use Rattle.mw_rel.specs.Differs.{difference_at, first_step, segment_of, shown_at, shown_by, difference_of}
 use Rattle.mw_rel.specs.InRelation.{pair_of, values_of, right_value, line_holds}
 use Rattle.mw_rel.specs.Job.{Job, IsJob}
 use Rattle.mw_rel.specs.Laws.{IsSame, SameShowsNothing}
@@ -20,7 +21,8 @@ use Rattle.mw_rel.specs.Lines.{Line}
 use Rattle.mw_rel.specs.Start.{Start, IsStart, addresses_of}
 use Rattle.mw_rel.proofs.Boundaries.{found_within}
 use Rattle.mw_rel.proofs.Relations.{is_at}
-use Rattle.mw_rel.proofs.Unlike.{same_lists, never_unlike, event_is, event_itself, number_itself, nothing_made, first_none, pointer_is, none_fails, all_pass}
+use Rattle.mw_rel.proofs.Unlike.{same_lists, never_unlike, event_is, event_itself, number_itself, nothing_made}
+use Rattle.mw_rel.proofs.Unlike.{first_none, pointer_is, none_fails, all_pass}
 
 -- ---- the segment
 
@@ -123,7 +125,8 @@ inputs_fit job start is begins i = rw is.matched.word (begins.env.inputs i)
 reached_fits : (job : Job) (start : Start) (run : BoardRun) → IsJob job → IsStart job start → Segment job start run
     → boards.Fits job.board run.state
 reached_fits job start run is begins ran_to =
-    rw ran_to.is (run_fits job.board job.store start.env start.pair.board ran_to.cycles is.board begins.env begins.related.board_fits)
+    rw ran_to.is (run_fits job.board job.store start.env start.pair.board ran_to.cycles is.board begins.env
+    begins.related.board_fits)
 
 -- the machine after its step fits
 stepped_fits : (job : Job) (start : Start) → IsJob job → IsStart job start

@@ -1,5 +1,7 @@
 -- The difference that a start shows is the first of the five.
-use Rattle.std.proofs.Common.{◌≡◌, ◌≢◌, ℕ, zero, suc, ◌+◌, ◌<◌, List, [], ◌∷◌, take, map, Bool, true, false, not, ◌==◌, ◌⊎◌, inl, inr, cond, Option, Some, None, find, option_map, refl, sym, ap, ◌∙◌, subst, arith}
+use Rattle.std.proofs.Common.{◌≡◌, ◌≢◌, ℕ, zero, suc, ◌+◌, ◌<◌, List, [], ◌∷◌, take, map, Bool, true, false, not, ◌==◌}
+use Rattle.std.proofs.Common.{◌⊎◌, inl, inr, cond, Option, Some, None, find, option_map, refl, sym, ap, ◌∙◌, subst}
+use Rattle.std.proofs.Common.{arith}
 use Rattle.std.specs.Prelude.{All, slice_get, if◌then◌else◌}
 use Rattle.std.proofs.lemmas.Bool.{eqb-true, eq-eqb}
 use Rattle.std.proofs.lemmas.List.Elements.{All-nil, All-cons}
@@ -8,7 +10,9 @@ use Rattle.mw_cycle.specs.Run.{BoardRun}
 use Rattle.mw_rel.specs.declared.difference.Difference.{Difference}
 use Rattle.mw_rel.specs.declared.difference.Difference.TheVariants.{Late, Event, StackPointer, Element, Memory}
 use Rattle.mw_rel.specs.Certified.{boundary_at}
-use Rattle.mw_rel.specs.Differs.{same_event, unlike_from, first_unlike, event_difference, pointer_difference, line_difference, memory_difference, first_of, difference_at, first_step, segment_of, shown_at, shown_by, difference_of}
+use Rattle.mw_rel.specs.Differs.{same_event, unlike_from, first_unlike, event_difference, pointer_difference}
+use Rattle.mw_rel.specs.Differs.{line_difference, memory_difference, first_of, difference_at, first_step, segment_of}
+use Rattle.mw_rel.specs.Differs.{shown_at, shown_by, difference_of}
 use Rattle.mw_rel.specs.InRelation.{Pair, pair_of, Holds, line_holds}
 use Rattle.mw_rel.specs.Job.{Job}
 use Rattle.mw_rel.specs.Lines.{Line}
@@ -16,7 +20,8 @@ use Rattle.mw_rel.specs.Relation.{Boundary}
 use Rattle.mw_rel.specs.Shown.{AreUnlikeAt, IsFirstToFail, Ends, IsShownAt, IsShown}
 use Rattle.mw_rel.specs.Start.{Start, addresses_of}
 use Rattle.mw_rel.proofs.Same.{segment}
-use Rattle.mw_rel.proofs.Unlike.{same_lists, event_is, event_itself, number_itself, nothing_made, pointer_is, none_fails}
+use Rattle.mw_rel.proofs.Unlike.{same_lists, event_is, event_itself, number_itself, nothing_made, pointer_is}
+use Rattle.mw_rel.proofs.Unlike.{none_fails}
 
 -- ---- lists that are unlike
 
@@ -175,7 +180,8 @@ shown_there job start run reached d is =
                               sp,
                               lines,
                               unlike_is (λ x y. x == y)
-                                  (λ x y same. eqb-true x y same) number_itself made.0 run.state.memory step.state.memory made.1,
+                                  (λ x y same. eqb-true x y same)
+                                  number_itself made.0 run.state.memory step.state.memory made.1,
                             ))
                         | inr none ↦ (let nothing = none.1 in absurd cc)
                       ])

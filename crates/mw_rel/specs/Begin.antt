@@ -22,7 +22,8 @@ pub record Begin : Type 0 where
 pub record IsBegin (job : Job) (boundary : Boundary) (begin : Begin) : Type 0 where
   pub count : length begin.values ≡ length (free_elements job boundary)
   pub values : (i : ℕ) → i < length begin.values
-      → slice_index begin.values i < 2 ^ slice_index job.relation.shape.widths (slice_index (free_elements job boundary) i)
+      → slice_index begin.values i
+      < 2 ^ slice_index job.relation.shape.widths (slice_index (free_elements job boundary) i)
   pub memory : IsImage job.relation.shape begin.memory
 
 -- the values of the free elements of a pair

@@ -31,7 +31,8 @@ pub record IsOfPath (job : Job) (number : ℕ) (bits : List Decided) (word j : �
   pub is : operation ≡ path_word (path_of job number before) (next_bit job number before) value
 
 -- it is that of the path word, at bit 0, of a comparison of a whole case
-pub record IsOfComparison (job : Job) (number : ℕ) (bits : List Decided) (word j : ℕ) (operation : Triple) : Type 0 where
+pub record IsOfComparison (job : Job) (number : ℕ) (bits : List Decided) (word j : ℕ)
+    (operation : Triple) : Type 0 where
   pub compared : Comparison
   pub among : Contains (case_words job number bits).comparisons compared
   pub at : StandsAtWord (table_with job (case_words job number bits)) (case_words job number bits).list

@@ -1,8 +1,10 @@
 -- Laws of the cases of a boundary.
-use Rattle.std.specs.Prelude.{◌≡◌, ◌≢◌, ◌⊎◌, ℕ, ◌+◌, ◌<◌, ◌≤◌, List, [], ◌∷◌, ◌++◌, true, false, if◌then◌else◌, Some, None}
+use Rattle.std.specs.Prelude.{◌≡◌, ◌≢◌, ◌⊎◌, ℕ, ◌+◌, ◌<◌, ◌≤◌, List, [], ◌∷◌, ◌++◌, true, false, if◌then◌else◌, Some}
+use Rattle.std.specs.Prelude.{None}
 use Rattle.mw_term.specs.declared.decided.Decided.{Decided}
 use Rattle.mw_cycle.specs.Boundary.{is_named}
-use Rattle.mw_rel.specs.Case.{bits_of_cycles, cycles_of, is_late, bits_of_step, case_of, IsStartAt, IsCase, IsFeasiblePrefix, IsBefore, IsProperPrefix}
+use Rattle.mw_rel.specs.Case.{bits_of_cycles, cycles_of, is_late, bits_of_step, case_of, IsStartAt, IsCase}
+use Rattle.mw_rel.specs.Case.{IsFeasiblePrefix, IsBefore, IsProperPrefix}
 use Rattle.mw_rel.specs.Certified.{board_run, at_cycle}
 use Rattle.mw_rel.specs.Differs.{segment_of}
 use Rattle.mw_rel.specs.Job.{Job, IsJob}

@@ -1,6 +1,7 @@
--- The words of a case: those of its start, of the cycles of its segment, of its described step and of its comparison, along
--- the decided bits that are known.
-use Rattle.std.specs.Prelude.{ℕ, zero, suc, ◌+◌, List, [], ◌++◌, drop, length, map, take, Bool, if◌then◌else◌, Option, Some, None, slice_index}
+-- The words of a case: those of its start, of the cycles of its segment, of its described step and of its comparison,
+-- along the decided bits that are known.
+use Rattle.std.specs.Prelude.{ℕ, zero, suc, ◌+◌, List, [], ◌++◌, drop, length, map, take, Bool, if◌then◌else◌, Option}
+use Rattle.std.specs.Prelude.{Some, None, slice_index}
 use Rattle.std.specs.Option.{unwrap_or}
 use Rattle.mw_board.specs.declared.parts.BoardParts.{BoardParts}
 use Rattle.mw_board.specs.Depth.{depth_of}
@@ -22,8 +23,8 @@ use Rattle.mw_rel.specs.StartWords.{start_words}
 use Rattle.mw_term.specs.declared.kinds.WordKind.TheVariants.{Line}
 use Rattle.mw_term.specs.WordList.{WordList, term_of}
 
--- How far a case has come: the list; where it wants another decided bit, the term of that; and where it is whole, what is
--- compared.
+-- How far a case has come: the list; where it wants another decided bit, the term of that; and where it is whole, what
+-- is compared.
 pub record CaseWords : Type 0 where
   pub list : WordList
   pub asked : Option ℕ
@@ -136,7 +137,7 @@ words_along job number bits =
 abbrev pub bit_values : List Decided → List Bool
 bit_values bits = map (λ bit. bit.value) bits
 
--- The word list of decided bits: up to the word that the next one asks, or through the comparison where they are a whole
--- case.
+-- The word list of decided bits: up to the word that the next one asks, or through the comparison where they are
+-- a whole case.
 abbrev pub case_words : Job → (number : ℕ) → List Decided → CaseWords
 case_words job number bits = words_along job number (bit_values bits)

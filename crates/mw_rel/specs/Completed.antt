@@ -1,5 +1,6 @@
 -- The values of the elements of a pair, from those of its free elements and its memory.
-use Rattle.std.specs.Prelude.{◌≡◌, ℕ, ◌<◌, ◌^◌, List, [], ◌∷◌, length, Bool, true, if◌then◌else◌, ◌==◌, filter, slice_index}
+use Rattle.std.specs.Prelude.{◌≡◌, ℕ, ◌<◌, ◌^◌, List, [], ◌∷◌, length, Bool, true, if◌then◌else◌, ◌==◌, filter}
+use Rattle.std.specs.Prelude.{slice_index}
 use Rattle.mw_cycle.specs.Boundary.{numbers}
 use Rattle.mw_cycle.specs.State.{BoardState}
 use Rattle.mw_expr.specs.declared.shape.Shape.{Shape}
@@ -28,7 +29,8 @@ HoldsIn s values memory line = slice_index values line.left ≡ value s values m
 abbrev pub standing : BoardState → (at sp : ℕ) → (memory : List ℕ) → BoardState
 standing s at sp memory = record s { at = at; seq = record s.seq { sp = sp }; memory = memory }
 
--- an element that is free has one of the given values, at its place among the free ones, and this is a word of its width
+-- an element that is free has one of the given values, at its place among the free ones, and this is a word
+-- of its width
 abbrev pub IsGiven : (ℕ → Bool) → (given : List ℕ) → (width e : ℕ) → Type 0
 IsGiven free given width e = free e ≡ true
     → (free_before free e < length given) × (slice_index given (free_before free e) < 2 ^ width)

@@ -1,5 +1,6 @@
 -- When a start differs: by the first difference between the board's first segment and one described step.
-use Rattle.std.specs.Prelude.{◌≡◌, ℕ, ◌+◌, List, [], ◌∷◌, Bool, false, not, find, if◌then◌else◌, ◌==◌, Option, Some, None, option_map, slice_index_or}
+use Rattle.std.specs.Prelude.{◌≡◌, ℕ, ◌+◌, List, [], ◌∷◌, Bool, false, not, find, if◌then◌else◌, ◌==◌, Option, Some}
+use Rattle.std.specs.Prelude.{None, option_map, slice_index_or}
 use Rattle.mw_base.specs.declared.event.Event.{Event}
 use Rattle.mw_base.specs.declared.event.Event.TheVariants.{Out, Taken}
 use Rattle.mw_cycle.specs.Boundary.{first_segment}

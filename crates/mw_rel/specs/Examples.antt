@@ -47,8 +47,8 @@ small_job words bound machine =
     job_with small_board words machine
     (related (boundary_with bound machine.registers ∷ []) (shape_of small_board machine))
 
--- three registers, of which the first two are summed up; the board adds A = 1 into B = 0, and then A = 2 into B = 1, and
--- jumps to its boundary
+-- three registers, of which the first two are summed up; the board adds A = 1 into B = 0, and then A = 2 into B = 1,
+-- and jumps to its boundary
 abbrev pub sums : List ℕ
 sums = 0x3802C1 ∷ 0x4000C24C1 ∷ []
 

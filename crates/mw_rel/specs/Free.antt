@@ -1,5 +1,6 @@
 -- The boundaries of a job by number, and the elements that are free at one.
-use Rattle.std.specs.Prelude.{◌≡◌, ℕ, ◌<◌, List, [], length, Bool, true, not, ◌==◌, Some, slice_get, slice_index, slice_index_or}
+use Rattle.std.specs.Prelude.{◌≡◌, ℕ, ◌<◌, List, [], length, Bool, true, not, ◌==◌, Some, slice_get, slice_index}
+use Rattle.std.specs.Prelude.{slice_index_or}
 use Rattle.std.specs.List.{list_any}
 use Rattle.mw_expr.specs.Values.{value}
 use Rattle.mw_rel.specs.InRelation.{Pair, InRelation, values_of}

@@ -1,5 +1,6 @@
 -- The path of decided bits, and where their path words stand in the word list.
-use Rattle.std.specs.Prelude.{◌≡◌, ℕ, ◌+◌, List, [], ◌∷◌, ◌++◌, length, Bool, true, false, Option, Some, None, option_map, slice_get}
+use Rattle.std.specs.Prelude.{◌≡◌, ℕ, ◌+◌, List, [], ◌∷◌, ◌++◌, length, Bool, true, false, Option, Some, None}
+use Rattle.std.specs.Prelude.{option_map, slice_get}
 use Rattle.mw_term.specs.declared.decided.Decided.{Decided}
 use Rattle.mw_rel.specs.CaseWords.{CaseWords, case_words}
 use Rattle.mw_rel.specs.ComparisonWords.{Comparison}
@@ -56,8 +57,8 @@ IsWord l number term =
 abbrev pub HaveOneValue : Table → (a b : ℕ) → Type 0
 HaveOneValue t a b = (given : Given) → term_value t given a ≡ term_value t given b
 
--- A path word of a term stands at the term's word, and at each other word of the list that has one value with it. That of
--- a constant, which has no word, stands at the last word before it, or at 0 where there is none.
+-- A path word of a term stands at the term's word, and at each other word of the list that has one value with it. That
+-- of a constant, which has no word, stands at the last word before it, or at 0 where there is none.
 pub data StandsAtWord (t : Table) (l : WordList) (before : WordList) (term : ℕ) (number : ℕ) : Type 0 where
   at_word : (own other : ℕ) → IsWord l own term → IsWord l number other → HaveOneValue t other term
       → StandsAtWord t l before term number

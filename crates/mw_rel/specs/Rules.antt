@@ -1,8 +1,10 @@
 -- The rules of relations.
-use Rattle.std.specs.Prelude.{◌≡◌, ◌↔◌, ℕ, ◌<◌, ◌≤◌, List, [], All, Ok, ◌∷◌, length, map, Bool, true, not, ◌&&◌, nat_lt, ◌==◌, Option, None, Some, slice_get, slice_index}
+use Rattle.std.specs.Prelude.{◌≡◌, ◌↔◌, ℕ, ◌<◌, ◌≤◌, List, [], All, Ok, ◌∷◌, length, map, Bool, true, not, ◌&&◌, nat_lt}
+use Rattle.std.specs.Prelude.{◌==◌, Option, None, Some, slice_get, slice_index}
 use Rattle.std.specs.List.{list_all, list_any}
 use Rattle.mw_base.specs.declared.cause.Cause.{Cause}
-use Rattle.mw_base.specs.declared.cause.Cause.TheVariants.{Twice, WidthsDiffer, LeftTwice, LeftUsedOnRight, NoBoundary, BadBound}
+use Rattle.mw_base.specs.declared.cause.Cause.TheVariants.{Twice, WidthsDiffer, LeftTwice, LeftUsedOnRight, NoBoundary}
+use Rattle.mw_base.specs.declared.cause.Cause.TheVariants.{BadBound}
 use Rattle.mw_expr.specs.declared.shape.Shape.{Shape}
 use Rattle.mw_expr.specs.Widths.{width_of}
 use Rattle.mw_macro.specs.Right.{is_asked}

@@ -73,7 +73,8 @@ fn value_by(job: &Job, lines: &[Line], values: &[u32], memory: &[u32], number: u
     requires words { AreWords (job_of job.now).relation.shape.widths values.now }
     requires image { IsImage (job_of job.now).relation.shape memory.now }
     requires there { number < length values.now }
-    ensures exact { result ≡ value_by (job_of job.now).relation.shape values.now memory.now (lines_of lines.now) number }
+    ensures exact { result
+        ≡ value_by (job_of job.now).relation.shape values.now memory.now (lines_of lines.now) number }
     ensures below { result < 2 ^ slice_index (job_of job.now).relation.shape.widths number }
 {
     for line in lines {
@@ -106,7 +107,8 @@ fn place_all(job: &Job, lines: &[Line], free: &[u32], memory: &[u32], values: &m
     requires few { length free.now ≤ 170 }
     ensures size { length values.new ≡ length free.now }
     ensures each { (e : ℕ) → e < length values.new
-        → slice_index values.new e ≡ value_by (job_of job.now).relation.shape free.now memory.now (lines_of lines.now) e }
+        → slice_index values.new e
+        ≡ value_by (job_of job.now).relation.shape free.now memory.now (lines_of lines.now) e }
     ensures below { (e : ℕ) → e < length values.new
         → slice_index values.new e < 2 ^ slice_index (job_of job.now).relation.shape.widths e }
 {
@@ -178,7 +180,8 @@ fn machine_of(
 ) -> Result<MacState, NoMemory>
     requires words { AreWords (job_of job.now).relation.shape.widths values.now }
     requires image { IsImage (job_of job.now).relation.shape memory.now }
-    ensures exact { IfOk result (λ state. state ≡ kept (drop (element_count (job_of job.now).board) values.now) memory.now) }
+    ensures exact { IfOk result
+        (λ state. state ≡ kept (drop (element_count (job_of job.now).board) values.now) memory.now) }
     ensures fits { IfOk result (λ state. machines.Fits (job_of job.now).machine state) }
 {
     // A call for the proof: its clause `valid` says what holds of every job.
@@ -209,8 +212,10 @@ fn place_values(job: &Job, at: &Boundary, begin: &Begin, values: &mut [u32])
     requires few { length values.old ≤ 170 }
     requires begins { IsBegin (job_of job.now) (boundary_of at.now) begin.now }
     ensures words { AreWords (job_of job.now).relation.shape.widths values.new }
-    ensures lines { All (HoldsIn (job_of job.now).relation.shape values.new begin.now.memory) (boundary_of at.now).lines }
-    ensures chosen { map (slice_index values.new) (free_elements (job_of job.now) (boundary_of at.now)) ≡ begin.now.values }
+    ensures lines { All (HoldsIn (job_of job.now).relation.shape values.new begin.now.memory)
+        (boundary_of at.now).lines }
+    ensures chosen { map (slice_index values.new) (free_elements (job_of job.now) (boundary_of at.now))
+        ≡ begin.now.values }
 {
     let mut places = [0; MOST_ELEMENTS];
     let free = &mut places[..values.len()];

@@ -61,7 +61,8 @@ pub struct Job {
     pub machine: Machine,
     /// The relation between them.
     pub relation: Relation,
-    pub ghost are_matched: { AreMatched board (description_of machine) (related (boundaries_of relation.boundaries.items) relation.shape) },
+    pub ghost are_matched: { AreMatched board (description_of machine)
+        (related (boundaries_of relation.boundaries.items) relation.shape) },
 }
 
 impl Job {
@@ -86,7 +87,8 @@ impl Job {
         relation: Relation,
     ) -> Result<Job, Cause>
         requires parts { AreForEachOther board (description_of machine) (relation_of relation) }
-        ensures ok { IfOk result (λ job. job_of job ≡ job_with board store.words (description_of machine) (relation_of relation)) }
+        ensures ok { IfOk result
+            (λ job. job_of job ≡ job_with board store.words (description_of machine) (relation_of relation)) }
         ensures accepted { IsOk result → memories_agree board (description_of machine) ≡ true }
         ensures cause { IfErr result (λ cause. cause ≡ ShapesDiffer) }
         ensures err { IfErr result (λ cause. memories_agree board (description_of machine) ≡ false) }

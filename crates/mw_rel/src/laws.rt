@@ -1,7 +1,8 @@
 // Laws of starts, of what is certified, and of words.
 ghost use Rattle.mw_rel.specs.Begin.{EachChoiceGivesAPair};
 ghost use Rattle.mw_rel.specs.CaseLaws.{BeforeIsAnOrder, CasesBeginWithCycles, CasesHaveOneEnd, KindsAreFixed};
-ghost use Rattle.mw_rel.specs.CaseLaws.{NoCaseGoesOn, OneCaseIsFirst, SegmentsEnd, SegmentsHaveCycles, StartsGoTogether};
+ghost use Rattle.mw_rel.specs.CaseLaws.{NoCaseGoesOn, OneCaseIsFirst, SegmentsEnd, SegmentsHaveCycles};
+ghost use Rattle.mw_rel.specs.CaseLaws.{StartsGoTogether};
 ghost use Rattle.mw_rel.specs.ComparisonWords.{ComparisonsAreNumbered};
 ghost use Rattle.mw_rel.specs.Free.{PairsAreOne, RightsReadFreeElements};
 ghost use Rattle.mw_rel.specs.Rules.{AcceptedAreSolved};
@@ -22,8 +23,8 @@ pub fn pairs_are_one()
     ensures { PairsAreOne }
 {}
 
-/// The law of right sides: a line's right side has one value over two lists of values that agree on the elements that are
-/// free at its boundary.
+/// The law of right sides: a line's right side has one value over two lists of values that agree on the elements that
+/// are free at its boundary.
 pub fn rights_read_free_elements()
     ensures { RightsReadFreeElements }
 {}
@@ -79,15 +80,16 @@ pub fn segments_have_cycles()
     ensures { SegmentsHaveCycles }
 {}
 
-/// The law of the segment's end: where no boundary has come after some cycles, fewer than the bound, the segment has one
-/// more at least; it has just that one more, and isn't late, where the board is at a boundary then. Where the cycles are as
-/// many as the bound says, the segment has these and is late.
+/// The law of the segment's end: where no boundary has come after some cycles, fewer than the bound, the segment has
+/// one more at least; it has just that one more, and isn't late, where the board is at a boundary then. Where the
+/// cycles are as many as the bound says, the segment has these and is late.
 pub fn segments_end()
     ensures { SegmentsEnd }
 {}
 
-/// The law of the case's beginning: the decided bits of the first cycles of a segment are the first of the start's case.
-/// Those of all its cycles are the whole case where it is late; where it isn't, those of the step come behind them.
+/// The law of the case's beginning: the decided bits of the first cycles of a segment are the first of the start's
+/// case. Those of all its cycles are the whole case where it is late; where it isn't, those of the step come
+/// behind them.
 pub fn cases_begin_with_cycles()
     ensures { CasesBeginWithCycles }
 {}

@@ -1,4 +1,5 @@
-//! Relations between a board and a described machine, the starts that they give, and what it is that a job is certified.
+//! Relations between a board and a described machine, the starts that they give, and what it is that a job
+//! is certified.
 #![tactic(auto)]
 
 mod begin;

@@ -2,7 +2,8 @@
 ghost use Rattle.std.specs.Prelude.{◌≡◌, ℕ, ◌<◌, ◌==◌, All, map, length};
 ghost use Rattle.std.specs.List.{list_all, list_any};
 ghost use Rattle.mw_rel.specs.Relation.{related, IsFormed, IsFormedLine};
-ghost use Rattle.mw_rel.specs.Rules.{are_once, addresses_are_once, is_even, are_even, reads_no_left, lefts_are_once, rights_are_free, is_bounded, refusal_of};
+ghost use Rattle.mw_rel.specs.Rules.{are_once, addresses_are_once, is_even, are_even, reads_no_left, lefts_are_once};
+ghost use Rattle.mw_rel.specs.Rules.{rights_are_free, is_bounded, refusal_of};
 ghost use Rattle.mw_rel.specs.Seen.{line_of, lines_of, boundaries_of};
 
 use crate::boundary::Boundary;

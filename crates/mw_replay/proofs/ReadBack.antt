@@ -118,8 +118,9 @@ wider : (bound most : ℕ) (xs : List ℕ) → bound ≤ most → All (λ v. v <
 wider bound most xs less all =
     All-weaker (λ v. v < bound) (λ v. v < most) (λ v below. below_more v bound most below less) xs all
 
-noise_go : (P : Settings → Type 0) (job : Job) (boundary : Boundary) (text rest xs memory : List ℕ) (written : List Bool)
-    (inputs interrupts values : List ℕ) (set : List Bool) → All (λ v. v < 2 ^ 14) xs → length xs ≤ 65536
+noise_go : (P : Settings → Type 0) (job : Job) (boundary : Boundary) (text rest xs memory : List ℕ)
+    (written : List Bool) (inputs interrupts values : List ℕ) (set : List Bool)
+    → All (λ v. v < 2 ^ 14) xs → length xs ≤ 65536
     → Goes P (with_line (settables_of job boundary) job.board.width text) text rest
     (given_with memory written inputs interrupts xs values set)
     → Goes P (with_line (settables_of job boundary) job.board.width text) text
@@ -158,8 +159,9 @@ line_go P job boundary text rest xs memory written inputs noise values set below
     (chunk_room xs n short))
     next 0 (line_count (length xs)) (omega arith)
 
-inputs_go : (P : Settings → Type 0) (job : Job) (boundary : Boundary) (text rest xs memory : List ℕ) (written : List Bool)
-    (interrupts noise values : List ℕ) (set : List Bool) → job.board.width ≤ 32
+inputs_go : (P : Settings → Type 0) (job : Job) (boundary : Boundary) (text rest xs memory : List ℕ)
+    (written : List Bool) (interrupts noise values : List ℕ) (set : List Bool)
+    → job.board.width ≤ 32
     → All (λ v. v < 2 ^ job.board.width) xs → length xs ≤ 65536
     → Goes P (with_line (settables_of job boundary) job.board.width text) text rest
     (given_with memory written xs interrupts noise values set)

@@ -124,7 +124,8 @@ bound_is job boundary n below =
     ap bound_of (slice_get-map (settable job boundary) all n
     ∙ ap (option_map (settable job boundary)) (numbers_at 0 (length job.relation.shape.widths) n below ∙ ap Some place))
 
-begin_values : (job : Job) (boundary : Boundary) (given : Settings) → AreSettings job.board (settables_of job boundary) given
+begin_values : (job : Job) (boundary : Boundary) (given : Settings)
+    → AreSettings job.board (settables_of job boundary) given
     → (i : ℕ) → i < length (map (slice_index given.values) (free_elements job boundary))
     → slice_index (map (slice_index given.values) (free_elements job boundary)) i
     < 2 ^ slice_index job.relation.shape.widths (slice_index (free_elements job boundary) i)

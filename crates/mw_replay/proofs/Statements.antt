@@ -17,7 +17,8 @@ use Rattle.mw_base.specs.Steps.{steps}
 use Rattle.mw_base.specs.Symbols.{spelled, symbol_of}
 use Rattle.mw_base.specs.Tokens.{slice, tokens_from}
 use Rattle.mw_sim.specs.declared.settings.Settable.{Settable}
-use Rattle.mw_sim.specs.Settings.{Settings, bound_of, is_free, number_named, with_line, with_more_words, with_set, with_value}
+use Rattle.mw_sim.specs.Settings.{Settings, bound_of, is_free, number_named, with_line, with_more_words, with_set}
+use Rattle.mw_sim.specs.Settings.{with_value}
 use Rattle.mw_sim.specs.Settings.{with_word, with_words}
 use Rattle.mw_sim.specs.Lines.{memory_of, numbers_of, set_of, statement_of, with_number}
 use Rattle.mw_replay.proofs.Lines.{Gives, line_with}

@@ -1,7 +1,8 @@
 -- The sixteen instructions of the Am2910 (AMD Am2900 Family Data Book, Am2910, table of instructions).
 use Rattle.std.specs.Prelude.{ℕ, Bool, true, false, if◌then◌else◌, ◌==◌}
 use Rattle.mw_seq.specs.declared.instruction.Instruction.{Instruction}
-use Rattle.mw_seq.specs.declared.instruction.Instruction.TheVariants.{Jz, Cjs, Jmap, Cjp, Push, Jsrp, Cjv, Jrp, Rfct, Rpct, Crtn, Cjpp, Ldct, Loop, Cont, Twb}
+use Rattle.mw_seq.specs.declared.instruction.Instruction.TheVariants.{Jz, Cjs, Jmap, Cjp, Push, Jsrp, Cjv, Jrp, Rfct}
+use Rattle.mw_seq.specs.declared.instruction.Instruction.TheVariants.{Rpct, Crtn, Cjpp, Ldct, Loop, Cont, Twb}
 use Rattle.mw_seq.specs.declared.instruction.AddressFrom.{AddressFrom}
 use Rattle.mw_seq.specs.declared.instruction.AddressFrom.TheVariants.{Zero, Pc, D, R, F}
 use Rattle.mw_seq.specs.declared.instruction.StackMove.{StackMove}

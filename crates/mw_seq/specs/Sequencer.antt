@@ -1,5 +1,6 @@
 -- The state of an Am2910 and one step of it, with a stack of depth words (AMD Am2900 Family Data Book, Am2910).
-use Rattle.std.specs.Prelude.{◌≡◌, ℕ, ◌+◌, ◌-◌, ◌%◌, ◌^◌, ◌<◌, ◌≤◌, List, Bool, if◌then◌else◌, ◌==◌, nat_lt, length, replicate, slice_index, slice_set}
+use Rattle.std.specs.Prelude.{◌≡◌, ℕ, ◌+◌, ◌-◌, ◌%◌, ◌^◌, ◌<◌, ◌≤◌, List, Bool, if◌then◌else◌, ◌==◌, nat_lt, length}
+use Rattle.std.specs.Prelude.{replicate, slice_index, slice_set}
 use Rattle.mw_base.specs.Words.{num}
 use Rattle.mw_seq.specs.declared.instruction.AddressFrom.{AddressFrom}
 use Rattle.mw_seq.specs.declared.instruction.AddressFrom.TheVariants.{Zero, Pc, D, R, F}

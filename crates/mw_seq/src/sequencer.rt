@@ -1,7 +1,8 @@
 // The state of the sequencer, and one step of it.
 ghost use Rattle.std.specs.Prelude.{◌≡◌, ◌+◌, ◌-◌, ◌<◌, ◌^◌, ◌==◌, length, slice_index, slice_set};
 ghost use Rattle.mw_seq.specs.declared.sequencer.TheConstants.{DEPTH};
-ghost use Rattle.mw_seq.specs.Sequencer.{IsSequencer, is_full, cleared_sequencer, top, pushed, popped, emptied, stack_after, counter_after, address, next_of, step_of};
+ghost use Rattle.mw_seq.specs.Sequencer.{IsSequencer, is_full, cleared_sequencer, top, pushed, popped, emptied};
+ghost use Rattle.mw_seq.specs.Sequencer.{stack_after, counter_after, address, next_of, step_of};
 
 use crate::instruction::{AddressFrom, CounterMove, Instruction, StackMove};
 use std::marker::Model;
@@ -157,9 +158,9 @@ impl Seq {
         }
     }
 
-    /// One instruction, by its code from 0 to 15, and the next address. `d` is the address at the direct input, `ci` the
-    /// carry into PC, `rld` loads R from `d` in place of the instruction's effect on it, and the low 12 bits of `noise`
-    /// stand on an empty stack.
+    /// One instruction, by its code from 0 to 15, and the next address. `d` is the address at the direct input, `ci`
+    /// the carry into PC, `rld` loads R from `d` in place of the instruction's effect on it, and the low 12 bits of
+    /// `noise` stand on an empty stack.
     #[tactic(auto, unfolding(crate::specs::Sequencer::next_of, crate::specs::Sequencer::step_of))]
     pub fn step(&mut self, ins: u8, pass: bool, d: u16, ci: bool, rld: bool, noise: u16) -> u16
         requires ins_in { ins < 16 }

@@ -1,5 +1,8 @@
 -- What each line keeps: what is given is in range.
-use Rattle.std.proofs.Common.{◌≡◌, ℕ, zero, suc, ◌+◌, ◌^◌, ◌<◌, ◌≤◌, List, [], ◌∷◌, ◌++◌, length, length-set, replicate, slice_get, slice_index, slice_set, Bool, true, false, cond, nat_lt, ◌⊎◌, inl, inr, Option, Some, None, Result, Ok, Err, IfSome, ok_or, ◌&&◌, lit<, refl, ◌∙◌, subst, arith, get_or-set_same, get_or-set_other}
+use Rattle.std.proofs.Common.{◌≡◌, ℕ, zero, suc, ◌+◌, ◌^◌, ◌<◌, ◌≤◌, List, [], ◌∷◌, ◌++◌, length, length-set, replicate}
+use Rattle.std.proofs.Common.{slice_get, slice_index, slice_set, Bool, true, false, cond, nat_lt, ◌⊎◌, inl, inr, Option}
+use Rattle.std.proofs.Common.{Some, None, Result, Ok, Err, IfSome, ok_or, ◌&&◌, lit<, refl, ◌∙◌, subst, arith}
+use Rattle.std.proofs.Common.{get_or-set_same, get_or-set_other}
 use Rattle.std.specs.List.{position, position_from}
 use Rattle.std.specs.Prelude.{slice_index_or}
 use Rattle.std.specs.Str.{bytes_eq}
@@ -8,7 +11,8 @@ use Rattle.std.proofs.lemmas.List.{length-replicate}
 use Rattle.std.proofs.lemmas.List.Elements.{All-tail}
 use Rattle.std.proofs.lemmas.Nat.{pow_pos}
 use Rattle.std.proofs.lemmas.Bool.{cases_order, ltb-true}
-use Rattle.mw_base.specs.declared.cause.Cause.TheVariants.{BadSyntax, NotFree, TooMany, Twice, UnknownElement, ValueTooWide}
+use Rattle.mw_base.specs.declared.cause.Cause.TheVariants.{BadSyntax, NotFree, TooMany, Twice, UnknownElement}
+use Rattle.mw_base.specs.declared.cause.Cause.TheVariants.{ValueTooWide}
 use Rattle.mw_base.specs.declared.cursor.Dotted.{Dotted}
 use Rattle.mw_base.specs.declared.cursor.Numeral.{Numeral}
 use Rattle.mw_base.specs.declared.line.Line.{Line}
@@ -30,7 +34,10 @@ use Rattle.mw_sim.specs.declared.lines.Series.TheVariants.{Inputs, Interrupts, N
 use Rattle.mw_sim.specs.declared.lines.Statement.{Statement}
 use Rattle.mw_sim.specs.declared.lines.Statement.TheVariants as statements
 use Rattle.mw_sim.specs.Lines.{statement_of}
-use Rattle.mw_sim.specs.Settings.{AreBounded, Settings, nothing_given, owner_text, Writing, HasImage, AreSettings, bound_of, is_free, number_named, series_bound, series_so_far, value_below, with_entry, with_last, with_line, with_more_words, with_next_word, with_set, with_statement, with_value, with_word, with_words}
+use Rattle.mw_sim.specs.Settings.{AreBounded, Settings, nothing_given, owner_text, Writing, HasImage, AreSettings}
+use Rattle.mw_sim.specs.Settings.{bound_of, is_free, number_named, series_bound, series_so_far, value_below, with_entry}
+use Rattle.mw_sim.specs.Settings.{with_last, with_line, with_more_words, with_next_word, with_set, with_statement}
+use Rattle.mw_sim.specs.Settings.{with_value, with_word, with_words}
 
 -- ---- what is so of a result that is a value
 

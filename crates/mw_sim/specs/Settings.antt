@@ -1,10 +1,13 @@
 -- What the lines of an environment, a start or a counter give: values of elements, words of the memory, and the lists
 -- of an environment.
-use Rattle.std.specs.Prelude.{◌≡◌, ℕ, ◌+◌, ◌<◌, ◌^◌, ◌≤◌, List, [], ◌∷◌, ◌++◌, codes, length, replicate, slice_index, slice_index_or, slice_set, slice_get, All, Bool, true, false, ◌&&◌, if◌then◌else◌, nat_lt, ◌==◌, ok_or, Option, Some, None, Result, Ok, Err}
+use Rattle.std.specs.Prelude.{◌≡◌, ℕ, ◌+◌, ◌<◌, ◌^◌, ◌≤◌, List, [], ◌∷◌, ◌++◌, codes, length, replicate, slice_index}
+use Rattle.std.specs.Prelude.{slice_index_or, slice_set, slice_get, All, Bool, true, false, ◌&&◌, if◌then◌else◌, nat_lt}
+use Rattle.std.specs.Prelude.{◌==◌, ok_or, Option, Some, None, Result, Ok, Err}
 use Rattle.std.specs.List.{position}
 use Rattle.std.specs.Str.{bytes_eq}
 use Rattle.mw_board.specs.declared.parts.BoardParts.{BoardParts}
-use Rattle.mw_base.specs.declared.cause.Cause.TheVariants.{TooMany, Twice, ValueTooWide, UnknownElement, NotFree, BadSyntax}
+use Rattle.mw_base.specs.declared.cause.Cause.TheVariants.{TooMany, Twice, ValueTooWide, UnknownElement, NotFree}
+use Rattle.mw_base.specs.declared.cause.Cause.TheVariants.{BadSyntax}
 use Rattle.mw_base.specs.declared.cursor.Dotted.{Dotted}
 use Rattle.mw_base.specs.declared.cursor.Numeral.{Numeral}
 use Rattle.mw_base.specs.declared.line.Line.{Line}

@@ -1,5 +1,6 @@
 -- The start of a run that an environment file gives.
-use Rattle.std.specs.Prelude.{ℕ, zero, suc, ◌+◌, ◌^◌, List, [], ◌∷◌, ◌++◌, codes, length, drop, map, slice_index, true, ◌==◌, Option, Result, Ok, Err}
+use Rattle.std.specs.Prelude.{ℕ, zero, suc, ◌+◌, ◌^◌, List, [], ◌∷◌, ◌++◌, codes, length, drop, map, slice_index, true}
+use Rattle.std.specs.Prelude.{◌==◌, Option, Result, Ok, Err}
 use Rattle.std.specs.List.{prefix_len}
 use Rattle.mw_base.specs.declared.cause.Cause.TheVariants.{BadSyntax}
 use Rattle.mw_base.specs.declared.line.Line.{Line}

@@ -1,7 +1,8 @@
 // What a line of an environment, a start or a counter says, behind their heads.
 ghost use Rattle.std.specs.Prelude.{◌≡◌};
 ghost use Rattle.mw_base.specs.Reading.{Gives};
-ghost use Rattle.mw_sim.specs.Lines.{with_number, numbers_in, numbers_of, set_of, memory_of, series_of, keyword_of, statement_of};
+ghost use Rattle.mw_sim.specs.Lines.{with_number, numbers_in, numbers_of, set_of, memory_of, series_of, keyword_of};
+ghost use Rattle.mw_sim.specs.Lines.{statement_of};
 
 use mw_base::{
     Cursor, Dotted, Items, Numeral, Refusal, Refused, Symbol, TextFault, Token, symbol_of,

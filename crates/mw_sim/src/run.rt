@@ -1,5 +1,6 @@
 // Runs of a board, for so many cycles or to a boundary.
-ghost use Rattle.std.specs.Prelude.{◌≡◌, ◌+◌, ◌<◌, ◌≤◌, ◌^◌, ◌++◌, IfOk, IfErr, None, Some, true, vec_capacity, vec_len};
+ghost use Rattle.std.specs.Prelude.{◌≡◌, ◌+◌, ◌<◌, ◌≤◌, ◌^◌, ◌++◌, IfOk, IfErr, None, Some, true, vec_capacity};
+ghost use Rattle.std.specs.Prelude.{vec_len};
 ghost use Rattle.std.specs.Option.{option_to_list};
 ghost use Rattle.mw_cycle.specs.Boundary.{is_named};
 ghost use Rattle.mw_cycle.specs.Environment.{IsEnvironment};

@@ -2,7 +2,10 @@
 ghost use Rattle.std.specs.Prelude.{◌≡◌, ◌<◌, ◌≤◌, ◌^◌, IfOk, OnOk, length, slice_get};
 ghost use Rattle.mw_base.specs.Reading.{Gives};
 ghost use Rattle.mw_base.specs.Steps.{steps};
-ghost use Rattle.mw_sim.specs.Settings.{owner_text, number_named, nothing_given, value_below, is_free, bound_of, with_value, with_set, with_word, with_more_words, with_words, series_so_far, series_bound, with_last, with_entry, with_statement, with_line, given_by, AreBounded, HasValues, HasImage, AreSettings};
+ghost use Rattle.mw_sim.specs.Settings.{owner_text, number_named, nothing_given, value_below, is_free, bound_of};
+ghost use Rattle.mw_sim.specs.Settings.{with_value, with_set, with_word, with_more_words, with_words, series_so_far};
+ghost use Rattle.mw_sim.specs.Settings.{series_bound, with_last, with_entry, with_statement, with_line, given_by};
+ghost use Rattle.mw_sim.specs.Settings.{AreBounded, HasValues, HasImage, AreSettings};
 ghost use Rattle.mw_sim.specs.Views.{given_seen};
 
 use crate::lines::{Series, Statement, statement_of};

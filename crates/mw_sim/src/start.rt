@@ -1,5 +1,6 @@
 // The start of a run that an environment file gives.
-ghost use Rattle.std.specs.Prelude.{◌≡◌, ℕ, ◌+◌, ◌<◌, ◌≤◌, ◌^◌, ◌++◌, ◌==◌, IfOk, OnOk, length, map, slice_get, slice_index, take};
+ghost use Rattle.std.specs.Prelude.{◌≡◌, ℕ, ◌+◌, ◌<◌, ◌≤◌, ◌^◌, ◌++◌, ◌==◌, IfOk, OnOk, length, map, slice_get};
+ghost use Rattle.std.specs.Prelude.{slice_index, take};
 ghost use Rattle.std.specs.Option.{option_to_list};
 ghost use Rattle.mw_base.specs.Reading.{Gives};
 ghost use Rattle.mw_board.specs.Depth.{depth_of};
@@ -8,7 +9,8 @@ ghost use Rattle.mw_cycle.specs.Elements.{IsValueOf};
 ghost use Rattle.mw_cycle.specs.Environment.{IsEnvironment};
 ghost use Rattle.mw_cycle.specs.State.{Fits};
 ghost use Rattle.mw_sim.specs.Settings.{AreBounded, HasSeries, AreSettings, trimmed};
-ghost use Rattle.mw_sim.specs.Start.{settable, stack_pointer, settables_of, at_of, blank_lines, from_first, with_values, with_pointer, state_with, environment_with, start_in, start_of};
+ghost use Rattle.mw_sim.specs.Start.{settable, stack_pointer, settables_of, at_of, blank_lines, from_first};
+ghost use Rattle.mw_sim.specs.Start.{with_values, with_pointer, state_with, environment_with, start_in, start_of};
 ghost use Rattle.mw_sim.specs.Views.{given_seen};
 
 use crate::settings::{Owner, Settable, Settings, given_by, two_to};

@@ -37,24 +37,30 @@ s_of-below Dq w a b q in_a in_b in_q = in_q
 s_of-below Dz w a b q in_a in_b in_q = pow_pos w
 
 -- a slice of two words whose carry in, in a sum, is the whole sum's
-module _ (function : Function) (w r s : ℕ) (c : Bool) (in_r : r < 2 ^ w) (in_s : s < 2 ^ w) (k : ℕ) (whole : 4 * k + 4 ≤ w)
+module _ (function : Function) (w r s : ℕ) (c : Bool) (in_r : r < 2 ^ w) (in_s : s < 2 ^ w) (k : ℕ)
+    (whole : 4 * k + 4 ≤ w)
     (into : Bool) (carried : is_sum function ≡ true → into ≡ carry function w r s c (4 * k)) where
   start : is_sum function ≡ true → into ≡ carry function w r s c (4 * k + 0)
   start sum = let here : 4 * k ≡ 4 * k + 0 = omega arith in carried sum ∙ ap (carry function w r s c) here
 
-  inner : is_sum function ≡ true → (j : ℕ) → j < 4 → carry_to (over_bits function (nibble k r) (nibble k s) into) into j ≡ carry function w r s c (4 * k + j)
+  inner : is_sum function ≡ true → (j : ℕ) → j < 4
+      → carry_to (over_bits function (nibble k r) (nibble k s) into) into j ≡ carry function w r s c (4 * k + j)
   inner sum j below =
       ap (λ (b : Bool). carry_to (over_bits function (nibble k r) (nibble k s) b) b j) (start sum)
-      ∙ carry_to-looked (generates function (nibble k r) (nibble k s)) (propagates function (nibble k r) (nibble k s)) (λ (j : ℕ). carry function w r s c (4 * k + j)) (bits_carry function w r s c in_r in_s k whole) j below
+      ∙ carry_to-looked (generates function (nibble k r) (nibble k s)) (propagates function (nibble k r) (nibble k s))
+      (λ (j : ℕ). carry function w r s c (4 * k + j)) (bits_carry function w r s c in_r in_s k whole) j below
 
   -- its carry out is the whole sum's
-  pub carry_out-whole : is_sum function ≡ true → carry_out_of (over_bits function (nibble k r) (nibble k s) into) into ≡ carry function w r s c (4 * k + 4)
+  pub carry_out-whole : is_sum function ≡ true
+      → carry_out_of (over_bits function (nibble k r) (nibble k s) into) into ≡ carry function w r s c (4 * k + 4)
   carry_out-whole sum =
       ap (λ (b : Bool). carry_out_of (over_bits function (nibble k r) (nibble k s) b) b) (start sum)
-      ∙ carry_out-looked (generates function (nibble k r) (nibble k s)) (propagates function (nibble k r) (nibble k s)) (λ (j : ℕ). carry function w r s c (4 * k + j)) (bits_carry function w r s c in_r in_s k whole)
+      ∙ carry_out-looked (generates function (nibble k r) (nibble k s)) (propagates function (nibble k r) (nibble k s))
+      (λ (j : ℕ). carry function w r s c (4 * k + j)) (bits_carry function w r s c in_r in_s k whole)
 
   -- so is the carry into its top bit
-  pub carry_into_top-whole : is_sum function ≡ true → (over_bits function (nibble k r) (nibble k s) into).z ≡ carry function w r s c (4 * k + 3)
+  pub carry_into_top-whole : is_sum function ≡ true
+      → (over_bits function (nibble k r) (nibble k s) into).z ≡ carry function w r s c (4 * k + 3)
   carry_into_top-whole sum = inner sum 3 (omega arith)
 
   -- its F is the nibble of the word's

@@ -24,12 +24,15 @@ bit_of-f Exor w r s c into i below in_r in_s carried = sym (bit_of-xor r s i)
 bit_of-f Exnor w r s c into i below in_r in_s carried =
     sym (bit_of-complement w (bit_xor r s) i below (xor_lt w r s in_r in_s) ∙ ap not (bit_of-xor r s i))
 bit_of-f Add w r s c into i below in_r in_s carried =
-    ap (differ (differ (bit_of r i) (bit_of s i))) (carried refl) ∙ sym (bit_of-low (r + s + num c) w i below ∙ sum_bit r s c i)
+    ap (differ (differ (bit_of r i) (bit_of s i))) (carried refl)
+    ∙ sym (bit_of-low (r + s + num c) w i below ∙ sum_bit r s c i)
 bit_of-f Subr w r s c into i below in_r in_s carried =
     let turned : ℕ = complement w r in
-    ap₂ (λ (b into : Bool). differ (differ b (bit_of s i)) into) (sym (bit_of-complement w r i below in_r)) (carried refl)
+    ap₂ (λ (b into : Bool). differ (differ b (bit_of s i)) into)
+    (sym (bit_of-complement w r i below in_r)) (carried refl)
     ∙ sym (bit_of-low (turned + s + num c) w i below ∙ sum_bit turned s c i)
 bit_of-f Subs w r s c into i below in_r in_s carried =
     let turned : ℕ = complement w s in
-    ap₂ (λ (b into : Bool). differ (differ (bit_of r i) b) into) (sym (bit_of-complement w s i below in_s)) (carried refl)
+    ap₂ (λ (b into : Bool). differ (differ (bit_of r i) b) into)
+    (sym (bit_of-complement w s i below in_s)) (carried refl)
     ∙ sym (bit_of-low (r + turned + num c) w i below ∙ sum_bit r turned c i)

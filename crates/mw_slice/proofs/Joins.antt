@@ -1,5 +1,6 @@
 -- Words put together slice by slice.
-use Rattle.std.proofs.Common.{◌≡◌, ℕ, zero, suc, ◌+◌, ◌-◌, ◌*◌, ◌%◌, ◌^◌, ◌<◌, ◌≤◌, arith, refl, ap, ap₂, ◌∙◌, pow_mono, add-one}
+use Rattle.std.proofs.Common.{◌≡◌, ℕ, zero, suc, ◌+◌, ◌-◌, ◌*◌, ◌%◌, ◌^◌, ◌<◌, ◌≤◌, arith, refl, ap, ap₂, ◌∙◌, pow_mono}
+use Rattle.std.proofs.Common.{add-one}
 use Rattle.std.specs.Prelude.{Bool, true, ◌&&◌}
 use Rattle.std.proofs.lemmas.Nat.{pow-add, shl_whole, mul-add-lt}
 use Rattle.mw_base.specs.Words.{join}
@@ -59,14 +60,17 @@ pub joined-same : (left right : ℕ → ℕ) (n : ℕ) → ((k : ℕ) → k < n 
 unfolding joined
 joined-same left right zero same = refl
 joined-same left right (suc n) same =
-    ap₂ (λ (high low : ℕ). high * 2 ^ (4 * n) + low) (same n (omega arith)) (joined-same left right n (λ k below. same k (omega arith)))
+    ap₂ (λ (high low : ℕ). high * 2 ^ (4 * n) + low) (same n (omega arith))
+    (joined-same left right n (λ k below. same k (omega arith)))
 
 -- the same lines make the same line
-pub wired_and-same : (left right : ℕ → Bool) (n : ℕ) → ((k : ℕ) → k < n → left k ≡ right k) → wired_and left n ≡ wired_and right n
+pub wired_and-same : (left right : ℕ → Bool) (n : ℕ)
+    → ((k : ℕ) → k < n → left k ≡ right k) → wired_and left n ≡ wired_and right n
 unfolding wired_and
 wired_and-same left right zero same = refl
 wired_and-same left right (suc n) same =
-    ap₂ (λ (low high : Bool). low && high) (wired_and-same left right n (λ k below. same k (omega arith))) (same n (omega arith))
+    ap₂ (λ (low high : Bool). low && high) (wired_and-same left right n (λ k below. same k (omega arith)))
+    (same n (omega arith))
 
 -- a word of slices is one of their width
 pub joined_below : (nibbles : ℕ → ℕ) (n : ℕ) → ((k : ℕ) → k < n → nibbles k < 16) → joined nibbles n < 2 ^ (4 * n)
@@ -90,18 +94,40 @@ line-eight lines (suc (suc (suc (suc (suc (suc (suc zero))))))) below = refl
 line-eight lines (suc (suc (suc (suc (suc (suc (suc (suc k)))))))) below = absurd (omega arith)
 
 -- answers with the same parts are the same
-answer_of-parts : {f f' y y' : ℕ} {none none' : Bool} {top top' : SliceOut} (sum : Bool) → f ≡ f' → y ≡ y' → none ≡ none' → top ≡ top'
-    → (let out : AluOut = record { f = f; y = y; carry = top.carry; overflow = top.overflow; defined = sum; zero = none; sign = top.sign } in out)
-    ≡ (let out : AluOut = record { f = f'; y = y'; carry = top'.carry; overflow = top'.overflow; defined = sum; zero = none'; sign = top'.sign } in out)
+answer_of-parts : {f f' y y' : ℕ} {none none' : Bool} {top top' : SliceOut} (sum : Bool)
+    → f ≡ f' → y ≡ y' → none ≡ none' → top ≡ top' → (let out : AluOut = record {
+      f = f;
+      y = y;
+      carry = top.carry;
+      overflow = top.overflow;
+      defined = sum;
+      zero = none;
+      sign = top.sign;
+    } in
+    out)
+    ≡ (let out : AluOut = record {
+      f = f';
+      y = y';
+      carry = top'.carry;
+      overflow = top'.overflow;
+      defined = sum;
+      zero = none';
+      sign = top'.sign;
+    } in
+    out)
 answer_of-parts sum is_f is_y is_none is_top = rw (is_f, is_y, is_none, is_top) refl
 
 -- the answers of at most eight slices, from the carries in a list of lines
-pub answers_of-lines : (n ins a b q d : ℕ) (into : ℕ → Bool) → 1 ≤ n → n ≤ 8 → answers_of n ins a b q d (line (eight_of into)) ≡ answers_of n ins a b q d into
+pub answers_of-lines : (n ins a b q d : ℕ) (into : ℕ → Bool)
+    → 1 ≤ n → n ≤ 8 → answers_of n ins a b q d (line (eight_of into)) ≡ answers_of n ins a b q d into
 unfolding answers_of
 answers_of-lines n ins a b q d into some few =
     let at : (k : ℕ) → k < n → slice_at ins a b q d k (line (eight_of into) k) ≡ slice_at ins a b q d k (into k) =
     λ k below. ap (slice_at ins a b q d k) (line-eight into k (omega arith)) in
-    let same_f = joined-same (λ (k : ℕ). (slice_at ins a b q d k (line (eight_of into) k)).f) (λ (k : ℕ). (slice_at ins a b q d k (into k)).f) n (λ k below. ap (λ (out : SliceOut). out.f) (at k below)) in
-    let same_y = joined-same (λ (k : ℕ). (slice_at ins a b q d k (line (eight_of into) k)).y) (λ (k : ℕ). (slice_at ins a b q d k (into k)).y) n (λ k below. ap (λ (out : SliceOut). out.y) (at k below)) in
-    let same_zero = wired_and-same (λ (k : ℕ). (slice_at ins a b q d k (line (eight_of into) k)).zero) (λ (k : ℕ). (slice_at ins a b q d k (into k)).zero) n (λ k below. ap (λ (out : SliceOut). out.zero) (at k below)) in
+    let same_f = joined-same (λ (k : ℕ). (slice_at ins a b q d k (line (eight_of into) k)).f)
+    (λ (k : ℕ). (slice_at ins a b q d k (into k)).f) n (λ k below. ap (λ (out : SliceOut). out.f) (at k below)) in
+    let same_y = joined-same (λ (k : ℕ). (slice_at ins a b q d k (line (eight_of into) k)).y)
+    (λ (k : ℕ). (slice_at ins a b q d k (into k)).y) n (λ k below. ap (λ (out : SliceOut). out.y) (at k below)) in
+    let same_zero = wired_and-same (λ (k : ℕ). (slice_at ins a b q d k (line (eight_of into) k)).zero)
+    (λ (k : ℕ). (slice_at ins a b q d k (into k)).zero) n (λ k below. ap (λ (out : SliceOut). out.zero) (at k below)) in
     answer_of-parts (is_sum (function_of ins)) same_f same_y same_zero (at (n - 1) (omega arith))

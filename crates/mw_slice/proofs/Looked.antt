@@ -15,7 +15,8 @@ two true false p0 true c = refl
 two false false p0 true c = refl
 
 -- three steps of the ripple are the third formula
-three : (g0 g1 g2 p0 p1 p2 c : Bool) → (g2 || p2 && g1 || p2 && p1 && g0 || p2 && p1 && p0 && c) ≡ (g2 || p2 && (g1 || p1 && (g0 || p0 && c)))
+three : (g0 g1 g2 p0 p1 p2 c : Bool)
+    → (g2 || p2 && g1 || p2 && p1 && g0 || p2 && p1 && p0 && c) ≡ (g2 || p2 && (g1 || p1 && (g0 || p0 && c)))
 three g0 g1 true p0 p1 p2 c = refl
 three g0 g1 false p0 p1 false c = refl
 three g0 true false p0 p1 true c = refl
@@ -25,7 +26,8 @@ three false false false p0 true true c = refl
 
 -- four steps of the ripple are the formula of the carry out
 four : (g0 g1 g2 g3 p0 p1 p2 p3 c : Bool) →
-    (g3 || p3 && g2 || p3 && p2 && g1 || p3 && p2 && p1 && g0 || p3 && p2 && p1 && p0 && c) ≡ (g3 || p3 && (g2 || p2 && (g1 || p1 && (g0 || p0 && c))))
+    (g3 || p3 && g2 || p3 && p2 && g1 || p3 && p2 && p1 && g0 || p3 && p2 && p1 && p0 && c)
+    ≡ (g3 || p3 && (g2 || p2 && (g1 || p1 && (g0 || p0 && c))))
 four g0 g1 g2 true p0 p1 p2 p3 c = refl
 four g0 g1 g2 false p0 p1 p2 false c = refl
 four g0 g1 true false p0 p1 p2 true c = refl
@@ -56,4 +58,5 @@ module _ (g p at : ℕ → Bool) (h : Carry g p at) where
   -- the carry out of the four
   pub carry_out-looked : carry_out_of (looked g p (at 0)) (at 0) ≡ at 4
   carry_out-looked =
-      four (g 0) (g 1) (g 2) (g 3) (p 0) (p 1) (p 2) (p 3) (at 0) ∙ sym (h.on 3 (omega arith) ∙ ap (λ (b : Bool). g 3 || p 3 && b) third)
+      four (g 0) (g 1) (g 2) (g 3) (p 0) (p 1) (p 2) (p 3) (at 0)
+      ∙ sym (h.on 3 (omega arith) ∙ ap (λ (b : Bool). g 3 || p 3 && b) third)

@@ -1,5 +1,6 @@
 -- Shifts of a board, slice by slice, are those of the whole word.
-use Rattle.std.proofs.Common.{◌≡◌, ℕ, zero, suc, ◌+◌, ◌-◌, ◌*◌, ◌/◌, ◌%◌, ◌^◌, ◌<◌, ◌≤◌, arith, refl, ap, ap₂, ◌∙◌, sym, inl, inr}
+use Rattle.std.proofs.Common.{◌≡◌, ℕ, zero, suc, ◌+◌, ◌-◌, ◌*◌, ◌/◌, ◌%◌, ◌^◌, ◌<◌, ◌≤◌, arith, refl, ap, ap₂, ◌∙◌, sym}
+use Rattle.std.proofs.Common.{inl, inr}
 use Rattle.std.specs.Prelude.{Bool, true, false, ◌==◌, if◌then◌else◌}
 use Rattle.std.proofs.lemmas.Bool.{cases_Bool, cases_eq, eq-eqb, ne_eqb}
 use Rattle.std.proofs.lemmas.Nat.{pow-add, pow_pos, shr-shr, shr_below, div-mul-add, div-add-mod', mod_below}
@@ -48,22 +49,32 @@ down_top x k high word =
     let few : x / m < 16 = shr_below x 4 (4 * k) word in
     let one : num high < 2 = num_small high in
     let parts : (x / 2 + num high * 2 ^ (4 + 4 * k - 1)) / m ≡ x / m / 2 + num high * 8 =
-    ap (λ (p : ℕ). (x / 2 + num high * p) / m) size ∙ ap (λ (p : ℕ). (x / 2 + p) / m) (omega arith) ∙ quotient-add m (x / 2) (num high * 8) (pow_pos (4 * k)) ∙ ap (λ (p : ℕ). p + num high * 8) (half_above x (4 * k)) in
+    ap (λ (p : ℕ). (x / 2 + num high * p) / m) size
+    ∙ ap (λ (p : ℕ). (x / 2 + p) / m) (omega arith)
+    ∙ quotient-add m (x / 2) (num high * 8) (pow_pos (4 * k))
+    ∙ ap (λ (p : ℕ). p + num high * 8) (half_above x (4 * k)) in
     sym (ap (λ (p : ℕ). p % 16) parts ∙ omega arith)
 
 -- the others take the lowest bit of the slice above
-down_below : (x k e : ℕ) (high : Bool) → down 4 (nibble k x) (bit_of x (4 * k + 4)) ≡ nibble k (down (e + 5 + 4 * k) x high)
+down_below : (x k e : ℕ) (high : Bool)
+    → down 4 (nibble k x) (bit_of x (4 * k + 4)) ≡ nibble k (down (e + 5 + 4 * k) x high)
 down_below x k e high =
     let m : ℕ = 2 ^ (4 * k) in
     let place : e + 5 + 4 * k - 1 ≡ e + 4 + 4 * k = omega arith in
-    let size : 2 ^ (e + 5 + 4 * k - 1) ≡ 2 ^ e * 16 * m = ap (λ (i : ℕ). 2 ^ i) place ∙ pow-add 2 (e + 4) (4 * k) ∙ ap (λ (p : ℕ). p * m) (pow-add 2 e 4) in
+    let size : 2 ^ (e + 5 + 4 * k - 1) ≡ 2 ^ e * 16 * m =
+    ap (λ (i : ℕ). 2 ^ i) place ∙ pow-add 2 (e + 4) (4 * k) ∙ ap (λ (p : ℕ). p * m) (pow-add 2 e 4) in
     let parts : (x / 2 + num high * 2 ^ (e + 5 + 4 * k - 1)) / m ≡ x / m / 2 + num high * 2 ^ e * 16 =
-    ap (λ (p : ℕ). (x / 2 + num high * p) / m) size ∙ ap (λ (p : ℕ). (x / 2 + p) / m) (grind arith) ∙ quotient-add m (x / 2) (num high * 2 ^ e * 16) (pow_pos (4 * k)) ∙ ap (λ (p : ℕ). p + num high * 2 ^ e * 16) (half_above x (4 * k)) in
-    let bit : num (bit_of x (4 * k + 4)) ≡ x / m / 16 % 2 = bit_as_number x (4 * k + 4) ∙ sym (ap (λ (n : ℕ). n % 2) (shr-shr x (4 * k) 4)) in
+    ap (λ (p : ℕ). (x / 2 + num high * p) / m) size
+    ∙ ap (λ (p : ℕ). (x / 2 + p) / m) (grind arith)
+    ∙ quotient-add m (x / 2) (num high * 2 ^ e * 16) (pow_pos (4 * k))
+    ∙ ap (λ (p : ℕ). p + num high * 2 ^ e * 16) (half_above x (4 * k)) in
+    let bit : num (bit_of x (4 * k + 4)) ≡ x / m / 16 % 2 =
+    bit_as_number x (4 * k + 4) ∙ sym (ap (λ (n : ℕ). n % 2) (shr-shr x (4 * k) 4)) in
     sym (ap (λ (p : ℕ). p % 16) parts ∙ omega arith)
 
 -- a slice is shifted down as its part of the word is
-pub down-nibble : (w x k n : ℕ) (high : Bool) → w ≡ 4 * n → x < 2 ^ w → k < n → down 4 (nibble k x) (high_pin n x high k) ≡ nibble k (down w x high)
+pub down-nibble : (w x k n : ℕ) (high : Bool)
+    → w ≡ 4 * n → x < 2 ^ w → k < n → down 4 (nibble k x) (high_pin n x high k) ≡ nibble k (down w x high)
 down-nibble w x k n high whole word below = elim (cases_eq (k + 1) n) [
   | inl last ↦
       let size : w ≡ 4 + 4 * k = omega arith in
@@ -82,13 +93,17 @@ up_whole w x k low within =
     let m : ℕ = 2 ^ (4 * k) in
     let parts : w ≡ w - 4 - 4 * k + 4 + 4 * k = omega arith in
     let e : ℕ = 2 ^ (w - 4 - 4 * k) in
-    let size : 2 ^ w ≡ e * 16 * m = ap (λ (i : ℕ). 2 ^ i) parts ∙ pow-add 2 (w - 4 - 4 * k + 4) (4 * k) ∙ ap (λ (p : ℕ). p * m) (pow-add 2 (w - 4 - 4 * k) 4) in
+    let size : 2 ^ w ≡ e * 16 * m =
+    ap (λ (i : ℕ). 2 ^ i) parts
+    ∙ pow-add 2 (w - 4 - 4 * k + 4) (4 * k)
+    ∙ ap (λ (p : ℕ). p * m) (pow-add 2 (w - 4 - 4 * k) 4) in
     let lost : ℕ = 2 * x / 2 ^ w in
     let kept : lost * 2 ^ w + 2 * x % 2 ^ w ≡ 2 * x = div-add-mod' (2 * x) (2 ^ w) in
     let split : 2 * x + num low ≡ 2 * x % 2 ^ w + num low + lost * 2 ^ w = omega arith in
     let as_blocks : lost * 2 ^ w ≡ lost * e * 16 * m = ap (λ (p : ℕ). lost * p) size ∙ grind arith in
     let whole : (2 * x + num low) / m ≡ (2 * x % 2 ^ w + num low) / m + lost * e * 16 =
-    ap (λ (p : ℕ). p / m) (split ∙ ap (λ (p : ℕ). 2 * x % 2 ^ w + num low + p) as_blocks) ∙ quotient-add m (2 * x % 2 ^ w + num low) (lost * e * 16) (pow_pos (4 * k)) in
+    ap (λ (p : ℕ). p / m) (split ∙ ap (λ (p : ℕ). 2 * x % 2 ^ w + num low + p) as_blocks)
+    ∙ quotient-add m (2 * x % 2 ^ w + num low) (lost * e * 16) (pow_pos (4 * k)) in
     sym (ap (λ (p : ℕ). p % 16) whole ∙ omega arith)
 
 -- the lowest slice takes the board's pin, and the others the highest bit of the slice below
@@ -102,13 +117,20 @@ up_place x (suc k) low =
     let under : 4 * suc k - 1 ≡ 4 * k + 3 = omega arith in
     let upper : x / 2 ^ (4 * suc k) ≡ x / m / 2 = ap (λ (i : ℕ). x / 2 ^ i) place ∙ sym (shr-shr x (4 * k + 3) 1) in
     let half : (2 * x + num low) / 2 ≡ x = omega arith in
-    let shifted : (2 * x + num low) / 2 ^ (4 * suc k) ≡ x / m = ap (λ (i : ℕ). (2 * x + num low) / 2 ^ i) turned ∙ sym (shr-shr (2 * x + num low) 1 (4 * k + 3)) ∙ ap (λ (n : ℕ). n / m) half in
+    let shifted : (2 * x + num low) / 2 ^ (4 * suc k) ≡ x / m =
+    ap (λ (i : ℕ). (2 * x + num low) / 2 ^ i) turned
+    ∙ sym (shr-shr (2 * x + num low) 1 (4 * k + 3))
+    ∙ ap (λ (n : ℕ). n / m) half in
     let other : (suc k == 0) ≡ false = ne_eqb (suc k) 0 (λ e. omega arith) in
-    let bit : num (low_pin x low (suc k)) ≡ x / m % 2 = ap (λ (t : Bool). num (if t then low else bit_of x (4 * suc k - 1))) other ∙ ap (λ (i : ℕ). num (bit_of x i)) under ∙ bit_as_number x (4 * k + 3) in
+    let bit : num (low_pin x low (suc k)) ≡ x / m % 2 =
+    ap (λ (t : Bool). num (if t then low else bit_of x (4 * suc k - 1))) other
+    ∙ ap (λ (i : ℕ). num (bit_of x i)) under
+    ∙ bit_as_number x (4 * k + 3) in
     omega arith
 
 -- a slice is shifted up as its part of the word is
-pub up-nibble : (w x k n : ℕ) (low : Bool) → w ≡ 4 * n → k < n → up 4 (nibble k x) (low_pin x low k) ≡ nibble k (up w x low)
+pub up-nibble : (w x k n : ℕ) (low : Bool)
+    → w ≡ 4 * n → k < n → up 4 (nibble k x) (low_pin x low k) ≡ nibble k (up w x low)
 up-nibble w x k n low whole below = up_place x k low ∙ sym (up_whole w x k low (omega arith))
 
 -- ---- what the edge writes
@@ -135,14 +157,16 @@ b_of_width Ramqu w f pins some below = up_below w f (num pins.ram_low) some (num
 b_of_width Ramu w f pins some below = up_below w f (num pins.ram_low) some (num_most pins.ram_low)
 
 -- what Q takes is a word of the width
-q_of_width : (destination : Destination) (w f q : ℕ) (pins : Pins) → 1 ≤ w → f < 2 ^ w → q < 2 ^ w → q_of destination w f q pins < 2 ^ w
+q_of_width : (destination : Destination) (w f q : ℕ) (pins : Pins)
+    → 1 ≤ w → f < 2 ^ w → q < 2 ^ w → q_of destination w f q pins < 2 ^ w
 q_of_width Qreg w f q pins some f_in q_in = f_in
 q_of_width Ramqd w f q pins some f_in q_in = down_width w q pins.q_high some q_in
 q_of_width Ramqu w f q pins some f_in q_in = up_below w q (num pins.q_low) some (num_most pins.q_low)
 q_of_width _ w f q pins some f_in q_in = pow_pos w
 
 module _ (w f q n : ℕ) (pins : Pins) (whole : w ≡ 4 * n) (some : 1 ≤ w) (f_in : f < 2 ^ w) (q_in : q < 2 ^ w) where
-  b_of-nibble : (destination : Destination) (k : ℕ) → k < n → b_of destination 4 (nibble k f) (pins_at n f q pins k) ≡ nibble k (b_of destination w f pins)
+  b_of-nibble : (destination : Destination) (k : ℕ)
+      → k < n → b_of destination 4 (nibble k f) (pins_at n f q pins k) ≡ nibble k (b_of destination w f pins)
   b_of-nibble Qreg k below = nibble-zero k
   b_of-nibble Nop k below = nibble-zero k
   b_of-nibble Rama k below = refl
@@ -152,7 +176,8 @@ module _ (w f q n : ℕ) (pins : Pins) (whole : w ≡ 4 * n) (some : 1 ≤ w) (f
   b_of-nibble Ramqu k below = up-nibble w f k n pins.ram_low whole below
   b_of-nibble Ramu k below = up-nibble w f k n pins.ram_low whole below
 
-  q_of-nibble : (destination : Destination) (k : ℕ) → k < n → q_of destination 4 (nibble k f) (nibble k q) (pins_at n f q pins k) ≡ nibble k (q_of destination w f q pins)
+  q_of-nibble : (destination : Destination) (k : ℕ) → k < n
+      → q_of destination 4 (nibble k f) (nibble k q) (pins_at n f q pins k) ≡ nibble k (q_of destination w f q pins)
   q_of-nibble Qreg k below = refl
   q_of-nibble Ramqd k below = down-nibble w q k n pins.q_high whole q_in below
   q_of-nibble Ramqu k below = up-nibble w q k n pins.q_low whole below
@@ -161,19 +186,33 @@ module _ (w f q n : ℕ) (pins : Pins) (whole : w ≡ 4 * n) (some : 1 ≤ w) (f
   all_slices : 2 ^ w ≡ 2 ^ (4 * n)
   all_slices = ap (λ (k : ℕ). 2 ^ k) whole
 
-  pub same_b : (destination : Destination) → joined (λ k. b_of destination 4 (nibble k f) (pins_at n f q pins k)) n ≡ b_of destination w f pins
-  same_b destination = joined-nibbles (λ (k : ℕ). b_of destination 4 (nibble k f) (pins_at n f q pins k)) (b_of destination w f pins) n
+  pub same_b : (destination : Destination)
+      → joined (λ k. b_of destination 4 (nibble k f) (pins_at n f q pins k)) n ≡ b_of destination w f pins
+  same_b destination =
+      joined-nibbles (λ (k : ℕ). b_of destination 4 (nibble k f) (pins_at n f q pins k)) (b_of destination w f pins) n
       (rw all_slices at (b_of_width destination w f pins some f_in)) (b_of-nibble destination)
 
-  pub same_q : (destination : Destination) → joined (λ k. q_of destination 4 (nibble k f) (nibble k q) (pins_at n f q pins k)) n ≡ q_of destination w f q pins
-  same_q destination = joined-nibbles (λ (k : ℕ). q_of destination 4 (nibble k f) (nibble k q) (pins_at n f q pins k)) (q_of destination w f q pins) n
+  pub same_q : (destination : Destination)
+      → joined (λ k. q_of destination 4 (nibble k f) (nibble k q) (pins_at n f q pins k)) n
+      ≡ q_of destination w f q pins
+  same_q destination =
+      joined-nibbles (λ (k : ℕ). q_of destination 4 (nibble k f) (nibble k q) (pins_at n f q pins k))
+      (q_of destination w f q pins) n
       (rw all_slices at (q_of_width destination w f q pins some f_in q_in)) (q_of-nibble destination)
 
 -- the two definitions agree
-pub sliced_shift_of-shift_of : (w ins f q : ℕ) (pins : Pins) → IsBoardWidth w → f < 2 ^ w → q < 2 ^ w → sliced_shift_of w ins f q pins ≡ shift_of w ins f q pins
+pub sliced_shift_of-shift_of : (w ins f q : ℕ) (pins : Pins)
+    → IsBoardWidth w → f < 2 ^ w → q < 2 ^ w → sliced_shift_of w ins f q pins ≡ shift_of w ins f q pins
 unfolding sliced_shift_of edges_of shift_of
 sliced_shift_of-shift_of w ins f q pins board f_in q_in =
     let whole : w ≡ 4 * (w / 4) = omega (arith, board.whole) in
     let some : 1 ≤ w = omega (arith, board.least) in
-    ap₂ (λ (b q : ℕ). let out : ShiftOut = record { write_b = writes_b (destination_of ins); b = b; write_q = writes_q (destination_of ins); q = q } in out)
-    (same_b w f q (w / 4) pins whole some f_in q_in (destination_of ins)) (same_q w f q (w / 4) pins whole some f_in q_in (destination_of ins))
+    ap₂ (λ (b q : ℕ). let out : ShiftOut = record {
+      write_b = writes_b (destination_of ins);
+      b = b;
+      write_q = writes_q (destination_of ins);
+      q = q;
+    } in
+    out)
+    (same_b w f q (w / 4) pins whole some f_in q_in (destination_of ins))
+    (same_q w f q (w / 4) pins whole some f_in q_in (destination_of ins))

@@ -11,10 +11,12 @@ use Rattle.mw_alu.specs.declared.instruction.Function.TheVariants.{Add, Subr, Su
 use Rattle.mw_alu.specs.declared.instruction.Destination.{Destination}
 use Rattle.mw_alu.specs.declared.instruction.Destination.TheVariants.{Rama}
 use Rattle.mw_alu.specs.Instruction.{source_of, function_of, destination_of}
-use Rattle.mw_alu.specs.WholeWord.{r_of, s_of, is_sum, addend_r, addend_s, total, carry_out, carry_into_top, f_of, y_of, carry_of, overflow_of, alu_of}
+use Rattle.mw_alu.specs.WholeWord.{r_of, s_of, is_sum, addend_r, addend_s, total, carry_out, carry_into_top, f_of, y_of}
+use Rattle.mw_alu.specs.WholeWord.{carry_of, overflow_of, alu_of}
 use Rattle.mw_slice.specs.Lookahead.{group_generate, group_propagate, carry_out_of}
 use Rattle.mw_slice.specs.Slice.{generates, propagates, over_bits, slice_generate, slice_propagate, slice_f, slice_of}
-use Rattle.mw_slice.specs.Board.{nibble, joined, wired_and, carry_into_slice, slice_at, generate_at, propagate_at, answers_of, sliced_of}
+use Rattle.mw_slice.specs.Board.{nibble, joined, wired_and, carry_into_slice, slice_at, generate_at, propagate_at}
+use Rattle.mw_slice.specs.Board.{answers_of, sliced_of}
 use Rattle.mw_slice.specs.Law.{IsBoardWidth, HasWords}
 use Rattle.mw_slice.proofs.Words.{bit_of-nibble, joined-nibbles, wired_and-zeros}
 use Rattle.mw_slice.proofs.Sum.{r_of-nibble, s_of-nibble, carry, IsBoard, carry_into_slice-whole}
@@ -52,7 +54,8 @@ y_of_below Rama w a f in_a in_f = in_a
 y_of_below _ w a f in_a in_f = in_f
 
 -- the four bits of Y that a slice has are the Y of its four bits
-y_of-nibble : (destination : Destination) (k a f four : ℕ) → four ≡ nibble k f → y_of destination (nibble k a) four ≡ nibble k (y_of destination a f)
+y_of-nibble : (destination : Destination) (k a f four : ℕ)
+    → four ≡ nibble k f → y_of destination (nibble k a) four ≡ nibble k (y_of destination a f)
 y_of-nibble Rama k a f four same = refl
 y_of-nibble _ k a f four same = same
 
@@ -62,9 +65,27 @@ where_true true x y same = same refl
 where_true false x y same = refl
 
 -- answers with the same parts are the same
-same_answer : (f f' y y' : ℕ) (out out' over over' sum none none' sign sign' : Bool) → f ≡ f' → y ≡ y' → out ≡ out' → over ≡ over' → none ≡ none' → sign ≡ sign'
-    → (let answer : AluOut = record { f = f; y = y; carry = out; overflow = over; defined = sum; zero = none; sign = sign } in answer)
-    ≡ (let answer : AluOut = record { f = f'; y = y'; carry = out'; overflow = over'; defined = sum; zero = none'; sign = sign' } in answer)
+same_answer : (f f' y y' : ℕ) (out out' over over' sum none none' sign sign' : Bool)
+    → f ≡ f' → y ≡ y' → out ≡ out' → over ≡ over' → none ≡ none' → sign ≡ sign' → (let answer : AluOut = record {
+      f = f;
+      y = y;
+      carry = out;
+      overflow = over;
+      defined = sum;
+      zero = none;
+      sign = sign;
+    } in
+    answer)
+    ≡ (let answer : AluOut = record {
+      f = f';
+      y = y';
+      carry = out';
+      overflow = over';
+      defined = sum;
+      zero = none';
+      sign = sign';
+    } in
+    answer)
 same_answer f f' y y' out out' over over' sum none none' sign sign' e1 e2 e3 e4 e5 e6 = rw (e1, e2, e3, e4, e5, e6) refl
 
 module _ (w ins a b q d : ℕ) (c : Bool) (board : IsBoardWidth w) (words : HasWords w a b q d) where
@@ -92,15 +113,20 @@ module _ (w ins a b q d : ℕ) (c : Bool) (board : IsBoardWidth w) (words : HasW
   abbrev into : ℕ → Bool
   into = carry_into_slice (generate_at n ins a b q d) (propagate_at n ins a b q d) c
 
-  is_board : is_sum function ≡ true → IsBoard function w r s c in_r in_s n (generate_at n ins a b q d) (propagate_at n ins a b q d)
+  is_board : is_sum function ≡ true
+      → IsBoard function w r s c in_r in_s n (generate_at n ins a b q d) (propagate_at n ins a b q d)
   unfolding slice_of
   is_board sum = record {
     whole = omega (arith, board.whole);
     generate = λ k below. ap (λ (t : Bool). if t then (slice_at ins a b q d k false).g else false) (lt-ltb k n below)
-        ∙ ap₂ (λ (r s : ℕ). slice_generate function r s) (r_of-nibble (source_of ins) k a d) (s_of-nibble (source_of ins) k a b q)
-        ∙ ap (λ (t : Bool). t && group_generate (generates function (nibble k r) (nibble k s)) (propagates function (nibble k r) (nibble k s))) sum;
+        ∙ ap₂ (λ (r s : ℕ). slice_generate function r s) (r_of-nibble (source_of ins) k a d)
+        (s_of-nibble (source_of ins) k a b q)
+        ∙ ap (λ (t : Bool). t && group_generate (generates function (nibble k r) (nibble k s))
+        (propagates function (nibble k r) (nibble k s)))
+        sum;
     propagate = λ k below. ap (λ (t : Bool). if t then (slice_at ins a b q d k false).p else true) (lt-ltb k n below)
-        ∙ ap₂ (λ (r s : ℕ). slice_propagate function r s) (r_of-nibble (source_of ins) k a d) (s_of-nibble (source_of ins) k a b q)
+        ∙ ap₂ (λ (r s : ℕ). slice_propagate function r s) (r_of-nibble (source_of ins) k a d)
+        (s_of-nibble (source_of ins) k a b q)
         ∙ ap (λ (t : Bool). t && group_propagate (propagates function (nibble k r) (nibble k s))) sum;
     no_generate = λ k past. ap (λ (t : Bool). if t then (slice_at ins a b q d k false).g else false) (le-ltb k n past);
     all_propagate = λ k past. ap (λ (t : Bool). if t then (slice_at ins a b q d k false).p else true) (le-ltb k n past);
@@ -108,7 +134,9 @@ module _ (w ins a b q d : ℕ) (c : Bool) (board : IsBoardWidth w) (words : HasW
 
   -- each carry of the lookahead is the whole sum's at that bit
   pub into-whole : (k : ℕ) → k < n → is_sum function ≡ true → into k ≡ carry function w r s c (4 * k)
-  into-whole k below sum = carry_into_slice-whole function w r s c in_r in_s n (generate_at n ins a b q d) (propagate_at n ins a b q d) (is_board sum) k below (omega (arith, board.most))
+  into-whole k below sum =
+      carry_into_slice-whole function w r s c in_r in_s n (generate_at n ins a b q d) (propagate_at n ins a b q d)
+      (is_board sum) k below (omega (arith, board.most))
 
   reach : (k : ℕ) → k < n → 4 * k + 4 ≤ w
   reach k below = omega arith
@@ -116,22 +144,26 @@ module _ (w ins a b q d : ℕ) (c : Bool) (board : IsBoardWidth w) (words : HasW
   slice_f-same : (k : ℕ) → k < n → (slice_at ins a b q d k (into k)).f ≡ nibble k f
   unfolding slice_of
   slice_f-same k below =
-      ap₂ (λ (r s : ℕ). slice_f function r s (into k)) (r_of-nibble (source_of ins) k a d) (s_of-nibble (source_of ins) k a b q)
+      ap₂ (λ (r s : ℕ). slice_f function r s (into k)) (r_of-nibble (source_of ins) k a d)
+      (s_of-nibble (source_of ins) k a b q)
       ∙ slice_f-whole function w r s c in_r in_s k (reach k below) (into k) (into-whole k below)
 
   slice_y-same : (k : ℕ) → k < n → (slice_at ins a b q d k (into k)).y ≡ nibble k (y_of (destination_of ins) a f)
   unfolding slice_of
-  slice_y-same k below = y_of-nibble (destination_of ins) k a f (slice_at ins a b q d k (into k)).f (slice_f-same k below)
+  slice_y-same k below =
+      y_of-nibble (destination_of ins) k a f (slice_at ins a b q d k (into k)).f (slice_f-same k below)
 
   all_slices : 2 ^ w ≡ 2 ^ (4 * n)
   all_slices = let whole : w ≡ 4 * n = omega (arith, board.whole) in ap (λ (k : ℕ). 2 ^ k) whole
 
   same_f : joined (λ k. (slice_at ins a b q d k (into k)).f) n ≡ f
-  same_f = joined-nibbles (λ (k : ℕ). (slice_at ins a b q d k (into k)).f) f n (rw all_slices at (f_of_below function w r s c in_r in_s)) slice_f-same
+  same_f = joined-nibbles (λ (k : ℕ). (slice_at ins a b q d k (into k)).f) f n
+      (rw all_slices at (f_of_below function w r s c in_r in_s)) slice_f-same
 
   same_y : joined (λ k. (slice_at ins a b q d k (into k)).y) n ≡ y_of (destination_of ins) a f
   same_y = joined-nibbles (λ (k : ℕ). (slice_at ins a b q d k (into k)).y) (y_of (destination_of ins) a f) n
-      (rw all_slices at (y_of_below (destination_of ins) w a f words.a_in (f_of_below function w r s c in_r in_s))) slice_y-same
+      (rw all_slices at (y_of_below (destination_of ins) w a f words.a_in (f_of_below function w r s c in_r in_s)))
+      slice_y-same
 
   abbrev top : ℕ
   top = n - 1
@@ -140,14 +172,17 @@ module _ (w ins a b q d : ℕ) (c : Bool) (board : IsBoardWidth w) (words : HasW
   is_top = omega (arith, board.whole, board.least)
 
   -- the carry out of the top slice is the whole sum's
-  out : is_sum function ≡ true → carry_out_of (over_bits function (nibble top r) (nibble top s) (into top)) (into top) ≡ carry_out function w r s c
+  out : is_sum function ≡ true → carry_out_of (over_bits function (nibble top r) (nibble top s) (into top)) (into top)
+      ≡ carry_out function w r s c
   out sum =
       let last : 4 * top + 4 ≡ w = omega (arith, board.whole, board.least) in
       carry_out-whole function w r s c in_r in_s top (reach top is_top) (into top) (into-whole top is_top) sum
       ∙ ap (carry function w r s c) last
-      ∙ ap₂ (λ (r s : ℕ). nat_le (2 ^ w) (r + s + num c)) (mod-eq_of_lt (addend_r_below function w r in_r)) (mod-eq_of_lt (addend_s_below function w s in_s))
+      ∙ ap₂ (λ (r s : ℕ). nat_le (2 ^ w) (r + s + num c)) (mod-eq_of_lt (addend_r_below function w r in_r))
+      (mod-eq_of_lt (addend_s_below function w s in_s))
 
-  over : is_sum function ≡ true → (over_bits function (nibble top r) (nibble top s) (into top)).z ≡ carry_into_top function w r s c
+  over : is_sum function ≡ true
+      → (over_bits function (nibble top r) (nibble top s) (into top)).z ≡ carry_into_top function w r s c
   over sum =
       let last : 4 * top + 3 ≡ w - 1 = omega (arith, board.whole, board.least) in
       carry_into_top-whole function w r s c in_r in_s top (reach top is_top) (into top) (into-whole top is_top) sum
@@ -156,14 +191,20 @@ module _ (w ins a b q d : ℕ) (c : Bool) (board : IsBoardWidth w) (words : HasW
   same_carry : (slice_at ins a b q d top (into top)).carry ≡ carry_of function w r s c
   unfolding slice_of carry_of
   same_carry =
-      ap₂ (λ (r s : ℕ). is_sum function && carry_out_of (over_bits function r s (into top)) (into top)) (r_of-nibble (source_of ins) top a d) (s_of-nibble (source_of ins) top a b q)
-      ∙ where_true (is_sum function) (carry_out_of (over_bits function (nibble top r) (nibble top s) (into top)) (into top)) (carry_out function w r s c) out
+      ap₂ (λ (r s : ℕ). is_sum function && carry_out_of (over_bits function r s (into top)) (into top))
+      (r_of-nibble (source_of ins) top a d) (s_of-nibble (source_of ins) top a b q)
+      ∙ where_true (is_sum function)
+      (carry_out_of (over_bits function (nibble top r) (nibble top s) (into top)) (into top))
+      (carry_out function w r s c) out
 
   same_overflow : (slice_at ins a b q d top (into top)).overflow ≡ overflow_of function w r s c
   unfolding slice_of overflow_of
   same_overflow =
-      ap₂ (λ (r s : ℕ). is_sum function && differ (over_bits function r s (into top)).z (carry_out_of (over_bits function r s (into top)) (into top))) (r_of-nibble (source_of ins) top a d) (s_of-nibble (source_of ins) top a b q)
-      ∙ where_true (is_sum function) (differ (over_bits function (nibble top r) (nibble top s) (into top)).z (carry_out_of (over_bits function (nibble top r) (nibble top s) (into top)) (into top)))
+      ap₂ (λ (r s : ℕ). is_sum function
+      && differ (over_bits function r s (into top)).z (carry_out_of (over_bits function r s (into top)) (into top)))
+      (r_of-nibble (source_of ins) top a d) (s_of-nibble (source_of ins) top a b q)
+      ∙ where_true (is_sum function) (differ (over_bits function (nibble top r) (nibble top s) (into top)).z
+      (carry_out_of (over_bits function (nibble top r) (nibble top s) (into top)) (into top)))
       (differ (carry_into_top function w r s c) (carry_out function w r s c)) (λ sum. ap₂ differ (over sum) (out sum))
 
   same_zero : wired_and (λ k. (slice_at ins a b q d k (into k)).zero) n ≡ (f == 0)
@@ -174,7 +215,9 @@ module _ (w ins a b q d : ℕ) (c : Bool) (board : IsBoardWidth w) (words : HasW
   unfolding slice_of
   same_sign =
       let last : 4 * top + 3 ≡ w - 1 = omega (arith, board.whole, board.least) in
-      ap (λ (f : ℕ). bit_of f 3) (slice_f-same top is_top) ∙ bit_of-nibble top f 3 (omega arith) ∙ ap (λ (i : ℕ). bit_of f i) last
+      ap (λ (f : ℕ). bit_of f 3) (slice_f-same top is_top)
+      ∙ bit_of-nibble top f 3 (omega arith)
+      ∙ ap (λ (i : ℕ). bit_of f i) last
 
   -- the two definitions agree
   pub sliced_of-alu_of : sliced_of w ins a b q d c ≡ alu_of w ins a b q d c

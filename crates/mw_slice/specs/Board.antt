@@ -1,5 +1,7 @@
--- A board of one to eight slices: an Am2902 serves four, and a third joins two groups (AMD Am2900 Family Data Book, Am2901 and Am2902). It adds no two words.
-use Rattle.std.specs.Prelude.{ℕ, zero, suc, ◌+◌, ◌-◌, ◌*◌, ◌/◌, ◌%◌, Bool, true, false, ◌&&◌, ◌==◌, nat_lt, if◌then◌else◌}
+-- A board of one to eight slices: an Am2902 serves four, and a third joins two groups (AMD Am2900 Family Data Book,
+-- Am2901 and Am2902). It adds no two words.
+use Rattle.std.specs.Prelude.{ℕ, zero, suc, ◌+◌, ◌-◌, ◌*◌, ◌/◌, ◌%◌, Bool, true, false, ◌&&◌, ◌==◌, nat_lt}
+use Rattle.std.specs.Prelude.{if◌then◌else◌}
 use Rattle.mw_base.specs.Words.{bit_of, part, join}
 use Rattle.mw_alu.specs.declared.answer.AluOut.{AluOut}
 use Rattle.mw_alu.specs.declared.edge.Pins.{Pins}

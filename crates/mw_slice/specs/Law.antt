@@ -27,13 +27,17 @@ whole_carry w ins a b q d c j =
 
 -- in a sum each carry that is looked ahead is the whole sum's carry at that bit
 abbrev pub CarriesAreWhole : Type 0
-CarriesAreWhole = (w ins a b q d : ℕ) (c : Bool) → IsBoardWidth w → HasWords w a b q d → is_sum (function_of ins) ≡ true → (k : ℕ) → k < w / 4
-    → carry_into_slice (generate_at (w / 4) ins a b q d) (propagate_at (w / 4) ins a b q d) c k ≡ whole_carry w ins a b q d c (4 * k)
+CarriesAreWhole = (w ins a b q d : ℕ) (c : Bool)
+    → IsBoardWidth w → HasWords w a b q d → is_sum (function_of ins) ≡ true → (k : ℕ) → k < w / 4
+    → carry_into_slice (generate_at (w / 4) ins a b q d) (propagate_at (w / 4) ins a b q d) c k
+    ≡ whole_carry w ins a b q d c (4 * k)
 
 -- the slices answer as the whole word does: F, Y, carry, overflow, zero and sign
 abbrev pub AnswersAreWhole : Type 0
-AnswersAreWhole = (w ins a b q d : ℕ) (c : Bool) → IsBoardWidth w → HasWords w a b q d → sliced_of w ins a b q d c ≡ alu_of w ins a b q d c
+AnswersAreWhole = (w ins a b q d : ℕ) (c : Bool)
+    → IsBoardWidth w → HasWords w a b q d → sliced_of w ins a b q d c ≡ alu_of w ins a b q d c
 
 -- and at the edge they write what it writes
 abbrev pub EdgesAreWhole : Type 0
-EdgesAreWhole = (w ins f q : ℕ) (pins : Pins) → IsBoardWidth w → f < 2 ^ w → q < 2 ^ w → sliced_shift_of w ins f q pins ≡ shift_of w ins f q pins
+EdgesAreWhole = (w ins f q : ℕ) (pins : Pins)
+    → IsBoardWidth w → f < 2 ^ w → q < 2 ^ w → sliced_shift_of w ins f q pins ≡ shift_of w ins f q pins

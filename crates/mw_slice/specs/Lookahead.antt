@@ -1,4 +1,5 @@
--- The Am2902: carries looked ahead over four slices, or over four groups of slices. These are logic values, without the polarity of the pins (AMD Am2900 Family Data Book, Am2902).
+-- The Am2902: carries looked ahead over four slices, or over four groups of slices. These are logic values, without the
+-- polarity of the pins (AMD Am2900 Family Data Book, Am2902).
 use Rattle.std.specs.Prelude.{ℕ, Bool, false, ◌&&◌, ◌||◌, List, ◌==◌, if◌then◌else◌, slice_index_or}
 use Rattle.mw_slice.specs.declared.am2902.Look.{Look}
 

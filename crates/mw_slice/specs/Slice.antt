@@ -1,4 +1,5 @@
--- One Am2901 of four bits, which is a slice of a board's word: logic on single bits, which adds no two words (AMD Am2900 Family Data Book, Am2901).
+-- One Am2901 of four bits, which is a slice of a board's word: logic on single bits, which adds no two words (AMD
+-- Am2900 Family Data Book, Am2901).
 use Rattle.std.specs.Prelude.{ℕ, ◌+◌, ◌*◌, List, Bool, not, ◌&&◌, ◌||◌, ◌==◌, if◌then◌else◌, slice_set}
 use Rattle.mw_base.specs.Words.{num, bit_of, differ}
 use Rattle.mw_alu.specs.declared.instruction.Function.{Function}
@@ -56,7 +57,8 @@ of_bits bits = num (bits 3) * 8 + num (bits 2) * 4 + num (bits 1) * 2 + num (bit
 
 -- F of a slice, bit by bit
 unfoldable pub slice_f : Function → ℕ → ℕ → Bool → ℕ
-slice_f function r s c = of_bits (λ j. f_bit function (bit_of r j) (bit_of s j) (carry_to (over_bits function r s c) c j))
+slice_f function r s c =
+    of_bits (λ j. f_bit function (bit_of r j) (bit_of s j) (carry_to (over_bits function r s c) c j))
 
 -- the answers of a slice to one instruction over A, B, Q, D and the carry in
 unfoldable pub slice_of : ℕ → ℕ → ℕ → ℕ → ℕ → Bool → SliceOut
@@ -79,7 +81,8 @@ slice_of ins a b q d c =
 
 -- the registers after the edge: the one at the address B takes what the destination gives it
 abbrev pub regs_after : Destination → List ℕ → ℕ → ℕ → Pins → List ℕ
-regs_after destination regs b f pins = if writes_b destination then slice_set regs b (b_of destination 4 f pins) else regs
+regs_after destination regs b f pins =
+    if writes_b destination then slice_set regs b (b_of destination 4 f pins) else regs
 
 -- Q after the edge
 abbrev pub q_after : Destination → ℕ → ℕ → Pins → ℕ

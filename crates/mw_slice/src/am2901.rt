@@ -3,7 +3,8 @@ ghost use Rattle.std.specs.Prelude.{◌≡◌, ◌<◌, ℕ, slice_index};
 ghost use Rattle.mw_alu.specs.WholeWord.{writes_b, b_of, writes_q, q_of};
 ghost use Rattle.mw_alu.specs.Instruction.{destination_of};
 ghost use Rattle.mw_slice.specs.Lookahead.{line};
-ghost use Rattle.mw_slice.specs.Slice.{r_bit, s_bit, generates, propagates, over_bits, f_bit, of_bits, slice_f, slice_of, regs_after, q_after};
+ghost use Rattle.mw_slice.specs.Slice.{r_bit, s_bit, generates, propagates, over_bits, f_bit, of_bits, slice_f};
+ghost use Rattle.mw_slice.specs.Slice.{slice_of, regs_after, q_after};
 
 use crate::am2902::{Look, carry_out, lookahead};
 use mw_alu::{Destination, Function, Pins, ShiftOut, Source, shift};
@@ -193,7 +194,8 @@ impl Slice {
         requires a_in { a < 16 }
         requires b_in { b < 16 }
         requires d_in { d < 16 }
-        ensures answer { result ≡ slice_of ins (slice_index self.old.regs a) (slice_index self.old.regs b) self.old.q d cin }
+        ensures answer { result
+            ≡ slice_of ins (slice_index self.old.regs a) (slice_index self.old.regs b) self.old.q d cin }
         ensures regs { self.new.regs ≡ regs_after (destination_of ins) self.old.regs b result.f pins }
         ensures q { self.new.q ≡ q_after (destination_of ins) self.old.q result.f pins }
     {

@@ -3,7 +3,8 @@ ghost use Rattle.std.specs.Prelude.{◌≡◌, ◌<◌, ◌≤◌, ◌+◌, ◌*
 ghost use Rattle.mw_base.specs.Words.{join};
 ghost use Rattle.mw_slice.specs.Lookahead.{line};
 ghost use Rattle.mw_alu.specs.WholeWord.{alu_of, shift_of};
-ghost use Rattle.mw_slice.specs.Board.{nibble, joined, wired_and, answers_of, sliced_of, high_pin, low_pin, pins_at, edges_of, sliced_shift_of};
+ghost use Rattle.mw_slice.specs.Board.{nibble, joined, wired_and, answers_of, sliced_of, high_pin, low_pin, pins_at};
+ghost use Rattle.mw_slice.specs.Board.{edges_of, sliced_shift_of};
 
 use crate::am2901::{SliceOut, answer, edge};
 use crate::am2902::lookahead;
@@ -124,7 +125,8 @@ impl Board {
     /// The answers of the board, from the carry into each slice.
     #[tactic(auto, unfolding(crate::specs::Board::answers_of))]
     fn answers(&self, into: [bool; 8]) -> AluOut
-        ensures exact { result ≡ answers_of self.now.slices self.now.ins self.now.a self.now.b self.now.q self.now.d (line into) }
+        ensures exact { result
+            ≡ answers_of self.now.slices self.now.ins self.now.a self.now.b self.now.q self.now.d (line into) }
         ensures f_below { result.f < 2 ^ (4 * self.now.slices) }
         ensures y_below { result.y < 2 ^ (4 * self.now.slices) }
     {

@@ -1,5 +1,7 @@
 -- The parts of a state after the edge, one by one.
-use Rattle.std.proofs.Common.{◌≡◌, inl, inr, ℕ, zero, suc, ◌+◌, ◌-◌, ◌*◌, ◌/◌, ◌%◌, ◌^◌, ◌<◌, ◌≤◌, List, [], ◌∷◌, ◌++◌, length, map, slice_index, slice_set, get_or, refl, ap, ap₂, arith, sym, ◌∙◌, get_or-set_same, get_or-set_other}
+use Rattle.std.proofs.Common.{◌≡◌, inl, inr, ℕ, zero, suc, ◌+◌, ◌-◌, ◌*◌, ◌/◌, ◌%◌, ◌^◌, ◌<◌, ◌≤◌, List, [], ◌∷◌, ◌++◌}
+use Rattle.std.proofs.Common.{length, map, slice_index, slice_set, get_or, refl, ap, ap₂, arith, sym, ◌∙◌}
+use Rattle.std.proofs.Common.{get_or-set_same, get_or-set_other}
 use Rattle.std.specs.Prelude.{Bool, true, false, Option, Some, None, ◌==◌, nat_lt, if◌then◌else◌, slice_get}
 use Rattle.std.proofs.lemmas.Bool.{cases_order}
 use Rattle.std.proofs.lemmas.Bool.Decides.{nat_tests}
@@ -41,7 +43,8 @@ set_both terms values place term value n of same inside before taken = elim (cas
   | inl here ↦
       ap (slice_index (slice_set values place value)) (sym here)
       ∙ get_or-set_same values place value 0 (omega (arith, same)) ∙ taken
-      ∙ ap of (sym (get_or-set_same terms place term 0 (omega arith)) ∙ ap (slice_index (slice_set terms place term)) here)
+      ∙ ap of
+      (sym (get_or-set_same terms place term 0 (omega arith)) ∙ ap (slice_index (slice_set terms place term)) here)
   | inr (inl other) ↦
       get_or-set_other values place n value 0 (omega arith) ∙ before
       ∙ ap of (sym (get_or-set_other terms place n term 0 (omega arith)))
@@ -52,7 +55,8 @@ set_both terms values place term value n of same inside before taken = elim (cas
 
 -- the same, where a place takes something or none does
 pub pushed_both : (terms values : List ℕ) (place : Option ℕ) (term value n : ℕ) (of : ℕ → ℕ)
-    → length values ≡ length terms → n < length terms → slice_index values n ≡ of (slice_index terms n) → value ≡ of term
+    → length values ≡ length terms → n < length terms → slice_index values n ≡ of (slice_index terms n)
+    → value ≡ of term
     → slice_index (with_pushed values place value) n ≡ of (slice_index (with_pushed terms place term) n)
 pushed_both terms values None term value n of same inside before taken = before
 pushed_both terms values (Some place) term value n of same inside before taken =
@@ -123,8 +127,8 @@ high_bit b rest k =
     ∙ ap (λ (n : ℕ). n % 2 == 1) (sym (shr-shr (num b + 2 * rest) 1 k) ∙ ap (λ (n : ℕ). n / 2 ^ k) half)
 
 -- a flip-flop's bit of all
-pub flip_bit : (board : BoardParts) (m : Microword) (answer : AluOut) (s : BoardState) (given : CycleIn) (fs : List FlipFlop)
-    (j k : ℕ) (f : FlipFlop) → slice_get fs k ≡ Some f
+pub flip_bit : (board : BoardParts) (m : Microword) (answer : AluOut) (s : BoardState) (given : CycleIn)
+    (fs : List FlipFlop) (j k : ℕ) (f : FlipFlop) → slice_get fs k ≡ Some f
     → bit_of (flips_from board m answer s given j fs) k ≡ flip_of board m (j + k) f answer s given
 unfolding flips_from
 flip_bit board m answer s given [] j k f is = absurd cc
@@ -158,7 +162,8 @@ flips_below board m answer s given (f ∷ fs) j =
 -- an image after one write more
 pub after_one_more : (t : Table) (given : Given) (image : List ℕ) (writes : List HeldWord) (write : HeldWord)
     → after image (map (valued t given) (writes ++ write ∷ []))
-    ≡ slice_set (after image (map (valued t given) writes)) (term_value t given write.address) (term_value t given write.word)
+    ≡ slice_set (after image (map (valued t given) writes)) (term_value t given write.address)
+    (term_value t given write.word)
 after_one_more t given image [] write = refl
 after_one_more t given image (w ∷ writes) write =
     after_one_more t given (slice_set image (term_value t given w.address) (term_value t given w.word)) writes write

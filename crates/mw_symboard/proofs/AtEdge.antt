@@ -1,5 +1,6 @@
 -- What the parts of a board are after an edge.
-use Rattle.std.proofs.Common.{◌≡◌, ℕ, ◌<◌, ◌≤◌, ◌==◌, List, length, slice_index, slice_set, Bool, true, false, Option, Some, None, IfSome, if◌then◌else◌, refl, sym, subst, ◌∙◌, ap, arith, rules, length-set}
+use Rattle.std.proofs.Common.{◌≡◌, ℕ, ◌<◌, ◌≤◌, ◌==◌, List, length, slice_index, slice_set, Bool, true, false, Option}
+use Rattle.std.proofs.Common.{Some, None, IfSome, if◌then◌else◌, refl, sym, subst, ◌∙◌, ap, arith, rules, length-set}
 use Rattle.std.proofs.lemmas.Bool.Decides.{nat_tests}
 use Rattle.mw_board.specs.declared.parts.BoardParts.{BoardParts}
 use Rattle.mw_board.specs.Depth.{depth_of}
@@ -55,7 +56,8 @@ pushed_length xs None v = refl
 pushed_length xs (Some i) v = length-set xs i v
 
 -- what some terms are wide, each of those that are taken later
-pub some_later : (told tnew : Table) (w : ℕ) (o : Option ℕ) → ((term : ℕ) → IsOfWidth told w term → IsOfWidth tnew w term)
+pub some_later : (told tnew : Table) (w : ℕ) (o : Option ℕ)
+    → ((term : ℕ) → IsOfWidth told w term → IsOfWidth tnew w term)
     → IfSome o (IsOfWidth told w) → IfSome o (IsOfWidth tnew w)
 some_later told tnew w None later is = is
 some_later told tnew w (Some v) later is = later v is
@@ -95,7 +97,8 @@ pub loaded_wide : (t : Table) (w : ℕ) (load : Bool) (y old : ℕ) → IsOfWidt
 loaded_wide t w load y old new before = chosen_wide t w load y old new before
 
 -- what the parts take, all of its width
-pub record AreTaken (board : BoardParts) (t : Table) (old : Parts) (b : ℕ) (written taken pushed : Option ℕ) (new : Parts) : Type 0 where
+pub record AreTaken (board : BoardParts) (t : Table) (old : Parts) (b : ℕ) (written taken pushed : Option ℕ)
+    (new : Parts) : Type 0 where
   pub b_in : b < 16
   pub regs : new.regs ≡ with_taken old.regs b written
   pub written_wide : IfSome written (IsOfWidth t board.width)
@@ -115,9 +118,11 @@ module _ (board : BoardParts) (t : Table) (old : Parts) (b : ℕ) (written taken
   each : (e : Element) → IsElement board e → IsOfWidth t (bits_of board e) (term_of_part new e)
   each (Register n) inside =
       subst (λ regs. IsOfWidth t board.width (slice_index regs n)) (sym are.regs)
-      (taken_wide t board.width old.regs b written n (omega (arith, before.sixteen, are.b_in)) are.written_wide (before.wide (Register n) inside))
+      (taken_wide t board.width old.regs b written n (omega (arith, before.sixteen, are.b_in)) are.written_wide
+      (before.wide (Register n) inside))
   each Q inside =
-      subst (λ q. IsOfWidth t board.width q) (sym are.q) (or_taken_wide t board.width old.q taken are.taken_wide (before.wide Q inside))
+      subst (λ q. IsOfWidth t board.width q) (sym are.q)
+      (or_taken_wide t board.width old.q taken are.taken_wide (before.wide Q inside))
   each Mar inside = are.mar
   each Ir inside = are.ir
   each (FlipFlop n) inside = are.flips n inside

@@ -29,10 +29,12 @@ number_of_element board R = pc_number board + 1
 number_of_element board (StackWord n) = pc_number board + 2 + n
 
 -- what has it is that element
-pub has_number : (board : BoardParts) (e : Element) → IsElement board e → element_of board (number_of_element board e) ≡ e
+pub has_number : (board : BoardParts) (e : Element)
+    → IsElement board e → element_of board (number_of_element board e) ≡ e
 unfolding number_of_element
 has_number board (Register n) is =
-    by_number board n (λ e. e ≡ Register n) (λ h. refl) (λ h. absurd (omega (arith, is, h))) (λ h. absurd (omega (arith, is, h)))
+    by_number board n (λ e. e ≡ Register n) (λ h. refl) (λ h. absurd (omega (arith, is, h)))
+    (λ h. absurd (omega (arith, is, h)))
     (λ h. absurd (omega (arith, is, h))) (λ h k. absurd (omega (arith, is, h))) (λ h. absurd (omega (arith, is, h)))
     (λ h. absurd (omega (arith, is, h))) (λ h. absurd (omega (arith, is, h)))
 has_number board Q is =
@@ -66,7 +68,8 @@ has_number board (StackWord n) is =
     (λ h. ap StackWord (omega arith))
 
 -- and the board has it
-pub number_below : (board : BoardParts) (e : Element) → IsElement board e → number_of_element board e < element_count board
+pub number_below : (board : BoardParts) (e : Element)
+    → IsElement board e → number_of_element board e < element_count board
 unfolding number_of_element
 number_below board (Register n) is = let count = count_of board in omega (arith, count, is)
 number_below board Q is = let count = count_of board in omega (arith, count)

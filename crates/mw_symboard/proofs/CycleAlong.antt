@@ -1,5 +1,6 @@
 -- A cycle goes along its words, and leaves each term that is no constant with a word.
-use Rattle.std.proofs.Common.{◌≡◌, ℕ, zero, suc, ◌+◌, ◌-◌, ◌*◌, ◌%◌, ◌^◌, List, [], ◌∷◌, ◌++◌, append_assoc, ap, refl, sym, ◌∙◌}
+use Rattle.std.proofs.Common.{◌≡◌, ℕ, zero, suc, ◌+◌, ◌-◌, ◌*◌, ◌%◌, ◌^◌, List, [], ◌∷◌, ◌++◌, append_assoc, ap, refl}
+use Rattle.std.proofs.Common.{sym, ◌∙◌}
 use Rattle.std.specs.Prelude.{Bool, true, false, ◌==◌, if◌then◌else◌, slice_index, Option, Some, None}
 use Rattle.std.proofs.lemmas.List.{append-nil}
 use Rattle.mw_base.specs.Words.{num}
@@ -23,13 +24,19 @@ use Rattle.mw_board.specs.Store.{word_at}
 use Rattle.mw_cycle.specs.declared.microword.Microword.{Microword}
 use Rattle.mw_cycle.specs.BoardTerms.{Parts, Standing}
 use Rattle.mw_cycle.specs.Cycle.{load_of}
-use Rattle.mw_cycle.specs.CycleWords.{Come, along_address, along_counter, along_leaving, along_pass, along_test, along_zero, cycle_words}
+use Rattle.mw_cycle.specs.CycleWords.{Come, along_address, along_counter, along_leaving, along_pass, along_test}
+use Rattle.mw_cycle.specs.CycleWords.{along_zero, cycle_words}
 use Rattle.mw_cycle.specs.Decided.{decides_counter, decides_pass}
-use Rattle.mw_cycle.specs.EdgeWords.{Loaded, Takes, edge_made, edge_words, flips_words, linked_down_words, linked_up_words, loaded_words, mar_words, q_words, register_words, with_flip}
+use Rattle.mw_cycle.specs.EdgeWords.{Loaded, Takes, edge_made, edge_words, flips_words, linked_down_words}
+use Rattle.mw_cycle.specs.EdgeWords.{linked_up_words, loaded_words, mar_words, q_words, register_words, with_flip}
 use Rattle.mw_cycle.specs.LeavingWords as ends
 use Rattle.mw_cycle.specs.LeavingWords.{Leaving, counter_words, direct_words, entry_words, leaving_words, next_words}
 use Rattle.mw_cycle.specs.Microword.{points_of}
-use Rattle.mw_cycle.specs.ReadingWords.{Bits, BitsMade, MadeBit, Reading, Sources, addends_words, all_read_words, bit_words, bits_in_order, carry_op, condition_words, early_words, f_words, first_words, is_read, made_or, made_term, masked_words, no_bits, operands_words, overflow_op, r_words, read_words, reading_words, s_words, second_words, source_words, sources_words, turned_words}
+use Rattle.mw_cycle.specs.ReadingWords.{Bits, BitsMade, MadeBit, Reading, Sources, addends_words, all_read_words}
+use Rattle.mw_cycle.specs.ReadingWords.{bit_words, bits_in_order, carry_op, condition_words, early_words, f_words}
+use Rattle.mw_cycle.specs.ReadingWords.{first_words, is_read, made_or, made_term, masked_words, no_bits, operands_words}
+use Rattle.mw_cycle.specs.ReadingWords.{overflow_op, r_words, read_words, reading_words, s_words, second_words}
+use Rattle.mw_cycle.specs.ReadingWords.{source_words, sources_words, turned_words}
 use Rattle.mw_seq.specs.declared.instruction.AddressFrom.{AddressFrom}
 use Rattle.mw_seq.specs.declared.instruction.AddressFrom.TheVariants as addresses
 use Rattle.mw_seq.specs.declared.instruction.CounterMove.{CounterMove}
@@ -44,7 +51,8 @@ use Rattle.mw_term.specs.declared.op.Op.TheVariants.{Not, And, Or, Xor, Sum, Cou
 use Rattle.mw_term.specs.MemoryRead.{Held}
 use Rattle.mw_term.specs.Numbered.{IsNumbered, is_constant}
 use Rattle.mw_term.specs.WordList.{WordList, Ended, with_constant, with_variable, with_word}
-use Rattle.mw_term.proofs.Numbered.{numbered_constant, numbered_input, numbered_part, numbered_read, numbered_variable, numbered_word, numbered_zeros_above}
+use Rattle.mw_term.proofs.Numbered.{numbered_constant, numbered_input, numbered_part, numbered_read, numbered_variable}
+use Rattle.mw_term.proofs.Numbered.{numbered_word, numbered_zeros_above}
 use Rattle.mw_symmem.specs.declared.turn.Turn.{Turn}
 use Rattle.mw_symmem.specs.declared.turn.Turn.TheVariants.{Ask, Finished}
 use Rattle.mw_symboard.specs.Along.{CyclesAreNumbered, CyclesBegin, CyclesGoAlong, left_by, standing_in}
@@ -67,7 +75,8 @@ cycles_go_along board store start l bits mold mnew old new lold lnew Finished al
 
 -- ---- numbers of what is read
 
-numbered_source : (board : BoardParts) (word : ℕ) (p : Parts) (writes : List Held) (taken : ℕ) (from : DFrom) (l : WordList)
+numbered_source : (board : BoardParts) (word : ℕ) (p : Parts) (writes : List Held) (taken : ℕ) (from : DFrom)
+    (l : WordList)
     → IsNumbered l → IsNumbered (source_words board word p writes taken from l).list
 numbered_source board word p writes taken sources.Zero l has = numbered_constant 0 board.width l has
 numbered_source board word p writes taken sources.Memory l has = numbered_read board.width p.mar writes l has
@@ -85,7 +94,8 @@ numbered_masked width (Some mask) source l has =
     let constant = with_constant mask width l in
     numbered_word (And source constant.term) constant.list refl (numbered_constant mask width l has)
 
-numbered_r : (width : ℕ) (source : Source) (a d : ℕ) (l : WordList) → IsNumbered l → IsNumbered (r_words width source a d l).list
+numbered_r : (width : ℕ) (source : Source) (a d : ℕ) (l : WordList)
+    → IsNumbered l → IsNumbered (r_words width source a d l).list
 numbered_r width operands.Aq a d l has = has
 numbered_r width operands.Ab a d l has = has
 numbered_r width operands.Zq a d l has = numbered_constant 0 width l has
@@ -106,7 +116,8 @@ numbered_s width operands.Za a b q l has = has
 numbered_s width operands.Da a b q l has = has
 numbered_s width operands.Dq a b q l has = has
 
-numbered_first : (function : Function) (r : ℕ) (l : WordList) → IsNumbered l → IsNumbered (first_words function r l).list
+numbered_first : (function : Function) (r : ℕ) (l : WordList)
+    → IsNumbered l → IsNumbered (first_words function r l).list
 numbered_first functions.Subr r l has = numbered_word (Not r) l refl has
 numbered_first functions.Add r l has = has
 numbered_first functions.Subs r l has = has
@@ -116,7 +127,8 @@ numbered_first functions.Notrs r l has = has
 numbered_first functions.Exor r l has = has
 numbered_first functions.Exnor r l has = has
 
-numbered_second : (function : Function) (s : ℕ) (l : WordList) → IsNumbered l → IsNumbered (second_words function s l).list
+numbered_second : (function : Function) (s : ℕ) (l : WordList)
+    → IsNumbered l → IsNumbered (second_words function s l).list
 numbered_second functions.Subs s l has = numbered_word (Not s) l refl has
 numbered_second functions.Add s l has = has
 numbered_second functions.Subr s l has = has
@@ -131,7 +143,8 @@ numbered_f : (function : Function) (r s first second carry : ℕ) (l : WordList)
 numbered_f functions.Or r s first second carry l has = numbered_word (Or r s) l refl has
 numbered_f functions.And r s first second carry l has = numbered_word (And r s) l refl has
 numbered_f functions.Notrs r s first second carry l has =
-    let turned = with_word (Not r) l in numbered_word (And turned.term s) turned.list refl (numbered_word (Not r) l refl has)
+    let turned = with_word (Not r) l in
+    numbered_word (And turned.term s) turned.list refl (numbered_word (Not r) l refl has)
 numbered_f functions.Exor r s first second carry l has = numbered_word (Xor r s) l refl has
 numbered_f functions.Exnor r s first second carry l has =
     let differing = with_word (Xor r s) l in
@@ -175,10 +188,11 @@ no_constant false one other first second = second
 numbered_zero : (width tested : ℕ) (l : WordList) → IsNumbered l
     → IsNumbered (with_word (Eq tested (with_constant 0 width l).term) (with_constant 0 width l).list).list
 numbered_zero width tested l has =
-    let zero = with_constant 0 width l in numbered_word (Eq tested zero.term) zero.list refl (numbered_constant 0 width l has)
+    let zero = with_constant 0 width l in
+    numbered_word (Eq tested zero.term) zero.list refl (numbered_constant 0 width l has)
 
-numbered_bit : (board : BoardParts) (p : Parts) (sp : ℕ) (n : Sources) (bit : Bit) (made : Bits) (l : WordList) → IsNumbered l
-    → IsNumbered (bit_words board p sp n bit made l).list
+numbered_bit : (board : BoardParts) (p : Parts) (sp : ℕ) (n : Sources) (bit : Bit) (made : Bits) (l : WordList)
+    → IsNumbered l → IsNumbered (bit_words board p sp n bit made l).list
 numbered_bit board p sp n bits.Carry made l has =
     numbered_once (made_term made.late bits.Carry) _ l (numbered_word (carry_op n) l
     (no_constant (is_sum n.function) (Cout n.first n.second n.carry) (Part n.noise 12 1) refl refl)) has
@@ -207,14 +221,16 @@ numbered_read_bit : (board : BoardParts) (m : Microword) (p : Parts) (sp : ℕ) 
 numbered_read_bit board m p sp n bit b true is has = rw is (numbered_bit board p sp n bit b.bits b.list has)
 numbered_read_bit board m p sp n bit b false is has = rw is has
 
-numbered_all_read : (board : BoardParts) (m : Microword) (p : Parts) (sp : ℕ) (n : Sources) (xs : List Bit) (b : BitsMade)
+numbered_all_read : (board : BoardParts) (m : Microword) (p : Parts) (sp : ℕ) (n : Sources) (xs : List Bit)
+    (b : BitsMade)
     → IsNumbered b.list → IsNumbered (all_read_words board m p sp n xs b).list
 numbered_all_read board m p sp n [] b has = has
 numbered_all_read board m p sp n (x ∷ xs) b has =
     numbered_all_read board m p sp n xs (read_words board m p sp n x b)
     (numbered_read_bit board m p sp n x b (is_read board m x) refl has)
 
-numbered_turned : (polarity : Bool) (bit : ℕ) (l : WordList) → IsNumbered l → IsNumbered (turned_words polarity bit l).list
+numbered_turned : (polarity : Bool) (bit : ℕ) (l : WordList)
+    → IsNumbered l → IsNumbered (turned_words polarity bit l).list
 numbered_turned true bit l has = numbered_word (Not bit) l refl has
 numbered_turned false bit l has = has
 
@@ -278,7 +294,8 @@ numbered_counter false counters.Loaded r direct l has = has
 numbered_counter false counters.Counted r direct l has =
     let ones = with_constant 4095 12 l in
     let zero = with_constant 0 1 ones.list in
-    numbered_word (Sum r ones.term zero.term) zero.list refl (numbered_constant 0 1 ones.list (numbered_constant 4095 12 l has))
+    numbered_word (Sum r ones.term zero.term) zero.list refl
+    (numbered_constant 0 1 ones.list (numbered_constant 4095 12 l has))
 
 numbered_next : (from : AddressFrom) (p : Parts) (sp noise direct : ℕ) (empty : Bool) (l : WordList) → (sp == 0) ≡ empty
     → IsNumbered l → IsNumbered (next_words from p sp noise direct l).list
@@ -289,8 +306,8 @@ numbered_next addresses.R p sp noise direct empty l is has = has
 numbered_next addresses.F p sp noise direct true l is has = rw is (numbered_word (Part noise 0 12) l refl has)
 numbered_next addresses.F p sp noise direct false l is has = rw is has
 
-numbered_leaving : (board : BoardParts) (m : Microword) (p : Parts) (sp noise : ℕ) (effect : Effect) (l : WordList) → IsNumbered l
-    → IsNumbered (leaving_words board m p sp noise effect l).list
+numbered_leaving : (board : BoardParts) (m : Microword) (p : Parts) (sp noise : ℕ) (effect : Effect) (l : WordList)
+    → IsNumbered l → IsNumbered (leaving_words board m p sp noise effect l).list
 unfolding leaving_words
 numbered_leaving board m p sp noise effect l has =
     let direct = direct_words (instruction_of m.sequencer) board m p.ir l in
@@ -301,23 +318,24 @@ numbered_leaving board m p sp noise effect l has =
 
 -- ---- numbers of the edge
 
-numbered_down : (board : BoardParts) (p : Parts) (sp : ℕ) (n : Sources) (link : Bit) (word : ℕ) (b : BitsMade) → IsNumbered b.list
-    → IsNumbered (linked_down_words board p sp n link word b).list
+numbered_down : (board : BoardParts) (p : Parts) (sp : ℕ) (n : Sources) (link : Bit) (word : ℕ) (b : BitsMade)
+    → IsNumbered b.list → IsNumbered (linked_down_words board p sp n link word b).list
 numbered_down board p sp n link word b has =
     let high = bit_words board p sp n link b.bits b.list in
     let rest = with_word (Part word 1 (board.width - 1)) high.list in
     numbered_word (Join high.term rest.term) rest.list refl
     (numbered_word (Part word 1 (board.width - 1)) high.list refl (numbered_bit board p sp n link b.bits b.list has))
 
-numbered_up : (board : BoardParts) (p : Parts) (sp : ℕ) (n : Sources) (link : Bit) (word : ℕ) (b : BitsMade) → IsNumbered b.list
-    → IsNumbered (linked_up_words board p sp n link word b).list
+numbered_up : (board : BoardParts) (p : Parts) (sp : ℕ) (n : Sources) (link : Bit) (word : ℕ) (b : BitsMade)
+    → IsNumbered b.list → IsNumbered (linked_up_words board p sp n link word b).list
 numbered_up board p sp n link word b has =
     let low = bit_words board p sp n link b.bits b.list in
     let rest = with_word (Part word 0 (board.width - 1)) low.list in
     numbered_word (Join rest.term low.term) rest.list refl
     (numbered_word (Part word 0 (board.width - 1)) low.list refl (numbered_bit board p sp n link b.bits b.list has))
 
-numbered_register : (d : Destination) (board : BoardParts) (m : Microword) (p : Parts) (sp : ℕ) (n : Sources) (b : BitsMade)
+numbered_register : (d : Destination) (board : BoardParts) (m : Microword) (p : Parts) (sp : ℕ) (n : Sources)
+    (b : BitsMade)
     → IsNumbered b.list → IsNumbered (register_words d board m p sp n b).list
 numbered_register destinations.Qreg board m p sp n b has = has
 numbered_register destinations.Nop board m p sp n b has = has
@@ -348,8 +366,9 @@ numbered_loaded loads.XorCarry board p sp n old b has =
     numbered_word (Xor old carry.term) carry.list refl (numbered_bit board p sp n bits.Carry b.bits b.list has)
 numbered_loaded (loads.Take bit) board p sp n old b has = numbered_bit board p sp n bit b.bits b.list has
 
-numbered_flips : (board : BoardParts) (m : Microword) (p : Parts) (sp : ℕ) (n : Sources) (fs : List FlipFlop) (old : List ℕ)
-    (so_far : Loaded) → IsNumbered so_far.list → IsNumbered (flips_words board m p sp n fs old so_far).list
+numbered_flips : (board : BoardParts) (m : Microword) (p : Parts) (sp : ℕ) (n : Sources) (fs : List FlipFlop)
+    (old : List ℕ) (so_far : Loaded)
+    → IsNumbered so_far.list → IsNumbered (flips_words board m p sp n fs old so_far).list
 numbered_flips board m p sp n [] old so_far has = has
 numbered_flips board m p sp n (f ∷ rest) [] so_far has = has
 numbered_flips board m p sp n (f ∷ rest) (value ∷ old) so_far has =
@@ -363,8 +382,9 @@ numbered_mar : (load : Bool) (board : BoardParts) (old y : ℕ) (l : WordList) �
 numbered_mar true board old y l has = numbered_part board.width y 0 board.address l has
 numbered_mar false board old y l has = has
 
-numbered_edge : (board : BoardParts) (m : Microword) (s : Standing) (reading : Reading) (leaving : Leaving) (effect : Effect)
-    (next : ℕ) (l : WordList) → IsNumbered l → IsNumbered (edge_words board m s reading leaving effect next l).list
+numbered_edge : (board : BoardParts) (m : Microword) (s : Standing) (reading : Reading) (leaving : Leaving)
+    (effect : Effect) (next : ℕ) (l : WordList)
+    → IsNumbered l → IsNumbered (edge_words board m s reading leaving effect next l).list
 unfolding edge_words
 numbered_edge board m s reading leaving effect next l has =
     let p = s.parts in
@@ -384,26 +404,29 @@ numbered_edge board m s reading leaving effect next l has =
 
 -- ---- numbers of a cycle
 
-numbered_address : (board : BoardParts) (m : Microword) (s : Standing) (reading : Reading) (leaving : Leaving) (effect : Effect)
-    (left so_far : ℕ) (along : List Bool) (l : WordList) → IsNumbered l
+numbered_address : (board : BoardParts) (m : Microword) (s : Standing) (reading : Reading) (leaving : Leaving)
+    (effect : Effect) (left so_far : ℕ) (along : List Bool) (l : WordList) → IsNumbered l
     → IsNumbered (along_address board m s reading leaving effect left so_far along l).list
 numbered_address board m s reading leaving effect zero so_far along l has =
     numbered_edge board m s reading leaving effect so_far l has
-numbered_address board m s reading leaving effect (suc left) so_far [] l has = numbered_word (Part leaving.next left 1) l refl has
+numbered_address board m s reading leaving effect (suc left) so_far [] l has =
+    numbered_word (Part leaving.next left 1) l refl has
 numbered_address board m s reading leaving effect (suc left) so_far (bit ∷ along) l has =
     numbered_address board m s reading leaving effect left (so_far * 2 + num bit) along
     (with_word (Part leaving.next left 1) l).list (numbered_word (Part leaving.next left 1) l refl has)
 
-numbered_end : (board : BoardParts) (m : Microword) (s : Standing) (reading : Reading) (pass zero_is : Bool) (along : List Bool)
-    (l : WordList) → IsNumbered l → IsNumbered (along_leaving board m s reading pass zero_is along l).list
+numbered_end : (board : BoardParts) (m : Microword) (s : Standing) (reading : Reading) (pass zero_is : Bool)
+    (along : List Bool) (l : WordList)
+    → IsNumbered l → IsNumbered (along_leaving board m s reading pass zero_is along l).list
 numbered_end board m s reading pass zero_is along l has =
     let effect = effect_of (instruction_of m.sequencer) pass zero_is in
     let leaves = leaving_words board m s.parts s.sp reading.sources.noise effect l in
     numbered_address board m s reading leaves.leaving effect 12 0 along leaves.list
     (numbered_leaving board m s.parts s.sp reading.sources.noise effect l has)
 
-numbered_zero_bit : (board : BoardParts) (m : Microword) (s : Standing) (reading : Reading) (pass : Bool) (along : List Bool)
-    (l : WordList) → IsNumbered l → IsNumbered (along_zero board m s reading pass along l).list
+numbered_zero_bit : (board : BoardParts) (m : Microword) (s : Standing) (reading : Reading) (pass : Bool)
+    (along : List Bool) (l : WordList)
+    → IsNumbered l → IsNumbered (along_zero board m s reading pass along l).list
 numbered_zero_bit board m s reading pass [] l has = numbered_zero 12 s.parts.r l has
 numbered_zero_bit board m s reading pass (bit ∷ along) l has =
     numbered_end board m s reading pass bit along _ (numbered_zero 12 s.parts.r l has)
@@ -411,17 +434,21 @@ numbered_zero_bit board m s reading pass (bit ∷ along) l has =
 numbered_counted : (counts : Bool) (board : BoardParts) (m : Microword) (s : Standing) (reading : Reading) (pass : Bool)
     (along : List Bool) (l : WordList) → decides_counter m ≡ counts → IsNumbered l
     → IsNumbered (along_counter board m s reading pass along l).list
-numbered_counted true board m s reading pass along l is has = rw is (numbered_zero_bit board m s reading pass along l has)
-numbered_counted false board m s reading pass along l is has = rw is (numbered_end board m s reading pass false along l has)
+numbered_counted true board m s reading pass along l is has =
+    rw is (numbered_zero_bit board m s reading pass along l has)
+numbered_counted false board m s reading pass along l is has =
+    rw is (numbered_end board m s reading pass false along l has)
 
-numbered_test : (board : BoardParts) (m : Microword) (s : Standing) (reading : Reading) (along : List Bool) (l : WordList)
+numbered_test : (board : BoardParts) (m : Microword) (s : Standing) (reading : Reading) (along : List Bool)
+    (l : WordList)
     → IsNumbered l → IsNumbered (along_test board m s reading along l).list
 numbered_test board m s reading [] l has = has
 numbered_test board m s reading (bit ∷ along) l has =
     numbered_counted (decides_counter m) board m s reading bit along l refl has
 
-numbered_pass : (tests : Bool) (board : BoardParts) (m : Microword) (s : Standing) (reading : Reading) (along : List Bool)
-    (l : WordList) → decides_pass m ≡ tests → IsNumbered l → IsNumbered (along_pass board m s reading along l).list
+numbered_pass : (tests : Bool) (board : BoardParts) (m : Microword) (s : Standing) (reading : Reading)
+    (along : List Bool) (l : WordList)
+    → decides_pass m ≡ tests → IsNumbered l → IsNumbered (along_pass board m s reading along l).list
 numbered_pass true board m s reading along l is has = rw is (numbered_test board m s reading along l has)
 numbered_pass false board m s reading along l is has =
     rw is (numbered_counted (decides_counter m) board m s reading true along l refl has)
@@ -431,4 +458,5 @@ unfolding cycle_words
 cycles_are_numbered board store start along l has =
     let m = points_of board (word_at board store start.at) in
     let read = reading_words board m start l in
-    numbered_pass (decides_pass m) board m start read.reading along read.list refl (numbered_reading board m start l has)
+    numbered_pass (decides_pass m) board m start read.reading along read.list refl
+    (numbered_reading board m start l has)

@@ -24,7 +24,8 @@ pass_same false xs x within = refl
 
 -- and so is whether the counter is zero
 pub zero_same : (tested counted : Bool) (xs : List Decided) (x : Decided) → num tested + num counted ≤ length xs
-    → (if counted then value_in (xs ++ x ∷ []) (num tested) else false) ≡ (if counted then value_in xs (num tested) else false)
+    → (if counted then value_in (xs ++ x ∷ []) (num tested) else false)
+    ≡ (if counted then value_in xs (num tested) else false)
 zero_same true true xs x within = value_more xs x 1 (omega (arith, within))
 zero_same false true xs x within = value_more xs x 0 (omega (arith, within))
 zero_same tested false xs x within = refl

@@ -1,5 +1,6 @@
 -- What is known of a cycle's end.
-use Rattle.std.proofs.Common.{◌≡◌, ℕ, zero, suc, ◌+◌, ◌*◌, ◌^◌, ◌<◌, ◌≤◌, List, [], ◌∷◌, Bool, true, false, Some, refl, ap, sym, subst, arith, add-one}
+use Rattle.std.proofs.Common.{◌≡◌, ℕ, zero, suc, ◌+◌, ◌*◌, ◌^◌, ◌<◌, ◌≤◌, List, [], ◌∷◌, Bool, true, false, Some, refl}
+use Rattle.std.proofs.Common.{ap, sym, subst, arith, add-one}
 use Rattle.std.specs.Prelude.{slice_get}
 use Rattle.std.proofs.lemmas.Option.{same_Some}
 use Rattle.std.proofs.Math.Pow.{pow_mono}
@@ -63,7 +64,8 @@ pub leaving_is : (board : BoardParts) (m : Microword) (t1 t2 t3 : Table) (w1 w2 
     → IsCounter m.rld effect.counter t2 p.parts.r direct r → IsOfWidth t2 12 r → Grew t2 t3 w2 w3
     → IsNext t3 p.parts p.sp noise direct effect.next next → IsOfWidth t3 12 next
     → IsLeaving board m t3 p noise (record { next = next; r = r })
-leaving_is board m t1 t2 t3 w1 w2 w3 p noise direct next r effect by is_direct direct_wide first is_r r_wide second is_next next_wide =
+leaving_is board m t1 t2 t3 w1 w2 w3 p noise direct next r effect by is_direct direct_wide first is_r r_wide second
+    is_next next_wide =
     let both = grew_then t1 t2 t3 w1 w2 w3 first second in
     record {
       direct = direct;

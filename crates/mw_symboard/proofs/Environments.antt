@@ -1,5 +1,6 @@
 -- The variables of the cycles of a run, and an environment that has their values.
-use Rattle.std.proofs.Common.{◌≡◌, ◌⊎◌, inl, inr, ℕ, zero, suc, ◌+◌, ◌<◌, ◌≤◌, ◌%◌, ◌^◌, List, [], ◌∷◌, length, add-one, refl, ap, arith, sym, subst, ◌∙◌}
+use Rattle.std.proofs.Common.{◌≡◌, ◌⊎◌, inl, inr, ℕ, zero, suc, ◌+◌, ◌<◌, ◌≤◌, ◌%◌, ◌^◌, List, [], ◌∷◌, length, add-one}
+use Rattle.std.proofs.Common.{refl, ap, arith, sym, subst, ◌∙◌}
 use Rattle.std.specs.Prelude.{◌==◌, Bool, true, false, Option, Some, None, slice_get, slice_index, slice_index_or}
 use Rattle.std.proofs.Math.Nat.{mod-eq_of_lt}
 use Rattle.std.proofs.lemmas.Bool.{cases_lt}
@@ -28,7 +29,9 @@ use Rattle.mw_symboard.specs.declared.reading.Reading.{Reading}
 use Rattle.mw_symboard.specs.Kinds.{AreInputs}
 use Rattle.mw_symboard.specs.Seen.{Progress}
 use Rattle.mw_symboard.specs.Turns.{HasRead}
-use Rattle.mw_symboard.specs.Variables.{BegunHasVariables, CyclesAreThere, CyclesStay, EnvironmentsAreReached, EnvironmentsAreThere, EnvironmentsStay, HaveVariables, HasVariables, IsOutsideKind, IsOutsideNumber, IsReadKind, VariablesHaveValues, VariablesStay}
+use Rattle.mw_symboard.specs.Variables.{BegunHasVariables, CyclesAreThere, CyclesStay, EnvironmentsAreReached}
+use Rattle.mw_symboard.specs.Variables.{EnvironmentsAreThere, EnvironmentsStay, HaveVariables, HasVariables}
+use Rattle.mw_symboard.specs.Variables.{IsOutsideKind, IsOutsideNumber, IsReadKind, VariablesHaveValues, VariablesStay}
 use Rattle.mw_symboard.proofs.Runs.{variable_of}
 use Rattle.mw_symboard.proofs.Standing.{found_stays}
 use Rattle.mw_symboard.proofs.Turning.{read_known}

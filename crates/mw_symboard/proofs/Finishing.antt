@@ -1,5 +1,6 @@
 -- The end of a symbolic cycle, and the turns that it makes together.
-use Rattle.std.proofs.Common.{◌≡◌, ℕ, zero, suc, ◌+◌, ◌<◌, ◌≤◌, ◌^◌, List, [], ◌∷◌, ◌++◌, length, map, refl, ap, arith, sym, subst, ◌∙◌, append-nil}
+use Rattle.std.proofs.Common.{◌≡◌, ℕ, zero, suc, ◌+◌, ◌<◌, ◌≤◌, ◌^◌, List, [], ◌∷◌, ◌++◌, length, map, refl, ap, arith}
+use Rattle.std.proofs.Common.{sym, subst, ◌∙◌, append-nil}
 use Rattle.std.specs.Option.{option_to_list}
 use Rattle.std.specs.Prelude.{Bool, true, false, Option, Some, None, slice_get, if◌then◌else◌}
 use Rattle.std.proofs.lemmas.Option.{same_Some}
@@ -34,7 +35,8 @@ use Rattle.mw_symboard.specs.Kinds.{AreInputs}
 use Rattle.mw_symboard.specs.Parts.{AreParts}
 use Rattle.mw_symboard.specs.Seen.{Progress, Scene, IsSeen, microword_of}
 use Rattle.mw_symboard.specs.Shown.{shown, taken_after}
-use Rattle.mw_symboard.specs.Turns.{Symbolic, AreEvents, AreNoLater, Asks, HasRead, IsDone, IsSymbolic, IsTurn, Leaves, clock_of, cycle_left, event_of, event_term, shown_by, with_reads, written_if}
+use Rattle.mw_symboard.specs.Turns.{Symbolic, AreEvents, AreNoLater, Asks, HasRead, IsDone, IsSymbolic, IsTurn, Leaves}
+use Rattle.mw_symboard.specs.Turns.{clock_of, cycle_left, event_of, event_term, shown_by, with_reads, written_if}
 use Rattle.mw_symboard.proofs.SaysDone.{at_edge, says_done}
 use Rattle.mw_symboard.proofs.SaysState.{IsAtEdge}
 use Rattle.mw_symboard.proofs.Standing.{parts_stay}
@@ -142,7 +144,8 @@ both_wide board t (x ∷ first) second one two (suc k) e is =
     both_wide board t first second (λ j f at. one (suc j) f at) two k e is
 
 none_read : (board : BoardParts) (store : List ℕ) (t : Table) (words : List Word) (m : Memory) (p : Progress)
-    (read : Option Reading) → read ≡ None → p.decided ≡ [] → AreNoLater p.cycle words → HasRead board store t words m p read
+    (read : Option Reading)
+    → read ≡ None → p.decided ≡ [] → AreNoLater p.cycle words → HasRead board store t words m p read
 none_read board store t words m p read is decided none =
     subst (λ (x : Option Reading). HasRead board store t words m p x) (sym is) (decided, none)
 
@@ -180,10 +183,12 @@ ended_symbolic board store t words m from out source y e at sp parts inputs even
     }
 
 -- it is done
-pub ended_done : (board : BoardParts) (store : List ℕ) (t : Table) (words : List Word) (m mnew : Memory) (old e : Symbolic)
-    (made : Reading) (end : Leaving) → IsAtEdge board store t words m old.place e.place made end
+pub ended_done : (board : BoardParts) (store : List ℕ) (t : Table) (words : List Word) (m mnew : Memory)
+    (old e : Symbolic) (made : Reading) (end : Leaving)
+    → IsAtEdge board store t words m old.place e.place made end
     → e.place.cycle ≡ old.place.cycle → e.place.taken ≡ old.place.taken → e.events ≡ old.events
-    → mnew.board ≡ (if (microword_of board store old.place).memory_write then m.board ++ held old.place.parts.mar made.y ∷ []
+    → mnew.board
+    ≡ (if (microword_of board store old.place).memory_write then m.board ++ held old.place.parts.mar made.y ∷ []
     else m.board)
     → (given : Given) (x : Scene) → IsSeen board store t words m old.place given x
     → IsDone board store t words m mnew old (cycle_left (shown_by (microword_of board store old.place).d.from
@@ -192,10 +197,11 @@ ended_done board store t words m mnew old e made end is cycle taken events wrote
     let from = (microword_of board store old.place).d.from in
     let out = (microword_of board store old.place).out in
     let keeps = shown_keeps from out made.source made.y e in
-    says_done board store t words m mnew old (cycle_left (shown_by from out made.source made.y e)) e.place made end is keeps.at
+    says_done board store t words m mnew old
+    (cycle_left (shown_by from out made.source made.y e)) e.place made end is keeps.at
     keeps.sp keeps.parts (ap (λ (n : ℕ). n + 1) (keeps.cycle ∙ cycle)) (keeps.taken ∙ ap (taken_after from) taken)
-    (keeps.events ∙ ap (λ (es : List SymEvent). es ++ option_to_list (shown from out made.source made.y)) events) wrote given x
-    seen
+    (keeps.events ∙ ap (λ (es : List SymEvent). es ++ option_to_list (shown from out made.source made.y)) events)
+    wrote given x seen
 
 -- ---- turns
 
@@ -239,7 +245,8 @@ done_from board store t words m mid mnew old begun new place events memory done 
       state = is.state;
       events = is.events ∙ ap (λ (es : List SymEvent). map (event_of t given) es
           ++ option_to_list (nets_of board store x.state x.outside).event) events;
-      clock = is.clock ∙ ap (λ (p : Progress). clock_after (nets_of board store x.state x.outside).event (clock_of p)) place;
+      clock = is.clock
+          ∙ ap (λ (p : Progress). clock_after (nets_of board store x.state x.outside).event (clock_of p)) place;
     }
 
 -- what the edge is taken with, over the table at the end of the cycle
@@ -250,18 +257,20 @@ pub at_the_end : (board : BoardParts) (store : List ℕ) (told tnew : Table) (wo
     → length o.place.decided ≡ bits_before (microword_of board store o.place) + 12 → before.place ≡ o.place
     → IsEdge board (microword_of board store o.place) tnew before.place after.place r l
     → IsAtEdge board store tnew wnew m o.place after.place r l
-at_the_end board store told tnew wold wnew m o before after r l good micro map workspace is is_read is_left grew all place edge =
+at_the_end board store told tnew wold wnew m o before after r l good micro map workspace is is_read is_left grew
+    all place edge =
     let made = grew.0 in
     let goes = goes_by_growth (λ kind. ⊥) told tnew wold wnew m made grew.1 workspace in
     let mar = (is.parts.wide Mar tt).there in
     let read = (read_known board store told wold m o.place o.reading r is_read is.reading).0 in
     let left = (leaving_known board store told o.place o.reading o.leaving r l is_read is_left is.leaving).0 in
-    let later = reading_stays board (microword_of board store o.place) told tnew wold made m o.place r workspace goes.later mar
-    read in
+    let later = reading_stays board (microword_of board store o.place)
+    told tnew wold made m o.place r workspace goes.later mar read in
     at_edge board store tnew wnew m o.place after.place r l goes.workspace.table good
     (parts_stay board told tnew o.place.parts goes.later.extends goes.later.keeps is.parts) micro
     (goes.later.extends.map ∙ map) is.sp (omega (arith, all))
-    (subst (λ (ws : List Word). IsReading board (microword_of board store o.place) tnew ws m o.place r) (sym grew.1.words) later)
+    (subst (λ (ws : List Word). IsReading board (microword_of board store o.place) tnew ws m o.place r)
+    (sym grew.1.words) later)
     (leaving_stays board (microword_of board store o.place) told tnew o.place r.sources.noise l goes.later left)
     (subst (λ (p : Progress). IsEdge board (microword_of board store o.place) tnew p after.place r l) place edge)
 

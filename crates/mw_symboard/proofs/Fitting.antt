@@ -61,7 +61,8 @@ pub ruleset fits_operands = (fits_and, fits_or, fits_sum, fits_xor)
 
 -- ---- how many bits a term that was made has
 
-pub wide_constant : (told tnew : Table) (value w term : ℕ) → IsTermOf told tnew (Con value w) term → IsOfWidth tnew w term
+pub wide_constant : (told tnew : Table) (value w term : ℕ)
+    → IsTermOf told tnew (Con value w) term → IsOfWidth tnew w term
 unfolding op_width
 wide_constant told tnew value w term made = record { there = made.there; width_is = made.width }
 

@@ -1,5 +1,6 @@
 -- The words that are left of a cycle, as it goes on.
-use Rattle.std.proofs.Common.{◌≡◌, ℕ, zero, suc, ◌+◌, ◌-◌, ◌*◌, ◌<◌, ◌≤◌, List, [], ◌∷◌, ◌++◌, length, ap, ap₂, refl, subst, sym, ◌∙◌, arith}
+use Rattle.std.proofs.Common.{◌≡◌, ℕ, zero, suc, ◌+◌, ◌-◌, ◌*◌, ◌<◌, ◌≤◌, List, [], ◌∷◌, ◌++◌, length, ap, ap₂, refl}
+use Rattle.std.proofs.Common.{subst, sym, ◌∙◌, arith}
 use Rattle.std.specs.Prelude.{Bool, true, false, ◌==◌, ◌&&◌, nat_lt, if◌then◌else◌, is_some, Option, Some, None}
 use Rattle.std.proofs.lemmas.Bool as bool
 use Rattle.std.proofs.lemmas.Bool.Decides.{nat_tests}
@@ -30,7 +31,8 @@ use Rattle.mw_symmem.specs.declared.turn.Turn.{Turn}
 use Rattle.mw_symmem.specs.declared.turn.Turn.TheVariants.{Ask, Finished}
 use Rattle.mw_symboard.specs.declared.leaving.Leaving.{Leaving}
 use Rattle.mw_symboard.specs.declared.reading.Reading as read
-use Rattle.mw_symboard.specs.Along.{GoesAlong, ListsTurn, StopsAt, address_bits_of, left_behind_reading, left_by, left_of_address, left_to_test, standing_in, words_left}
+use Rattle.mw_symboard.specs.Along.{GoesAlong, ListsTurn, StopsAt, address_bits_of, left_behind_reading, left_by}
+use Rattle.mw_symboard.specs.Along.{left_of_address, left_to_test, standing_in, words_left}
 use Rattle.mw_symboard.specs.Cycle.{bits_before, effect_by, number_in, pass_by, value_in, zero_by}
 use Rattle.mw_symboard.specs.Listed.{leaving_of, reading_of, standing_after, standing_of}
 use Rattle.mw_symboard.specs.Seen.{Progress, microword_of}
@@ -45,8 +47,9 @@ with_bit p kind bit = record p { decided = p.decided ++ decided kind bit ∷ [] 
 -- ---- what was read
 
 -- before the first bit, what stands behind the reading is what stands behind pass
-first_bit : (tests counts : Bool) (board : BoardParts) (m : Microword) (p : Progress) (s : Standing) (r : Reading) (bits : List Bool)
-    (l : WordList) → decides_pass m ≡ tests → decides_counter m ≡ counts → p.decided ≡ []
+first_bit : (tests counts : Bool) (board : BoardParts) (m : Microword) (p : Progress) (s : Standing) (r : Reading)
+    (bits : List Bool) (l : WordList)
+    → decides_pass m ≡ tests → decides_counter m ≡ counts → p.decided ≡ []
     → along_pass board m s r bits l ≡ left_behind_reading board m p s r bits l
 first_bit true true board m p s r bits l tests counts none = rw (tests, counts, none) refl
 first_bit true false board m p s r bits l tests counts none = rw (tests, counts, none) refl
@@ -54,10 +57,12 @@ first_bit false true board m p s r bits l tests counts none = rw (tests, counts,
 first_bit false false board m p s r bits l tests counts none = rw (tests, counts, none) refl
 
 -- a cycle that begins
-pub begins : (board : BoardParts) (store : List ℕ) (p : Progress) (writes : List Held) (events : List SymEvent) (r : Reading)
-    (l0 l1 : WordList) → p.decided ≡ []
-    → reading_words board (microword_of board store p) (standing_of p writes events) l0 ≡ record { list = l1; reading = r }
-    → (bits : List Bool) → cycle_words board store (standing_of p writes events) bits l0
+pub begins : (board : BoardParts) (store : List ℕ) (p : Progress) (writes : List Held) (events : List SymEvent)
+    (r : Reading) (l0 l1 : WordList) → p.decided ≡ []
+    → reading_words board (microword_of board store p) (standing_of p writes events) l0 ≡ record {
+      list = l1;
+      reading = r;
+    } → (bits : List Bool) → cycle_words board store (standing_of p writes events) bits l0
     ≡ left_behind_reading board (microword_of board store p) p (standing_of p writes events) r bits l1
 unfolding cycle_words
 begins board store p writes events r l0 l1 none read = λ bits.
@@ -69,15 +74,17 @@ begins board store p writes events r l0 l1 none read = λ bits.
 -- ---- pass
 
 -- it stops at pass
-pub pass_stops : (counts : Bool) (board : BoardParts) (m : Microword) (p : Progress) (s : Standing) (r : Reading) (l : WordList)
+pub pass_stops : (counts : Bool) (board : BoardParts) (m : Microword) (p : Progress) (s : Standing) (r : Reading)
+    (l : WordList)
     → decides_counter m ≡ counts → decides_pass m ≡ true → p.decided ≡ []
     → left_behind_reading board m p s r [] l ≡ stopped s (ended r.condition l)
 pass_stops true board m p s r l counts tests none = rw (tests, counts, none) refl
 pass_stops false board m p s r l counts tests none = rw (tests, counts, none) refl
 
 -- and goes on behind it
-pub pass_goes : (counts : Bool) (board : BoardParts) (m : Microword) (p : Progress) (s : Standing) (r : Reading) (l : WordList)
-    (kind : DecidedKind) (bit : Bool) (bits : List Bool) → decides_counter m ≡ counts → decides_pass m ≡ true → p.decided ≡ []
+pub pass_goes : (counts : Bool) (board : BoardParts) (m : Microword) (p : Progress) (s : Standing) (r : Reading)
+    (l : WordList) (kind : DecidedKind) (bit : Bool) (bits : List Bool)
+    → decides_counter m ≡ counts → decides_pass m ≡ true → p.decided ≡ []
     → left_behind_reading board m p s r (bit ∷ bits) l ≡ left_behind_reading board m (with_bit p kind bit) s r bits l
 pass_goes true board m p s r l kind bit bits counts tests none = rw (tests, counts, none) refl
 pass_goes false board m p s r l kind bit bits counts tests none = rw (tests, counts, none) refl
@@ -85,8 +92,9 @@ pass_goes false board m p s r l kind bit bits counts tests none = rw (tests, cou
 -- ---- the counter
 
 -- it stops at the counter
-pub zero_stops : (tests : Bool) (ds : List Decided) (board : BoardParts) (m : Microword) (p : Progress) (s : Standing) (r : Reading)
-    (l : WordList) → decides_pass m ≡ tests → decides_counter m ≡ true → p.decided ≡ ds → length ds ≡ num tests
+pub zero_stops : (tests : Bool) (ds : List Decided) (board : BoardParts) (m : Microword) (p : Progress) (s : Standing)
+    (r : Reading) (l : WordList)
+    → decides_pass m ≡ tests → decides_counter m ≡ true → p.decided ≡ ds → length ds ≡ num tests
     → left_behind_reading board m p s r [] l ≡ stopped s (zero_words 12 s.parts.r l)
 zero_stops true [] board m p s r l tests counts is many = absurd (omega (arith, many))
 zero_stops true (d ∷ []) board m p s r l tests counts is many = rw (tests, counts, is) refl
@@ -95,9 +103,9 @@ zero_stops false [] board m p s r l tests counts is many = rw (tests, counts, is
 zero_stops false (d ∷ rest) board m p s r l tests counts is many = absurd (omega (arith, many))
 
 -- and goes on behind it
-pub zero_goes : (tests : Bool) (ds : List Decided) (board : BoardParts) (m : Microword) (p : Progress) (s : Standing) (r : Reading)
-    (l : WordList) (kind : DecidedKind) (bit : Bool) (bits : List Bool) → decides_pass m ≡ tests → decides_counter m ≡ true
-    → p.decided ≡ ds → length ds ≡ num tests
+pub zero_goes : (tests : Bool) (ds : List Decided) (board : BoardParts) (m : Microword) (p : Progress) (s : Standing)
+    (r : Reading) (l : WordList) (kind : DecidedKind) (bit : Bool) (bits : List Bool)
+    → decides_pass m ≡ tests → decides_counter m ≡ true → p.decided ≡ ds → length ds ≡ num tests
     → left_behind_reading board m p s r (bit ∷ bits) l
     ≡ left_behind_reading board m (with_bit p kind bit) s r bits (zero_words 12 s.parts.r l).list
 zero_goes true [] board m p s r l kind bit bits tests counts is many = absurd (omega (arith, many))
@@ -112,10 +120,13 @@ not_less : (a b : ℕ) → b ≤ a → nat_lt a b ≡ false
 not_less a b least = grind (arith, nat_tests)
 
 -- what is known of its end is there, and no bit of the next address is decided
-pub prepares : (board : BoardParts) (m : Microword) (p : Progress) (s : Standing) (r : Reading) (leaving : Leaving) (l0 l1 : WordList)
+pub prepares : (board : BoardParts) (m : Microword) (p : Progress) (s : Standing) (r : Reading) (leaving : Leaving)
+    (l0 l1 : WordList)
     → length p.decided ≡ bits_before m
-    → leaving_words board m s.parts s.sp r.sources.noise (effect_by m p.decided) l0 ≡ record { list = l1; leaving = leaving_of leaving }
-    → (bits : List Bool) → left_behind_reading board m p s r bits l0 ≡ left_of_address board m p s r leaving bits l1
+    → leaving_words board m s.parts s.sp r.sources.noise (effect_by m p.decided) l0 ≡ record {
+      list = l1;
+      leaving = leaving_of leaving;
+    } → (bits : List Bool) → left_behind_reading board m p s r bits l0 ≡ left_of_address board m p s r leaving bits l1
 prepares board m p s r leaving l0 l1 many leaves = λ bits.
     (let none : address_bits_of m p ≡ 0 = omega (arith, many) in
     ap (λ b. if b then left_to_test board m p s r bits l0
@@ -126,8 +137,8 @@ prepares board m p s r leaving l0 l1 many leaves = λ bits.
     (number_in p.decided (bits_before m) k) bits l1) (sym none))
 
 -- it stops at a bit of the next address: the one of this number from the lowest
-pub address_stops : (board : BoardParts) (m : Microword) (p : Progress) (s : Standing) (r : Reading) (leaving : Leaving) (l : WordList)
-    (place : ℕ) → 12 - address_bits_of m p ≡ suc place
+pub address_stops : (board : BoardParts) (m : Microword) (p : Progress) (s : Standing) (r : Reading) (leaving : Leaving)
+    (l : WordList) (place : ℕ) → 12 - address_bits_of m p ≡ suc place
     → left_of_address board m p s r leaving [] l ≡ stopped s (with_word (Part leaving.next place 1) l)
 address_stops board m p s r leaving l place is =
     ap (λ k. along_address board m s r (leaving_of leaving) (effect_by m p.decided) k
@@ -160,8 +171,9 @@ effect_same m ds x within =
     (zero_same (decides_pass m) (decides_counter m) ds x within)
 
 -- and goes on behind it
-pub address_goes : (board : BoardParts) (m : Microword) (p : Progress) (s : Standing) (r : Reading) (leaving : Leaving) (l : WordList)
-    (place : ℕ) (kind : DecidedKind) (bit : Bool) (bits : List Bool) → 12 - address_bits_of m p ≡ suc place
+pub address_goes : (board : BoardParts) (m : Microword) (p : Progress) (s : Standing) (r : Reading) (leaving : Leaving)
+    (l : WordList) (place : ℕ) (kind : DecidedKind) (bit : Bool) (bits : List Bool)
+    → 12 - address_bits_of m p ≡ suc place
     → bits_before m ≤ length p.decided
     → left_of_address board m p s r leaving (bit ∷ bits) l
     ≡ left_of_address board m (with_bit p kind bit) s r leaving bits (with_word (Part leaving.next place 1) l).list
@@ -170,12 +182,14 @@ address_goes board m p s r leaving l place kind bit bits is within =
     let x = decided kind bit in
     let before = bits_before m in
     let k = address_bits_of m p in
-    let after : Come = along_address board m s r (leaving_of leaving) (effect_by m ds) place (number_in ds before k * 2 + num bit) bits
+    let after : Come =
+    along_address board m s r (leaving_of leaving) (effect_by m ds) place (number_in ds before k * 2 + num bit) bits
     (with_word (Part leaving.next place 1) l).list in
     let more = count_more ds x in
     let next : address_bits_of m (with_bit p kind bit) ≡ k + 1 = omega (arith, more, within) in
     let left : 12 - address_bits_of m (with_bit p kind bit) ≡ place = omega (arith, next, is) in
-    ap (λ n. along_address board m s r (leaving_of leaving) (effect_by m ds) n (number_in ds before k) (bit ∷ bits) l) is
+    ap (λ n. along_address board m s r (leaving_of leaving) (effect_by m ds) n (number_in ds before k) (bit ∷ bits) l)
+    is
     ∙ sym (ap (λ n. along_address board m s r (leaving_of leaving) (effect_by m (ds ++ x ∷ [])) n
     (number_in (ds ++ x ∷ []) before (address_bits_of m (with_bit p kind bit))) bits
     (with_word (Part leaving.next place 1) l).list) left
@@ -187,8 +201,9 @@ address_goes board m p s r leaving l place kind bit bits is within =
     (with_word (Part leaving.next place 1) l).list) (number_next ds x before k (omega (arith, within))))
 
 -- all bits are decided: what is left is the edge
-pub address_ends : (board : BoardParts) (m : Microword) (p : Progress) (s : Standing) (r : Reading) (leaving : Leaving) (l : WordList)
-    (after : Stands) (at : ℕ) → length p.decided ≡ bits_before m + 12 → at ≡ number_in p.decided (bits_before m) 12
+pub address_ends : (board : BoardParts) (m : Microword) (p : Progress) (s : Standing) (r : Reading) (leaving : Leaving)
+    (l : WordList) (after : Stands) (at : ℕ)
+    → length p.decided ≡ bits_before m + 12 → at ≡ number_in p.decided (bits_before m) 12
     → edge_words board m s r (leaving_of leaving) (effect_by m p.decided) at l ≡ after
     → (bits : List Bool) → left_of_address board m p s r leaving bits l ≡ done bits after
 address_ends board m p s r leaving l after at many is edge = λ bits.
@@ -234,8 +249,8 @@ writes_after false m address value = refl
 
 -- where it is once its cycle is left
 pub left_cycle : (m : Microword) (source y : ℕ) (old e : Symbolic) (r : Reading) (writes after : List Held)
-    → e.place.cycle ≡ old.place.cycle → e.place.taken ≡ old.place.taken → e.events ≡ old.events → source ≡ r.source → y ≡ r.y
-    → after ≡ with_write_if m.memory_write old.place.parts.mar r.y writes
+    → e.place.cycle ≡ old.place.cycle → e.place.taken ≡ old.place.taken → e.events ≡ old.events → source ≡ r.source
+    → y ≡ r.y → after ≡ with_write_if m.memory_write old.place.parts.mar r.y writes
     → standing_after m old.place e.place r writes old.events
     ≡ standing_in (cycle_left (with_shown m.d.from m.out source y e)) after
 left_cycle m source y old e r writes after cycle taken events is_source is_y wrote =
@@ -263,15 +278,17 @@ none_is None none = refl
 none_is (Some x) none = absurd (bool.both_ways false refl (sym none))
 
 -- a cycle that hasn't begun knows nothing of its end
-pub not_begun : (board : BoardParts) (store : List ℕ) (t : Table) (p : Progress) (reading : Option read.Reading) (leaving : Option Leaving)
+pub not_begun : (board : BoardParts) (store : List ℕ) (t : Table) (p : Progress) (reading : Option read.Reading)
+    (leaving : Option Leaving)
     → reading ≡ None → Leaves board store t p reading leaving → leaving ≡ None
 not_begun board store t p reading None none leaves = refl
 not_begun board store t p reading (Some l) none leaves =
     absurd (subst (λ (x : Option read.Reading). Leaves board store t p x (Some l)) none leaves)
 
 -- one that knows nothing of it has decided no bit of the next address
-pub few_decided : (board : BoardParts) (store : List ℕ) (t : Table) (p : Progress) (r : read.Reading) (reading : Option read.Reading)
-    (leaving : Option Leaving) → reading ≡ Some r → leaving ≡ None → Leaves board store t p reading leaving
+pub few_decided : (board : BoardParts) (store : List ℕ) (t : Table) (p : Progress) (r : read.Reading)
+    (reading : Option read.Reading) (leaving : Option Leaving)
+    → reading ≡ Some r → leaving ≡ None → Leaves board store t p reading leaving
     → length p.decided ≤ bits_before (microword_of board store p)
 few_decided board store t p r reading leaving is none leaves =
     subst (λ (x : Option Leaving). Leaves board store t p (Some r) x) none
@@ -296,8 +313,9 @@ asked_one turn k kind t term P one other is =
     subst (λ x. P kind x) terms (subst (λ x. P x t) kinds is)
 
 -- while pass or the counter is to be decided it knows nothing of its end
-pub not_leaving : (board : BoardParts) (store : List ℕ) (t : Table) (p : Progress) (r : read.Reading) (reading : Option read.Reading)
-    (leaving : Option Leaving) → reading ≡ Some r → Leaves board store t p reading leaving
+pub not_leaving : (board : BoardParts) (store : List ℕ) (t : Table) (p : Progress) (r : read.Reading)
+    (reading : Option read.Reading) (leaving : Option Leaving)
+    → reading ≡ Some r → Leaves board store t p reading leaving
     → length p.decided < bits_before (microword_of board store p) → leaving ≡ None
 not_leaving board store t p r reading None is leaves few = refl
 not_leaving board store t p r reading (Some l) is leaves few =
@@ -308,12 +326,14 @@ not_leaving board store t p r reading (Some l) is leaves few =
 pub stops_before : (board : BoardParts) (store : List ℕ) (writes : List Held) (old new : Symbolic) (r : read.Reading)
     (l0 l1 : WordList) (kind : DecidedKind) (term : ℕ) (asked : Option DecidedKind) → new ≡ record old { asked = asked }
     → old.reading ≡ Some r → old.leaving ≡ None
-    → left_behind_reading board (microword_of board store old.place) old.place (standing_in old writes) (reading_of r) [] l0
+    → left_behind_reading board (microword_of board store old.place) old.place (standing_in old writes)
+    (reading_of r) [] l0
     ≡ stopped (standing_in old writes) (ended term l1)
     → ((bit : Bool) (bits : List Bool)
-    → left_behind_reading board (microword_of board store old.place) old.place (standing_in old writes) (reading_of r) (bit ∷ bits) l0
-    ≡ left_behind_reading board (microword_of board store old.place) (with_bit old.place kind bit) (standing_in old writes)
-    (reading_of r) bits l1)
+    → left_behind_reading board (microword_of board store old.place) old.place (standing_in old writes)
+    (reading_of r) (bit ∷ bits) l0
+    ≡ left_behind_reading board (microword_of board store old.place) (with_bit old.place kind bit)
+    (standing_in old writes) (reading_of r) bits l1)
     → StopsAt board store writes old new l0 l1 kind term
 stops_before board store writes old new r l0 l1 kind term asked is reading leaving here goes =
     let left = λ (p : Progress) (bits : List Bool) (l : WordList).
@@ -329,10 +349,12 @@ stops_before board store writes old new r l0 l1 kind term asked is reading leavi
 pub stops_behind : (board : BoardParts) (store : List ℕ) (writes : List Held) (old new : Symbolic) (r : read.Reading)
     (leaving : Leaving) (l0 l1 : WordList) (kind : DecidedKind) (term : ℕ) (asked : Option DecidedKind)
     → new ≡ record old { asked = asked } → old.reading ≡ Some r → old.leaving ≡ Some leaving
-    → left_of_address board (microword_of board store old.place) old.place (standing_in old writes) (reading_of r) leaving [] l0
+    → left_of_address board (microword_of board store old.place) old.place (standing_in old writes)
+    (reading_of r) leaving [] l0
     ≡ stopped (standing_in old writes) (ended term l1)
     → ((bit : Bool) (bits : List Bool)
-    → left_of_address board (microword_of board store old.place) old.place (standing_in old writes) (reading_of r) leaving (bit ∷ bits) l0
+    → left_of_address board (microword_of board store old.place) old.place (standing_in old writes)
+    (reading_of r) leaving (bit ∷ bits) l0
     ≡ left_of_address board (microword_of board store old.place) (with_bit old.place kind bit) (standing_in old writes)
     (reading_of r) leaving bits l1)
     → StopsAt board store writes old new l0 l1 kind term
@@ -358,8 +380,9 @@ pub goes_on : (board : BoardParts) (store : List ℕ) (writes : List Held) (old 
 goes_on board store writes old mid new l0 l1 l2 first second = λ bits. (first bits ∙ second bits)
 
 -- it goes on, and then stops at a bit
-pub stops_later : (board : BoardParts) (store : List ℕ) (writes : List Held) (old mid new : Symbolic) (l0 l1 l2 : WordList)
-    (mold mnew : Memory) (turn : Turn) (kind : DecidedKind) (term : ℕ) → turn ≡ Ask kind term → mid.place ≡ old.place
+pub stops_later : (board : BoardParts) (store : List ℕ) (writes : List Held) (old mid new : Symbolic)
+    (l0 l1 l2 : WordList) (mold mnew : Memory) (turn : Turn) (kind : DecidedKind) (term : ℕ)
+    → turn ≡ Ask kind term → mid.place ≡ old.place
     → mid.events ≡ old.events → mold.board ≡ writes → GoesAlong board store writes old mid l0 l1
     → StopsAt board store writes mid new l1 l2 kind term → ListsTurn board store mold mnew old new l0 l2 turn
 stops_later board store writes old mid new l0 l1 l2 mold mnew turn kind term is place events same goes stops =

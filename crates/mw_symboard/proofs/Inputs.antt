@@ -1,5 +1,6 @@
 -- The variables of inputs, and how a source of D goes on.
-use Rattle.std.proofs.Common.{◌≡◌, inl, inr, ℕ, ◌⊎◌, List, [], ◌∷◌, ◌++◌, Bool, true, false, refl, ap, sym, ◌∙◌, Option, Some, None}
+use Rattle.std.proofs.Common.{◌≡◌, inl, inr, ℕ, ◌⊎◌, List, [], ◌∷◌, ◌++◌, Bool, true, false, refl, ap, sym, ◌∙◌, Option}
+use Rattle.std.proofs.Common.{Some, None}
 use Rattle.std.specs.Prelude.{Result, Ok, Err, OnOk, if◌then◌else◌}
 use Rattle.mw_board.specs.declared.parts.BoardParts.{BoardParts}
 use Rattle.mw_term.specs.declared.kinds.WordKind.{WordKind}
@@ -23,7 +24,8 @@ use Rattle.mw_symboard.specs.Kinds.{AreInputs, IsSourceKind}
 
 -- ---- a variable
 
-pub wide_variable : (told tnew : Table) (number w term : ℕ) → IsTermOf told tnew (Var number w) term → IsOfWidth tnew w term
+pub wide_variable : (told tnew : Table) (number w term : ℕ)
+    → IsTermOf told tnew (Var number w) term → IsOfWidth tnew w term
 unfolding op_width
 wide_variable told tnew number w term made = record { there = made.there; width_is = made.width }
 

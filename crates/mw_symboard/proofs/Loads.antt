@@ -1,5 +1,6 @@
 -- What the flip-flops take, as far as some of them were loaded.
-use Rattle.std.proofs.Common.{◌≡◌, inl, inr, ℕ, zero, suc, ◌<◌, ◌≤◌, List, [], ◌∷◌, ◌++◌, length, length-append, slice_index, refl, ap, sym, arith, ◌∙◌}
+use Rattle.std.proofs.Common.{◌≡◌, inl, inr, ℕ, zero, suc, ◌<◌, ◌≤◌, List, [], ◌∷◌, ◌++◌, length, length-append}
+use Rattle.std.proofs.Common.{slice_index, refl, ap, sym, arith, ◌∙◌}
 use Rattle.std.specs.Prelude.{Some, slice_get}
 use Rattle.std.proofs.lemmas.Bool.{cases_lt}
 use Rattle.mw_board.specs.declared.flipflop.FlipFlop.{FlipFlop}
@@ -43,8 +44,8 @@ none_so_far board m t p sp n = record {
 
 -- one more
 pub one_so_far : (board : BoardParts) (m : Microword) (told tnew : Table) (p : Parts) (sp : ℕ) (n : Sources)
-    (terms : List ℕ) (f : FlipFlop) (term : ℕ) → Extends told tnew → Keeps told tnew → AreSoFar board m told p sp n terms
-    → slice_get board.flipflop (length terms) ≡ Some f
+    (terms : List ℕ) (f : FlipFlop) (term : ℕ) → Extends told tnew → Keeps told tnew
+    → AreSoFar board m told p sp n terms → slice_get board.flipflop (length terms) ≡ Some f
     → IsLoaded (load_of board m f) board tnew p sp n (slice_index p.flips (length terms)) term → IsOfWidth tnew 1 term
     → AreSoFar board m tnew p sp n (terms ++ term ∷ [])
 one_so_far board m told tnew p sp n terms f term extends keeps are here is wide = record {

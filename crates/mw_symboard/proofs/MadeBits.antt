@@ -40,7 +40,8 @@ pub wide_bit : (told tnew : Table) (op : Op) (term : ℕ) → IsTermOf told tnew
 wide_bit told tnew op term made one = record { there = made.there; width_is = made.width ∙ one }
 
 -- a bit that was made once was found
-pub found_early : (board : BoardParts) (t : Table) (p : Parts) (sp line : ℕ) (made : List MadeBit) (bit : Bit) (term : ℕ)
+pub found_early : (board : BoardParts) (t : Table) (p : Parts) (sp line : ℕ) (made : List MadeBit) (bit : Bit)
+    (term : ℕ)
     → AreEarlyBits board t p sp line made
     → Some term ≡ made_term made bit
     → IsOfWidth t 1 term × IsEarlyBit board t p sp line bit term
@@ -76,8 +77,9 @@ after_late_ok board told tnew old new p sp n before now early are late grew = re
   late = late;
 }
 
-pub after_late : {X Y : Type 0} (r : Result X Y) (board : BoardParts) (told tnew : Table) (old new : List Word) (p : Parts)
-    (sp : ℕ) (n : Sources) (before now : Bits) → now.early ≡ before.early → AreBits board told p sp n before
+pub after_late : {X Y : Type 0} (r : Result X Y) (board : BoardParts) (told tnew : Table) (old new : List Word)
+    (p : Parts) (sp : ℕ) (n : Sources) (before now : Bits)
+    → now.early ≡ before.early → AreBits board told p sp n before
     → OnOk r (AreLateBits board tnew p sp n now.late) → OnOk r (Grew told tnew old new)
     → OnOk r (AreBits board tnew p sp n now)
 after_late (Ok x) board told tnew old new p sp n before now early are late grew =
@@ -109,8 +111,9 @@ after_constant (Ok x) board told tnew p sp line made are grew =
 after_constant (Err x) board told tnew p sp line made are grew = tt
 
 -- and after a word
-pub after_word : {X Y : Type 0} (r : Result X Y) (board : BoardParts) (told tnew : Table) (old new : List Word) (p : Parts)
-    (sp : ℕ) (n : Sources) (b : Bits) → AreBits board told p sp n b → OnOk r (Grew told tnew old new)
+pub after_word : {X Y : Type 0} (r : Result X Y) (board : BoardParts) (told tnew : Table) (old new : List Word)
+    (p : Parts) (sp : ℕ) (n : Sources) (b : Bits)
+    → AreBits board told p sp n b → OnOk r (Grew told tnew old new)
     → OnOk r (AreBits board tnew p sp n b)
 after_word (Ok x) board told tnew old new p sp n b are grew =
     bits_stay board told tnew p sp n b grew.1.extends grew.1.keeps are

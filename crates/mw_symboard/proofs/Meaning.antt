@@ -1,5 +1,6 @@
 -- What the terms of elements, of D and of F say of a cycle's nets.
-use Rattle.std.proofs.Common.{◌≡◌, inl, inr, ℕ, ◌+◌, ◌-◌, ◌*◌, ◌/◌, ◌%◌, ◌^◌, ◌<◌, ◌≤◌, List, length, slice_index, ap, ap₂, arith, sym, ◌∙◌}
+use Rattle.std.proofs.Common.{◌≡◌, inl, inr, ℕ, ◌+◌, ◌-◌, ◌*◌, ◌/◌, ◌%◌, ◌^◌, ◌<◌, ◌≤◌, List, length, slice_index, ap}
+use Rattle.std.proofs.Common.{ap₂, arith, sym, ◌∙◌}
 use Rattle.std.specs.Prelude.{Bool, Option, Some, None, slice_get, bit_xor}
 use Rattle.std.proofs.lemmas.Nat.{mod_low}
 use Rattle.mw_base.specs.Words.{bit_of, complement, join, num, part}
@@ -27,7 +28,8 @@ use Rattle.mw_symboard.specs.Made.{IsAddendR, IsAddendS, IsF, IsFrom, IsMasked, 
 use Rattle.mw_symboard.specs.Parts.{AreParts}
 use Rattle.mw_cycle.specs.BoardTerms.{term_of_part}
 use Rattle.mw_symboard.specs.Seen.{Progress, Says, Scene, answer_net, d_net, microword_of}
-use Rattle.mw_symboard.proofs.Saying.{says_and, says_as, says_below, says_con, says_join, says_not, says_or, says_part, says_same, says_sum, says_wide, says_xor}
+use Rattle.mw_symboard.proofs.Saying.{says_and, says_as, says_below, says_con, says_join, says_not, says_or, says_part}
+use Rattle.mw_symboard.proofs.Saying.{says_same, says_sum, says_wide, says_xor}
 
 -- a word is its own low bits
 pub low_bits : (x w : ℕ) → x < 2 ^ w → x % 2 ^ w ≡ x
@@ -79,7 +81,8 @@ module _ {board : BoardParts} {store : List ℕ} {t : Table} {words : List Word}
   -- ---- D
 
   -- what a source is behind its mask
-  pub says_masked : (w : ℕ) (mask : Option ℕ) (whole term : ℕ) (f : Scene → ℕ) → IsTable t → IsMasked t w mask whole term
+  pub says_masked : (w : ℕ) (mask : Option ℕ) (whole term : ℕ) (f : Scene → ℕ)
+      → IsTable t → IsMasked t w mask whole term
       → Says board store t words m p w whole f → Says board store t words m p w term (λ x. masked mask (f x))
   says_masked w None whole term f table is says = says_same w whole term f is says
   says_masked w (Some mask) whole term f table is says =
@@ -115,15 +118,16 @@ module _ {board : BoardParts} {store : List ℕ} {t : Table} {words : List Word}
   -- D
   pub says_d : (source term : ℕ) → IsTable t → valid.IsBoard board → AreParts board t p.parts
       → IsMicroword board (microword_of board store p)
-      → IsFrom board (microword_of board store p).word t words m p.parts p.taken (microword_of board store p).d.from source
+      → IsFrom board (microword_of board store p).word t words m p.parts p.taken
+      (microword_of board store p).d.from source
       → IsOfWidth t board.width source → IsMasked t board.width (microword_of board store p).d.mask source term
       → Says board store t words m p board.width term (d_net board store p)
   says_d source term table good parts micro is wide behind =
       says_masked board.width (microword_of board store p).d.mask source term
       (λ x. from_source board (microword_of board store p).word (microword_of board store p).d.from x.state x.outside)
       table behind
-      (says_source (microword_of board store p).word (microword_of board store p).d.from source table good parts micro.d.from
-      is wide)
+      (says_source (microword_of board store p).word
+      (microword_of board store p).d.from source table good parts micro.d.from is wide)
 
   -- ---- F
 
@@ -166,8 +170,8 @@ module _ {board : BoardParts} {store : List ℕ} {t : Table} {words : List Word}
   says_addend_s function w s term f table is says = says_same w s term f is says
 
   -- the word F
-  pub says_f : (function : Function) (w r s first second carry term : ℕ) (f g : Scene → ℕ) (h : Scene → Bool) → IsTable t
-      → IsF t function r s first second carry term
+  pub says_f : (function : Function) (w r s first second carry term : ℕ) (f g : Scene → ℕ) (h : Scene → Bool)
+      → IsTable t → IsF t function r s first second carry term
       → Says board store t words m p w r f → Says board store t words m p w s g
       → Says board store t words m p w first (λ x. addend_r function w (f x))
       → Says board store t words m p w second (λ x. addend_s function w (g x))
@@ -179,14 +183,16 @@ module _ {board : BoardParts} {store : List ℕ} {t : Table} {words : List Word}
   says_f functions.And w r s first second carry term f g h table is says_first says_second one two in_carry =
       says_and w r s term f g table is says_first says_second
   says_f functions.Notrs w r s first second carry term f g h table is says_first says_second one two in_carry =
-      says_and w is.0 s term (λ x. complement w (f x)) g table is.2 (says_not w r is.0 f table is.1 says_first) says_second
+      says_and w is.0 s term (λ x. complement w (f x)) g table is.2
+      (says_not w r is.0 f table is.1 says_first) says_second
   says_f functions.Exor w r s first second carry term f g h table is says_first says_second one two in_carry =
       says_xor w r s term f g table is says_first says_second
   says_f functions.Exnor w r s first second carry term f g h table is says_first says_second one two in_carry =
-      says_not w is.0 term (λ x. bit_xor (f x) (g x)) table is.2 (says_xor w r s is.0 f g table is.1 says_first says_second)
+      says_not w is.0 term (λ x. bit_xor (f x) (g x)) table is.2
+      (says_xor w r s is.0 f g table is.1 says_first says_second)
   says_f function w r s first second carry term f g h table is says_first says_second one two in_carry =
-      says_sum w first second carry term (λ x. addend_r function w (f x)) (λ x. addend_s function w (g x)) h table is one two
-      in_carry
+      says_sum w first second carry term (λ x. addend_r function w (f x))
+      (λ x. addend_s function w (g x)) h table is one two in_carry
 
   -- the Am2901's F
   pub says_answer : (r s first second carry term : ℕ) → IsTable t
@@ -200,4 +206,5 @@ module _ {board : BoardParts} {store : List ℕ} {t : Table} {words : List Word}
   unfolding answer_of operands_of alu_of
   says_answer r s first second carry term table is says_first says_second one two in_carry =
       says_f (function_of (microword_of board store p).instruction) board.width r s first second carry term
-      (r_net board store p) (s_net board store p) (carry_in_net board store p) table is says_first says_second one two in_carry
+      (r_net board store p) (s_net board store p)
+      (carry_in_net board store p) table is says_first says_second one two in_carry

@@ -22,10 +22,12 @@ module _ {board : BoardParts} {store : List ℕ} {t : Table} {words : List Word}
   known r is at = (read_known board store t words m o.place o.reading r at is.symbolic.reading).0
 
   -- and says what it should
-  says : (r : Reading) → IsCycle board store t words m o → o.reading ≡ Some r → SaysReading board store t words m o.place r
+  says : (r : Reading)
+      → IsCycle board store t words m o → o.reading ≡ Some r → SaysReading board store t words m o.place r
   says r is at = says_reading r is.table is.valid is.symbolic.parts is.microword (known r is at)
 
-  says_bits : (r : Reading) → IsCycle board store t words m o → o.reading ≡ Some r → SayBits board store t words m o.place r.bits
+  says_bits : (r : Reading)
+      → IsCycle board store t words m o → o.reading ≡ Some r → SayBits board store t words m o.place r.bits
   says_bits r is at = record {
     early = λ k b found named.
         says_early r.sources.line b.bit b.term is.table is.symbolic.parts named (says r is at).sources.line

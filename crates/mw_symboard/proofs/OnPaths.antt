@@ -20,7 +20,8 @@ use Rattle.mw_symmem.proofs.Later.{width_later}
 use Rattle.mw_symmem.proofs.Lists.{pushed}
 use Rattle.mw_symboard.specs.Laws.{BeginsWith, Course, bits_in, run_in}
 use Rattle.mw_symboard.specs.Parts.{AreElements}
-use Rattle.mw_symboard.specs.Paths.{IsOneOf, Origin, PassedGoOn, PassedStay, PathsBegin, PathsGoOn, PathsStay, PathsTakeBits, SplitsAreBy}
+use Rattle.mw_symboard.specs.Paths.{IsOneOf, Origin, PassedGoOn, PassedStay, PathsBegin, PathsGoOn, PathsStay}
+use Rattle.mw_symboard.specs.Paths.{PathsTakeBits, SplitsAreBy}
 use Rattle.mw_symboard.specs.Seen.{Progress}
 use Rattle.mw_symboard.specs.Turns.{Symbolic, IsTurn}
 use Rattle.mw_symboard.proofs.RunBits.{first_before}

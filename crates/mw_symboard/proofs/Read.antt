@@ -29,7 +29,8 @@ use Rattle.mw_symboard.specs.Parts.{AreParts}
 use Rattle.mw_cycle.specs.BoardTerms.{Parts}
 use Rattle.mw_symboard.specs.Seen.{Progress}
 use Rattle.mw_symboard.proofs.Growing.{grew_then, wide_later}
-use Rattle.mw_symboard.proofs.Standing.{addend_r_stays, addend_s_stays, early_bit_stays, f_stays, found_stays, from_stays, masked_stays, parts_stay, r_stays, s_stays, sources_stay}
+use Rattle.mw_symboard.proofs.Standing.{addend_r_stays, addend_s_stays, early_bit_stays, f_stays, found_stays}
+use Rattle.mw_symboard.proofs.Standing.{from_stays, masked_stays, parts_stay, r_stays, s_stays, sources_stay}
 use Rattle.mw_symboard.proofs.Variables.{grew_term}
 
 -- ---- what F was made of
@@ -75,35 +76,37 @@ module _ (board : BoardParts) (m : Microword) (t1 t2 t3 t4 : Table) (w1 w2 w3 w4
   pub operands_are : IsOfWidth t1 1 n.line → IsOfWidth t1 14 n.noise
       → IsEarlyBit board t1 p sp n.line m.carry_in n.carry → IsOfWidth t1 1 n.carry
       → IsR t2 board.width (source_of m.instruction) (slice_index p.regs m.a_address) d r
-      → IsS t2 board.width (source_of m.instruction) (slice_index p.regs m.a_address) (slice_index p.regs m.b_address) p.q s
+      → IsS t2 board.width (source_of m.instruction) (slice_index p.regs m.a_address)
+      (slice_index p.regs m.b_address) p.q s
       → IsOfWidth t2 board.width r → IsOfWidth t2 board.width s
       → IsAddendR t3 n.function r n.first → IsAddendS t3 n.function s n.second
       → IsOfWidth t3 board.width n.first → IsOfWidth t3 board.width n.second
       → IsF t4 n.function r s n.first n.second n.carry n.f → IsOfWidth t4 board.width n.f
       → n.function ≡ function_of m.instruction → AreOperands board m t4 p sp d n
-  operands_are line noise carry carry_wide is_r is_s r_wide s_wide first second first_wide second_wide f f_wide function = record {
-    first = r;
-    second = s;
-    carry = early_bit_stays board t1 t4 p sp n.line m.carry_in n.carry after_one.1.extends carry;
-    function = function;
-    operand_r = r_stays t2 t4 board.width (source_of m.instruction) (slice_index p.regs m.a_address) d r
-        after_two.1.extends is_r;
-    operand_s = s_stays t2 t4 board.width (source_of m.instruction) (slice_index p.regs m.a_address)
-        (slice_index p.regs m.b_address) p.q s after_two.1.extends is_s;
-    addend_r = addend_r_stays t3 t4 n.function r n.first three.1.extends first;
-    addend_s = addend_s_stays t3 t4 n.function s n.second three.1.extends second;
-    f = f;
-    first_wide = wide_later t2 t4 w2 w4 board.width r after_two r_wide;
-    second_wide = wide_later t2 t4 w2 w4 board.width s after_two s_wide;
-    sources = record {
-      line = wide_later t1 t4 w1 w4 1 n.line after_one line;
-      noise = wide_later t1 t4 w1 w4 14 n.noise after_one noise;
-      first = wide_later t3 t4 w3 w4 board.width n.first three first_wide;
-      second = wide_later t3 t4 w3 w4 board.width n.second three second_wide;
-      carry = wide_later t1 t4 w1 w4 1 n.carry after_one carry_wide;
-      f = f_wide;
-    };
-  }
+  operands_are line noise carry carry_wide is_r is_s r_wide s_wide first second first_wide second_wide f f_wide
+      function = record {
+        first = r;
+        second = s;
+        carry = early_bit_stays board t1 t4 p sp n.line m.carry_in n.carry after_one.1.extends carry;
+        function = function;
+        operand_r = r_stays t2 t4 board.width (source_of m.instruction) (slice_index p.regs m.a_address) d r
+            after_two.1.extends is_r;
+        operand_s = s_stays t2 t4 board.width (source_of m.instruction) (slice_index p.regs m.a_address)
+            (slice_index p.regs m.b_address) p.q s after_two.1.extends is_s;
+        addend_r = addend_r_stays t3 t4 n.function r n.first three.1.extends first;
+        addend_s = addend_s_stays t3 t4 n.function s n.second three.1.extends second;
+        f = f;
+        first_wide = wide_later t2 t4 w2 w4 board.width r after_two r_wide;
+        second_wide = wide_later t2 t4 w2 w4 board.width s after_two s_wide;
+        sources = record {
+          line = wide_later t1 t4 w1 w4 1 n.line after_one line;
+          noise = wide_later t1 t4 w1 w4 14 n.noise after_one noise;
+          first = wide_later t3 t4 w3 w4 board.width n.first three first_wide;
+          second = wide_later t3 t4 w3 w4 board.width n.second three second_wide;
+          carry = wide_later t1 t4 w1 w4 1 n.carry after_one carry_wide;
+          f = f_wide;
+        };
+      }
 
 -- ---- a variable, or a read, behind which there are words that are no variables
 
@@ -112,13 +115,14 @@ grew_later told tnew old new grew table =
     record { extends = grew.1.extends; keeps = grew.1.keeps; table = grew.1.table table }
 
 pub grew_from : (board : BoardParts) (word : ℕ) (told tnew : Table) (old new : List Word) (m : Memory) (p : Parts)
-    (taken : ℕ) (m_from : Microword) (term : ℕ) → Grew told tnew old new → IsWorkspace told old m → p.mar < length told.ops
-    → term < length told.ops → IsFrom board word told old m p taken m_from.d.from term
+    (taken : ℕ) (m_from : Microword) (term : ℕ) → Grew told tnew old new → IsWorkspace told old m
+    → p.mar < length told.ops → term < length told.ops → IsFrom board word told old m p taken m_from.d.from term
     → IsFrom board word tnew new m p taken m_from.d.from term
 grew_from board word told tnew old new m p taken m_from term grew workspace mar there is =
     rw grew.1.words
     (from_stays board word told tnew old _ m m p taken m_from.d.from term
-    (grew_later told tnew old new grew workspace.table) workspace.memory (reads_itself m) (writes_itself m) mar there is)
+    (grew_later told tnew old new grew workspace.table) workspace.memory (reads_itself m)
+    (writes_itself m) mar there is)
 
 -- ---- the whole
 
@@ -195,8 +199,10 @@ module _ (board : BoardParts) (m : Microword) (p : Progress) (t0 t1 t2 t3 t4 t5 
       → made.y ≡ y_term (destination_of m.instruction) (slice_index p.parts.regs m.a_address) made.sources.f
       → IsOfWidth t6 board.width made.y
       → IsReading board m t6 w6 m2 p made
-  reading_is made d bit line noise parts source source_wide masked d_wide operands bits tested condition condition_wide y y_is_wide =
-      let are = operands_stay board m t4 t6 p.parts p.sp d made.sources behind_four.1.extends behind_four.1.keeps operands in
+  reading_is made d bit line noise parts source source_wide masked d_wide operands bits tested condition
+      condition_wide y y_is_wide =
+      let are =
+      operands_stay board m t4 t6 p.parts p.sp d made.sources behind_four.1.extends behind_four.1.keeps operands in
       record {
         d = d;
         first = are.first;

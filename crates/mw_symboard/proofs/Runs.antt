@@ -1,5 +1,6 @@
 -- A board on terms is a run of the board.
-use Rattle.std.proofs.Common.{◌≡◌, ◌⊎◌, inl, inr, ℕ, suc, ◌+◌, ◌<◌, List, [], ◌∷◌, ◌++◌, length, map, slice_index, append-nil, append_assoc, refl, ap, ap₂, sym, subst, ◌∙◌}
+use Rattle.std.proofs.Common.{◌≡◌, ◌⊎◌, inl, inr, ℕ, suc, ◌+◌, ◌<◌, List, [], ◌∷◌, ◌++◌, length, map, slice_index}
+use Rattle.std.proofs.Common.{append-nil, append_assoc, refl, ap, ap₂, sym, subst, ◌∙◌}
 use Rattle.std.specs.Option.{option_to_list}
 use Rattle.std.specs.Prelude.{◌==◌, Bool, true, false, if◌then◌else◌, Option, Some, None, slice_get}
 use Rattle.mw_base.specs.declared.event.Event.{Event}
@@ -34,13 +35,16 @@ use Rattle.std.proofs.lemmas.Option.{same_Some}
 use Rattle.mw_symmem.specs.Memory.{Memory, IsMemory, after, valued}
 use Rattle.mw_symmem.specs.Workspace.{IsLater, ReadsMore}
 use Rattle.mw_symmem.proofs.Later.{image_before, images_fit_before, valued_stays}
-use Rattle.mw_symboard.specs.Laws.{BeginsWith, BitsAreFirst, BitsAreOfTheRun, Course, ElementsHaveTerms, FitsSoFar, IsEnvironmentOf, IsInRun, IsNew, RunsBegin, RunsFitBefore, RunsStay, TurnsAreOfTheRun, bits_in, run_in}
+use Rattle.mw_symboard.specs.Laws.{BeginsWith, BitsAreFirst, BitsAreOfTheRun, Course, ElementsHaveTerms, FitsSoFar}
+use Rattle.mw_symboard.specs.Laws.{IsEnvironmentOf, IsInRun, IsNew, RunsBegin, RunsFitBefore, RunsStay}
+use Rattle.mw_symboard.specs.Laws.{TurnsAreOfTheRun, bits_in, run_in}
 use Rattle.mw_symboard.specs.Parts.{AreParts}
 use Rattle.mw_cycle.specs.BoardTerms.{term_of_part}
 use Rattle.mw_symboard.specs.Seen.{AreFirst, IsOutside, IsSeen, IsStateOf, Progress, Scene}
 use Rattle.mw_symboard.specs.Turns.{Symbolic, AreEvents, IsDone, clock_of, event_of, event_term, with_reads}
 use Rattle.mw_symboard.proofs.Begun.{has_number, number_below, number_of_element}
-use Rattle.mw_symboard.proofs.RunBits.{bits_next, bits_none, first_next, first_of, first_of_run, next_of_cycle, next_of_run, run_next, run_none}
+use Rattle.mw_symboard.proofs.RunBits.{bits_next, bits_none, first_next, first_of, first_of_run, next_of_cycle}
+use Rattle.mw_symboard.proofs.RunBits.{next_of_run, run_next, run_none}
 use Rattle.mw_symboard.proofs.Standing.{parts_stay}
 use Rattle.mw_symboard.proofs.Staying.{events_stay}
 

@@ -31,12 +31,13 @@ abbrev pub IsMadeIn : List MadeBit → Bit → (term : ℕ) → Type 0
 IsMadeIn made bit term = (k : ℕ) × (m : MadeBit) × (slice_get made k ≡ Some m) × (m.bit ≡ bit) × (m.term ≡ term)
 
 -- one behind another bit
-further : (m : MadeBit) (made : List MadeBit) (bit : Bit) (term : ℕ) → IsMadeIn made bit term → IsMadeIn (m ∷ made) bit term
+further : (m : MadeBit) (made : List MadeBit) (bit : Bit) (term : ℕ)
+    → IsMadeIn made bit term → IsMadeIn (m ∷ made) bit term
 further m made bit term is = (suc is.0, is.1, is.2, is.3, is.4)
 
 by_first : (m : MadeBit) (made : List MadeBit) (bit : Bit) (term : ℕ) → (b : Bool) → same_bit m.bit bit ≡ b
-    → Some term ≡ (if b then Some m.term else made_term made bit) → (Some term ≡ made_term made bit → IsMadeIn made bit term)
-    → IsMadeIn (m ∷ made) bit term
+    → Some term ≡ (if b then Some m.term else made_term made bit)
+    → (Some term ≡ made_term made bit → IsMadeIn made bit term) → IsMadeIn (m ∷ made) bit term
 by_first m made bit term true same found later = (0, m, refl, bit_is m.bit bit same, sym (same_Some term m.term found))
 by_first m made bit term false same found later = further m made bit term (later found)
 

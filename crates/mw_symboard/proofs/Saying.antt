@@ -1,6 +1,8 @@
 -- What a term says of a net, by its op.
-use Rattle.std.proofs.Common.{◌≡◌, inl, inr, ℕ, suc, ◌+◌, ◌-◌, ◌/◌, ◌%◌, ◌^◌, ◌<◌, List, [], ◌∷◌, ◌++◌, length, slice_index, refl, ap, ap₂, arith, sym, subst, ◌∙◌}
-use Rattle.std.specs.Prelude.{Bool, true, false, Option, Some, slice_get, ◌==◌, bit_and, bit_or, bit_xor, if◌then◌else◌, ◌⊎◌}
+use Rattle.std.proofs.Common.{◌≡◌, inl, inr, ℕ, suc, ◌+◌, ◌-◌, ◌/◌, ◌%◌, ◌^◌, ◌<◌, List, [], ◌∷◌, ◌++◌, length}
+use Rattle.std.proofs.Common.{slice_index, refl, ap, ap₂, arith, sym, subst, ◌∙◌}
+use Rattle.std.specs.Prelude.{Bool, true, false, Option, Some, slice_get, ◌==◌, bit_and, bit_or, bit_xor, if◌then◌else◌}
+use Rattle.std.specs.Prelude.{◌⊎◌}
 use Rattle.std.proofs.lemmas.Nat.{mod_below}
 use Rattle.std.proofs.lemmas.Option.{same_Some}
 use Rattle.mw_base.specs.Carries.{carry_at}
@@ -81,8 +83,8 @@ module _ {board : BoardParts} {store : List ℕ} {t : Table} {words : List Word}
   says_same w x y f same says = subst (λ (z : ℕ). Says board store t words m p w z f) (sym same) says
 
   -- what a term says has no more bits than the term
-  pub says_below : (w x : ℕ) (f : Scene → ℕ) → IsTable t → Says board store t words m p w x f → (given : Given) (s : Scene)
-      → IsSeen board store t words m p given s → f s < 2 ^ w
+  pub says_below : (w x : ℕ) (f : Scene → ℕ) → IsTable t → Says board store t words m p w x f
+      → (given : Given) (s : Scene) → IsSeen board store t words m p given s → f s < 2 ^ w
   says_below w x f table says given s seen =
       let there : x < length (widths_of t.ops) = omega (arith, says.wide.there, widths_count t.ops) in
       let below : term_value t given x < 2 ^ term_width t x = (words_of t given table).words x there in
@@ -156,8 +158,8 @@ module _ {board : BoardParts} {store : List ℕ} {t : Table} {words : List Word}
       (λ s. num (differ (carry_at (f s) (g s) (h s) (w - 1)) (carry_at (f s) (g s) (h s) w)))
   unfolding op_width op_value
   says_ovf w a b c x f g h table is first second carry =
-      says_op (Ovf a b c) 1 x (λ s. num (differ (carry_at (f s) (g s) (h s) (w - 1)) (carry_at (f s) (g s) (h s) w))) table is
-      refl
+      says_op (Ovf a b c) 1 x
+      (λ s. num (differ (carry_at (f s) (g s) (h s) (w - 1)) (carry_at (f s) (g s) (h s) w))) table is refl
       (λ given s seen. ap₂ (λ (d e : Bool). num (differ d e))
       (carry_same _ (f s) _ (g s) _ _ (w - 1) (h s) (first.value given s seen) (second.value given s seen)
       (carry.value given s seen) (ap (λ (n : ℕ). n - 1) first.wide.width_is))
@@ -180,8 +182,8 @@ module _ {board : BoardParts} {store : List ℕ} {t : Table} {words : List Word}
       (λ given s seen. ap (part low v) (says.value given s seen))
 
   -- one bit of a word
-  pub says_bit : (w a low x : ℕ) (f : Scene → ℕ) → IsTable t → Is t (Part a low 1) x → Says board store t words m p w a f
-      → Says board store t words m p 1 x (λ s. num (bit_of (f s) low))
+  pub says_bit : (w a low x : ℕ) (f : Scene → ℕ) → IsTable t → Is t (Part a low 1) x
+      → Says board store t words m p w a f → Says board store t words m p 1 x (λ s. num (bit_of (f s) low))
   says_bit w a low x f table is says =
       says_as 1 x (λ s. part low 1 (f s)) (λ s. num (bit_of (f s) low)) (says_part w a low 1 x f table is says)
       (λ given s seen. part_bit low (f s))
@@ -259,7 +261,8 @@ variable_before {told = told} {wold = wold} {wnew = wnew} given kind value works
     (term_of_more wold goes.more kind term is) in
     sym (goes.later.keeps.values given term there) ∙ later term now
 
-module _ {board : BoardParts} {store : List ℕ} {p : Progress} {K : WordKind → Type 0} {told tnew : Table} {wold wnew : List Word} {mold mnew : Memory} where
+module _ {board : BoardParts} {store : List ℕ} {p : Progress} {K : WordKind → Type 0} {told tnew : Table}
+    {wold wnew : List Word} {mold mnew : Memory} where
   -- what is seen later was seen before
   pub seen_before : (given : Given) (s : Scene) → IsWorkspace told wold mold → GoesOn K told tnew wold wnew mold mnew
       → KeepsWrites mold mnew → AreParts board told p.parts → IsSeen board store tnew wnew mnew p given s

@@ -1,5 +1,6 @@
 -- What the terms of addresses say of a cycle's nets.
-use Rattle.std.proofs.Common.{◌≡◌, ℕ, ◌+◌, ◌-◌, ◌*◌, ◌/◌, ◌%◌, ◌^◌, ◌<◌, ◌≤◌, List, [], ◌∷◌, length, slice_index, refl, ap, arith, sym, ◌∙◌}
+use Rattle.std.proofs.Common.{◌≡◌, ℕ, ◌+◌, ◌-◌, ◌*◌, ◌/◌, ◌%◌, ◌^◌, ◌<◌, ◌≤◌, List, [], ◌∷◌, length, slice_index, refl}
+use Rattle.std.proofs.Common.{ap, arith, sym, ◌∙◌}
 use Rattle.std.specs.Prelude.{Bool, true, false, ◌==◌, if◌then◌else◌}
 use Rattle.std.proofs.lemmas.Bool.{eqb-true}
 use Rattle.std.proofs.lemmas.Bool.Decides.{nat_tests}
@@ -53,11 +54,13 @@ module _ {board : BoardParts} {store : List ℕ} {t : Table} {words : List Word}
       says_as 12 term (λ x. 0) (λ x. map_of board x.state) (says_con 0 12 term table is)
       (λ given x seen. no_items board.map_entries (part board.map_low board.map_bits x.state.ir) size)
   says_entry false term some table good parts map is =
-      says_as 12 term (λ x. slice_index t.map (part board.map_low board.map_bits x.state.ir)) (λ x. map_of board x.state)
+      says_as 12 term (λ x. slice_index t.map (part board.map_low board.map_bits x.state.ir))
+      (λ x. map_of board x.state)
       (says_tab board.map_bits is.0 term (λ x. part board.map_low board.map_bits x.state.ir) table is.2
       (says_piece board.width p.parts.ir board.map_low board.map_bits is.0 (λ x. x.state.ir) table is.1
       (says_element Ir parts tt)))
-      (λ given x seen. ap (λ (entries : List ℕ). slice_index entries (part board.map_low board.map_bits x.state.ir)) map)
+      (λ given x seen.
+      ap (λ (entries : List ℕ). slice_index entries (part board.map_low board.map_bits x.state.ir)) map)
 
   -- the address at the Am2910's D, in an instruction
   says_direct_for : (instruction : Instruction) (term : ℕ) → IsTable t → valid.IsBoard board → AreParts board t p.parts
@@ -71,7 +74,8 @@ module _ {board : BoardParts} {store : List ℕ} {t : Table} {words : List Word}
 
   -- the address at the Am2910's D
   pub says_direct : (term : ℕ) → IsTable t → valid.IsBoard board → AreParts board t p.parts → t.map ≡ board.map_entries
-      → IsDirect (instruction_of (microword_of board store p).sequencer) board (microword_of board store p) t p.parts.ir term
+      → IsDirect (instruction_of (microword_of board store p).sequencer) board
+      (microword_of board store p) t p.parts.ir term
       → Says board store t words m p 12 term (direct_net board store p)
   unfolding direct_address
   says_direct term table good parts map is =
@@ -121,7 +125,8 @@ module _ {board : BoardParts} {store : List ℕ} {t : Table} {words : List Word}
       says_top (p.sp == 0) noise term refl table parts within says is
 
   -- a counter less one, where it is not 0
-  pub says_less_one : (r term : ℕ) (f : Scene → ℕ) → IsTable t → IsLessOne t r term → Says board store t words m p 12 r f
+  pub says_less_one : (r term : ℕ) (f : Scene → ℕ)
+      → IsTable t → IsLessOne t r term → Says board store t words m p 12 r f
       → ((given : Given) (x : Scene) → IsSeen board store t words m p given x → 0 < f x)
       → Says board store t words m p 12 term (λ x. f x - 1)
   says_less_one r term f table is says some =

@@ -26,7 +26,8 @@ use Rattle.mw_symboard.specs.Parts.{AreParts}
 use Rattle.mw_symboard.specs.Seen.{Progress, Says, Scene, answer_net, bit_net, early_net, microword_of}
 use Rattle.mw_symboard.proofs.Meaning.{low_bits, says_element}
 use Rattle.mw_symboard.specs.Nets.{carry_in_net, first_net, r_net, s_net, second_net, SaySources}
-use Rattle.mw_symboard.proofs.Saying.{says_as, says_below, says_bit, says_con, says_cout, says_eq, says_not, says_ovf, says_same, says_xor}
+use Rattle.mw_symboard.proofs.Saying.{says_as, says_below, says_bit, says_con, says_cout, says_eq, says_not, says_ovf}
+use Rattle.mw_symboard.proofs.Saying.{says_same, says_xor}
 
 -- ---- of plain bits
 
@@ -48,8 +49,8 @@ carry_whole w x y c first second =
     ap₂ (λ (n o : ℕ). nat_le (2 ^ w) (n + o + num c)) (low_bits x w first) (low_bits y w second)
 
 -- the carry of a sum, and of another function a bit of the noise
-carry_value : (function : Function) (w r s : ℕ) (c noise sum : Bool) → is_sum function ≡ sum → addend_r function w r < 2 ^ w
-    → addend_s function w s < 2 ^ w
+carry_value : (function : Function) (w r s : ℕ) (c noise sum : Bool)
+    → is_sum function ≡ sum → addend_r function w r < 2 ^ w → addend_s function w s < 2 ^ w
     → (if sum then carry_at (addend_r function w r) (addend_s function w s) c w else noise)
     ≡ (if is_sum function then carry_of function w r s c else noise)
 unfolding carry_of
@@ -105,15 +106,17 @@ module _ {board : BoardParts} {store : List ℕ} {t : Table} {words : List Word}
   says_carry_by : (sum : Bool) (n : Sources) (term : ℕ) → IsTable t → SaySources board store t words m p n
       → is_sum n.function ≡ sum → Is t (if sum then Cout n.first n.second n.carry else Part n.noise 12 1) term
       → Says board store t words m p 1 term
-      (λ x. num (if sum then carry_at (first_net board store p x) (second_net board store p x) (carry_in_net board store p x)
-      board.width else bit_of x.outside.noise 12))
+      (λ x. num (if sum
+      then carry_at (first_net board store p x) (second_net board store p x) (carry_in_net board store p x) board.width
+      else bit_of x.outside.noise 12))
   says_carry_by true n term table says sum is =
       says_cout board.width n.first n.second n.carry term (first_net board store p) (second_net board store p)
       (carry_in_net board store p) table is says.first says.second says.carry
   says_carry_by false n term table says sum is = says_bit 14 n.noise 12 term (λ x. x.outside.noise) table is says.noise
 
   -- the carry, or a bit of the noise
-  pub says_carry : (n : Sources) (term : ℕ) → IsTable t → SaySources board store t words m p n → Is t (carry_op (sources_of n)) term
+  pub says_carry : (n : Sources) (term : ℕ)
+      → IsTable t → SaySources board store t words m p n → Is t (carry_op (sources_of n)) term
       → Says board store t words m p 1 term (λ x. num (carry_net (answer_net board store p x) x.outside))
   unfolding answer_of operands_of alu_of
   says_carry n term table says is =
@@ -133,13 +136,15 @@ module _ {board : BoardParts} {store : List ℕ} {t : Table} {words : List Word}
       → is_sum n.function ≡ sum → Is t (if sum then Ovf n.first n.second n.carry else Part n.noise 13 1) term
       → Says board store t words m p 1 term
       (λ x. num (if sum then differ
-      (carry_at (first_net board store p x) (second_net board store p x) (carry_in_net board store p x) (board.width - 1))
+      (carry_at (first_net board store p x) (second_net board store p x) (carry_in_net board store p x)
+      (board.width - 1))
       (carry_at (first_net board store p x) (second_net board store p x) (carry_in_net board store p x) board.width)
       else bit_of x.outside.noise 13))
   says_overflow_by true n term table says sum is =
       says_ovf board.width n.first n.second n.carry term (first_net board store p) (second_net board store p)
       (carry_in_net board store p) table is says.first says.second says.carry
-  says_overflow_by false n term table says sum is = says_bit 14 n.noise 13 term (λ x. x.outside.noise) table is says.noise
+  says_overflow_by false n term table says sum is =
+      says_bit 14 n.noise 13 term (λ x. x.outside.noise) table is says.noise
 
   -- the overflow, or a bit of the noise
   pub says_overflow : (n : Sources) (term : ℕ) → IsTable t → SaySources board store t words m p n
@@ -150,7 +155,8 @@ module _ {board : BoardParts} {store : List ℕ} {t : Table} {words : List Word}
       let function = function_of (microword_of board store p).instruction in
       says_as 1 term
       (λ x. num (if is_sum n.function then differ
-      (carry_at (first_net board store p x) (second_net board store p x) (carry_in_net board store p x) (board.width - 1))
+      (carry_at (first_net board store p x) (second_net board store p x) (carry_in_net board store p x)
+      (board.width - 1))
       (carry_at (first_net board store p x) (second_net board store p x) (carry_in_net board store p x) board.width)
       else bit_of x.outside.noise 13))
       (λ x. num (overflow_net (answer_net board store p x) x.outside))
@@ -161,8 +167,8 @@ module _ {board : BoardParts} {store : List ℕ} {t : Table} {words : List Word}
       (says_below board.width n.second (second_net board store p) table says.second given x seen)))
 
   -- whether F is 0
-  says_zero : (n : Sources) (zero term : ℕ) → IsTable t → SaySources board store t words m p n → Is t (Con 0 board.width) zero
-      → Is t (Eq n.f zero) term
+  says_zero : (n : Sources) (zero term : ℕ)
+      → IsTable t → SaySources board store t words m p n → Is t (Con 0 board.width) zero → Is t (Eq n.f zero) term
       → Says board store t words m p 1 term (λ x. num (answer_net board store p x).zero)
   unfolding answer_of operands_of alu_of
   says_zero n nothing term table says none is =

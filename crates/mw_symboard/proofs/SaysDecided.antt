@@ -1,5 +1,6 @@
 -- What the decided bits of a cycle say of it.
-use Rattle.std.proofs.Common.{◌≡◌, inl, inr, ℕ, zero, suc, ◌+◌, ◌-◌, ◌*◌, ◌/◌, ◌%◌, ◌^◌, ◌<◌, ◌≤◌, List, [], ◌∷◌, ◌++◌, length, take, refl, ap, ap₂, arith, sym, subst, ◌∙◌}
+use Rattle.std.proofs.Common.{◌≡◌, inl, inr, ℕ, zero, suc, ◌+◌, ◌-◌, ◌*◌, ◌/◌, ◌%◌, ◌^◌, ◌<◌, ◌≤◌, List, [], ◌∷◌, ◌++◌}
+use Rattle.std.proofs.Common.{length, take, refl, ap, ap₂, arith, sym, subst, ◌∙◌}
 use Rattle.std.specs.Prelude.{Bool, true, false, not, ◌&&◌, ◌||◌, ◌==◌, Some, slice_get, if◌then◌else◌}
 use Rattle.std.specs.List.{list_any}
 use Rattle.std.proofs.lemmas.Bool.{cases_lt}
@@ -11,11 +12,13 @@ use Rattle.mw_board.specs.declared.parts.BoardParts.{BoardParts}
 use Rattle.mw_board.specs.Store.{word_at}
 use Rattle.mw_term.specs.declared.decided.Decided.{Decided}
 use Rattle.mw_cycle.specs.Cycle.{answer_of, bit_value, next_address, pass_of}
-use Rattle.mw_cycle.specs.Decided.{address_bits, counter_bits, decided, decided_of, decides_counter, decides_pass, is_untested, pass_bits}
+use Rattle.mw_cycle.specs.Decided.{address_bits, counter_bits, decided, decided_of, decides_counter, decides_pass}
+use Rattle.mw_cycle.specs.Decided.{is_untested, pass_bits}
 use Rattle.mw_cycle.specs.Microword.{IsMicroword, points_of}
 use Rattle.mw_seq.specs.declared.instruction.CounterMove.TheVariants.{Counted}
 use Rattle.mw_seq.specs.declared.instruction.Instruction.{Instruction}
-use Rattle.mw_seq.specs.declared.instruction.Instruction.TheVariants.{Jz, Cjs, Jmap, Cjp, Push, Jsrp, Cjv, Jrp, Rfct, Rpct, Crtn, Cjpp, Ldct, Loop, Cont, Twb}
+use Rattle.mw_seq.specs.declared.instruction.Instruction.TheVariants.{Jz, Cjs, Jmap, Cjp, Push, Jsrp, Cjv, Jrp, Rfct}
+use Rattle.mw_seq.specs.declared.instruction.Instruction.TheVariants.{Rpct, Crtn, Cjpp, Ldct, Loop, Cont, Twb}
 use Rattle.mw_seq.specs.Instruction.{effect_of, instruction_of}
 use Rattle.mw_seq.specs.Sequencer.{effect}
 use Rattle.mw_term.specs.declared.decided.DecidedKind.TheVariants.{Pass, CounterZero, Next}
@@ -220,7 +223,8 @@ module _ {board : BoardParts} {store : List ℕ} {t : Table} {words : List Word}
   -- a value that was decided is that of the cycle
   seen_value : (given : Given) (x : Scene) (k : ℕ) → IsSeen board store t words m p given x → k < length p.decided
       → value_in p.decided k
-      ≡ value_in (bits_in_order (decides_pass (microword_of board store p)) (decides_counter (microword_of board store p))
+      ≡ value_in
+      (bits_in_order (decides_pass (microword_of board store p)) (decides_counter (microword_of board store p))
       (pass_net board store p x) (x.state.seq.r == 0) (address_bits (next_net board store p x) 12)) k
   seen_value given x k seen inside =
       value_first p.decided (decided_of board store x.state x.outside) k seen.first inside
@@ -238,7 +242,8 @@ module _ {board : BoardParts} {store : List ℕ} {t : Table} {words : List Word}
 
   -- whether the counter is zero, where that was decided
   pub seen_counter : (given : Given) (x : Scene) → IsSeen board store t words m p given x
-      → bits_before (microword_of board store p) ≤ length p.decided → decides_counter (microword_of board store p) ≡ true
+      → bits_before (microword_of board store p) ≤ length p.decided
+      → decides_counter (microword_of board store p) ≡ true
       → value_in p.decided (num (decides_pass (microword_of board store p))) ≡ (x.state.seq.r == 0)
   seen_counter given x seen known counted =
       let one : num (decides_counter (microword_of board store p)) ≡ 1 = ap num counted in
@@ -261,7 +266,8 @@ module _ {board : BoardParts} {store : List ℕ} {t : Table} {words : List Word}
       (tests_is (microword_of board store p).sequencer micro.sequencer) (seen_pass given x seen known)
       ∙ effect_counter (instruction_of (microword_of board store p).sequencer)
       (decides_counter (microword_of board store p))
-      (value_in p.decided (num (decides_pass (microword_of board store p)))) (x.state.seq.r == 0) (pass_net board store p x)
+      (value_in p.decided (num (decides_pass (microword_of board store p)))) (x.state.seq.r == 0)
+      (pass_net board store p x)
       (counts_is (microword_of board store p).sequencer micro.sequencer) (seen_counter given x seen known)
 
   -- the next address, once all bits are decided
@@ -307,7 +313,8 @@ module _ {board : BoardParts} {store : List ℕ} {t : Table} {words : List Word}
       → slice_get (decided_of board store x.state x.outside) (num (decides_pass (microword_of board store p)))
       ≡ Some (decided CounterZero (x.state.seq.r == 0))
   asked_counter given x seen counted =
-      ap (λ (given : List Decided). slice_get given (num (decides_pass (microword_of board store p)))) (seen_bits given x seen)
+      ap (λ (given : List Decided). slice_get given (num (decides_pass (microword_of board store p))))
+      (seen_bits given x seen)
       ∙ item_of_counter (decides_pass (microword_of board store p)) (decides_counter (microword_of board store p))
       (pass_net board store p x) (x.state.seq.r == 0) (address_bits (next_net board store p x) 12) counted
 
@@ -316,7 +323,8 @@ module _ {board : BoardParts} {store : List ℕ} {t : Table} {words : List Word}
       → slice_get (decided_of board store x.state x.outside) (bits_before (microword_of board store p) + k)
       ≡ Some (decided (Next (11 - k)) (bit_of (next_net board store p x) (11 - k)))
   asked_next given x k seen inside =
-      ap (λ (given : List Decided). slice_get given (bits_before (microword_of board store p) + k)) (seen_bits given x seen)
+      ap (λ (given : List Decided). slice_get given (bits_before (microword_of board store p) + k))
+      (seen_bits given x seen)
       ∙ item_behind (decides_pass (microword_of board store p)) (decides_counter (microword_of board store p))
       (pass_net board store p x) (x.state.seq.r == 0) (address_bits (next_net board store p x) 12) k
       ∙ address_item (next_net board store p x) 12 k inside

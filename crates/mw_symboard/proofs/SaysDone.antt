@@ -44,7 +44,8 @@ event_at board store x at =
 
 -- the terms of what is shown have the values of the event
 event_by : (t : Table) (given : Given) (board : BoardParts) (word : ℕ) (from : DFrom) (out : Bool) (source y value : ℕ)
-    (x : Scene) → term_value t given source ≡ from_source board word from x.state x.outside → term_value t given y ≡ value
+    (x : Scene)
+    → term_value t given source ≡ from_source board word from x.state x.outside → term_value t given y ≡ value
     → option_map (event_of t given) (shown from out source y) ≡ event_from from out value x.outside
 unfolding from_source
 event_by t given board word sources.Input out source y value x source_is y_is =
@@ -58,7 +59,8 @@ events_both : (t : Table) (given : Given) (before : List SymEvent) (o : Option S
     ≡ map (event_of t given) before ++ option_to_list (option_map (event_of t given) o)
 events_both t given [] None = refl
 events_both t given [] (Some e) = refl
-events_both t given (e ∷ before) o = ap (λ (rest : List Event). event_of t given e ∷ rest) (events_both t given before o)
+events_both t given (e ∷ before) o =
+    ap (λ (rest : List Event). event_of t given e ∷ rest) (events_both t given before o)
 
 -- a clock of these
 abbrev clock_record : (cycle taken : ℕ) → Clock
@@ -88,19 +90,21 @@ module _ {board : BoardParts} {store : List ℕ} {t : Table} {words : List Word}
   -- the event of a cycle that is seen
   event_seen : (given : Given) (x : Scene) → IsSeen board store t words m p given x
       → (nets_of board store x.state x.outside).event
-      ≡ event_from (microword_of board store p).d.from (microword_of board store p).out (answer_net board store p x).y x.outside
+      ≡ event_from (microword_of board store p).d.from (microword_of board store p).out
+      (answer_net board store p x).y x.outside
   unfolding nets_of
   event_seen given x seen = ap (event_at board store x) seen.state.at
 
   -- what is shown has the values of the cycle's event
   pub says_shown : (made : Reading) → SaysReading board store t words m p made → (given : Given) (x : Scene)
       → IsSeen board store t words m p given x
-      → option_map (event_of t given) (shown (microword_of board store p).d.from (microword_of board store p).out made.source
-      made.y) ≡ (nets_of board store x.state x.outside).event
+      → option_map (event_of t given)
+      (shown (microword_of board store p).d.from (microword_of board store p).out made.source made.y)
+      ≡ (nets_of board store x.state x.outside).event
   says_shown made says given x seen =
       event_by t given board (microword_of board store p).word (microword_of board store p).d.from
-      (microword_of board store p).out made.source made.y (answer_net board store p x).y x (says.source.value given x seen)
-      (says.y.value given x seen)
+      (microword_of board store p).out made.source made.y (answer_net board store p x).y x
+      (says.source.value given x seen) (says.y.value given x seen)
       ∙ sym (event_seen given x seen)
 
 -- what was made of a place when its cycle ends
@@ -121,34 +125,37 @@ at_edge board store t words m p new made end table good parts micro map sp known
       sp = sp;
       known = known;
       reading = says;
-      leaving = says_leaving end made.sources.noise table good parts micro map sp (omega (arith, known)) says.sources.noise
-          leaving;
+      leaving = says_leaving end made.sources.noise table good parts micro map sp
+          (omega (arith, known)) says.sources.noise leaving;
       edge = edge;
     }
 
 -- A symbolic board that has taken its edge, shown its event and counted its cycle is done.
-pub says_done : (board : BoardParts) (store : List ℕ) (t : Table) (words : List Word) (m mnew : Memory) (old new : Symbolic)
-    (edged : Progress) (made : Reading) (end : Leaving) → IsAtEdge board store t words m old.place edged made end
+pub says_done : (board : BoardParts) (store : List ℕ) (t : Table) (words : List Word) (m mnew : Memory)
+    (old new : Symbolic) (edged : Progress) (made : Reading) (end : Leaving)
+    → IsAtEdge board store t words m old.place edged made end
     → new.place.at ≡ edged.at → new.place.sp ≡ edged.sp → new.place.parts ≡ edged.parts
     → new.place.cycle ≡ old.place.cycle + 1
     → new.place.taken ≡ taken_after (microword_of board store old.place).d.from old.place.taken
     → new.events ≡ old.events ++ option_to_list (shown (microword_of board store old.place).d.from
     (microword_of board store old.place).out made.source made.y)
-    → mnew.board ≡ (if (microword_of board store old.place).memory_write then m.board ++ held old.place.parts.mar made.y ∷ []
+    → mnew.board
+    ≡ (if (microword_of board store old.place).memory_write then m.board ++ held old.place.parts.mar made.y ∷ []
     else m.board)
     → (given : Given) (x : Scene) → IsSeen board store t words m old.place given x
     → IsDone board store t words m mnew old new given x
-says_done board store t words m mnew old new edged made end is at sp parts cycle taken shows wrote given x seen = record {
-  bits = seen_all given x seen is.known;
-  state = state_of_same board t given mnew edged new.place x.image (after_net board store x) at sp parts
-      (says_state mnew is wrote given x seen);
-  events = ap (map (event_of t given)) shows
-      ∙ events_both t given old.events (shown (microword_of board store old.place).d.from
-      (microword_of board store old.place).out made.source made.y)
-      ∙ ap (λ (o : Option Event). map (event_of t given) old.events ++ option_to_list o)
-      (says_shown made is.reading given x seen);
-  clock = ap₂ (λ (c n : ℕ). clock_record c n) cycle taken
-      ∙ sym (clock_by (microword_of board store old.place).d.from (microword_of board store old.place).out
-      (answer_net board store old.place x).y old.place.cycle old.place.taken x)
-      ∙ ap (λ (o : Option Event). clock_after o (clock_of old.place)) (sym (event_seen given x seen));
-}
+says_done board store t words m mnew old new edged made end is at sp parts cycle taken shows wrote given x seen =
+    record {
+      bits = seen_all given x seen is.known;
+      state = state_of_same board t given mnew edged new.place x.image (after_net board store x) at sp parts
+          (says_state mnew is wrote given x seen);
+      events = ap (map (event_of t given)) shows
+          ∙ events_both t given old.events (shown (microword_of board store old.place).d.from
+          (microword_of board store old.place).out made.source made.y)
+          ∙ ap (λ (o : Option Event). map (event_of t given) old.events ++ option_to_list o)
+          (says_shown made is.reading given x seen);
+      clock = ap₂ (λ (c n : ℕ). clock_record c n) cycle taken
+          ∙ sym (clock_by (microword_of board store old.place).d.from (microword_of board store old.place).out
+          (answer_net board store old.place x).y old.place.cycle old.place.taken x)
+          ∙ ap (λ (o : Option Event). clock_after o (clock_of old.place)) (sym (event_seen given x seen));
+    }

@@ -45,14 +45,16 @@ up_parts w x low some =
     ap (λ (n : ℕ). n % 2 ^ (w - 1) * 2 + num low) one ∙ ap (λ (n : ℕ). n + num low) (sym cut)
 
 -- a term that is written says a net, where one is written
-abbrev pub SaysTaken : (writes : Bool) → BoardParts → List ℕ → Table → List Word → Memory → Progress → (width : ℕ) → Option ℕ
-    → (Scene → ℕ) → Type 0
+abbrev pub SaysTaken : (writes : Bool)
+    → BoardParts → List ℕ → Table → List Word → Memory → Progress → (width : ℕ) → Option ℕ → (Scene → ℕ) → Type 0
 SaysTaken false board store t words m p width o net = o ≡ None
-SaysTaken true board store t words m p width o net = (term : ℕ) × (o ≡ Some term) × Says board store t words m p width term net
+SaysTaken true board store t words m p width o net =
+    (term : ℕ) × (o ≡ Some term) × Says board store t words m p width term net
 
 module _ {board : BoardParts} {store : List ℕ} {t : Table} {words : List Word} {m : Memory} {p : Progress} where
   -- a word shifted down
-  pub says_down : (w word high term : ℕ) (f : Scene → ℕ) (h : Scene → Bool) → IsTable t → 1 ≤ w → IsDown t w word high term
+  pub says_down : (w word high term : ℕ) (f : Scene → ℕ) (h : Scene → Bool)
+      → IsTable t → 1 ≤ w → IsDown t w word high term
       → Says board store t words m p w word f → Says board store t words m p 1 high (λ x. num (h x))
       → Says board store t words m p w term (λ x. down w (f x) (h x))
   says_down w word high term f h table some is says bit =
@@ -86,8 +88,8 @@ module _ {board : BoardParts} {store : List ℕ} {t : Table} {words : List Word}
     is.1,
     is.2,
     says_down board.width word is.0 is.1 f
-        (λ x. bit_value board link (answer_net board store p x) x.state x.outside) table (omega (arith, good.sizes.least))
-        is.4 held (says_bit_term n link is.0 table parts named says is.3),
+        (λ x. bit_value board link (answer_net board store p x) x.state x.outside) table
+        (omega (arith, good.sizes.least)) is.4 held (says_bit_term n link is.0 table parts named says is.3),
   )
 
   -- a word shifted up by a link
@@ -101,8 +103,8 @@ module _ {board : BoardParts} {store : List ℕ} {t : Table} {words : List Word}
     is.1,
     is.2,
     says_up board.width word is.0 is.1 f
-        (λ x. bit_value board link (answer_net board store p x) x.state x.outside) table (omega (arith, good.sizes.least))
-        is.4 held (says_bit_term n link is.0 table parts named says is.3),
+        (λ x. bit_value board link (answer_net board store p x) x.state x.outside) table
+        (omega (arith, good.sizes.least)) is.4 held (says_bit_term n link is.0 table parts named says is.3),
   )
 
   -- what the register that B addresses takes
@@ -118,17 +120,17 @@ module _ {board : BoardParts} {store : List ℕ} {t : Table} {words : List Word}
   says_written_b destinations.Rama n o table good parts micro says is = (n.f, is, says.f)
   says_written_b destinations.Ramf n o table good parts micro says is = (n.f, is, says.f)
   says_written_b destinations.Ramqd n o table good parts micro says is =
-      says_shifted_down n (microword_of board store p).ram_link n.f o (λ x. (answer_net board store p x).f) table good parts
-      micro.ram_link says says.f is
+      says_shifted_down n (microword_of board store p).ram_link n.f o (λ x. (answer_net board store p x).f)
+      table good parts micro.ram_link says says.f is
   says_written_b destinations.Ramd n o table good parts micro says is =
-      says_shifted_down n (microword_of board store p).ram_link n.f o (λ x. (answer_net board store p x).f) table good parts
-      micro.ram_link says says.f is
+      says_shifted_down n (microword_of board store p).ram_link n.f o (λ x. (answer_net board store p x).f)
+      table good parts micro.ram_link says says.f is
   says_written_b destinations.Ramqu n o table good parts micro says is =
-      says_shifted_up n (microword_of board store p).ram_link n.f o (λ x. (answer_net board store p x).f) table good parts
-      micro.ram_link says says.f is
+      says_shifted_up n (microword_of board store p).ram_link n.f o (λ x. (answer_net board store p x).f)
+      table good parts micro.ram_link says says.f is
   says_written_b destinations.Ramu n o table good parts micro says is =
-      says_shifted_up n (microword_of board store p).ram_link n.f o (λ x. (answer_net board store p x).f) table good parts
-      micro.ram_link says says.f is
+      says_shifted_up n (microword_of board store p).ram_link n.f o (λ x. (answer_net board store p x).f)
+      table good parts micro.ram_link says says.f is
 
   -- what Q takes
   pub says_written_q : (destination : Destination) (n : Sources) (o : Option ℕ) → IsTable t → valid.IsBoard board
@@ -140,9 +142,9 @@ module _ {board : BoardParts} {store : List ℕ} {t : Table} {words : List Word}
   unfolding pins_of
   says_written_q destinations.Qreg n o table good parts micro says is = (n.f, is, says.f)
   says_written_q destinations.Ramqd n o table good parts micro says is =
-      says_shifted_down n (microword_of board store p).q_link p.parts.q o (λ x. x.state.q) table good parts micro.q_link says
-      (says_element Q parts tt) is
+      says_shifted_down n (microword_of board store p).q_link p.parts.q o
+      (λ x. x.state.q) table good parts micro.q_link says (says_element Q parts tt) is
   says_written_q destinations.Ramqu n o table good parts micro says is =
-      says_shifted_up n (microword_of board store p).q_link p.parts.q o (λ x. x.state.q) table good parts micro.q_link says
-      (says_element Q parts tt) is
+      says_shifted_up n (microword_of board store p).q_link p.parts.q o
+      (λ x. x.state.q) table good parts micro.q_link says (says_element Q parts tt) is
   says_written_q destination n o table good parts micro says is = is

@@ -27,7 +27,8 @@ use Rattle.mw_symboard.specs.declared.reading.Reading.{Reading}
 use Rattle.mw_symboard.specs.Cycle.{IsCounter, IsLeaving, bits_before, effect_by}
 use Rattle.mw_symboard.specs.Made.{Is}
 use Rattle.mw_symboard.specs.Parts.{AreParts}
-use Rattle.mw_symboard.specs.Seen.{IsSeen, Progress, Says, Scene, answer_net, condition_net, direct_net, microword_of, next_net, pass_net}
+use Rattle.mw_symboard.specs.Seen.{IsSeen, Progress, Says, Scene, answer_net, condition_net, direct_net, microword_of}
+use Rattle.mw_symboard.specs.Seen.{next_net, pass_net}
 use Rattle.mw_symboard.proofs.Meaning.{says_element}
 use Rattle.mw_symboard.proofs.Saying.{num_is, says_as, says_bit, says_con, says_eq, says_same}
 use Rattle.mw_symboard.proofs.SaysAddress.{says_direct, says_less_one, says_next}
@@ -108,34 +109,39 @@ module _ {board : BoardParts} {store : List ℕ} {t : Table} {words : List Word}
       let direct = says_direct is.direct table good parts map is.is_direct in
       record {
         next = says_next_address made.next micro known
-            (says_next noise is.direct (effect_by (microword_of board store p) p.decided).next made.next table parts within says
-            direct is.next);
-        r = says_counter (microword_of board store p).rld (effect_by (microword_of board store p) p.decided).counter is.direct
-            made.r table parts direct (λ given x seen. ap (λ (e : Effect). e.counter) (seen_effect given x micro seen known))
-            is.r;
+            (says_next noise is.direct
+            (effect_by (microword_of board store p) p.decided).next made.next table parts within says direct is.next);
+        r = says_counter (microword_of board store p).rld
+            (effect_by (microword_of board store p) p.decided).counter is.direct made.r table parts direct
+            (λ given x seen. ap (λ (e : Effect). e.counter) (seen_effect given x micro seen known)) is.r;
       }
 
   -- ---- questions
 
   -- a term that says a bit asks for it
-  asks_bit : (kind : DecidedKind) (place term : ℕ) (h : Scene → Bool) → Says board store t words m p 1 term (λ x. num (h x))
+  asks_bit : (kind : DecidedKind) (place term : ℕ) (h : Scene → Bool)
+      → Says board store t words m p 1 term (λ x. num (h x))
       → (given : Given) (x : Scene) → IsSeen board store t words m p given x
       → slice_get (decided_of board store x.state x.outside) place ≡ Some (decided kind (h x))
       → slice_get (decided_of board store x.state x.outside) place ≡ Some (decided kind (term_value t given term == 1))
   asks_bit kind place term h says given x seen is =
-      let test : (term_value t given term == 1) ≡ h x = ap (λ (n : ℕ). n == 1) (says.value given x seen) ∙ num_is (h x) in
+      let test : (term_value t given term == 1) ≡ h x =
+      ap (λ (n : ℕ). n == 1) (says.value given x seen) ∙ num_is (h x) in
       is ∙ ap (λ (b : Bool). Some (decided kind b)) (sym test)
 
   -- the condition is pass, where that is decided
-  says_pass : (made : Reading) → SaysReading board store t words m p made → decides_pass (microword_of board store p) ≡ true
+  says_pass : (made : Reading)
+      → SaysReading board store t words m p made → decides_pass (microword_of board store p) ≡ true
       → Says board store t words m p 1 made.condition (λ x. num (pass_net board store p x))
   unfolding pass_of
   says_pass made says tested =
       let enabled : (microword_of board store p).test_disable ≡ false =
-      is_enabled (microword_of board store p).test_disable (not (is_untested (microword_of board store p).sequencer)) tested in
+      is_enabled (microword_of board store p).test_disable
+      (not (is_untested (microword_of board store p).sequencer)) tested in
       says_as 1 made.condition (condition_net board store p) (λ x. num (pass_net board store p x)) says.condition
       (λ given x seen. ap (λ (b : Bool). num (b || differ (microword_of board store p).polarity
-      (bit_value board (microword_of board store p).condition (answer_net board store p x) x.state x.outside))) (sym enabled))
+      (bit_value board (microword_of board store p).condition (answer_net board store p x) x.state x.outside)))
+      (sym enabled))
 
   -- it asks for pass
   pub asks_pass : (made : Reading) → SaysReading board store t words m p made

@@ -21,7 +21,8 @@ use Rattle.mw_cycle.specs.ReadingWords.{y_term}
 use Rattle.mw_symboard.specs.Made.{IsF}
 use Rattle.mw_symboard.specs.Parts.{AreParts}
 use Rattle.mw_symboard.specs.Seen.{Progress, Says, Scene, answer_net, condition_net, d_net, microword_of}
-use Rattle.mw_symboard.proofs.Meaning.{says_addend_r, says_addend_s, says_answer, says_d, says_element, says_r, says_s, says_source}
+use Rattle.mw_symboard.proofs.Meaning.{says_addend_r, says_addend_s, says_answer, says_d, says_element, says_r, says_s}
+use Rattle.mw_symboard.proofs.Meaning.{says_source}
 use Rattle.mw_symboard.specs.Nets.{carry_in_net, first_net, r_net, s_net, second_net, SaySources, SaysReading}
 use Rattle.mw_symboard.proofs.Saying.{says_same}
 use Rattle.mw_symboard.proofs.SaysBits.{says_bit_term, says_early, says_turned}
@@ -56,7 +57,8 @@ module _ {board : BoardParts} {store : List ℕ} {t : Table} {words : List Word}
 
   -- the operand R
   reading_r : (made : Reading) → IsTable t → valid.IsBoard board → AreParts board t p.parts
-      → IsMicroword board (microword_of board store p) → (is : IsReading board (microword_of board store p) t words m p made)
+      → IsMicroword board (microword_of board store p)
+      → (is : IsReading board (microword_of board store p) t words m p made)
       → Says board store t words m p board.width is.first (r_net board store p)
   reading_r made table good parts micro is =
       says_r (source_of (microword_of board store p).instruction) board.width
@@ -67,7 +69,8 @@ module _ {board : BoardParts} {store : List ℕ} {t : Table} {words : List Word}
 
   -- the operand S
   reading_s : (made : Reading) → IsTable t → AreParts board t p.parts
-      → IsMicroword board (microword_of board store p) → (is : IsReading board (microword_of board store p) t words m p made)
+      → IsMicroword board (microword_of board store p)
+      → (is : IsReading board (microword_of board store p) t words m p made)
       → Says board store t words m p board.width is.second (s_net board store p)
   reading_s made table parts micro is =
       says_s (source_of (microword_of board store p).instruction) board.width
@@ -98,17 +101,19 @@ module _ {board : BoardParts} {store : List ℕ} {t : Table} {words : List Word}
       let first : Says board store t words m p board.width made.sources.first (first_net board store p) =
       subst (λ (f : Function). Says board store t words m p board.width made.sources.first
       (λ x. addend_r f board.width (r_net board store p x))) is.function
-      (says_addend_r made.sources.function board.width is.first made.sources.first (r_net board store p) table is.addend_r r) in
+      (says_addend_r made.sources.function board.width is.first made.sources.first
+      (r_net board store p) table is.addend_r r) in
       let second : Says board store t words m p board.width made.sources.second (second_net board store p) =
       subst (λ (f : Function). Says board store t words m p board.width made.sources.second
       (λ x. addend_s f board.width (s_net board store p x))) is.function
-      (says_addend_s made.sources.function board.width is.second made.sources.second (s_net board store p) table is.addend_s
-      s) in
+      (says_addend_s made.sources.function board.width is.second made.sources.second
+      (s_net board store p) table is.addend_s s) in
       let line = reading_line made is in
       let carry : Says board store t words m p 1 made.sources.carry (λ x. num (carry_in_net board store p x)) =
-      says_early made.sources.line (microword_of board store p).carry_in made.sources.carry table parts micro.carry_in line
-      is.carry in
-      let made_f : IsF t function is.first is.second made.sources.first made.sources.second made.sources.carry made.sources.f =
+      says_early made.sources.line
+      (microword_of board store p).carry_in made.sources.carry table parts micro.carry_in line is.carry in
+      let made_f : IsF t function is.first is.second made.sources.first made.sources.second made.sources.carry
+      made.sources.f =
       subst (λ (f : Function). IsF t f is.first is.second made.sources.first made.sources.second made.sources.carry
       made.sources.f) is.function is.f in
       record {
@@ -121,8 +126,8 @@ module _ {board : BoardParts} {store : List ℕ} {t : Table} {words : List Word}
         first = first;
         second = second;
         carry = carry;
-        f = says_answer is.first is.second made.sources.first made.sources.second made.sources.carry made.sources.f table
-            made_f r s first second carry;
+        f = says_answer is.first is.second made.sources.first made.sources.second made.sources.carry made.sources.f
+            table made_f r s first second carry;
       }
 
   -- all of it
@@ -133,12 +138,12 @@ module _ {board : BoardParts} {store : List ℕ} {t : Table} {words : List Word}
       let sources = says_sources made table good parts micro is in
       record {
         sources = sources;
-        source = says_source (microword_of board store p).word (microword_of board store p).d.from made.source table good parts
-            micro.d.from is.source is.source_wide;
+        source = says_source (microword_of board store p).word
+            (microword_of board store p).d.from made.source table good parts micro.d.from is.source is.source_wide;
         y = says_y made.sources.f made.y parts micro is.y sources.f;
         condition = says_by_polarity (microword_of board store p).polarity is.bit made.condition
-            (λ x. bit_value board (microword_of board store p).condition (answer_net board store p x) x.state x.outside) table
-            is.condition
-            (says_bit_term made.sources (microword_of board store p).condition is.bit table parts micro.condition sources
-            is.tested);
+            (λ x. bit_value board (microword_of board store p).condition (answer_net board store p x) x.state x.outside)
+            table is.condition
+            (says_bit_term made.sources
+            (microword_of board store p).condition is.bit table parts micro.condition sources is.tested);
       }

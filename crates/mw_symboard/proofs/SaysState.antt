@@ -1,5 +1,6 @@
 -- The parts after the edge have the values of the next state.
-use Rattle.std.proofs.Common.{◌≡◌, inl, inr, ℕ, ◌+◌, ◌%◌, ◌^◌, ◌<◌, ◌≤◌, List, [], ◌∷◌, ◌++◌, length, map, slice_index, slice_set, refl, ap, ap₂, arith, sym, subst, ◌∙◌}
+use Rattle.std.proofs.Common.{◌≡◌, inl, inr, ℕ, ◌+◌, ◌%◌, ◌^◌, ◌<◌, ◌≤◌, List, [], ◌∷◌, ◌++◌, length, map, slice_index}
+use Rattle.std.proofs.Common.{slice_set, refl, ap, ap₂, arith, sym, subst, ◌∙◌}
 use Rattle.std.specs.Prelude.{Bool, true, false, Option, Some, if◌then◌else◌, slice_get}
 use Rattle.std.proofs.lemmas.Nat.{mod_below, pow_pos}
 use Rattle.std.proofs.lemmas.Option.{slice_get_cases}
@@ -18,7 +19,8 @@ use Rattle.mw_board.specs.Valid as valid
 use Rattle.mw_cycle.specs.declared.elements.Element.{Element}
 use Rattle.mw_cycle.specs.declared.elements.Element.TheVariants.{Register, Q, Mar, Ir, FlipFlop, Pc, R, StackWord}
 use Rattle.mw_cycle.specs.Control.{value_at}
-use Rattle.mw_cycle.specs.Cycle.{answer_of, edge, flip_of, load_of, next_address, pass_of, pins_of, state_after, writes_of}
+use Rattle.mw_cycle.specs.Cycle.{answer_of, edge, flip_of, load_of, next_address, pass_of, pins_of, state_after}
+use Rattle.mw_cycle.specs.Cycle.{writes_of}
 use Rattle.mw_cycle.specs.Elements.{IsElement, value_of}
 use Rattle.mw_cycle.specs.Microword.{IsMicroword, points_of}
 use Rattle.mw_cycle.specs.State.{BoardState, Fits}
@@ -39,8 +41,10 @@ use Rattle.mw_symboard.specs.Cycle.{IsEdge, IsMar, bits_before, effect_by}
 use Rattle.mw_cycle.specs.EdgeWords.{or_taken, with_pushed, with_taken, pushed_word, sp_after}
 use Rattle.mw_symboard.specs.Parts.{AreParts}
 use Rattle.mw_cycle.specs.BoardTerms.{term_of_part}
-use Rattle.mw_symboard.specs.Seen.{IsSeen, IsStateOf, Progress, Says, Scene, after_net, answer_net, microword_of, next_net, pass_net}
-use Rattle.mw_symboard.proofs.AfterEdge.{after_one_more, flip_bit, flips_below, item_is, moved_sp, moved_words, pushed_below, pushed_both, pushed_length, set_both, sp_within}
+use Rattle.mw_symboard.specs.Seen.{IsSeen, IsStateOf, Progress, Says, Scene, after_net, answer_net, microword_of}
+use Rattle.mw_symboard.specs.Seen.{next_net, pass_net}
+use Rattle.mw_symboard.proofs.AfterEdge.{after_one_more, flip_bit, flips_below, item_is, moved_sp, moved_words}
+use Rattle.mw_symboard.proofs.AfterEdge.{pushed_below, pushed_both, pushed_length, set_both, sp_within}
 use Rattle.mw_symboard.proofs.Meaning.{says_element, says_low}
 use Rattle.mw_symboard.proofs.Saying.{says_below, says_con}
 use Rattle.mw_symboard.proofs.SaysBits.{says_loaded}
@@ -76,8 +80,8 @@ after_at board store x at =
     edge board m answer (pass_of board m answer x.state x.outside) x.state x.outside
 
 -- a place and what was made of it, when all bits of its cycle are decided and its parts have taken what they do
-pub record IsAtEdge (board : BoardParts) (store : List ℕ) (t : Table) (words : List Word) (m : Memory) (p new : Progress)
-    (made : Reading) (end : Leaving) : Type 0 where
+pub record IsAtEdge (board : BoardParts) (store : List ℕ) (t : Table) (words : List Word) (m : Memory)
+    (p new : Progress) (made : Reading) (end : Leaving) : Type 0 where
   pub table : IsTable t
   pub good : valid.IsBoard board
   pub parts : AreParts board t p.parts
@@ -128,7 +132,8 @@ module _ {board : BoardParts} {store : List ℕ} {t : Table} {words : List Word}
       ∙ ap (λ (o : Option ℕ). term_value t given (slice_index (with_taken p.parts.regs place o) n)) (sym says)
 
   -- Q
-  q_after : (writes : Bool) (o : Option ℕ) (net : Scene → ℕ) → SaysTaken writes board store t words m p board.width o net
+  q_after : (writes : Bool) (o : Option ℕ) (net : Scene → ℕ)
+      → SaysTaken writes board store t words m p board.width o net
       → (given : Given) (x : Scene) → IsSeen board store t words m p given x
       → (if writes then net x else x.state.q) ≡ term_value t given (or_taken p.parts.q o)
   q_after true o net says given x seen =
@@ -165,7 +170,8 @@ module _ {board : BoardParts} {store : List ℕ} {t : Table} {words : List Word}
   memory_after false y net says given x seen = seen.state.memory
 
 -- what was made of a place, and the scene in which it is seen
-module _ {board : BoardParts} {store : List ℕ} {t : Table} {words : List Word} {m : Memory} {p new : Progress} {made : Reading} {end : Leaving} where
+module _ {board : BoardParts} {store : List ℕ} {t : Table} {words : List Word} {m : Memory} {p new : Progress}
+    {made : Reading} {end : Leaving} where
   -- the entry of the table
   edge_effect : IsAtEdge board store t words m p new made end → (given : Given) (x : Scene)
       → IsSeen board store t words m p given x
@@ -209,14 +215,15 @@ module _ {board : BoardParts} {store : List ℕ} {t : Table} {words : List Word}
       → IsSeen board store t words m p given x → (edge_net board store p x).mar ≡ term_value t given new.parts.mar
   unfolding edge
   edge_mar is given x seen =
-      mar_after (microword_of board store p).mar_load made.y new.parts.mar (λ x. (answer_net board store p x).y) is.table
-      is.reading.y is.edge.mar given x seen
+      mar_after (microword_of board store p).mar_load made.y new.parts.mar (λ x. (answer_net board store p x).y)
+      is.table is.reading.y is.edge.mar given x seen
 
   edge_ir : IsAtEdge board store t words m p new made end → (given : Given) (x : Scene)
       → IsSeen board store t words m p given x → (edge_net board store p x).ir ≡ term_value t given new.parts.ir
   unfolding edge
   edge_ir is given x seen =
-      ir_after (microword_of board store p).ir_load made.y (λ x. (answer_net board store p x).y) is.reading.y given x seen
+      ir_after (microword_of board store p).ir_load made.y (λ x. (answer_net board store p x).y)
+      is.reading.y given x seen
       ∙ ap (term_value t given) (sym is.edge.ir)
 
   edge_flip : IsAtEdge board store t words m p new made end → (given : Given) (x : Scene)
@@ -226,11 +233,12 @@ module _ {board : BoardParts} {store : List ℕ} {t : Table} {words : List Word}
   edge_flip is given x seen n inside = elim (slice_get_cases board.flipflop n).1 [
     | inl h ↦
         let place : 0 + n ≡ n = omega arith in
-        let says = says_loaded made.sources (load_of board (microword_of board store p) h.0) (slice_index p.parts.flips n)
-        (slice_index new.parts.flips n) (λ x. bit_of x.state.flips n) is.table is.parts
+        let says = says_loaded made.sources (load_of board (microword_of board store p) h.0)
+        (slice_index p.parts.flips n) (slice_index new.parts.flips n) (λ x. bit_of x.state.flips n) is.table is.parts
         (load_is board store p n h.0 is.good inside h.2) is.reading.sources (says_element (FlipFlop n) is.parts inside)
         (is.edge.flips.each n h.0 h.2) in
-        ap num (flip_bit board (microword_of board store p) (answer_net board store p x) x.state x.outside board.flipflop 0 n
+        ap num
+        (flip_bit board (microword_of board store p) (answer_net board store p x) x.state x.outside board.flipflop 0 n
         h.0 h.2 ∙ ap (λ (k : ℕ). flip_of board (microword_of board store p) k h.0 (answer_net board store p x) x.state
         x.outside) place)
         ∙ sym (says.value given x seen)
@@ -261,7 +269,8 @@ module _ {board : BoardParts} {store : List ℕ} {t : Table} {words : List Word}
   edge_words is given x seen =
       moved_words (effect (microword_of board store p).sequencer (pass_net board store p x) x.state.seq).stack
       (depth_of board) x.state.seq
-      ∙ ap₂ (λ (e : Effect) (sp : ℕ). with_pushed x.state.seq.stack (pushed_word e.stack (depth_of board) sp) x.state.seq.pc)
+      ∙ ap₂
+      (λ (e : Effect) (sp : ℕ). with_pushed x.state.seq.stack (pushed_word e.stack (depth_of board) sp) x.state.seq.pc)
       (sym (edge_effect is given x seen)) seen.state.sp
 
   edge_stack : IsAtEdge board store t words m p new made end → (given : Given) (x : Scene)
@@ -270,7 +279,8 @@ module _ {board : BoardParts} {store : List ℕ} {t : Table} {words : List Word}
   edge_stack is given x seen n inside =
       ap (λ (words : List ℕ). slice_index words n) (edge_words is given x seen)
       ∙ pushed_both p.parts.stack x.state.seq.stack
-      (pushed_word (effect_by (microword_of board store p) p.decided).stack (depth_of board) p.sp) p.parts.pc x.state.seq.pc n
+      (pushed_word (effect_by (microword_of board store p) p.decided).stack (depth_of board) p.sp)
+      p.parts.pc x.state.seq.pc n
       (term_value t given) (seen.state.fits.seq.size ∙ sym is.parts.stack) (omega (arith, is.parts.stack, inside))
       (seen.state.elements (StackWord n) inside) (seen.state.elements Pc tt)
       ∙ ap (λ (words : List ℕ). term_value t given (slice_index words n)) (sym is.edge.stack)
@@ -279,9 +289,10 @@ module _ {board : BoardParts} {store : List ℕ} {t : Table} {words : List Word}
       → IsSeen board store t words m p given x → (edge_net board store p x).seq.sp ≡ new.sp
   unfolding edge step_of
   edge_sp is given x seen =
-      moved_sp (effect (microword_of board store p).sequencer (pass_net board store p x) x.state.seq).stack (depth_of board)
-      x.state.seq
-      ∙ ap₂ (λ (e : Effect) (sp : ℕ). sp_after e.stack (depth_of board) sp) (sym (edge_effect is given x seen)) seen.state.sp
+      moved_sp (effect (microword_of board store p).sequencer (pass_net board store p x) x.state.seq).stack
+      (depth_of board) x.state.seq
+      ∙ ap₂ (λ (e : Effect) (sp : ℕ). sp_after e.stack (depth_of board) sp)
+      (sym (edge_effect is given x seen)) seen.state.sp
       ∙ sym is.edge.sp
 
   -- each element
@@ -304,8 +315,8 @@ module _ {board : BoardParts} {store : List ℕ} {t : Table} {words : List Word}
       → (edge_net board store p x).memory ≡ held_by t given after_write side.Board x.image
   unfolding edge
   edge_memory after_write is wrote given x seen =
-      memory_after (microword_of board store p).memory_write made.y (λ x. (answer_net board store p x).y) is.reading.y given x
-      seen
+      memory_after (microword_of board store p).memory_write made.y (λ x. (answer_net board store p x).y)
+      is.reading.y given x seen
       ∙ ap (λ writes. after x.image (map (valued t given) writes)) (sym wrote)
 
   -- the sequencer stays one
@@ -331,8 +342,8 @@ module _ {board : BoardParts} {store : List ℕ} {t : Table} {words : List Word}
   unfolding writes_of shift_of
   edge_fits_still is given x seen =
       let destination = destination_of (microword_of board store p).instruction in
-      edge_fits board (microword_of board store p) (answer_net board store p x) (pass_net board store p x) x.state x.outside
-      seen.state.fits
+      edge_fits board (microword_of board store p) (answer_net board store p x)
+      (pass_net board store p x) x.state x.outside seen.state.fits
       (says_below 12 end.next (next_net board store p) is.table is.leaving.next given x seen)
       (edge_sequencer is given x seen)
       (says_below board.width made.y (λ x. (answer_net board store p x).y) is.table is.reading.y given x seen)

@@ -1,5 +1,6 @@
 -- What the terms of a cycle are made of stays so in a table with more terms.
-use Rattle.std.proofs.Common.{◌≡◌, inl, inr, ℕ, ◌-◌, ◌<◌, ◌%◌, ◌^◌, List, [], ◌∷◌, ◌++◌, length, slice_index, Bool, true, false, ◌==◌, Option, Some, None}
+use Rattle.std.proofs.Common.{◌≡◌, inl, inr, ℕ, ◌-◌, ◌<◌, ◌%◌, ◌^◌, List, [], ◌∷◌, ◌++◌, length, slice_index, Bool}
+use Rattle.std.proofs.Common.{true, false, ◌==◌, Option, Some, None}
 use Rattle.std.specs.Prelude.{slice_get, if◌then◌else◌}
 use Rattle.mw_base.specs.Words.{num}
 use Rattle.mw_alu.specs.declared.instruction.Destination.{Destination}
@@ -39,14 +40,16 @@ use Rattle.mw_symmem.proofs.Later.{reads_stay}
 use Rattle.mw_cycle.specs.ReadingWords.{MadeBit, Bits, carry_op, overflow_op}
 use Rattle.mw_symboard.specs.declared.bits.Sources.{Sources}
 use Rattle.mw_symboard.specs.Bits.{AreBits, AreEarlyBits, AreLateBits, AreSources}
-use Rattle.mw_symboard.specs.Made.{IsWidened, IsPart, IsFrom, IsMasked, IsR, IsS, IsAddendR, IsAddendS, IsF, IsEarlyBit, IsBitTerm, IsEntry, IsDirect, IsTop, IsNext, IsLessOne, IsDown, IsUp, IsShiftedDown, IsShiftedUp, IsWrittenB, IsWrittenQ, IsLoaded, AreLoaded, sources_of}
+use Rattle.mw_symboard.specs.Made.{IsWidened, IsPart, IsFrom, IsMasked, IsR, IsS, IsAddendR, IsAddendS, IsF, IsEarlyBit}
+use Rattle.mw_symboard.specs.Made.{IsBitTerm, IsEntry, IsDirect, IsTop, IsNext, IsLessOne, IsDown, IsUp, IsShiftedDown}
+use Rattle.mw_symboard.specs.Made.{IsShiftedUp, IsWrittenB, IsWrittenQ, IsLoaded, AreLoaded, sources_of}
 use Rattle.mw_symboard.specs.Parts.{AreParts}
 use Rattle.mw_cycle.specs.BoardTerms.{Parts, term_of_part}
 
 -- ---- one term
 
-pub widened_stays : (told tnew : Table) (from to narrow term : ℕ) → Extends told tnew → IsWidened told from to narrow term
-    → IsWidened tnew from to narrow term
+pub widened_stays : (told tnew : Table) (from to narrow term : ℕ)
+    → Extends told tnew → IsWidened told from to narrow term → IsWidened tnew from to narrow term
 widened_stays told tnew from to narrow term extends is = elim is [
   | inl same ↦ inl same
   | inr made ↦ inr (
@@ -79,8 +82,8 @@ found_stays (w ∷ words) more kind term is =
     (found_stays words more kind term) is
 
 pub from_stays : (board : BoardParts) (word : ℕ) (told tnew : Table) (wold more : List Word) (mold mnew : Memory)
-    (p : Parts) (taken : ℕ) (from : DFrom) (term : ℕ) → IsLater told tnew → IsMemory told wold mold → ReadsMore mold mnew
-    → KeepsWrites mold mnew → p.mar < length told.ops → term < length told.ops
+    (p : Parts) (taken : ℕ) (from : DFrom) (term : ℕ) → IsLater told tnew → IsMemory told wold mold
+    → ReadsMore mold mnew → KeepsWrites mold mnew → p.mar < length told.ops → term < length told.ops
     → IsFrom board word told wold mold p taken from term → IsFrom board word tnew (wold ++ more) mnew p taken from term
 from_stays board word told tnew wold more mold mnew p taken sources.Zero term later memory reads writes mar there is =
     op_stays told tnew term (Con 0 board.width) later.extends is
@@ -91,10 +94,12 @@ from_stays board word told tnew wold more mold mnew p taken sources.Mar term lat
     widened_stays told tnew board.address board.width p.mar term later.extends is
 from_stays board word told tnew wold more mold mnew p taken sources.Input term later memory reads writes mar there is =
     found_stays wold more (Input taken) term is
-from_stays board word told tnew wold more mold mnew p taken (sources.Field n) term later memory reads writes mar there is =
+from_stays board word told tnew wold more mold mnew p taken
+    (sources.Field n) term later memory reads writes mar there is =
     op_stays told tnew term (Con (in_field (slice_get board.fields n) word % 2 ^ board.width) board.width)
     later.extends is
-from_stays board word told tnew wold more mold mnew p taken (sources.Flip n) term later memory reads writes mar there is =
+from_stays board word told tnew wold more mold mnew p taken
+    (sources.Flip n) term later memory reads writes mar there is =
     widened_stays told tnew 1 board.width (slice_index p.flips n) term later.extends is
 
 pub masked_stays : (told tnew : Table) (width : ℕ) (mask : Option ℕ) (whole term : ℕ) → Extends told tnew
@@ -166,8 +171,10 @@ early_bit_stays board told tnew p sp line other term extends is = op_stays told 
 
 pub bit_term_stays : (board : BoardParts) (told tnew : Table) (p : Parts) (sp : ℕ) (n : Sources) (bit : Bit) (term : ℕ)
     → Extends told tnew → IsBitTerm board told p sp n bit term → IsBitTerm board tnew p sp n bit term
-bit_term_stays board told tnew p sp n bits.Carry term extends is = op_stays told tnew term (carry_op (sources_of n)) extends is
-bit_term_stays board told tnew p sp n bits.Overflow term extends is = op_stays told tnew term (overflow_op (sources_of n)) extends is
+bit_term_stays board told tnew p sp n bits.Carry term extends is =
+    op_stays told tnew term (carry_op (sources_of n)) extends is
+bit_term_stays board told tnew p sp n bits.Overflow term extends is =
+    op_stays told tnew term (overflow_op (sources_of n)) extends is
 bit_term_stays board told tnew p sp n bits.FZero term extends is = (
   is.0,
   op_stays told tnew is.0 (Con 0 board.width) extends is.1,
@@ -182,7 +189,8 @@ bit_term_stays board told tnew p sp n other term extends is =
     early_bit_stays board told tnew p sp n.line other term extends is
 
 pub early_bits_stay : (board : BoardParts) (told tnew : Table) (p : Parts) (sp line : ℕ) (made : List MadeBit)
-    → Extends told tnew → Keeps told tnew → AreEarlyBits board told p sp line made → AreEarlyBits board tnew p sp line made
+    → Extends told tnew → Keeps told tnew → AreEarlyBits board told p sp line made
+    → AreEarlyBits board tnew p sp line made
 early_bits_stay board told tnew p sp line made extends keeps are = λ k m is.
     (let before = are k m is in (
       width_stays told tnew 1 m.term extends keeps before.0,
@@ -247,14 +255,15 @@ pub top_stays : (empty : Bool) (told tnew : Table) (p : Parts) (sp noise term : 
 top_stays true told tnew p sp noise term extends is = op_stays told tnew term (Part noise 0 12) extends is
 top_stays false told tnew p sp noise term extends is = is
 
-pub next_stays : (told tnew : Table) (p : Parts) (sp noise direct : ℕ) (from : AddressFrom) (term : ℕ) → Extends told tnew
-    → IsNext told p sp noise direct from term → IsNext tnew p sp noise direct from term
+pub next_stays : (told tnew : Table) (p : Parts) (sp noise direct : ℕ) (from : AddressFrom) (term : ℕ)
+    → Extends told tnew → IsNext told p sp noise direct from term → IsNext tnew p sp noise direct from term
 next_stays told tnew p sp noise direct addresses.Zero term extends is = op_stays told tnew term (Con 0 12) extends is
 next_stays told tnew p sp noise direct addresses.F term extends is =
     top_stays (sp == 0) told tnew p sp noise term extends is
 next_stays told tnew p sp noise direct from term extends is = is
 
-pub less_one_stays : (told tnew : Table) (r term : ℕ) → Extends told tnew → IsLessOne told r term → IsLessOne tnew r term
+pub less_one_stays : (told tnew : Table) (r term : ℕ)
+    → Extends told tnew → IsLessOne told r term → IsLessOne tnew r term
 less_one_stays told tnew r term extends is = (
   is.0,
   is.1,
@@ -326,7 +335,8 @@ written_q_stays destinations.Ramqu board m told tnew p sp n o extends is =
 written_q_stays destination board m told tnew p sp n o extends is = is
 
 pub loaded_stays : (load : Load) (board : BoardParts) (told tnew : Table) (p : Parts) (sp : ℕ) (n : Sources)
-    (old term : ℕ) → Extends told tnew → IsLoaded load board told p sp n old term → IsLoaded load board tnew p sp n old term
+    (old term : ℕ)
+    → Extends told tnew → IsLoaded load board told p sp n old term → IsLoaded load board tnew p sp n old term
 loaded_stays loads.Hold board told tnew p sp n old term extends is = is
 loaded_stays loads.Invert board told tnew p sp n old term extends is = op_stays told tnew term (Not old) extends is
 loaded_stays loads.XorCarry board told tnew p sp n old term extends is = (

@@ -26,7 +26,9 @@ use Rattle.mw_symboard.specs.Growth.{Grew}
 use Rattle.mw_symboard.specs.Kinds.{AreInputs}
 use Rattle.mw_symboard.specs.Seen.{Progress, microword_of}
 use Rattle.mw_symboard.specs.Turns.{Symbolic, AreEvents, AreNoLater, HasRead, IsSymbolic, Leaves, event_term}
-use Rattle.mw_symboard.proofs.Standing.{addend_r_stays, addend_s_stays, bit_term_stays, bits_stay, direct_stays, early_bit_stays, f_stays, found_stays, from_stays, less_one_stays, masked_stays, next_stays, parts_stay, r_stays, s_stays, sources_stay}
+use Rattle.mw_symboard.proofs.Standing.{addend_r_stays, addend_s_stays, bit_term_stays, bits_stay, direct_stays}
+use Rattle.mw_symboard.proofs.Standing.{early_bit_stays, f_stays, found_stays, from_stays, less_one_stays, masked_stays}
+use Rattle.mw_symboard.proofs.Standing.{next_stays, parts_stay, r_stays, s_stays, sources_stay}
 
 -- words that are no variables answer for no kind
 plain_none : (made : List ℕ) (kind : WordKind) → term_of (map plain made) kind ≡ None
@@ -78,8 +80,8 @@ reading_stays board m told tnew words made memory p r workspace later mar is =
       second = is.second;
       line = found_stays words (map plain made) (Line p.cycle) r.sources.line is.line;
       noise = found_stays words (map plain made) (Noise p.cycle) r.sources.noise is.noise;
-      source = from_stays board m.word told tnew words (map plain made) memory memory p.parts p.taken m.d.from r.source later
-          workspace.memory (reads_itself memory) (writes_itself memory) mar is.source_wide.there is.source;
+      source = from_stays board m.word told tnew words (map plain made) memory memory p.parts p.taken m.d.from r.source
+          later workspace.memory (reads_itself memory) (writes_itself memory) mar is.source_wide.there is.source;
       masked = masked_stays told tnew board.width m.d.mask r.source is.d ex is.masked;
       carry = early_bit_stays board told tnew p.parts p.sp r.sources.line m.carry_in r.sources.carry ex is.carry;
       function = is.function;
@@ -87,8 +89,8 @@ reading_stays board m told tnew words made memory p r workspace later mar is =
       operand_s = s_stays told tnew board.width (source_of m.instruction) _ _ p.parts.q is.second ex is.operand_s;
       addend_r = addend_r_stays told tnew r.sources.function is.first r.sources.first ex is.addend_r;
       addend_s = addend_s_stays told tnew r.sources.function is.second r.sources.second ex is.addend_s;
-      f = f_stays told tnew r.sources.function is.first is.second r.sources.first r.sources.second r.sources.carry r.sources.f ex
-          is.f;
+      f = f_stays told tnew r.sources.function is.first is.second r.sources.first r.sources.second r.sources.carry
+          r.sources.f ex is.f;
       bits = bits_stay board told tnew p.parts p.sp r.sources r.bits ex ke is.bits;
       bit = is.bit;
       tested = bit_term_stays board told tnew p.parts p.sp r.sources m.condition is.bit ex is.tested;
@@ -126,8 +128,9 @@ leaving_stays board m told tnew p noise l later is =
       r_wide = width_stays told tnew 12 l.r ex ke is.r_wide;
     }
 
-has_read_stays : (board : BoardParts) (store : List ℕ) (told tnew : Table) (words : List Word) (made : List ℕ) (m : Memory)
-    (p : Progress) (read : Option Reading) → IsWorkspace told words m → IsLater told tnew → p.parts.mar < length told.ops
+has_read_stays : (board : BoardParts) (store : List ℕ) (told tnew : Table) (words : List Word) (made : List ℕ)
+    (m : Memory) (p : Progress) (read : Option Reading)
+    → IsWorkspace told words m → IsLater told tnew → p.parts.mar < length told.ops
     → HasRead board store told words m p read → HasRead board store tnew (words ++ map plain made) m p read
 has_read_stays board store told tnew words made m p None workspace later mar has =
     (has.0, none_stay p.cycle words made has.1)

@@ -1,5 +1,6 @@
 -- A symbolic board as bits are decided.
-use Rattle.std.proofs.Common.{◌≡◌, ℕ, ◌+◌, ◌-◌, ◌<◌, ◌≤◌, List, [], ◌∷◌, ◌++◌, length, refl, ap, ap₂, arith, sym, subst, ◌∙◌}
+use Rattle.std.proofs.Common.{◌≡◌, ℕ, ◌+◌, ◌-◌, ◌<◌, ◌≤◌, List, [], ◌∷◌, ◌++◌, length, refl, ap, ap₂, arith, sym, subst}
+use Rattle.std.proofs.Common.{◌∙◌}
 use Rattle.std.specs.Prelude.{Bool, true, false, ◌&&◌, ◌==◌, Option, Some, None}
 use Rattle.std.proofs.lemmas.Bool.Decides.{nat_tests}
 use Rattle.mw_base.specs.Words.{num}
@@ -44,8 +45,9 @@ effect_same m ds bit within =
 none_some : {A : Type 0} {x : A} → None ≡ Some x → ⊥
 none_some is = absurd cc
 
-read_so : (board : BoardParts) (store : List ℕ) (t : Table) (words : List Word) (m : Memory) (p : Progress) (bit : Decided)
-    (read : Option Reading) (reading : Reading) → read ≡ Some reading → HasRead board store t words m p read
+read_so : (board : BoardParts) (store : List ℕ) (t : Table) (words : List Word) (m : Memory) (p : Progress)
+    (bit : Decided) (read : Option Reading) (reading : Reading)
+    → read ≡ Some reading → HasRead board store t words m p read
     → HasRead board store t words m (further p bit) read
 read_so board store t words m p bit None reading is has = absurd (none_some is)
 read_so board store t words m p bit (Some r) reading is has = (
@@ -89,8 +91,10 @@ leaves_so board store t p bit (Some r) (Some l) tests leaves =
       record {
         direct = leaves.0.direct;
         is_direct = leaves.0.is_direct;
-        next = subst (λ (e : Effect). IsNext t p.parts p.sp r.sources.noise leaves.0.direct e.next l.next) (sym same) leaves.0.next;
-        r = subst (λ (e : Effect). IsCounter (microword_of board store p).rld e.counter t p.parts.r leaves.0.direct l.r) (sym same) leaves.0.r;
+        next = subst (λ (e : Effect). IsNext t p.parts p.sp r.sources.noise leaves.0.direct e.next l.next)
+            (sym same) leaves.0.next;
+        r = subst (λ (e : Effect). IsCounter (microword_of board store p).rld e.counter t p.parts.r leaves.0.direct l.r)
+            (sym same) leaves.0.r;
         direct_wide = leaves.0.direct_wide;
         next_wide = leaves.0.next_wide;
         r_wide = leaves.0.r_wide;
@@ -119,7 +123,8 @@ decide_keeps board store t words m o asked kind term value asks symbolic =
       parts = symbolic.parts;
       inputs = symbolic.inputs;
       events = symbolic.events;
-      reading = read_so board store t words m o.place (decided kind value) o.reading asks.begun.0 asks.begun.1 symbolic.reading;
+      reading = read_so board store t words m o.place
+          (decided kind value) o.reading asks.begun.0 asks.begun.1 symbolic.reading;
       leaving = leaves_so board store t o.place (decided kind value) o.reading o.leaving asks.tests symbolic.leaving;
       few = omega (arith, count, asks.few);
     }
@@ -183,7 +188,8 @@ next_asked board store t words m o r l place bit table good micro map is is_read
       tests = λ none. absurd (some_none (sym is_left ∙ none));
       wide = wide;
       next = asks_next l place bit table
-          (says_leaving l r.sources.noise table good is.parts micro map is.sp left.1 says.sources.noise left.0) left.1 few at made;
+          (says_leaving l r.sources.noise table good is.parts micro map is.sp left.1 says.sources.noise left.0)
+          left.1 few at made;
       few = few;
     }
 
@@ -224,8 +230,8 @@ counter_asked board store t words m o r nothing bit table is is_read few counted
 }
 
 -- which test is asked for: where pass isn't decided, or is known, the counter
-pub counter_left : (tested counted : Bool) (known : ℕ) → known < num tested + num counted → (tested && (known == 0)) ≡ false
-    → (counted ≡ true) × (known ≡ num tested)
+pub counter_left : (tested counted : Bool) (known : ℕ)
+    → known < num tested + num counted → (tested && (known == 0)) ≡ false → (counted ≡ true) × (known ≡ num tested)
 counter_left true true known few none = (refl, grind (arith, nat_tests))
 counter_left true false known few none = absurd (grind (arith, nat_tests))
 counter_left false true known few none = (refl, omega (arith, few))
@@ -233,9 +239,10 @@ counter_left false false known few none = absurd (omega (arith, few))
 
 -- it with what is known of its end
 pub leaving_keeps : (board : BoardParts) (store : List ℕ) (t : Table) (words : List Word) (m : Memory) (o : Symbolic)
-    (r : Reading) (l : Leaving) → o.reading ≡ Some r → bits_before (microword_of board store o.place) ≤ length o.place.decided
-    → IsLeaving board (microword_of board store o.place) t o.place r.sources.noise l → IsSymbolic board store t words m o
-    → IsSymbolic board store t words m (record o { leaving = Some l })
+    (r : Reading) (l : Leaving)
+    → o.reading ≡ Some r → bits_before (microword_of board store o.place) ≤ length o.place.decided
+    → IsLeaving board (microword_of board store o.place) t o.place r.sources.noise l
+    → IsSymbolic board store t words m o → IsSymbolic board store t words m (record o { leaving = Some l })
 leaving_keeps board store t words m o r l is_read known left is = record {
   at = is.at;
   sp = is.sp;
@@ -248,8 +255,9 @@ leaving_keeps board store t words m o r l is_read known left is = record {
 }
 
 -- it with what its cycle has read, over a later table
-pub reading_keeps : (board : BoardParts) (store : List ℕ) (told tnew : Table) (wold wnew : List Word) (mold mnew : Memory)
-    (o : Symbolic) (r : Reading) → o.reading ≡ None → IsSymbolic board store told wold mold o → AreParts board tnew o.place.parts
+pub reading_keeps : (board : BoardParts) (store : List ℕ) (told tnew : Table) (wold wnew : List Word)
+    (mold mnew : Memory) (o : Symbolic) (r : Reading)
+    → o.reading ≡ None → IsSymbolic board store told wold mold o → AreParts board tnew o.place.parts
     → AreEvents board tnew o.events → AreInputs board tnew wnew
     → IsReading board (microword_of board store o.place) tnew wnew mnew o.place r → AreNoLater (o.place.cycle + 1) wnew
     → IsSymbolic board store tnew wnew mnew (record o { reading = Some r })
@@ -270,7 +278,8 @@ reading_keeps board store told tnew wold wnew mold mnew o r none is parts events
       few = is.few;
     }
   where
-    none_left : (board : BoardParts) (store : List ℕ) (told tnew : Table) (p : Progress) (leaving : Option Leaving) (r : Reading)
+    none_left : (board : BoardParts) (store : List ℕ) (told tnew : Table) (p : Progress) (leaving : Option Leaving)
+        (r : Reading)
         → Leaves board store told p None leaving → length p.decided ≤ bits_before (microword_of board store p)
         → Leaves board store tnew p (Some r) leaving
     none_left board store told tnew p None r leaves few = few

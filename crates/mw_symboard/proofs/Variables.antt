@@ -1,5 +1,6 @@
 -- The variables of a cycle among words that are added.
-use Rattle.std.proofs.Common.{◌≡◌, inl, inr, ℕ, suc, ◌+◌, ◌≤◌, ◌==◌, List, [], ◌∷◌, ◌++◌, map, Bool, true, false, Option, Some, None, if◌then◌else◌, refl, sym, subst, ◌∙◌, ap, arith}
+use Rattle.std.proofs.Common.{◌≡◌, inl, inr, ℕ, suc, ◌+◌, ◌≤◌, ◌==◌, List, [], ◌∷◌, ◌++◌, map, Bool, true, false}
+use Rattle.std.proofs.Common.{Option, Some, None, if◌then◌else◌, refl, sym, subst, ◌∙◌, ap, arith}
 use Rattle.std.proofs.lemmas.Bool.Decides.{nat_tests}
 use Rattle.mw_board.specs.declared.parts.BoardParts.{BoardParts}
 use Rattle.mw_term.specs.declared.kinds.WordKind.{WordKind}
@@ -105,9 +106,11 @@ pub source_none_later : (cycle taken : ℕ) (old new more : List Word) → new �
     → HaveKinds (IsSourceKind taken) more → AreNoLater cycle old → AreNoLater cycle new
 source_none_later cycle taken old new more words kinds none n from = (
   ap (λ (ws : List Word). term_of ws (Line n)) words
-      ∙ none_both old more (Line n) (none n from).0 (none_kind (IsSourceKind taken) more (Line n) kinds (no_line taken n)),
+      ∙ none_both old more (Line n) (none n from).0
+      (none_kind (IsSourceKind taken) more (Line n) kinds (no_line taken n)),
   ap (λ (ws : List Word). term_of ws (Noise n)) words
-      ∙ none_both old more (Noise n) (none n from).1 (none_kind (IsSourceKind taken) more (Noise n) kinds (no_noise taken n)),
+      ∙ none_both old more (Noise n) (none n from).1
+      (none_kind (IsSourceKind taken) more (Noise n) kinds (no_noise taken n)),
 )
 
 -- ---- line and noise
@@ -140,11 +143,15 @@ absent_noise cycle w0 w1 line none words =
 
 module _ (cycle : ℕ) (t0 t1 t2 : Table) (w0 w1 w2 : List Word) (line noise : ℕ) (none : AreNoLater cycle w0)
     (words : w1 ≡ w0 ++ variable line (Line cycle) ∷ []) (more : w2 ≡ w1 ++ variable noise (Noise cycle) ∷ []) where
-  before_noise : (kind : WordKind) → term_of w1 kind ≡ (if same_kind (Line cycle) kind then Some line else term_of w0 kind)
+  before_noise : (kind : WordKind)
+      → term_of w1 kind ≡ (if same_kind (Line cycle) kind then Some line else term_of w0 kind)
   before_noise kind = with_line cycle w0 w1 line kind none words
 
-  with_noise : (kind : WordKind) → term_of w2 kind ≡ (if same_kind (Noise cycle) kind then Some noise else term_of w1 kind)
-  with_noise kind = ap (λ (ws : List Word). term_of ws kind) more ∙ term_variable w1 noise (Noise cycle) kind (absent_noise cycle w0 w1 line none words)
+  with_noise : (kind : WordKind)
+      → term_of w2 kind ≡ (if same_kind (Noise cycle) kind then Some noise else term_of w1 kind)
+  with_noise kind =
+      ap (λ (ws : List Word). term_of ws kind) more
+      ∙ term_variable w1 noise (Noise cycle) kind (absent_noise cycle w0 w1 line none words)
 
   pub line_there : term_of w2 (Line cycle) ≡ Some line
   line_there =
@@ -153,7 +160,8 @@ module _ (cycle : ℕ) (t0 t1 t2 : Table) (w0 w1 w2 : List Word) (line noise : �
 
   pub noise_there : term_of w2 (Noise cycle) ≡ Some noise
   noise_there =
-      with_noise (Noise cycle) ∙ ap (λ (b : Bool). if b then Some noise else term_of w1 (Noise cycle)) (kind_own (Noise cycle))
+      with_noise (Noise cycle)
+      ∙ ap (λ (b : Bool). if b then Some noise else term_of w1 (Noise cycle)) (kind_own (Noise cycle))
 
   pub none_after : AreNoLater (cycle + 1) w2
   none_after n from =
@@ -176,8 +184,8 @@ module _ (cycle : ℕ) (t0 t1 t2 : Table) (w0 w1 w2 : List Word) (line noise : �
       → (AreOf t0 w0 → AreOf t1 w1) → Extends t1 t2 → Keeps t1 t2 → IsTable t2 → (AreOf t1 w1 → AreOf t2 w2)
       → IsWorkspace t0 w0 m → GoesOn (IsCycleKind cycle taken) t0 t2 w0 w2 m m
   goes_by_both taken m extends keeps table of later_extends later_keeps later_table later_of workspace =
-      let first = goes_by_variable (IsCycleKind cycle taken) t0 t1 w0 w1 m line (Line cycle) words extends keeps table of
-      (inr (inl refl)) (no_base_line cycle) workspace in
+      let first = goes_by_variable (IsCycleKind cycle taken) t0 t1 w0 w1 m line
+      (Line cycle) words extends keeps table of (inr (inl refl)) (no_base_line cycle) workspace in
       goes_then (IsCycleKind cycle taken) t0 t1 t2 w0 w1 w2 m m m first
       (goes_by_variable (IsCycleKind cycle taken) t1 t2 w1 w2 m noise (Noise cycle) more later_extends later_keeps
       later_table later_of (inr (inr refl)) (no_base_noise cycle) first.workspace)

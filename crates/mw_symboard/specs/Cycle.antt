@@ -1,5 +1,6 @@
 -- What a symbolic cycle has made: what it read before its edge, what it knows of its end, and what the parts take.
-use Rattle.std.specs.Prelude.{◌≡◌, ℕ, zero, suc, ◌+◌, ◌*◌, ◌%◌, ◌^◌, List, [], ◌∷◌, Bool, true, false, if◌then◌else◌, slice_index, slice_set, Option, Some, None}
+use Rattle.std.specs.Prelude.{◌≡◌, ℕ, zero, suc, ◌+◌, ◌*◌, ◌%◌, ◌^◌, List, [], ◌∷◌, Bool, true, false, if◌then◌else◌}
+use Rattle.std.specs.Prelude.{slice_index, slice_set, Option, Some, None}
 use Rattle.mw_base.specs.Words.{num}
 use Rattle.mw_alu.specs.declared.instruction.Destination.{Destination}
 use Rattle.mw_alu.specs.declared.instruction.Destination.TheVariants.{Rama}
@@ -25,7 +26,8 @@ use Rattle.mw_symboard.specs.declared.bits.Sources.{Sources}
 use Rattle.mw_symboard.specs.declared.reading.Reading.{Reading}
 use Rattle.mw_symboard.specs.declared.leaving.Leaving.{Leaving}
 use Rattle.mw_symboard.specs.Bits.{AreBits, AreSources}
-use Rattle.mw_symboard.specs.Made.{Is, IsFrom, IsMasked, IsR, IsS, IsAddendR, IsAddendS, IsF, IsEarlyBit, IsBitTerm, IsDirect, IsNext, IsLessOne, IsWrittenB, IsWrittenQ, AreLoaded, IsPart}
+use Rattle.mw_symboard.specs.Made.{Is, IsFrom, IsMasked, IsR, IsS, IsAddendR, IsAddendS, IsF, IsEarlyBit, IsBitTerm}
+use Rattle.mw_symboard.specs.Made.{IsDirect, IsNext, IsLessOne, IsWrittenB, IsWrittenQ, AreLoaded, IsPart}
 use Rattle.mw_cycle.specs.BoardTerms.{Parts}
 use Rattle.mw_symboard.specs.Seen.{Progress}
 
@@ -37,13 +39,15 @@ IsTurned true t bit term = Is t (Not bit) term
 IsTurned false t bit term = term ≡ bit
 
 -- what F was made of: the carry in, the operands and what is added for them, by the terms of a board's parts
-pub record AreOperands (board : BoardParts) (m : Microword) (t : Table) (p : Parts) (sp d : ℕ) (n : Sources) : Type 0 where
+pub record AreOperands (board : BoardParts) (m : Microword) (t : Table) (p : Parts) (sp d : ℕ)
+    (n : Sources) : Type 0 where
   pub first : ℕ
   pub second : ℕ
   pub carry : IsEarlyBit board t p sp n.line m.carry_in n.carry
   pub function : n.function ≡ function_of m.instruction
   pub operand_r : IsR t board.width (source_of m.instruction) (slice_index p.regs m.a_address) d first
-  pub operand_s : IsS t board.width (source_of m.instruction) (slice_index p.regs m.a_address) (slice_index p.regs m.b_address) p.q second
+  pub operand_s : IsS t board.width (source_of m.instruction) (slice_index p.regs m.a_address)
+      (slice_index p.regs m.b_address) p.q second
   pub addend_r : IsAddendR t n.function first n.first
   pub addend_s : IsAddendS t n.function second n.second
   pub f : IsF t n.function first second n.first n.second n.carry n.f
@@ -51,9 +55,10 @@ pub record AreOperands (board : BoardParts) (m : Microword) (t : Table) (p : Par
   pub second_wide : IsOfWidth t board.width second
   pub sources : AreSources board t n
 
--- what a cycle read from its place: the variables of line and noise, D, the carry in, the operands and F, the bits that were made,
--- the condition and Y
-pub record IsReading (board : BoardParts) (m : Microword) (t : Table) (words : List Word) (memory : Memory) (p : Progress) (made : Reading) : Type 0 where
+-- what a cycle read from its place: the variables of line and noise, D, the carry in, the operands and F, the bits that
+-- were made, the condition and Y
+pub record IsReading (board : BoardParts) (m : Microword) (t : Table) (words : List Word) (memory : Memory)
+    (p : Progress) (made : Reading) : Type 0 where
   pub d : ℕ
   pub first : ℕ
   pub second : ℕ
@@ -64,10 +69,12 @@ pub record IsReading (board : BoardParts) (m : Microword) (t : Table) (words : L
   pub carry : IsEarlyBit board t p.parts p.sp made.sources.line m.carry_in made.sources.carry
   pub function : made.sources.function ≡ function_of m.instruction
   pub operand_r : IsR t board.width (source_of m.instruction) (slice_index p.parts.regs m.a_address) d first
-  pub operand_s : IsS t board.width (source_of m.instruction) (slice_index p.parts.regs m.a_address) (slice_index p.parts.regs m.b_address) p.parts.q second
+  pub operand_s : IsS t board.width (source_of m.instruction) (slice_index p.parts.regs m.a_address)
+      (slice_index p.parts.regs m.b_address) p.parts.q second
   pub addend_r : IsAddendR t made.sources.function first made.sources.first
   pub addend_s : IsAddendS t made.sources.function second made.sources.second
-  pub f : IsF t made.sources.function first second made.sources.first made.sources.second made.sources.carry made.sources.f
+  pub f : IsF t made.sources.function first second made.sources.first made.sources.second
+      made.sources.carry made.sources.f
   pub bits : AreBits board t p.parts p.sp made.sources made.bits
   pub bit : ℕ
   pub tested : IsBitTerm board t p.parts p.sp made.sources m.condition bit
@@ -113,7 +120,8 @@ IsCounter false counters.Loaded t old direct term = term ≡ direct
 IsCounter false counters.Counted t old direct term = IsLessOne t old term
 
 -- the next address and the register/counter, by what was decided
-pub record IsLeaving (board : BoardParts) (m : Microword) (t : Table) (p : Progress) (noise : ℕ) (l : Leaving) : Type 0 where
+pub record IsLeaving (board : BoardParts) (m : Microword) (t : Table) (p : Progress) (noise : ℕ)
+    (l : Leaving) : Type 0 where
   pub direct : ℕ
   pub is_direct : IsDirect (instruction_of m.sequencer) board m t p.parts.ir direct
   pub next : IsNext t p.parts p.sp noise direct (effect_by m p.decided).next l.next
@@ -135,7 +143,8 @@ IsMar true board t old y term = IsPart t board.width y 0 board.address term
 IsMar false board t old y term = term ≡ old
 
 -- what the parts of a place are after the edge
-pub record IsEdge (board : BoardParts) (m : Microword) (t : Table) (old new : Progress) (made : Reading) (l : Leaving) : Type 0 where
+pub record IsEdge (board : BoardParts) (m : Microword) (t : Table) (old new : Progress) (made : Reading)
+    (l : Leaving) : Type 0 where
   pub written : Option ℕ
   pub is_written : IsWrittenB (destination_of m.instruction) board m t old.parts old.sp made.sources written
   pub regs : new.parts.regs ≡ with_taken old.parts.regs m.b_address written

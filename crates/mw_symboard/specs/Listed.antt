@@ -21,10 +21,14 @@ use Rattle.mw_symboard.specs.Seen.{Progress}
 
 -- What is added of a bit ends at a term, and is, with the bits that were made, what the table says, whatever base reads
 -- there are.
-abbrev pub ListsBit : (said : Bits → WordList → BitEnded) → (told tnew : Table) → (wold wnew : List Word) → (bold bnew : Bits)
-    → (term : ℕ) → Type 0
+abbrev pub ListsBit : (said : Bits → WordList → BitEnded)
+    → (told tnew : Table) → (wold wnew : List Word) → (bold bnew : Bits) → (term : ℕ) → Type 0
 ListsBit said told tnew wold wnew bold bnew term =
-    (reads : List Held) → record { list = list_of tnew.ops wnew reads; term = term; bits = bnew } ≡ said bold (list_of told.ops wold reads)
+    (reads : List Held) → record {
+      list = list_of tnew.ops wnew reads;
+      term = term;
+      bits = bnew;
+    } ≡ said bold (list_of told.ops wold reads)
 
 -- the list and the bits that were made
 abbrev pub bits_made : Table → List Word → (reads : List Held) → Bits → BitsMade
@@ -33,13 +37,18 @@ bits_made t words reads made = record { list = list_of t.ops words reads; bits =
 -- the same where the list and the bits that were made are one record
 abbrev pub ListsFrom : (said : BitsMade → BitEnded) → (told tnew : Table) → (wold wnew : List Word) → (bold bnew : Bits)
     → (term : ℕ) → Type 0
-ListsFrom said told tnew wold wnew bold bnew term = ListsBit (λ made l. said (record { list = l; bits = made })) told tnew wold wnew bold bnew term
+ListsFrom said told tnew wold wnew bold bnew term =
+    ListsBit (λ made l. said (record { list = l; bits = made })) told tnew wold wnew bold bnew term
 
 -- and where what ends is something that is taken, or nothing
 abbrev pub ListsTaken : (said : BitsMade → Takes) → (told tnew : Table) → (wold wnew : List Word) → (bold bnew : Bits)
     → (taken : Option ℕ) → Type 0
 ListsTaken said told tnew wold wnew bold bnew taken =
-    (reads : List Held) → record { list = list_of tnew.ops wnew reads; bits = bnew; taken = taken } ≡ said (bits_made told wold reads bold)
+    (reads : List Held) → record {
+      list = list_of tnew.ops wnew reads;
+      bits = bnew;
+      taken = taken;
+    } ≡ said (bits_made told wold reads bold)
 
 -- ---- as the definitions of the words have it
 
@@ -73,14 +82,21 @@ sources_in t words reads n made = record { list = list_of t.ops words reads; sou
 
 -- what a cycle has read
 abbrev pub reading_of : Reading → words.Reading
-reading_of r = record { sources = sources_of r.sources; bits = r.bits; source = r.source; y = r.y; condition = r.condition }
+reading_of r = record {
+  sources = sources_of r.sources;
+  bits = r.bits;
+  source = r.source;
+  y = r.y;
+  condition = r.condition;
+}
 
 -- the same in a list
 abbrev pub reading_in : Table → List Word → Memory → Reading → words.HasRead
 reading_in t ws m r = record { list = list_in t ws m; reading = reading_of r }
 
 -- where a board is after a cycle from one place to another, with these writes and events before it
-abbrev pub standing_after : Microword → (old new : Progress) → words.Reading → (writes : List Held) → List SymEvent → Standing
+abbrev pub standing_after : Microword → (old new : Progress) → words.Reading → (writes : List Held)
+    → List SymEvent → Standing
 standing_after m old new reading writes events = record {
   at = new.at;
   sp = new.sp;

@@ -1,7 +1,8 @@
--- What the terms of a cycle's nets are made of, by the word table: a net that only passes a value on is that other term.
--- These relations are what the values of the terms are shown from; which words there are, and in which order, are the
--- definitions of mw_cycle (ReadingWords, LeavingWords, EdgeWords). A rule that changes changes in both.
-use Rattle.std.specs.Prelude.{◌≡◌, ℕ, ◌+◌, ◌-◌, ◌%◌, ◌^◌, ◌⊎◌, List, length, Bool, true, false, ◌==◌, nat_lt, if◌then◌else◌, slice_get, slice_index, Option, Some, None}
+-- What the terms of a cycle's nets are made of, by the word table: a net that only passes a value on is that other
+-- term. These relations are what the values of the terms are shown from; which words there are, and in which order, are
+-- the definitions of mw_cycle (ReadingWords, LeavingWords, EdgeWords). A rule that changes changes in both.
+use Rattle.std.specs.Prelude.{◌≡◌, ℕ, ◌+◌, ◌-◌, ◌%◌, ◌^◌, ◌⊎◌, List, length, Bool, true, false, ◌==◌, nat_lt}
+use Rattle.std.specs.Prelude.{if◌then◌else◌, slice_get, slice_index, Option, Some, None}
 use Rattle.mw_base.specs.Words.{num}
 use Rattle.mw_alu.specs.declared.instruction.Destination.{Destination}
 use Rattle.mw_alu.specs.declared.instruction.Destination.TheVariants as destinations
@@ -58,7 +59,8 @@ IsPart t whole_width whole low width term =
 -- ---- D
 
 -- D before its mask
-abbrev pub IsFrom : BoardParts → (word : ℕ) → Table → List Word → Memory → Parts → (taken : ℕ) → DFrom → (term : ℕ) → Type 0
+abbrev pub IsFrom : BoardParts → (word : ℕ) → Table → List Word → Memory → Parts → (taken : ℕ) → DFrom
+    → (term : ℕ) → Type 0
 IsFrom board word t words m p taken sources.Zero term = Is t (Con 0 board.width) term
 IsFrom board word t words m p taken sources.Memory term = IsRead t m side.Board p.mar term
 IsFrom board word t words m p taken sources.Ir term = term ≡ p.ir
@@ -71,7 +73,8 @@ IsFrom board word t words m p taken (sources.Flip n) term = IsWidened t 1 board.
 -- D behind its mask
 abbrev pub IsMasked : Table → (width : ℕ) → Option ℕ → (whole term : ℕ) → Type 0
 IsMasked t width None whole term = term ≡ whole
-IsMasked t width (Some mask) whole term = (constant : ℕ) × Is t (Con mask width) constant × Is t (And whole constant) term
+IsMasked t width (Some mask) whole term =
+    (constant : ℕ) × Is t (Con mask width) constant × Is t (And whole constant) term
 
 -- ---- F
 
@@ -233,7 +236,8 @@ IsLoaded loads.XorCarry board t p sp n old term =
 IsLoaded (loads.Take bit) board t p sp n old term = IsBitTerm board t p sp n bit term
 
 -- what the flip-flops take, each from the old values of all
-pub record AreLoaded (board : BoardParts) (m : Microword) (t : Table) (p : Parts) (sp : ℕ) (n : Sources) (terms : List ℕ) : Type 0 where
+pub record AreLoaded (board : BoardParts) (m : Microword) (t : Table) (p : Parts) (sp : ℕ) (n : Sources)
+    (terms : List ℕ) : Type 0 where
   pub count : length terms ≡ length board.flipflop
   pub each : (k : ℕ) (f : FlipFlop) → slice_get board.flipflop k ≡ Some f
       → IsLoaded (load_of board m f) board t p sp n (slice_index p.flips k) (slice_index terms k)

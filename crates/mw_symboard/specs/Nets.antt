@@ -15,7 +15,8 @@ use Rattle.mw_symmem.specs.Memory.{Memory}
 use Rattle.mw_symboard.specs.declared.bits.Sources.{Sources}
 use Rattle.mw_symboard.specs.declared.leaving.Leaving.{Leaving}
 use Rattle.mw_symboard.specs.declared.reading.Reading.{Reading}
-use Rattle.mw_symboard.specs.Seen.{Progress, Says, Scene, answer_net, bit_net, condition_net, d_net, direct_net, early_net, microword_of, next_net, pass_net}
+use Rattle.mw_symboard.specs.Seen.{Progress, Says, Scene, answer_net, bit_net, condition_net, d_net, direct_net}
+use Rattle.mw_symboard.specs.Seen.{early_net, microword_of, next_net, pass_net}
 use Rattle.mw_symboard.specs.Turns.{IsSymbolic, Symbolic}
 
 -- ---- nets
@@ -23,13 +24,14 @@ use Rattle.mw_symboard.specs.Turns.{IsSymbolic, Symbolic}
 -- the operand R that a microword chooses
 abbrev pub r_net : BoardParts → List ℕ → Progress → Scene → ℕ
 r_net board store p x =
-    r_of (source_of (microword_of board store p).instruction) (slice_index x.state.regs (microword_of board store p).a_address)
-    (d_net board store p x)
+    r_of (source_of (microword_of board store p).instruction)
+    (slice_index x.state.regs (microword_of board store p).a_address) (d_net board store p x)
 
 -- the operand S
 abbrev pub s_net : BoardParts → List ℕ → Progress → Scene → ℕ
 s_net board store p x =
-    s_of (source_of (microword_of board store p).instruction) (slice_index x.state.regs (microword_of board store p).a_address)
+    s_of (source_of (microword_of board store p).instruction)
+    (slice_index x.state.regs (microword_of board store p).a_address)
     (slice_index x.state.regs (microword_of board store p).b_address) x.state.q
 
 -- the carry in
@@ -92,7 +94,8 @@ pub record SaysLeaving (board : BoardParts) (store : List ℕ) (t : Table) (word
 -- ---- the law
 
 -- a cycle of a board, on a table of terms
-pub record IsCycle (board : BoardParts) (store : List ℕ) (t : Table) (words : List Word) (m : Memory) (o : Symbolic) : Type 0 where
+pub record IsCycle (board : BoardParts) (store : List ℕ) (t : Table) (words : List Word) (m : Memory)
+    (o : Symbolic) : Type 0 where
   pub valid : IsBoard board
   pub microword : IsMicroword board (microword_of board store o.place)
   pub table : IsTable t
@@ -100,10 +103,12 @@ pub record IsCycle (board : BoardParts) (store : List ℕ) (t : Table) (words : 
   pub symbolic : IsSymbolic board store t words m o
 
 -- the terms at which what a cycle reads ends have the values of the board's nets, and so have the bits that were made
-pub record ReadingsHaveValues (board : BoardParts) (store : List ℕ) (t : Table) (words : List Word) (m : Memory) (o : Symbolic) : Type 0 where
+pub record ReadingsHaveValues (board : BoardParts) (store : List ℕ) (t : Table) (words : List Word) (m : Memory)
+    (o : Symbolic) : Type 0 where
   pub reading : (r : Reading) → o.reading ≡ Some r → SaysReading board store t words m o.place r
   pub bits : (r : Reading) → o.reading ≡ Some r → SayBits board store t words m o.place r.bits
-  pub leaving : (r : Reading) (l : Leaving) → o.reading ≡ Some r → o.leaving ≡ Some l → SaysLeaving board store t words m o.place l
+  pub leaving : (r : Reading) (l : Leaving)
+      → o.reading ≡ Some r → o.leaving ≡ Some l → SaysLeaving board store t words m o.place l
 
 -- so it is of each cycle
 abbrev pub NetsHaveValues : Type 0

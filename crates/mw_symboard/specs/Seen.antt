@@ -1,4 +1,5 @@
--- What terms stand for in a cycle: the nets of a board in a state, under every assignment and over every image that fits.
+-- What terms stand for in a cycle: the nets of a board in a state, under every assignment and over every
+-- image that fits.
 use Rattle.std.specs.Prelude.{◌≡◌, ℕ, ◌<◌, ◌^◌, List, length, take, Some, Bool}
 use Rattle.mw_base.specs.Words.{differ, num}
 use Rattle.mw_alu.specs.declared.answer.AluOut.{AluOut}
@@ -8,7 +9,8 @@ use Rattle.mw_board.specs.Store.{word_at}
 use Rattle.mw_term.specs.declared.decided.Decided.{Decided}
 use Rattle.mw_cycle.specs.declared.elements.Element.{Element}
 use Rattle.mw_cycle.specs.declared.microword.Microword.{Microword}
-use Rattle.mw_cycle.specs.Cycle.{d_of, answer_of, early_bit, bit_value, pass_of, next_address, direct_address, state_after}
+use Rattle.mw_cycle.specs.Cycle.{d_of, answer_of, early_bit, bit_value, pass_of, next_address, direct_address}
+use Rattle.mw_cycle.specs.Cycle.{state_after}
 use Rattle.mw_cycle.specs.Decided.{decided_of}
 use Rattle.mw_cycle.specs.Microword.{points_of}
 use Rattle.mw_cycle.specs.declared.state.CycleIn.{CycleIn}
@@ -24,8 +26,8 @@ use Rattle.mw_term.specs.WordList.{term_of}
 use Rattle.mw_symmem.specs.Memory.{Memory, IsImage, IsOfWidth, FitImage, held_by}
 use Rattle.mw_cycle.specs.BoardTerms.{Parts, term_of_part}
 
--- Where a symbolic board is: its control address and stack pointer, which are numbers, a term for each element, how many
--- cycles it has finished and how many inputs it has taken, and the bits decided so far of the cycle that it is in.
+-- Where a symbolic board is: its control address and stack pointer, which are numbers, a term for each element, how
+-- many cycles it has finished and how many inputs it has taken, and the bits decided so far of the cycle that it is in.
 pub record Progress : Type 0 where
   pub at : ℕ
   pub sp : ℕ
@@ -41,7 +43,8 @@ pub record Scene : Type 0 where
   pub outside : CycleIn
 
 -- a state has the values of a symbolic board's parts
-pub record IsStateOf (board : BoardParts) (t : Table) (given : Given) (m : Memory) (p : Progress) (image : List ℕ) (s : BoardState) : Type 0 where
+pub record IsStateOf (board : BoardParts) (t : Table) (given : Given) (m : Memory) (p : Progress) (image : List ℕ)
+    (s : BoardState) : Type 0 where
   pub fits : Fits board s
   pub at : s.at ≡ p.at
   pub sp : s.seq.sp ≡ p.sp
@@ -49,7 +52,8 @@ pub record IsStateOf (board : BoardParts) (t : Table) (given : Given) (m : Memor
   pub memory : s.memory ≡ held_by t given m side.Board image
 
 -- the outside of a cycle has the values of its variables, of those that are there
-pub record IsOutside (board : BoardParts) (t : Table) (given : Given) (words : List Word) (p : Progress) (c : CycleIn) : Type 0 where
+pub record IsOutside (board : BoardParts) (t : Table) (given : Given) (words : List Word) (p : Progress)
+    (c : CycleIn) : Type 0 where
   pub line : (term : ℕ) → term_of words (Line p.cycle) ≡ Some term → term_value t given term ≡ num c.line
   pub noise : (term : ℕ) → term_of words (Noise p.cycle) ≡ Some term → term_value t given term ≡ c.noise
   pub input : (term : ℕ) → term_of words (Input p.taken) ≡ Some term → term_value t given term ≡ c.input
@@ -60,9 +64,11 @@ pub record IsOutside (board : BoardParts) (t : Table) (given : Given) (words : L
 abbrev pub AreFirst : (first all : List Decided) → Type 0
 AreFirst first all = take (length first) all ≡ first
 
--- Under an assignment, a cycle from this place is seen in this scene: its image is one that the base reads fit, its state has
--- the values of the parts, its outside those of the variables, and the bits decided so far are the first ones of its own.
-pub record IsSeen (board : BoardParts) (store : List ℕ) (t : Table) (words : List Word) (m : Memory) (p : Progress) (given : Given) (x : Scene) : Type 0 where
+-- Under an assignment, a cycle from this place is seen in this scene: its image is one that the base reads fit, its
+-- state has the values of the parts, its outside those of the variables, and the bits decided so far are the first
+-- ones of its own.
+pub record IsSeen (board : BoardParts) (store : List ℕ) (t : Table) (words : List Word) (m : Memory) (p : Progress)
+    (given : Given) (x : Scene) : Type 0 where
   pub image : IsImage m x.image
   pub fit : FitImage t given m.reads x.image
   pub state : IsStateOf board t given m p x.image x.state
@@ -70,7 +76,8 @@ pub record IsSeen (board : BoardParts) (store : List ℕ) (t : Table) (words : L
   pub first : AreFirst p.decided (decided_of board store x.state x.outside)
 
 -- a term of so many bits has, in every scene in which the cycle is seen, the value of a net
-pub record Says (board : BoardParts) (store : List ℕ) (t : Table) (words : List Word) (m : Memory) (p : Progress) (width term : ℕ) (net : Scene → ℕ) : Type 0 where
+pub record Says (board : BoardParts) (store : List ℕ) (t : Table) (words : List Word) (m : Memory) (p : Progress)
+    (width term : ℕ) (net : Scene → ℕ) : Type 0 where
   pub wide : IsOfWidth t width term
   pub value : (given : Given) (x : Scene) → IsSeen board store t words m p given x → term_value t given term ≡ net x
 

@@ -1,5 +1,6 @@
 -- A symbolic board, and what its turns say: under every assignment it is a board in a state.
-use Rattle.std.specs.Prelude.{◌≡◌, ℕ, ◌+◌, ◌<◌, ◌≤◌, ◌^◌, List, [], ◌∷◌, ◌++◌, length, map, Bool, true, false, Option, Some, None, slice_get, ◌==◌}
+use Rattle.std.specs.Prelude.{◌≡◌, ℕ, ◌+◌, ◌<◌, ◌≤◌, ◌^◌, List, [], ◌∷◌, ◌++◌, length, map, Bool, true, false, Option}
+use Rattle.std.specs.Prelude.{Some, None, slice_get, ◌==◌}
 use Rattle.std.specs.Option.{option_to_list}
 use Rattle.mw_base.specs.declared.event.Event.{Event}
 use Rattle.mw_base.specs.declared.event.Event.TheVariants as events
@@ -32,8 +33,8 @@ use Rattle.mw_symboard.specs.Kinds.{AreInputs}
 use Rattle.mw_symboard.specs.Parts.{AreParts}
 use Rattle.mw_symboard.specs.Seen.{Progress, Scene, IsSeen, IsStateOf, microword_of, after_net}
 
--- Where it is, its events so far, what its cycle has read once it has begun, what it knows of the cycle's end once pass and the counter
--- are decided, and the bit that it waits for.
+-- Where it is, its events so far, what its cycle has read once it has begun, what it knows of the cycle's end once pass
+-- and the counter are decided, and the bit that it waits for.
 pub record Symbolic : Type 0 where
   pub place : Progress
   pub events : List SymEvent
@@ -95,7 +96,8 @@ Leaves board store t p None (Some l) = ⊥
 Leaves board store t p r None = length p.decided ≤ bits_before (microword_of board store p)
 
 -- What holds between a symbolic board, the board and its store, and what it works on.
-pub record IsSymbolic (board : BoardParts) (store : List ℕ) (t : Table) (words : List Word) (m : Memory) (o : Symbolic) : Type 0 where
+pub record IsSymbolic (board : BoardParts) (store : List ℕ) (t : Table) (words : List Word) (m : Memory)
+    (o : Symbolic) : Type 0 where
   pub at : o.place.at < 2 ^ 12
   pub sp : o.place.sp ≤ depth_of board
   pub parts : AreParts board t o.place.parts
@@ -123,23 +125,27 @@ abbrev pub event_of : Table → Given → SymEvent → Event
 event_of t given (Out term) = events.Out (term_value t given term)
 event_of t given (Taken term) = events.Taken (term_value t given term)
 
--- It asks for a bit: in every scene in which the cycle is seen, this is the next decided bit of the cycle, and the term has its value.
-pub record Asks (board : BoardParts) (store : List ℕ) (t : Table) (words : List Word) (m : Memory) (o : Symbolic) (kind : DecidedKind) (term : ℕ) : Type 0 where
+-- It asks for a bit: in every scene in which the cycle is seen, this is the next decided bit of the cycle, and the term
+-- has its value.
+pub record Asks (board : BoardParts) (store : List ℕ) (t : Table) (words : List Word) (m : Memory) (o : Symbolic)
+    (kind : DecidedKind) (term : ℕ) : Type 0 where
   pub asked : o.asked ≡ Some kind
   pub begun : (reading : Reading) × (o.reading ≡ Some reading)
   pub tests : o.leaving ≡ None → length o.place.decided < bits_before (microword_of board store o.place)
   pub wide : IsOfWidth t 1 term
   pub next : (given : Given) (x : Scene) → IsSeen board store t words m o.place given x
-      → slice_get (decided_of board store x.state x.outside) (length o.place.decided) ≡ Some (decided kind (term_value t given term == 1))
+      → slice_get (decided_of board store x.state x.outside) (length o.place.decided)
+      ≡ Some (decided kind (term_value t given term == 1))
   pub few : length o.place.decided < bits_before (microword_of board store o.place) + 12
 
 -- a place in a run: how many cycles, and how many inputs
 abbrev pub clock_of : Progress → Clock
 clock_of p = record { cycle = p.cycle; taken = p.taken }
 
--- Its cycle is done: in every scene in which it was seen, all its bits were decided, the board has the values of the next state, and its
--- events are those before it and that of the cycle.
-pub record IsDone (board : BoardParts) (store : List ℕ) (t : Table) (words : List Word) (mold mnew : Memory) (old new : Symbolic) (given : Given) (x : Scene) : Type 0 where
+-- Its cycle is done: in every scene in which it was seen, all its bits were decided, the board has the values of the
+-- next state, and its events are those before it and that of the cycle.
+pub record IsDone (board : BoardParts) (store : List ℕ) (t : Table) (words : List Word) (mold mnew : Memory)
+    (old new : Symbolic) (given : Given) (x : Scene) : Type 0 where
   pub bits : decided_of board store x.state x.outside ≡ old.place.decided
   pub state : IsStateOf board t given mnew new.place x.image (after_net board store x)
   pub events : map (event_of t given) new.events
@@ -147,7 +153,8 @@ pub record IsDone (board : BoardParts) (store : List ℕ) (t : Table) (words : L
   pub clock : clock_of new.place ≡ clock_after (nets_of board store x.state x.outside).event (clock_of old.place)
 
 -- a turn of a symbolic board, from one table, words and memory to others
-abbrev pub IsTurn : BoardParts → List ℕ → Table → List Word → (mold mnew : Memory) → (old new : Symbolic) → Turn → Type 0
+abbrev pub IsTurn : BoardParts → List ℕ → Table → List Word → (mold mnew : Memory)
+    → (old new : Symbolic) → Turn → Type 0
 IsTurn board store t words mold mnew old new (Ask kind term) =
     (new.place ≡ old.place) × (new.events ≡ old.events) × (mnew ≡ with_reads mold mnew.reads)
     × Asks board store t words mnew new kind term

@@ -26,8 +26,8 @@ pub record HasVariables (t : Table) (words : List Word) (cycle : ℕ) : Type 0 w
   pub line_wide : IsOfWidth t 1 line
   pub noise_wide : IsOfWidth t 14 noise
 
--- The variables of the first so many cycles are there, and those of no later one; and the variables of inputs that there
--- are have the board's width.
+-- The variables of the first so many cycles are there, and those of no later one; and the variables of inputs that
+-- there are have the board's width.
 pub record HaveVariables (board : BoardParts) (t : Table) (words : List Word) (cycles : ℕ) : Type 0 where
   pub each : (n : ℕ) → n < cycles → HasVariables t words n
   pub none : AreNoLater cycles words
@@ -47,8 +47,8 @@ BegunHasVariables =
     → ((reading : Reading) → o.reading ≡ Some reading → HasVariables t words o.place.cycle)
     × (0 < length o.place.decided → HasVariables t words o.place.cycle)
 
--- Where the variables of the finished cycles are there, there is a number of cycles whose variables are there, and those of
--- no later one.
+-- Where the variables of the finished cycles are there, there is a number of cycles whose variables are there, and
+-- those of no later one.
 abbrev pub CyclesAreThere : Type 0
 CyclesAreThere =
     (board : BoardParts) (store : List ℕ) (t : Table) (words : List Word) (m : Memory) (o : Symbolic)

@@ -56,7 +56,8 @@ fn mapped(
     requires map { terms.old.map ≡ board.now.map_entries }
     ensures is { IfOk result (IsMapped board.now terms.new ir) }
     ensures wide { IfOk result (IsOfWidth terms.new 12) }
-    ensures listed { IfOk result (Lists (entry_words (board.now.map_bits == 0) board.now ir) terms.old terms.new words.old words.new) }
+    ensures listed { IfOk result
+        (Lists (entry_words (board.now.map_bits == 0) board.now ir) terms.old terms.new words.old words.new) }
     ensures grew { OnOk result (Grew terms.old terms.new words.old words.new) }
 {
     match board.parts().map_bits {
@@ -79,7 +80,9 @@ pub(crate) fn direct(
     requires map { terms.old.map ≡ board.now.map_entries }
     ensures is { IfOk result (IsDirect (instruction_of microword.now.sequencer) board.now microword.now terms.new ir) }
     ensures wide { IfOk result (IsOfWidth terms.new 12) }
-    ensures listed { IfOk result (Lists (direct_words (instruction_of microword.now.sequencer) board.now microword.now ir) terms.old terms.new words.old words.new) }
+    ensures listed { IfOk result
+        (Lists (direct_words (instruction_of microword.now.sequencer) board.now microword.now ir)
+        terms.old terms.new words.old words.new) }
     ensures grew { OnOk result (Grew terms.old terms.new words.old words.new) }
 {
     match Instruction::of(microword.sequencer) {
@@ -105,7 +108,8 @@ fn top(
     requires noise { IsOfWidth terms.old 14 noise }
     ensures is { IfOk result (IsTop (sp == 0) terms.new parts.now sp noise) }
     ensures wide { IfOk result (IsOfWidth terms.new 12) }
-    ensures listed { IfOk result (Lists (top_words (sp == 0) parts.now sp noise) terms.old terms.new words.old words.new) }
+    ensures listed { IfOk result
+        (Lists (top_words (sp == 0) parts.now sp noise) terms.old terms.new words.old words.new) }
     ensures grew { OnOk result (Grew terms.old terms.new words.old words.new) }
 {
     if sp == 0 {
@@ -133,7 +137,8 @@ pub(crate) fn next(
     requires direct { IsOfWidth terms.old 12 direct }
     ensures is { IfOk result (IsNext terms.new parts.now sp noise direct from) }
     ensures wide { IfOk result (IsOfWidth terms.new 12) }
-    ensures listed { IfOk result (Lists (next_words from parts.now sp noise direct) terms.old terms.new words.old words.new) }
+    ensures listed { IfOk result
+        (Lists (next_words from parts.now sp noise direct) terms.old terms.new words.old words.new) }
     ensures grew { OnOk result (Grew terms.old terms.new words.old words.new) }
 {
     match from {

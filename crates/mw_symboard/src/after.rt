@@ -1,12 +1,14 @@
 // The parts of a board after the edge.
-ghost use Rattle.std.specs.Prelude.{◌≡◌, List, ◌+◌, ◌%◌, ◌<◌, ◌≤◌, ◌^◌, ℕ, length, slice_index, if◌then◌else◌, IfOk, IfSome, OnOk};
+ghost use Rattle.std.specs.Prelude.{◌≡◌, List, ◌+◌, ◌%◌, ◌<◌, ◌≤◌, ◌^◌, ℕ, length, slice_index, if◌then◌else◌, IfOk};
+ghost use Rattle.std.specs.Prelude.{IfSome, OnOk};
 ghost use Rattle.mw_base.specs.Words.{num};
 ghost use Rattle.mw_board.specs.Depth.{depth_of};
 ghost use Rattle.mw_cycle.specs.Microword.{IsMicroword};
 ghost use Rattle.mw_symmem.specs.Memory.{IsOfWidth};
 ghost use Rattle.mw_symboard.specs.Bits.{AreBits, AreSources};
 ghost use Rattle.mw_symboard.specs.Cycle.{IsEdge, IsMar, bits_before, effect_by, number_in};
-ghost use Rattle.mw_cycle.specs.EdgeWords.{or_taken, with_pushed, with_taken, pushed_word, sp_after, edge_made, edge_words, mar_words};
+ghost use Rattle.mw_cycle.specs.EdgeWords.{or_taken, with_pushed, with_taken, pushed_word, sp_after, edge_made};
+ghost use Rattle.mw_cycle.specs.EdgeWords.{edge_words, mar_words};
 ghost use Rattle.mw_symboard.specs.Growth.{Grew};
 ghost use Rattle.mw_symboard.specs.Made.{AreLoaded, IsWrittenB, IsWrittenQ};
 ghost use Rattle.mw_alu.specs.Instruction.{destination_of};
@@ -108,13 +110,17 @@ fn edge_made(
     ensures q { IfOk result (λ t. IsWrittenQ (destination_of microword.now.instruction) board.now microword.now
         terms.new place.now.parts place.now.sp reading.old.sources t.q) }
     ensures q_wide { IfOk result (λ t. IfSome t.q (IsOfWidth terms.new board.now.width)) }
-    ensures flips { IfOk result (λ t. AreLoaded board.now microword.now terms.new place.now.parts place.now.sp reading.old.sources t.flips.items) }
-    ensures flips_wide { IfOk result (λ t. (k : ℕ) → k < length board.now.flipflop → IsOfWidth terms.new 1 (slice_index t.flips.items k)) }
-    ensures mar { IfOk result (λ t. IsMar microword.now.mar_load board.now terms.new place.now.parts.mar reading.old.y t.mar) }
+    ensures flips { IfOk result (λ t.
+        AreLoaded board.now microword.now terms.new place.now.parts place.now.sp reading.old.sources t.flips.items) }
+    ensures flips_wide { IfOk result
+        (λ t. (k : ℕ) → k < length board.now.flipflop → IsOfWidth terms.new 1 (slice_index t.flips.items k)) }
+    ensures mar { IfOk result
+        (λ t. IsMar microword.now.mar_load board.now terms.new place.now.parts.mar reading.old.y t.mar) }
     ensures mar_wide { IfOk result (λ t. IsOfWidth terms.new board.now.address t.mar) }
     ensures source { reading.new.source ≡ reading.old.source }
     ensures y { reading.new.y ≡ reading.old.y }
-    ensures listed { IfOk result (λ t. (reads : List Held) → edge_made board.now microword.now place.now.parts place.now.sp (reading_of reading.old)
+    ensures listed { IfOk result (λ t. (reads : List Held)
+        → edge_made board.now microword.now place.now.parts place.now.sp (reading_of reading.old)
         (list_of terms.old.ops words.old reads) ≡ record {
           list = list_of terms.new.ops words.new reads;
           register = t.register;
@@ -218,8 +224,10 @@ fn moved(board: &Board, microword: &Microword, place: &Progress) -> Moved
     requires microword { IsMicroword board.now microword.now }
     requires known { bits_before microword.now ≤ length place.now.decided }
     requires sp { place.now.sp ≤ depth_of board.now }
-    ensures sp { result.sp ≡ sp_after (effect_by microword.now place.now.decided).stack (depth_of board.now) place.now.sp }
-    ensures pushed { result.pushed ≡ pushed_word (effect_by microword.now place.now.decided).stack (depth_of board.now) place.now.sp }
+    ensures sp { result.sp
+        ≡ sp_after (effect_by microword.now place.now.decided).stack (depth_of board.now) place.now.sp }
+    ensures pushed { result.pushed
+        ≡ pushed_word (effect_by microword.now place.now.decided).stack (depth_of board.now) place.now.sp }
     ensures sp_within { result.sp ≤ depth_of board.now }
     ensures pushed_within { IfSome result.pushed (λ n. n < depth_of board.now) }
 {
@@ -227,8 +235,8 @@ fn moved(board: &Board, microword: &Microword, place: &Progress) -> Moved
     stack_move(stack, board.depth(), place.sp)
 }
 
-/// The parts take their new terms: the register that B addresses, Q, the address and the instruction register, the flip-flops, PC, the
-/// counter, and the word of the stack that takes the old PC.
+/// The parts take their new terms: the register that B addresses, Q, the address and the instruction register, the
+/// flip-flops, PC, the counter, and the word of the stack that takes the old PC.
 fn put(
     parts: &mut Parts,
     microword: &Microword,
@@ -324,7 +332,8 @@ pub(crate) fn take_edge(
     ensures y { reading.new.y ≡ reading.old.y }
     ensures decided { place.new.decided ≡ place.old.decided }
     ensures listed { OnOk result ((reads writes : List Held) (events : List SymEvent)
-        → edge_words board.now microword.now (standing_of place.old writes events) (reading_of reading.old) (leaving_of leaving)
+        → edge_words board.now microword.now (standing_of place.old writes events) (reading_of reading.old)
+        (leaving_of leaving)
         (effect_by microword.now place.old.decided) place.new.at (list_of terms.old.ops words.old reads)
         ≡ record {
           list = list_of terms.new.ops words.new reads;

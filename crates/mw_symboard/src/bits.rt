@@ -4,7 +4,8 @@ ghost use Rattle.mw_board.specs.Valid.{IsBit};
 ghost use Rattle.mw_term.specs.Table.{Fits, Table, width_over};
 ghost use Rattle.mw_symmem.specs.Memory.{IsOfWidth};
 ghost use Rattle.mw_symmem.specs.Words.{IsNoVariable};
-ghost use Rattle.mw_cycle.specs.ReadingWords.{MadeBit, bit_words, carry_op, early_once, early_words, late_once, made_term, overflow_op, same_bit, zero_words};
+ghost use Rattle.mw_cycle.specs.ReadingWords.{MadeBit, bit_words, carry_op, early_once, early_words, late_once};
+ghost use Rattle.mw_cycle.specs.ReadingWords.{made_term, overflow_op, same_bit, zero_words};
 ghost use Rattle.mw_symboard.specs.Bits.{AreBits, AreEarlyBits, AreLateBits, AreSources};
 ghost use Rattle.mw_symboard.specs.Growth.{Grew};
 ghost use Rattle.mw_symboard.specs.Made.{Is, IsBitTerm, IsEarlyBit, sources_of};
@@ -147,7 +148,8 @@ impl Bits {
         ensures wide { IfOk result (IsOfWidth terms.new 1) }
         ensures right { OnOk result (AreEarlyBits board.now terms.new parts.now sp line self.new.early) }
         ensures late { self.new.late ≡ self.old.late }
-        ensures listed { IfOk result (ListsBit (early_once bit (with_word op)) terms.old terms.new words.old words.new self.old self.new) }
+        ensures listed { IfOk result
+            (ListsBit (early_once bit (with_word op)) terms.old terms.new words.old words.new self.old self.new) }
         ensures grew { OnOk result (Grew terms.old terms.new words.old words.new) }
     {
         if let Some(term) = find(&self.early, bit) {
@@ -179,7 +181,8 @@ impl Bits {
         ensures is { IfOk result (IsEarlyBit board.now terms.new parts.now sp line bit) }
         ensures right { OnOk result (AreEarlyBits board.now terms.new parts.now sp line self.new.early) }
         ensures late { self.new.late ≡ self.old.late }
-        ensures listed { IfOk result (ListsBit (early_words board.now parts.now sp line bit) terms.old terms.new words.old words.new self.old self.new) }
+        ensures listed { IfOk result (ListsBit (early_words board.now parts.now sp line bit)
+            terms.old terms.new words.old words.new self.old self.new) }
         ensures grew { OnOk result (Grew terms.old terms.new words.old words.new) }
     {
         let top = board.width().bits() - 1;
@@ -220,13 +223,15 @@ impl Bits {
         requires fits { Fits terms.old op }
         requires none { IsNoVariable op }
         requires one { width_over terms.old op ≡ 1 }
-        requires means { (t : Table) (term : ℕ) → Is t op term → IsBitTerm board.now t parts.now sp sources.now bit term }
+        requires means { (t : Table) (term : ℕ)
+            → Is t op term → IsBitTerm board.now t parts.now sp sources.now bit term }
         requires right { AreLateBits board.now terms.old parts.now sp sources.now self.old.late }
         ensures is { IfOk result (IsBitTerm board.now terms.new parts.now sp sources.now bit) }
         ensures wide { IfOk result (IsOfWidth terms.new 1) }
         ensures right { OnOk result (AreLateBits board.now terms.new parts.now sp sources.now self.new.late) }
         ensures early { self.new.early ≡ self.old.early }
-        ensures listed { IfOk result (ListsBit (late_once bit (with_word op)) terms.old terms.new words.old words.new self.old self.new) }
+        ensures listed { IfOk result
+            (ListsBit (late_once bit (with_word op)) terms.old terms.new words.old words.new self.old self.new) }
         ensures grew { OnOk result (Grew terms.old terms.new words.old words.new) }
     {
         if let Some(term) = find(&self.late, bit) {
@@ -254,7 +259,8 @@ impl Bits {
         ensures wide { IfOk result (IsOfWidth terms.new 1) }
         ensures right { OnOk result (AreLateBits board.now terms.new parts.now sp sources.now self.new.late) }
         ensures early { self.new.early ≡ self.old.early }
-        ensures listed { IfOk result (ListsBit (late_once bits.FZero (zero_words board.now.width sources.now.f)) terms.old terms.new words.old words.new self.old self.new) }
+        ensures listed { IfOk result (ListsBit (late_once bits.FZero (zero_words board.now.width sources.now.f))
+            terms.old terms.new words.old words.new self.old self.new) }
         ensures grew { OnOk result (Grew terms.old terms.new words.old words.new) }
     {
         if let Some(term) = find(&self.late, Bit::FZero) {
@@ -288,7 +294,8 @@ impl Bits {
         ensures is { IfOk result (IsBitTerm board.now terms.new parts.now sp sources.now bit) }
         ensures wide { IfOk result (IsOfWidth terms.new 1) }
         ensures right { OnOk result (AreBits board.now terms.new parts.now sp sources.now self.new) }
-        ensures listed { IfOk result (ListsBit (bit_words board.now parts.now sp (sources_of sources.now) bit) terms.old terms.new words.old words.new self.old self.new) }
+        ensures listed { IfOk result (ListsBit (bit_words board.now parts.now sp (sources_of sources.now) bit)
+            terms.old terms.new words.old words.new self.old self.new) }
         ensures grew { OnOk result (Grew terms.old terms.new words.old words.new) }
     {
         let top = board.width().bits() - 1;

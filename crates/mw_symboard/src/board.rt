@@ -1,5 +1,6 @@
 // A board on terms.
-ghost use Rattle.std.specs.Prelude.{◌≡◌, ℕ, ◌+◌, ◌<◌, ◌≤◌, ◌^◌, List, [], ◌∷◌, ◌++◌, length, map, slice_index, true, None, Some, IfOk, OnOk};
+ghost use Rattle.std.specs.Prelude.{◌≡◌, ℕ, ◌+◌, ◌<◌, ◌≤◌, ◌^◌, List, [], ◌∷◌, ◌++◌, length, map, slice_index, true};
+ghost use Rattle.std.specs.Prelude.{None, Some, IfOk, OnOk};
 ghost use Rattle.mw_board.specs.declared.parts.BoardParts.{BoardParts};
 ghost use Rattle.mw_board.specs.Depth.{depth_of};
 ghost use Rattle.mw_board.specs.Elements.{element_count};
@@ -24,7 +25,8 @@ ghost use Rattle.mw_symboard.specs.Parts.{AreElements, AreParts};
 ghost use Rattle.mw_cycle.specs.BoardTerms.{term_of_part};
 ghost use Rattle.mw_symmem.specs.declared.turn.Turn.TheVariants.{Ask, Finished};
 ghost use Rattle.mw_term.specs.declared.decided.DecidedKind.{DecidedKind};
-ghost use Rattle.mw_symboard.specs.Turns.{AreNoLater, Asks, IsDone, IsSymbolic, IsTurn, cycle_left, decided_so, reads_to_come, shown_by, written_if};
+ghost use Rattle.mw_symboard.specs.Turns.{AreNoLater, Asks, IsDone, IsSymbolic, IsTurn, cycle_left, decided_so};
+ghost use Rattle.mw_symboard.specs.Turns.{reads_to_come, shown_by, written_if};
 ghost use Rattle.mw_cycle.specs.EdgeWords.{edge_words};
 ghost use Rattle.mw_term.specs.declared.event.SymEvent.{SymEvent};
 ghost use Rattle.mw_term.specs.MemoryRead.{Held};
@@ -66,7 +68,13 @@ impl Model for SymBoard {
 
     ghost Value = { turns.Symbolic };
 
-    ghost view = { λ b. record { place = b.place; events = b.events.items; reading = b.reading; leaving = b.leaving; asked = b.asked } };
+    ghost view = { λ b. record {
+      place = b.place;
+      events = b.events.items;
+      reading = b.reading;
+      leaving = b.leaving;
+      asked = b.asked;
+    } };
 }
 
 /// The word at an address takes a value, where it does.
@@ -86,9 +94,9 @@ fn write_memory(
 }
 
 impl SymBoard {
-    /// A board at a control address, with so many words on its stack, and with these terms for its elements, by their numbers. It may go on
-    /// where the address is below 4,096, the stack has so many words, and each term has its element's width. No cycle is finished and no input
-    /// taken.
+    /// A board at a control address, with so many words on its stack, and with these terms for its elements, by their
+    /// numbers. It may go on where the address is below 4,096, the stack has so many words, and each term has its
+    /// element's width. No cycle is finished and no input taken.
     ///
     /// # Errors
     ///
@@ -111,9 +119,9 @@ impl SymBoard {
         ensures events { IfOk result (λ b. b.events ≡ []) }
         ensures asked { IfOk result (λ b. b.asked ≡ None) }
         ensures reading { IfOk result (λ b. b.reading ≡ None) }
-        ensures symbolic { IfOk result (λ b. (store : List ℕ) (t : Table) (words : List Word) (m : Memory) → address < 2 ^ 12
-            → sp ≤ depth_of board.now → AreElements board.now t elements.now → AreInputs board.now t words → AreNoLater 0 words
-            → IsSymbolic board.now store t words m b) }
+        ensures symbolic { IfOk result (λ b. (store : List ℕ) (t : Table) (words : List Word) (m : Memory)
+            → address < 2 ^ 12 → sp ≤ depth_of board.now → AreElements board.now t elements.now
+            → AreInputs board.now t words → AreNoLater 0 words → IsSymbolic board.now store t words m b) }
     {
         Ok(SymBoard {
             place: Progress {
@@ -197,10 +205,12 @@ impl SymBoard {
         ensures place { self.new.place ≡ self.old.place }
         ensures events { self.new.events ≡ self.old.events }
         ensures asked { self.new.asked ≡ self.old.asked }
-        ensures goes { OnOk result (GoesOn (IsCycleKind self.old.place.cycle self.old.place.taken) terms.old terms.new words.old words.new memory.old memory.new) }
+        ensures goes { OnOk result (GoesOn (IsCycleKind self.old.place.cycle self.old.place.taken)
+            terms.old terms.new words.old words.new memory.old memory.new) }
         ensures writes { OnOk result (KeepsWrites memory.old memory.new) }
         ensures reads { OnOk result (length memory.new.reads ≤ length memory.old.reads + reads_to_come self.old) }
-        ensures listed { OnOk result (GoesAlong board.now store.now.words memory.old.board self.old self.new (list_in terms.old words.old memory.old) (list_in terms.new words.new memory.new)) }
+        ensures listed { OnOk result (GoesAlong board.now store.now.words memory.old.board self.old self.new
+            (list_in terms.old words.old memory.old) (list_in terms.new words.new memory.new)) }
         ensures symbolic { OnOk result (IsSymbolic board.now store.now.words terms.new words.new memory.new self.new) }
     {
         if self.reading.is_some() {
@@ -252,7 +262,9 @@ impl SymBoard {
             × Asks board.now store.now.words terms.now words.now memory.now self.new kind term }
         ensures place { self.new.place ≡ self.old.place }
         ensures events { self.new.events ≡ self.old.events }
-        ensures listed { (kind : DecidedKind) (term : ℕ) → result ≡ Ask kind term → StopsAt board.now store.now.words memory.now.board self.old self.new (list_in terms.now words.now memory.now) (list_in terms.now words.now memory.now) kind term }
+        ensures listed { (kind : DecidedKind) (term : ℕ) → result ≡ Ask kind term
+            → StopsAt board.now store.now.words memory.now.board self.old self.new
+            (list_in terms.now words.now memory.now) (list_in terms.now words.now memory.now) kind term }
         ensures symbolic { IsSymbolic board.now store.now.words terms.now words.now memory.now self.new }
     {
         let condition = self.condition();
@@ -273,13 +285,16 @@ impl SymBoard {
         requires symbolic { IsSymbolic board.now store.now.words terms.old words.old memory.now self.old }
         requires begun { (reading : Reading) × (self.old.reading ≡ Some reading) }
         requires counted { decides_counter (microword_of board.now store.now.words self.old.place) ≡ true }
-        requires known { length self.old.place.decided ≡ num (decides_pass (microword_of board.now store.now.words self.old.place)) }
+        requires known { length self.old.place.decided
+            ≡ num (decides_pass (microword_of board.now store.now.words self.old.place)) }
         ensures asks { IfOk result (λ turn. (kind : DecidedKind) × (term : ℕ) × (turn ≡ Ask kind term)
             × Asks board.now store.now.words terms.new words.new memory.now self.new kind term) }
         ensures place { self.new.place ≡ self.old.place }
         ensures events { self.new.events ≡ self.old.events }
         ensures grew { OnOk result (Grew terms.old terms.new words.old words.new) }
-        ensures listed { IfOk result (λ turn. (kind : DecidedKind) (term : ℕ) → turn ≡ Ask kind term → StopsAt board.now store.now.words memory.now.board self.old self.new (list_in terms.old words.old memory.now) (list_in terms.new words.new memory.now) kind term) }
+        ensures listed { IfOk result (λ turn. (kind : DecidedKind) (term : ℕ) → turn ≡ Ask kind term
+            → StopsAt board.now store.now.words memory.now.board self.old self.new
+            (list_in terms.old words.old memory.now) (list_in terms.new words.new memory.now) kind term) }
         ensures symbolic { OnOk result (IsSymbolic board.now store.now.words terms.new words.new memory.now self.new) }
     {
         let zero = constant(alloc, 0, 12, terms)?;
@@ -300,13 +315,16 @@ impl SymBoard {
         requires workspace { IsWorkspace terms.old words.old memory.now }
         requires symbolic { IsSymbolic board.now store.now.words terms.old words.old memory.now self.old }
         requires begun { (reading : Reading) × (self.old.reading ≡ Some reading) }
-        requires few { length self.old.place.decided < bits_before (microword_of board.now store.now.words self.old.place) }
+        requires few { length self.old.place.decided
+            < bits_before (microword_of board.now store.now.words self.old.place) }
         ensures asks { IfOk result (λ turn. (kind : DecidedKind) × (term : ℕ) × (turn ≡ Ask kind term)
             × Asks board.now store.now.words terms.new words.new memory.now self.new kind term) }
         ensures place { self.new.place ≡ self.old.place }
         ensures events { self.new.events ≡ self.old.events }
         ensures grew { OnOk result (Grew terms.old terms.new words.old words.new) }
-        ensures listed { IfOk result (λ turn. (kind : DecidedKind) (term : ℕ) → turn ≡ Ask kind term → StopsAt board.now store.now.words memory.now.board self.old self.new (list_in terms.old words.old memory.now) (list_in terms.new words.new memory.now) kind term) }
+        ensures listed { IfOk result (λ turn. (kind : DecidedKind) (term : ℕ) → turn ≡ Ask kind term
+            → StopsAt board.now store.now.words memory.now.board self.old self.new
+            (list_in terms.old words.old memory.now) (list_in terms.new words.new memory.now) kind term) }
         ensures symbolic { OnOk result (IsSymbolic board.now store.now.words terms.new words.new memory.now self.new) }
     {
         let microword = self.microword(board, store);
@@ -328,8 +346,8 @@ impl SymBoard {
         }
     }
 
-    /// Makes what is known of the end of the cycle, where that isn't there yet. The cycle has begun, and pass and the counter are decided where they
-    /// have to be.
+    /// Makes what is known of the end of the cycle, where that isn't there yet. The cycle has begun, and pass and the
+    /// counter are decided where they have to be.
     fn prepare(
         &mut self,
         alloc: Global,
@@ -343,14 +361,16 @@ impl SymBoard {
         requires workspace { IsWorkspace terms.old words.old memory.now }
         requires symbolic { IsSymbolic board.now store.now.words terms.old words.old memory.now self.old }
         requires begun { (reading : Reading) × (self.old.reading ≡ Some reading) }
-        requires known { bits_before (microword_of board.now store.now.words self.old.place) ≤ length self.old.place.decided }
+        requires known { bits_before (microword_of board.now store.now.words self.old.place)
+            ≤ length self.old.place.decided }
         ensures leaving { OnOk result ((leaving : Leaving) × (self.new.leaving ≡ Some leaving)) }
         ensures place { self.new.place ≡ self.old.place }
         ensures events { self.new.events ≡ self.old.events }
         ensures reading { self.new.reading ≡ self.old.reading }
         ensures asked { self.new.asked ≡ self.old.asked }
         ensures grew { OnOk result (Grew terms.old terms.new words.old words.new) }
-        ensures listed { OnOk result (GoesAlong board.now store.now.words memory.now.board self.old self.new (list_in terms.old words.old memory.now) (list_in terms.new words.new memory.now)) }
+        ensures listed { OnOk result (GoesAlong board.now store.now.words memory.now.board self.old self.new
+            (list_in terms.old words.old memory.now) (list_in terms.new words.new memory.now)) }
         ensures symbolic { OnOk result (IsSymbolic board.now store.now.words terms.new words.new memory.now self.new) }
     {
         if self.leaving.is_some() {
@@ -413,13 +433,16 @@ impl SymBoard {
         requires symbolic { IsSymbolic board.now store.now.words terms.old words.old memory.now self.old }
         requires begun { (reading : Reading) × (self.old.reading ≡ Some reading) }
         requires leaving { (leaving : Leaving) × (self.old.leaving ≡ Some leaving) }
-        requires few { length self.old.place.decided < bits_before (microword_of board.now store.now.words self.old.place) + 12 }
+        requires few { length self.old.place.decided
+            < bits_before (microword_of board.now store.now.words self.old.place) + 12 }
         ensures asks { IfOk result (λ turn. (kind : DecidedKind) × (term : ℕ) × (turn ≡ Ask kind term)
             × Asks board.now store.now.words terms.new words.new memory.now self.new kind term) }
         ensures place { self.new.place ≡ self.old.place }
         ensures events { self.new.events ≡ self.old.events }
         ensures grew { OnOk result (Grew terms.old terms.new words.old words.new) }
-        ensures listed { IfOk result (λ turn. (kind : DecidedKind) (term : ℕ) → turn ≡ Ask kind term → StopsAt board.now store.now.words memory.now.board self.old self.new (list_in terms.old words.old memory.now) (list_in terms.new words.new memory.now) kind term) }
+        ensures listed { IfOk result (λ turn. (kind : DecidedKind) (term : ℕ) → turn ≡ Ask kind term
+            → StopsAt board.now store.now.words memory.now.board self.old self.new
+            (list_in terms.old words.old memory.now) (list_in terms.new words.new memory.now) kind term) }
         ensures symbolic { OnOk result (IsSymbolic board.now store.now.words terms.new words.new memory.now self.new) }
     {
         let microword = self.microword(board, store);
@@ -450,11 +473,13 @@ impl SymBoard {
         requires parts { AreParts board.now terms.old self.old.place.parts }
         requires sp { self.old.place.sp ≤ depth_of board.now }
         requires sources { AreSources board.now terms.old reading.old.sources }
-        requires bits { AreBits board.now terms.old self.old.place.parts self.old.place.sp reading.old.sources reading.old.bits }
+        requires bits { AreBits board.now terms.old self.old.place.parts self.old.place.sp reading.old.sources
+            reading.old.bits }
         requires y { IsOfWidth terms.old board.now.width reading.old.y }
         requires r { IsOfWidth terms.old 12 leaving.r }
         requires known { bits_before microword.now + 12 ≤ length self.old.place.decided }
-        ensures is { OnOk result (IsEdge board.now microword.now terms.new self.old.place self.new.place reading.old leaving) }
+        ensures is { OnOk result
+            (IsEdge board.now microword.now terms.new self.old.place self.new.place reading.old leaving) }
         ensures parts { OnOk result (AreParts board.now terms.new self.new.place.parts) }
         ensures at { OnOk result (self.new.place.at < 2 ^ 12) }
         ensures sp { OnOk result (self.new.place.sp ≤ depth_of board.now) }
@@ -467,11 +492,13 @@ impl SymBoard {
         ensures leaving { self.new.leaving ≡ self.old.leaving }
         ensures asked { self.new.asked ≡ self.old.asked }
         ensures listed { OnOk result ((reads writes : List Held) (events : List SymEvent)
-            → edge_words board.now microword.now (standing_of self.old.place writes events) (reading_of reading.old) (leaving_of leaving)
+            → edge_words board.now microword.now (standing_of self.old.place writes events) (reading_of reading.old)
+            (leaving_of leaving)
             (effect_by microword.now self.old.place.decided) self.new.place.at (list_of terms.old.ops words.old reads)
             ≡ record {
               list = list_of terms.new.ops words.new reads;
-              standing = standing_after microword.now self.old.place self.new.place (reading_of reading.old) writes events;
+              standing =
+                  standing_after microword.now self.old.place self.new.place (reading_of reading.old) writes events;
             }) }
         ensures grew { OnOk result (Grew terms.old terms.new words.old words.new) }
     {
@@ -487,7 +514,8 @@ impl SymBoard {
         )
     }
 
-    /// The edge, and what the outside sees of the cycle: an input that is taken hides an output. All bits of the cycle are decided.
+    /// The edge, and what the outside sees of the cycle: an input that is taken hides an output. All bits of the cycle
+    /// are decided.
     fn finish(
         &mut self,
         alloc: Global,
@@ -507,7 +535,8 @@ impl SymBoard {
         requires symbolic { IsSymbolic board.now store.now.words terms.old words.old memory.old self.old }
         requires begun { (reading : Reading) × (self.old.reading ≡ Some reading) }
         requires leaving { (leaving : Leaving) × (self.old.leaving ≡ Some leaving) }
-        requires all { length self.old.place.decided ≡ bits_before (microword_of board.now store.now.words self.old.place) + 12 }
+        requires all { length self.old.place.decided
+            ≡ bits_before (microword_of board.now store.now.words self.old.place) + 12 }
         ensures done { OnOk result ((given : Given) (x : Scene)
             → IsSeen board.now store.now.words terms.new words.new memory.old self.old.place given x
             → IsDone board.now store.now.words terms.new words.new memory.old memory.new self.old self.new given x) }
@@ -520,7 +549,8 @@ impl SymBoard {
         ensures more { OnOk result (ReadsMore memory.old memory.new) }
         ensures grew { OnOk result (Grew terms.old terms.new words.old words.new) }
         ensures workspace { OnOk result (IsWorkspace terms.new words.new memory.new) }
-        ensures listed { OnOk result (Ends board.now store.now.words memory.old memory.new self.old self.new (list_in terms.old words.old memory.old) (list_in terms.new words.new memory.new)) }
+        ensures listed { OnOk result (Ends board.now store.now.words memory.old memory.new self.old self.new
+            (list_in terms.old words.old memory.old) (list_in terms.new words.new memory.new)) }
         ensures symbolic { OnOk result (IsSymbolic board.now store.now.words terms.new words.new memory.new self.new) }
     {
         let microword = self.microword(board, store);
@@ -565,9 +595,9 @@ impl SymBoard {
         Ok(())
     }
 
-    /// Goes on to the next decided bit, or to the end of the cycle, with the board and the store that it had before. It isn't called while a bit
-    /// that was asked for waits for `decide`. The table's map is the board's, the memory has the board's widths, and the numbers of cycles, base
-    /// reads and inputs stay below 2^32.
+    /// Goes on to the next decided bit, or to the end of the cycle, with the board and the store that it had before. It
+    /// isn't called while a bit that was asked for waits for `decide`. The table's map is the board's, the memory has
+    /// the board's widths, and the numbers of cycles, base reads and inputs stay below 2^32.
     ///
     /// # Errors
     ///
@@ -590,13 +620,17 @@ impl SymBoard {
         requires inputs { self.old.place.taken + 1 < 2 ^ 32 }
         requires workspace { IsWorkspace terms.old words.old memory.old }
         requires symbolic { IsSymbolic board.now store.now.words terms.old words.old memory.old self.old }
-        ensures turn { IfOk result (IsTurn board.now store.now.words terms.new words.new memory.old memory.new self.old self.new) }
-        ensures goes { OnOk result (GoesOn (IsCycleKind self.old.place.cycle self.old.place.taken) terms.old terms.new words.old words.new memory.old memory.new) }
+        ensures turn { IfOk result
+            (IsTurn board.now store.now.words terms.new words.new memory.old memory.new self.old self.new) }
+        ensures goes { OnOk result (GoesOn (IsCycleKind self.old.place.cycle self.old.place.taken)
+            terms.old terms.new words.old words.new memory.old memory.new) }
         ensures reads { OnOk result (length memory.new.reads ≤ length memory.old.reads + reads_to_come self.old) }
         ensures machine { OnOk result (memory.new.machine ≡ memory.old.machine) }
         ensures all { IfOk result (λ turn. turn ≡ Finished
-            → length self.old.place.decided ≡ bits_before (microword_of board.now store.now.words self.old.place) + 12) }
-        ensures listed { IfOk result (ListsTurn board.now store.now.words memory.old memory.new self.old self.new (list_in terms.old words.old memory.old) (list_in terms.new words.new memory.new)) }
+            → length self.old.place.decided
+            ≡ bits_before (microword_of board.now store.now.words self.old.place) + 12) }
+        ensures listed { IfOk result (ListsTurn board.now store.now.words memory.old memory.new self.old self.new
+            (list_in terms.old words.old memory.old) (list_in terms.new words.new memory.new)) }
         ensures symbolic { OnOk result (IsSymbolic board.now store.now.words terms.new words.new memory.new self.new) }
     {
         self.begin(alloc, board, store, terms, words, memory)?;
@@ -629,7 +663,8 @@ impl SymBoard {
         requires asked { (kind : DecidedKind) × (self.old.asked ≡ Some kind) }
         requires few { length self.old.place.decided < 14 }
         ensures new { (kind : DecidedKind) → self.old.asked ≡ Some kind → self.new ≡ decided_so self.old kind value }
-        ensures symbolic { (board : BoardParts) (store : List ℕ) (t : Table) (words : List Word) (m : Memory) (kind : DecidedKind) (term : ℕ)
+        ensures symbolic { (board : BoardParts) (store : List ℕ) (t : Table) (words : List Word) (m : Memory)
+            (kind : DecidedKind) (term : ℕ)
             → Asks board store t words m self.old kind term → IsSymbolic board store t words m self.old
             → IsSymbolic board store t words m self.new }
     {
@@ -638,7 +673,8 @@ impl SymBoard {
         }
     }
 
-    /// The term of an element of the board, by its number, from 0, in the order of the table of elements ([`Board::element_name`]).
+    /// The term of an element of the board, by its number, from 0, in the order of the table of elements
+    /// ([`Board::element_name`]).
     pub fn element(&self, board: &Board, element: u32) -> Term
         requires there { element < element_count board.now }
         requires parts { (t : Table) × AreParts board.now t self.now.place.parts }

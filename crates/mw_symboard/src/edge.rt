@@ -7,8 +7,10 @@ ghost use Rattle.mw_cycle.specs.Microword.{IsMicroword};
 ghost use Rattle.mw_symmem.specs.Memory.{IsOfWidth};
 ghost use Rattle.mw_symboard.specs.Bits.{AreBits, AreSources};
 ghost use Rattle.mw_symboard.specs.Growth.{Grew};
-ghost use Rattle.mw_symboard.specs.Made.{AreLoaded, IsLoaded, IsPart, IsShiftedDown, IsShiftedUp, IsWrittenB, IsWrittenQ, sources_of};
-ghost use Rattle.mw_cycle.specs.EdgeWords.{pushed_word, sp_after, flips_words, linked_down_words, linked_up_words, loaded_words, q_words, register_words, turned_by_carry_words};
+ghost use Rattle.mw_symboard.specs.Made.{AreLoaded, IsLoaded, IsPart, IsShiftedDown, IsShiftedUp, IsWrittenB};
+ghost use Rattle.mw_symboard.specs.Made.{IsWrittenQ, sources_of};
+ghost use Rattle.mw_cycle.specs.EdgeWords.{pushed_word, sp_after, flips_words, linked_down_words, linked_up_words};
+ghost use Rattle.mw_cycle.specs.EdgeWords.{loaded_words, q_words, register_words, turned_by_carry_words};
 ghost use Rattle.mw_symboard.specs.Parts.{AreParts};
 ghost use Rattle.mw_term.specs.MemoryRead.{Held};
 ghost use Rattle.mw_term.specs.WordList.{with_part};
@@ -48,7 +50,9 @@ fn linked_down(
     ensures is { IfOk result (IsShiftedDown board.now terms.new parts.now sp sources.now link shifted) }
     ensures wide { IfOk result (λ taken. IfSome taken (IsOfWidth terms.new board.now.width)) }
     ensures right { OnOk result (AreBits board.now terms.new parts.now sp sources.now bits.new) }
-    ensures listed { IfOk result (ListsTaken (linked_down_words board.now parts.now sp (sources_of sources.now) link shifted) terms.old terms.new words.old words.new bits.old bits.new) }
+    ensures listed { IfOk result
+        (ListsTaken (linked_down_words board.now parts.now sp (sources_of sources.now) link shifted)
+        terms.old terms.new words.old words.new bits.old bits.new) }
     ensures grew { OnOk result (Grew terms.old terms.new words.old words.new) }
 {
     let width = board.width().bits();
@@ -78,7 +82,9 @@ fn linked_up(
     ensures is { IfOk result (IsShiftedUp board.now terms.new parts.now sp sources.now link shifted) }
     ensures wide { IfOk result (λ taken. IfSome taken (IsOfWidth terms.new board.now.width)) }
     ensures right { OnOk result (AreBits board.now terms.new parts.now sp sources.now bits.new) }
-    ensures listed { IfOk result (ListsTaken (linked_up_words board.now parts.now sp (sources_of sources.now) link shifted) terms.old terms.new words.old words.new bits.old bits.new) }
+    ensures listed { IfOk result
+        (ListsTaken (linked_up_words board.now parts.now sp (sources_of sources.now) link shifted)
+        terms.old terms.new words.old words.new bits.old bits.new) }
     ensures grew { OnOk result (Grew terms.old terms.new words.old words.new) }
 {
     let width = board.width().bits();
@@ -103,10 +109,13 @@ pub(crate) fn register_word(
     requires parts { AreParts board.now terms.old parts.now }
     requires sources { AreSources board.now terms.old sources.now }
     requires right { AreBits board.now terms.old parts.now sp sources.now bits.old }
-    ensures is { IfOk result (IsWrittenB (destination_of microword.now.instruction) board.now microword.now terms.new parts.now sp sources.now) }
+    ensures is { IfOk result (IsWrittenB (destination_of microword.now.instruction)
+        board.now microword.now terms.new parts.now sp sources.now) }
     ensures wide { IfOk result (λ taken. IfSome taken (IsOfWidth terms.new board.now.width)) }
     ensures right { OnOk result (AreBits board.now terms.new parts.now sp sources.now bits.new) }
-    ensures listed { IfOk result (ListsTaken (register_words (destination_of microword.now.instruction) board.now microword.now parts.now sp (sources_of sources.now)) terms.old terms.new words.old words.new bits.old bits.new) }
+    ensures listed { IfOk result
+        (ListsTaken (register_words (destination_of microword.now.instruction) board.now microword.now parts.now sp
+        (sources_of sources.now)) terms.old terms.new words.old words.new bits.old bits.new) }
     ensures grew { OnOk result (Grew terms.old terms.new words.old words.new) }
 {
     match Destination::of(microword.instruction) {
@@ -155,10 +164,12 @@ pub(crate) fn q_word(
     requires parts { AreParts board.now terms.old parts.now }
     requires sources { AreSources board.now terms.old sources.now }
     requires right { AreBits board.now terms.old parts.now sp sources.now bits.old }
-    ensures is { IfOk result (IsWrittenQ (destination_of microword.now.instruction) board.now microword.now terms.new parts.now sp sources.now) }
+    ensures is { IfOk result (IsWrittenQ (destination_of microword.now.instruction)
+        board.now microword.now terms.new parts.now sp sources.now) }
     ensures wide { IfOk result (λ taken. IfSome taken (IsOfWidth terms.new board.now.width)) }
     ensures right { OnOk result (AreBits board.now terms.new parts.now sp sources.now bits.new) }
-    ensures listed { IfOk result (ListsTaken (q_words (destination_of microword.now.instruction) board.now microword.now parts.now sp (sources_of sources.now)) terms.old terms.new words.old words.new bits.old bits.new) }
+    ensures listed { IfOk result (ListsTaken (q_words (destination_of microword.now.instruction) board.now microword.now
+        parts.now sp (sources_of sources.now)) terms.old terms.new words.old words.new bits.old bits.new) }
     ensures grew { OnOk result (Grew terms.old terms.new words.old words.new) }
 {
     match Destination::of(microword.instruction) {
@@ -214,7 +225,8 @@ fn turned_by_carry(
     ensures is { IfOk result (IsLoaded loads.XorCarry board.now terms.new parts.now sp sources.now old) }
     ensures wide { IfOk result (IsOfWidth terms.new 1) }
     ensures right { OnOk result (AreBits board.now terms.new parts.now sp sources.now bits.new) }
-    ensures listed { IfOk result (ListsFrom (turned_by_carry_words board.now parts.now sp (sources_of sources.now) old) terms.old terms.new words.old words.new bits.old bits.new) }
+    ensures listed { IfOk result (ListsFrom (turned_by_carry_words board.now parts.now sp (sources_of sources.now) old)
+        terms.old terms.new words.old words.new bits.old bits.new) }
     ensures grew { OnOk result (Grew terms.old terms.new words.old words.new) }
 {
     let carry = bits.bit(alloc, Bit::Carry, board, parts, sp, sources, terms, words)?;
@@ -243,7 +255,8 @@ pub(crate) fn loaded(
     ensures is { IfOk result (IsLoaded load board.now terms.new parts.now sp sources.now old) }
     ensures wide { IfOk result (IsOfWidth terms.new 1) }
     ensures right { OnOk result (AreBits board.now terms.new parts.now sp sources.now bits.new) }
-    ensures listed { IfOk result (ListsFrom (loaded_words load board.now parts.now sp (sources_of sources.now) old) terms.old terms.new words.old words.new bits.old bits.new) }
+    ensures listed { IfOk result (ListsFrom (loaded_words load board.now parts.now sp (sources_of sources.now) old)
+        terms.old terms.new words.old words.new bits.old bits.new) }
     ensures grew { OnOk result (Grew terms.old terms.new words.old words.new) }
 {
     match load {
@@ -279,8 +292,10 @@ pub(crate) fn flips(
     requires parts { AreParts board.now terms.old parts.now }
     requires sources { AreSources board.now terms.old sources.now }
     requires right { AreBits board.now terms.old parts.now sp sources.now bits.old }
-    ensures are { IfOk result (λ flips. AreLoaded board.now microword.now terms.new parts.now sp sources.now flips.items) }
-    ensures wide { IfOk result (λ flips. (k : ℕ) → k < length board.now.flipflop → IsOfWidth terms.new 1 (slice_index flips.items k)) }
+    ensures are { IfOk result
+        (λ flips. AreLoaded board.now microword.now terms.new parts.now sp sources.now flips.items) }
+    ensures wide { IfOk result
+        (λ flips. (k : ℕ) → k < length board.now.flipflop → IsOfWidth terms.new 1 (slice_index flips.items k)) }
     ensures right { OnOk result (AreBits board.now terms.new parts.now sp sources.now bits.new) }
     ensures listed { IfOk result (λ flips. (reads : List Held)
         → flips_words board.now microword.now parts.now sp (sources_of sources.now) board.now.flipflop parts.now.flips
@@ -310,7 +325,8 @@ pub(crate) fn mar_word(
     requires wide { IsOfWidth terms.old board.now.width y }
     ensures is { IfOk result (IsPart terms.new board.now.width y 0 board.now.address) }
     ensures wide { IfOk result (IsOfWidth terms.new board.now.address) }
-    ensures listed { IfOk result (Lists (with_part board.now.width y 0 board.now.address) terms.old terms.new words.old words.new) }
+    ensures listed { IfOk result
+        (Lists (with_part board.now.width y 0 board.now.address) terms.old terms.new words.old words.new) }
     ensures grew { OnOk result (Grew terms.old terms.new words.old words.new) }
 {
     part(

@@ -4,7 +4,8 @@ ghost use Rattle.mw_term.specs.declared.op.Op.TheVariants as ops;
 ghost use Rattle.mw_symmem.specs.Memory.{IsOfWidth};
 ghost use Rattle.mw_symboard.specs.Growth.{Grew};
 ghost use Rattle.mw_symboard.specs.Made.{Is, IsAddendR, IsAddendS, IsF, IsR, IsS};
-ghost use Rattle.mw_cycle.specs.ReadingWords.{exnor_words, f_words, first_words, notrs_words, r_words, s_words, second_words};
+ghost use Rattle.mw_cycle.specs.ReadingWords.{exnor_words, f_words, first_words, notrs_words, r_words, s_words};
+ghost use Rattle.mw_cycle.specs.ReadingWords.{second_words};
 ghost use Rattle.mw_symmem.specs.Listed.{Lists};
 
 use crate::make::{constant, word};
@@ -145,7 +146,8 @@ fn alike(
 ) -> Result<Term, NoMemory>
     requires r { IsOfWidth terms.old width r }
     requires s { IsOfWidth terms.old width s }
-    ensures is { IfOk result (λ f. (differing : ℕ) × Is terms.new (ops.Xor r s) differing × Is terms.new (ops.Not differing) f) }
+    ensures is { IfOk result
+        (λ f. (differing : ℕ) × Is terms.new (ops.Xor r s) differing × Is terms.new (ops.Not differing) f) }
     ensures wide { IfOk result (IsOfWidth terms.new width) }
     ensures listed { IfOk result (Lists (exnor_words r s) terms.old terms.new words.old words.new) }
     ensures grew { OnOk result (Grew terms.old terms.new words.old words.new) }
@@ -174,7 +176,8 @@ pub(crate) fn f(
     requires carry { IsOfWidth terms.old 1 carry }
     ensures is { IfOk result (IsF terms.new function operands.0 operands.1 addends.0 addends.1 carry) }
     ensures wide { IfOk result (IsOfWidth terms.new width) }
-    ensures listed { IfOk result (Lists (f_words function operands.0 operands.1 addends.0 addends.1 carry) terms.old terms.new words.old words.new) }
+    ensures listed { IfOk result (Lists (f_words function operands.0 operands.1 addends.0 addends.1 carry)
+        terms.old terms.new words.old words.new) }
     ensures grew { OnOk result (Grew terms.old terms.new words.old words.new) }
 {
     let (r, s) = operands;

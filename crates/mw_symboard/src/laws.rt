@@ -1,9 +1,13 @@
 // Laws of runs of a board on terms.
 ghost use Rattle.mw_symboard.specs.Along.{CyclesAreNumbered, CyclesBegin, CyclesGoAlong};
-ghost use Rattle.mw_symboard.specs.Laws.{BitsAreFirst, BitsAreOfTheRun, ElementsHaveTerms, RunsBegin, RunsFitBefore, RunsStay, TurnsAreOfTheRun};
+ghost use Rattle.mw_symboard.specs.Laws.{BitsAreFirst, BitsAreOfTheRun, ElementsHaveTerms, RunsBegin, RunsFitBefore};
+ghost use Rattle.mw_symboard.specs.Laws.{RunsStay, TurnsAreOfTheRun};
 ghost use Rattle.mw_symboard.specs.Nets.{NetsHaveValues};
-ghost use Rattle.mw_symboard.specs.Paths.{PassedGoOn, PassedStay, PathsBegin, PathsGoOn, PathsStay, PathsTakeBits, SplitsAreBy};
-ghost use Rattle.mw_symboard.specs.Variables.{BegunHasVariables, CyclesAreThere, CyclesStay, EnvironmentsAreReached, EnvironmentsAreThere, EnvironmentsStay, VariablesHaveValues, VariablesStay};
+ghost use Rattle.mw_symboard.specs.Paths.{PassedGoOn, PassedStay, PathsBegin, PathsGoOn, PathsStay, PathsTakeBits};
+ghost use Rattle.mw_symboard.specs.Paths.{SplitsAreBy};
+ghost use Rattle.mw_symboard.specs.Variables.{BegunHasVariables, CyclesAreThere, CyclesStay, EnvironmentsAreReached};
+ghost use Rattle.mw_symboard.specs.Variables.{EnvironmentsAreThere, EnvironmentsStay, VariablesHaveValues};
+ghost use Rattle.mw_symboard.specs.Variables.{VariablesStay};
 
 /// The law of the start: a board that has done nothing is in each run that begins with its terms.
 pub fn runs_begin()
@@ -47,9 +51,10 @@ pub fn paths_are_of_the_run()
     ensures passed { PassedGoOn }
 {}
 
-/// The law of variables: a cycle that has begun has its line and its noise, of 1 and 14 bits, and they stay. Where those of
-/// the finished cycles are there, there is a number of cycles whose variables are there, and no later ones; so it stays
-/// while only variables of base reads and inputs come. A variable has the value that the assignment gives its number.
+/// The law of variables: a cycle that has begun has its line and its noise, of 1 and 14 bits, and they stay. Where
+/// those of the finished cycles are there, there is a number of cycles whose variables are there, and no later ones; so
+/// it stays while only variables of base reads and inputs come. A variable has the value that the assignment
+/// gives its number.
 pub fn variables_are_there()
     ensures begun { BegunHasVariables }
     ensures stay { VariablesStay }
@@ -67,15 +72,15 @@ pub fn environments_are_there()
     ensures stay { EnvironmentsStay }
 {}
 
-/// The law of nets: in every scene in which a cycle is seen, the terms that it has made of what it reads, of each bit and
-/// of its end have the values of the board's nets.
+/// The law of nets: in every scene in which a cycle is seen, the terms that it has made of what it reads, of each bit
+/// and of its end have the values of the board's nets.
 pub fn nets_have_values()
     ensures { NetsHaveValues }
 {}
 
-/// The law of a cycle's words: a cycle begins along no bits; a turn that asks stops at the words of the cycle along the bits
-/// so far, and each value of the bit goes on along it; a turn that is finished has added all of them, and the board is
-/// where they lead.
+/// The law of a cycle's words: a cycle begins along no bits; a turn that asks stops at the words of the cycle along the
+/// bits so far, and each value of the bit goes on along it; a turn that is finished has added all of them, and the
+/// board is where they lead.
 pub fn cycles_go_along()
     ensures begin { CyclesBegin }
     ensures turns { CyclesGoAlong }

@@ -49,7 +49,8 @@ fn value_in(decided: &Path, place: usize) -> bool
     decided.bit(place).value
 }
 
-/// The entry of the Am2910's table, by the bits that were decided. Where pass isn't decided it is 1, and where the counter isn't it is not 0.
+/// The entry of the Am2910's table, by the bits that were decided. Where pass isn't decided it is 1, and where the
+/// counter isn't it is not 0.
 pub(crate) fn effect(microword: &Microword, decided: &Path) -> Effect
     requires microword { microword.now.sequencer < 16 }
     requires known { bits_before microword.now ≤ length decided.now }
@@ -101,7 +102,8 @@ fn counter(
     requires direct { IsOfWidth terms.old 12 direct }
     ensures is { IfOk result (IsCounter rld counter terms.new old direct) }
     ensures wide { IfOk result (IsOfWidth terms.new 12) }
-    ensures listed { IfOk result (Lists (counter_words rld counter old direct) terms.old terms.new words.old words.new) }
+    ensures listed { IfOk result
+        (Lists (counter_words rld counter old direct) terms.old terms.new words.old words.new) }
     ensures grew { OnOk result (Grew terms.old terms.new words.old words.new) }
 {
     if rld {
@@ -115,8 +117,9 @@ fn counter(
 }
 
 impl Leaving {
-    /// What is known of the end of the cycle from a place, of which pass and the counter are decided where they have to be. R-1 is
-    /// made before the next address: only the map makes words of its own for the address at D, and JMAP doesn't count.
+    /// What is known of the end of the cycle from a place, of which pass and the counter are decided where they have to
+    /// be. R-1 is made before the next address: only the map makes words of its own for the address at D, and JMAP
+    /// doesn't count.
     pub(crate) fn new(
         alloc: Global,
         board: &Board,
@@ -133,7 +136,8 @@ impl Leaving {
         requires sp { place.now.sp ≤ depth_of board.now }
         requires noise { IsOfWidth terms.old 14 noise }
         ensures is { IfOk result (IsLeaving board.now microword.now terms.new place.now noise) }
-        ensures listed { IfOk result (λ leaving. (reads : List Held) → leaving_words board.now microword.now place.now.parts place.now.sp noise
+        ensures listed { IfOk result
+            (λ leaving. (reads : List Held) → leaving_words board.now microword.now place.now.parts place.now.sp noise
             (effect_by microword.now place.now.decided) (list_of terms.old.ops words.old reads)
             ≡ record { list = list_of terms.new.ops words.new reads; leaving = leaving_of leaving }) }
         ensures grew { OnOk result (Grew terms.old terms.new words.old words.new) }

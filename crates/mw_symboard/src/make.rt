@@ -30,7 +30,8 @@ pub(crate) fn constant(
     requires below { value < 2 ^ width }
     ensures is { IfOk result (Is terms.new (Con value width)) }
     ensures wide { IfOk result (IsOfWidth terms.new width) }
-    ensures listed { IfOk result (λ term. (words : List Word) → Lists (with_constant value width) terms.old terms.new words words term) }
+    ensures listed { IfOk result
+        (λ term. (words : List Word) → Lists (with_constant value width) terms.old terms.new words words term) }
     ensures grows { OnOk result ((words : List Word) → Grows terms.old terms.new words words []) }
     ensures grew { OnOk result ((words : List Word) → Grew terms.old terms.new words words) }
 {
@@ -98,7 +99,8 @@ pub(crate) fn part(
     requires within { low + width ≤ whole_width }
     ensures is { IfOk result (IsPart terms.new whole_width whole low width) }
     ensures wide { IfOk result (IsOfWidth terms.new width) }
-    ensures listed { IfOk result (Lists (with_part whole_width whole low width) terms.old terms.new words.old words.new) }
+    ensures listed { IfOk result
+        (Lists (with_part whole_width whole low width) terms.old terms.new words.old words.new) }
     ensures grew { OnOk result (Grew terms.old terms.new words.old words.new) }
 {
     if width == whole_width {
@@ -164,7 +166,8 @@ pub(crate) fn is_zero(
 ) -> Result<Term, NoMemory>
     requires width { IsWidth width }
     requires wide { IsOfWidth terms.old width tested }
-    ensures is { IfOk result (λ term. (zero : ℕ) × Is terms.new (Con 0 width) zero × Is terms.new (Eq tested zero) term) }
+    ensures is { IfOk result
+        (λ term. (zero : ℕ) × Is terms.new (Con 0 width) zero × Is terms.new (Eq tested zero) term) }
     ensures wide { IfOk result (IsOfWidth terms.new 1) }
     ensures listed { IfOk result (Lists (zero_words width tested) terms.old terms.new words.old words.new) }
     ensures grew { OnOk result (Grew terms.old terms.new words.old words.new) }

@@ -38,7 +38,16 @@ impl Model for Parts {
 
     ghost Value = { terms.Parts };
 
-    ghost view = { λ p. record { regs = p.regs.items; q = p.q; mar = p.mar; ir = p.ir; flips = p.flips.items; pc = p.pc; r = p.r; stack = p.stack.items } };
+    ghost view = { λ p. record {
+      regs = p.regs.items;
+      q = p.q;
+      mar = p.mar;
+      ir = p.ir;
+      flips = p.flips.items;
+      pc = p.pc;
+      r = p.r;
+      stack = p.stack.items;
+    } };
 }
 
 /// So many of some terms, from one of them on.
@@ -50,7 +59,8 @@ fn copied(
 ) -> Result<Vec<Term>, NoMemory>
     requires { from + count ≤ length elements.now }
     ensures count { IfOk result (λ copy. length copy.items ≡ count) }
-    ensures each { IfOk result (λ copy. (k : ℕ) → k < count → slice_index copy.items k ≡ slice_index elements.now (from + k)) }
+    ensures each { IfOk result
+        (λ copy. (k : ℕ) → k < count → slice_index copy.items k ≡ slice_index elements.now (from + k)) }
 {
     let copy = Vec::from_slice(alloc, &elements[from..from + count])?;
     Ok(copy)

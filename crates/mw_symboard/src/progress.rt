@@ -25,5 +25,12 @@ impl Model for Progress {
 
     ghost Value = { seen.Progress };
 
-    ghost view = { λ p. record { at = p.at; sp = p.sp; parts = p.parts; cycle = p.cycle; taken = p.taken; decided = p.decided } };
+    ghost view = { λ p. record {
+      at = p.at;
+      sp = p.sp;
+      parts = p.parts;
+      cycle = p.cycle;
+      taken = p.taken;
+      decided = p.decided;
+    } };
 }

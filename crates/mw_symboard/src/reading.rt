@@ -1,5 +1,6 @@
 // What a cycle reads before its edge.
-ghost use Rattle.std.specs.Prelude.{◌≡◌, ◌⊎◌, List, map, ℕ, ◌+◌, ◌<◌, ◌≤◌, ◌^◌, [], ◌∷◌, ◌++◌, length, slice_index, true, Some, None, IfOk, OnOk};
+ghost use Rattle.std.specs.Prelude.{◌≡◌, ◌⊎◌, List, map, ℕ, ◌+◌, ◌<◌, ◌≤◌, ◌^◌, [], ◌∷◌, ◌++◌, length, slice_index};
+ghost use Rattle.std.specs.Prelude.{true, Some, None, IfOk, OnOk};
 ghost use Rattle.mw_alu.specs.Instruction.{destination_of, source_of};
 ghost use Rattle.mw_board.specs.declared.parts.BoardParts.{BoardParts};
 ghost use Rattle.mw_board.specs.declared.bit.Bit.TheVariants as kinds;
@@ -17,7 +18,9 @@ ghost use Rattle.mw_symmem.specs.Words.{AreOf};
 ghost use Rattle.mw_symmem.specs.Workspace.{GoesOn, IsWorkspace, KeepsWrites};
 ghost use Rattle.mw_symboard.specs.Bits.{AreBits, AreSources};
 ghost use Rattle.mw_symboard.specs.Cycle.{AreOperands, IsReading, IsTurned};
-ghost use Rattle.mw_cycle.specs.ReadingWords.{y_term, addends_words, all_read_words, bits_in_order, condition_words, is_read, link_reads, load_reads, operands_words, read_words, reading_words, sources_words, turned_words};
+ghost use Rattle.mw_cycle.specs.ReadingWords.{y_term, addends_words, all_read_words, bits_in_order, condition_words};
+ghost use Rattle.mw_cycle.specs.ReadingWords.{is_read, link_reads, load_reads, operands_words, read_words};
+ghost use Rattle.mw_cycle.specs.ReadingWords.{reading_words, sources_words, turned_words};
 ghost use Rattle.mw_symboard.specs.Growth.{Grew};
 ghost use Rattle.mw_symboard.specs.Kinds.{AreInputs, IsCycleKind};
 ghost use Rattle.mw_symboard.specs.Made.{IsAddendR, IsAddendS, IsBitTerm, IsR, IsS, sources_of};
@@ -143,7 +146,10 @@ fn make_read(
     requires sources { AreSources board.now terms.old sources.now }
     requires right { AreBits board.now terms.old place.now.parts place.now.sp sources.now bits.old }
     ensures right { OnOk result (AreBits board.now terms.new place.now.parts place.now.sp sources.now bits.new) }
-    ensures listed { OnOk result ((reads : List Held) → read_words board.now microword.now place.now.parts place.now.sp (sources_of sources.now) bit (bits_made terms.old words.old reads bits.old) ≡ bits_made terms.new words.new reads bits.new) }
+    ensures listed { OnOk result ((reads : List Held)
+        → read_words board.now microword.now place.now.parts place.now.sp (sources_of sources.now) bit
+        (bits_made terms.old words.old reads bits.old)
+        ≡ bits_made terms.new words.new reads bits.new) }
     ensures grew { OnOk result (Grew terms.old terms.new words.old words.new) }
 {
     if !is_read(board, microword, bit) {
@@ -179,8 +185,10 @@ fn make_all(
     requires sources { AreSources board.now terms.old sources.now }
     requires right { AreBits board.now terms.old place.now.parts place.now.sp sources.now bits.old }
     ensures right { OnOk result (AreBits board.now terms.new place.now.parts place.now.sp sources.now bits.new) }
-    ensures listed { OnOk result ((reads : List Held) → all_read_words board.now microword.now place.now.parts place.now.sp (sources_of sources.now)
-        in_order.now (bits_made terms.old words.old reads bits.old) ≡ bits_made terms.new words.new reads bits.new) }
+    ensures listed { OnOk result ((reads : List Held)
+        → all_read_words board.now microword.now place.now.parts place.now.sp (sources_of sources.now)
+        in_order.now (bits_made terms.old words.old reads bits.old)
+        ≡ bits_made terms.new words.new reads bits.new) }
     ensures grew { OnOk result (Grew terms.old terms.new words.old words.new) }
 {
     for bit in in_order {
@@ -207,8 +215,10 @@ fn make_ir_bits(
     requires sources { AreSources board.now terms.old sources.now }
     requires right { AreBits board.now terms.old place.now.parts place.now.sp sources.now bits.old }
     ensures right { OnOk result (AreBits board.now terms.new place.now.parts place.now.sp sources.now bits.new) }
-    ensures listed { OnOk result ((reads : List Held) → all_read_words board.now microword.now place.now.parts place.now.sp (sources_of sources.now)
-        (map kinds.Ir (numbers 0 board.now.width)) (bits_made terms.old words.old reads bits.old) ≡ bits_made terms.new words.new reads bits.new) }
+    ensures listed { OnOk result ((reads : List Held)
+        → all_read_words board.now microword.now place.now.parts place.now.sp (sources_of sources.now)
+        (map kinds.Ir (numbers 0 board.now.width)) (bits_made terms.old words.old reads bits.old)
+        ≡ bits_made terms.new words.new reads bits.new) }
     ensures grew { OnOk result (Grew terms.old terms.new words.old words.new) }
 {
     for number in 0..board.width().bits() {
@@ -236,8 +246,10 @@ fn make_bits(
     requires sources { AreSources board.now terms.old sources.now }
     requires right { AreBits board.now terms.old place.now.parts place.now.sp sources.now bits.old }
     ensures right { OnOk result (AreBits board.now terms.new place.now.parts place.now.sp sources.now bits.new) }
-    ensures listed { OnOk result ((reads : List Held) → all_read_words board.now microword.now place.now.parts place.now.sp (sources_of sources.now)
-        (bits_in_order board.now) (bits_made terms.old words.old reads bits.old) ≡ bits_made terms.new words.new reads bits.new) }
+    ensures listed { OnOk result ((reads : List Held)
+        → all_read_words board.now microword.now place.now.parts place.now.sp (sources_of sources.now)
+        (bits_in_order board.now) (bits_made terms.old words.old reads bits.old)
+        ≡ bits_made terms.new words.new reads bits.new) }
     ensures grew { OnOk result (Grew terms.old terms.new words.old words.new) }
 {
     make_all(
@@ -282,11 +294,14 @@ fn condition(
     requires parts { AreParts board.now terms.old place.now.parts }
     requires sources { AreSources board.now terms.old sources.now }
     requires right { AreBits board.now terms.old place.now.parts place.now.sp sources.now bits.old }
-    ensures is { IfOk result (λ term. (bit : ℕ) × IsBitTerm board.now terms.new place.now.parts place.now.sp sources.now microword.now.condition bit
+    ensures is { IfOk result (λ term.
+        (bit : ℕ) × IsBitTerm board.now terms.new place.now.parts place.now.sp sources.now microword.now.condition bit
         × IsTurned microword.now.polarity terms.new bit term) }
     ensures wide { IfOk result (IsOfWidth terms.new 1) }
     ensures right { OnOk result (AreBits board.now terms.new place.now.parts place.now.sp sources.now bits.new) }
-    ensures listed { IfOk result (ListsFrom (condition_words board.now microword.now place.now.parts place.now.sp (sources_of sources.now)) terms.old terms.new words.old words.new bits.old bits.new) }
+    ensures listed { IfOk result
+        (ListsFrom (condition_words board.now microword.now place.now.parts place.now.sp (sources_of sources.now))
+        terms.old terms.new words.old words.new bits.old bits.new) }
     ensures grew { OnOk result (Grew terms.old terms.new words.old words.new) }
 {
     let bit = bits.bit(
@@ -343,10 +358,12 @@ fn line_and_noise(
     ensures noise_wide { IfOk result (λ v. IsOfWidth terms.new 14 v.noise) }
     ensures listed { IfOk result (λ v. (reads : List Held)
         → (let line = with_variable (Line cycle) 1 (list_of terms.old.ops words.old reads) in
-        (line.term ≡ v.line) × (with_variable (Noise cycle) 14 line.list ≡ ended v.noise (list_of terms.new.ops words.new reads)))) }
+        (line.term ≡ v.line)
+        × (with_variable (Noise cycle) 14 line.list ≡ ended v.noise (list_of terms.new.ops words.new reads)))) }
     ensures goes { OnOk result ((taken : ℕ) (m : Memory) → IsWorkspace terms.old words.old m
         → GoesOn (IsCycleKind cycle taken) terms.old terms.new words.old words.new m m) }
-    ensures inputs { OnOk result ((board : BoardParts) → AreInputs board terms.old words.old → AreInputs board terms.new words.new) }
+    ensures inputs { OnOk result
+        ((board : BoardParts) → AreInputs board terms.old words.old → AreInputs board terms.new words.new) }
     ensures none { OnOk result (AreNoLater (cycle + 1) words.new) }
 {
     let line = words.fresh(alloc, terms, WordKind::Line(cycle), 1)?;
@@ -381,7 +398,8 @@ fn operands(
         parts.now.regs microword.now.a_address) (slice_index parts.now.regs microword.now.b_address) parts.now.q o.1) }
     ensures r_wide { IfOk result (λ o. IsOfWidth terms.new board.now.width o.0) }
     ensures s_wide { IfOk result (λ o. IsOfWidth terms.new board.now.width o.1) }
-    ensures listed { IfOk result (λ o. (reads : List Held) → operands_words board.now microword.now parts.now d (list_of terms.old.ops words.old reads)
+    ensures listed { IfOk result (λ o.
+        (reads : List Held) → operands_words board.now microword.now parts.now d (list_of terms.old.ops words.old reads)
         ≡ operands_in terms.new words.new reads o) }
     ensures grew { OnOk result (Grew terms.old terms.new words.old words.new) }
 {
@@ -409,7 +427,8 @@ fn addends(
     ensures second { IfOk result (λ a. IsAddendS terms.new function operands.1 a.1) }
     ensures first_wide { IfOk result (λ a. IsOfWidth terms.new width a.0) }
     ensures second_wide { IfOk result (λ a. IsOfWidth terms.new width a.1) }
-    ensures listed { IfOk result (λ a. (reads : List Held) → addends_words function operands.0 operands.1 (list_of terms.old.ops words.old reads)
+    ensures listed { IfOk result
+        (λ a. (reads : List Held) → addends_words function operands.0 operands.1 (list_of terms.old.ops words.old reads)
         ≡ operands_in terms.new words.new reads a) }
     ensures grew { OnOk result (Grew terms.old terms.new words.old words.new) }
 {
@@ -442,7 +461,8 @@ fn make_sources(
     ensures noise { IfOk result (λ n. n.noise ≡ variables.noise) }
     ensures are { IfOk result (AreOperands board.now microword.now terms.new place.now.parts place.now.sp d) }
     ensures right { IfOk result (λ n. AreBits board.now terms.new place.now.parts place.now.sp n bits.new) }
-    ensures listed { IfOk result (λ n. (reads : List Held) → sources_words board.now microword.now place.now.parts place.now.sp variables.line variables.noise d
+    ensures listed { IfOk result (λ n. (reads : List Held)
+        → sources_words board.now microword.now place.now.parts place.now.sp variables.line variables.noise d
         (list_of terms.old.ops words.old reads) ≡ sources_in terms.new words.new reads n bits.new) }
     ensures grew { OnOk result (Grew terms.old terms.new words.old words.new) }
 {
@@ -474,7 +494,8 @@ fn make_sources(
 fn y(microword: &Microword, place: &Progress, f: Term) -> Term
     requires instruction { microword.now.instruction < 512 }
     requires a_address { microword.now.a_address < length place.now.parts.regs }
-    ensures { result ≡ y_term (destination_of microword.now.instruction) (slice_index place.now.parts.regs microword.now.a_address) f }
+    ensures { result ≡ y_term (destination_of microword.now.instruction)
+        (slice_index place.now.parts.regs microword.now.a_address) f }
 {
     match Destination::of(microword.instruction) {
         Destination::Rama => register(&place.parts, microword.a_address),
@@ -506,7 +527,8 @@ impl Reading {
         ensures listed { IfOk result (λ reading. (events : List SymEvent)
             → reading_words board.now microword.now (standing_of place.now memory.old.board events)
             (list_in terms.old words.old memory.old) ≡ reading_in terms.new words.new memory.new reading) }
-        ensures goes { OnOk result (GoesOn (IsCycleKind place.now.cycle place.now.taken) terms.old terms.new words.old words.new memory.old memory.new) }
+        ensures goes { OnOk result (GoesOn (IsCycleKind place.now.cycle place.now.taken)
+            terms.old terms.new words.old words.new memory.old memory.new) }
         ensures reads { OnOk result (length memory.new.reads ≤ length memory.old.reads + 1) }
         ensures writes { OnOk result (KeepsWrites memory.old memory.new) }
         ensures inputs { OnOk result (AreInputs board.now terms.new words.new) }

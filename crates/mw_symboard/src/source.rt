@@ -39,7 +39,8 @@ fn fresh_input(
     ensures is { IfOk result (λ term. term_of words.new (Input number) ≡ Some term) }
     ensures wide { IfOk result (IsOfWidth terms.new board.now.width) }
     ensures listed { IfOk result (Lists (with_input number board.now.width) terms.old terms.new words.old words.new) }
-    ensures goes { OnOk result (GoesOn (IsSourceKind number) terms.old terms.new words.old words.new memory.now memory.now) }
+    ensures goes { OnOk result
+        (GoesOn (IsSourceKind number) terms.old terms.new words.old words.new memory.now memory.now) }
     ensures inputs { OnOk result (AreInputs board.now terms.new words.new) }
 {
     let term = words.fresh(alloc, terms, WordKind::Input(number), board.width().bits())?;
@@ -60,7 +61,8 @@ pub(crate) fn input(
     ensures is { IfOk result (λ term. term_of words.new (Input number) ≡ Some term) }
     ensures wide { IfOk result (IsOfWidth terms.new board.now.width) }
     ensures listed { IfOk result (Lists (with_input number board.now.width) terms.old terms.new words.old words.new) }
-    ensures goes { OnOk result (GoesOn (IsSourceKind number) terms.old terms.new words.old words.new memory.now memory.now) }
+    ensures goes { OnOk result
+        (GoesOn (IsSourceKind number) terms.old terms.new words.old words.new memory.now memory.now) }
     ensures inputs { OnOk result (AreInputs board.now terms.new words.new) }
 {
     match words.find(WordKind::Input(number)) {
@@ -87,8 +89,10 @@ fn read_source(
     requires inputs { AreInputs board.now terms.old words.old }
     ensures is { IfOk result (IsRead terms.new memory.new side.Board mar) }
     ensures wide { IfOk result (IsOfWidth terms.new board.now.width) }
-    ensures listed { IfOk result (ListsOver (memory_read_words board.now.width mar memory.old.board) terms.old terms.new words.old words.new memory.old memory.new) }
-    ensures goes { OnOk result (GoesOn (IsSourceKind taken) terms.old terms.new words.old words.new memory.old memory.new) }
+    ensures listed { IfOk result (ListsOver (memory_read_words board.now.width mar memory.old.board)
+        terms.old terms.new words.old words.new memory.old memory.new) }
+    ensures goes { OnOk result
+        (GoesOn (IsSourceKind taken) terms.old terms.new words.old words.new memory.old memory.new) }
     ensures reads { OnOk result (length memory.new.reads ≤ length memory.old.reads + 1) }
     ensures writes { OnOk result (KeepsWrites memory.old memory.new) }
     ensures inputs { OnOk result (AreInputs board.now terms.new words.new) }
@@ -115,10 +119,14 @@ pub(crate) fn from_source(
     requires workspace { IsWorkspace terms.old words.old memory.old }
     requires parts { AreParts board.now terms.old parts.now }
     requires inputs { AreInputs board.now terms.old words.old }
-    ensures is { IfOk result (IsFrom board.now microword.now.word terms.new words.new memory.new parts.now taken microword.now.d.from) }
+    ensures is { IfOk result
+        (IsFrom board.now microword.now.word terms.new words.new memory.new parts.now taken microword.now.d.from) }
     ensures wide { IfOk result (IsOfWidth terms.new board.now.width) }
-    ensures listed { IfOk result (ListsOver (source_words board.now microword.now.word parts.now memory.old.board taken microword.now.d.from) terms.old terms.new words.old words.new memory.old memory.new) }
-    ensures goes { OnOk result (GoesOn (IsSourceKind taken) terms.old terms.new words.old words.new memory.old memory.new) }
+    ensures listed { IfOk result
+        (ListsOver (source_words board.now microword.now.word parts.now memory.old.board taken microword.now.d.from)
+        terms.old terms.new words.old words.new memory.old memory.new) }
+    ensures goes { OnOk result
+        (GoesOn (IsSourceKind taken) terms.old terms.new words.old words.new memory.old memory.new) }
     ensures reads { OnOk result (length memory.new.reads ≤ length memory.old.reads + 1) }
     ensures writes { OnOk result (KeepsWrites memory.old memory.new) }
     ensures inputs { OnOk result (AreInputs board.now terms.new words.new) }
@@ -152,7 +160,8 @@ fn seen_through(
     requires wide { IsOfWidth terms.old width whole }
     ensures is { IfOk result (IsMasked terms.new width (Some mask) whole) }
     ensures wide { IfOk result (IsOfWidth terms.new width) }
-    ensures listed { IfOk result (Lists (masked_words width (Some mask) whole) terms.old terms.new words.old words.new) }
+    ensures listed { IfOk result
+        (Lists (masked_words width (Some mask) whole) terms.old terms.new words.old words.new) }
     ensures grew { OnOk result (Grew terms.old terms.new words.old words.new) }
 {
     let constant = constant(alloc, mask, width, terms)?;

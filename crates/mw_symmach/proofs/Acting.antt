@@ -1,6 +1,8 @@
 -- Statements on terms.
-use Rattle.std.proofs.Common.{◌≡◌, inl, inr, ℕ, zero, suc, ◌+◌, ◌<◌, ◌≤◌, ◌^◌, List, [], ◌∷◌, ◌++◌, length, append-nil, map, slice_index, refl, ap, ap₂, arith, sym, subst, ◌∙◌}
-use Rattle.std.specs.Prelude.{Bool, true, false, nat_lt, nat_le, if◌then◌else◌, Option, Some, None, IsSome, Ok, Err, slice_get, slice_set}
+use Rattle.std.proofs.Common.{◌≡◌, inl, inr, ℕ, zero, suc, ◌+◌, ◌<◌, ◌≤◌, ◌^◌, List, [], ◌∷◌, ◌++◌, length, append-nil}
+use Rattle.std.proofs.Common.{map, slice_index, refl, ap, ap₂, arith, sym, subst, ◌∙◌}
+use Rattle.std.specs.Prelude.{Bool, true, false, nat_lt, nat_le, if◌then◌else◌, Option, Some, None, IsSome, Ok, Err}
+use Rattle.std.specs.Prelude.{slice_get, slice_set}
 use Rattle.std.proofs.lemmas.Bool.{and_parts}
 use Rattle.std.proofs.lemmas.Bool.Decides.{nat_tests}
 use Rattle.mw_base.specs.declared.cause.Cause.TheVariants.{TooDeep, UnknownElement}
@@ -31,7 +33,9 @@ use Rattle.mw_symmem.specs.Words.{IsVariable, AreOf}
 use Rattle.mw_symmem.specs.Memory.{Memory, IsImage, IsHeld, IsOfWidth, FitImage, held_by, valued, with_write}
 use Rattle.mw_symmem.specs.Memory as memories
 use Rattle.mw_symmem.specs.Workspace.{IsWorkspace, GoesOn}
-use Rattle.mw_symmem.proofs.Later.{goes_nowhere, goes_by_variable, writes_itself, image_before, images_fit_before, held_by_stays, width_later, goes_as, goes_then, later_itself, workspace_with_write, reads_with_write}
+use Rattle.mw_symmem.proofs.Later.{goes_nowhere, goes_by_variable, writes_itself, image_before, images_fit_before}
+use Rattle.mw_symmem.proofs.Later.{held_by_stays, width_later, goes_as, goes_then, later_itself, workspace_with_write}
+use Rattle.mw_symmem.proofs.Later.{reads_with_write}
 use Rattle.mw_symmem.proofs.Growth.{width_stays}
 use Rattle.mw_symmem.proofs.Lists.{among, pushed, pushed_there}
 use Rattle.mw_symmach.specs.Expressions.{AreTerms, values_at, shape_over, IsBase, IsReady, IsMade}
@@ -79,7 +83,8 @@ asked_at : (asked deep : ℕ) (o : Option ℕ) → is_asked asked (width_at deep
 asked_at asked deep None h = absurd cc
 asked_at asked deep (Some w) h = asked_some (nat_le deep 64) w asked h
   where
-    asked_some : (b : Bool) (w asked : ℕ) → is_asked asked (if b then Ok w else Err TooDeep) ≡ true → Some w ≡ Some asked
+    asked_some : (b : Bool) (w asked : ℕ)
+        → is_asked asked (if b then Ok w else Err TooDeep) ≡ true → Some w ≡ Some asked
     asked_some true w asked h = ap (λ n. Some n) (eq_of w asked h)
     asked_some false w asked h = absurd cc
 
@@ -132,7 +137,8 @@ stands_after s t0 t1 w0 w1 m0 m1 p e term stands made =
           (stands.each i inside);
       event = λ i x is. width_later t0 t1 s.word (event_term x) goes.later (stands.event i x is);
       input = λ k place a is.
-          elim (among w0 goes.more place (variable a (Input k)) (subst (λ ws. IsVariable ws place a (Input k)) goes.words is)) [
+          elim (among w0 goes.more place (variable a (Input k))
+          (subst (λ ws. IsVariable ws place a (Input k)) goes.words is)) [
             | inl h ↦ width_later t0 t1 s.word a goes.later (stands.input k place a h)
             | inr h ↦ absurd (no_input k (goes.kinds h.0 a (Input k) h.1))
           ];
@@ -370,10 +376,12 @@ acted_write s t0 t1 t2 w0 w1 w2 m0 m1 m2 p a e place word stands right first sec
           let at_first = image_before m1 m2 image second.runs.goes.reads at_second in
           let fits_first = images_fit_before t1 t2 w1 m1 m2 given image second.runs.goes.later middle.workspace.memory
           second.runs.goes.reads fits in
-          let at : term_value t2 given place ≡ value s (values_at t0 given p.values) (held_by t0 given m0 Machine image) a =
+          let at : term_value t2 given place
+          ≡ value s (values_at t0 given p.values) (held_by t0 given m0 Machine image) a =
           second.runs.goes.later.keeps.values given place there.there
           ∙ value_same s t0 t1 w0 w1 m0 m1 p a place given image stands first at_first fits_first in
-          let put : term_value t2 given word ≡ value s (values_at t0 given p.values) (held_by t0 given m0 Machine image) e =
+          let put : term_value t2 given word
+          ≡ value s (values_at t0 given p.values) (held_by t0 given m0 Machine image) e =
           value_same s t1 t2 w1 w2 m1 m2 p e word given image middle second at_second fits
           ∙ ap (λ (x : Now). value s x.values x.memory e) one in
           ap (λ h. now (values_at t2 given p.values) h (map (event_of t2 given) p.events) p.taken)
@@ -402,7 +410,8 @@ pub found : (words : List Word) (kind : WordKind) (term : ℕ) → term_of words
 found [] kind term h = absurd cc
 found (w ∷ words) kind term h = by (is_of w.kind kind) refl (found words kind term)
   where
-    by : (b : Bool) → is_of w.kind kind ≡ b → (term_of words kind ≡ Some term → (place : ℕ) × IsVariable words place term kind)
+    by : (b : Bool)
+        → is_of w.kind kind ≡ b → (term_of words kind ≡ Some term → (place : ℕ) × IsVariable words place term kind)
         → (place : ℕ) × IsVariable (w ∷ words) place term kind
     by true e rest =
         let here : Some w.term ≡ Some term = rw e at h in
@@ -441,7 +450,8 @@ input_made told tnew wold wnew width number term n words made extends keeps tabl
   place = length wold;
   there = rw words (pushed_there wold (variable term (Input number)));
   wide = λ widths k p a is.
-      elim (pushed wold (variable term (Input number)) p (variable a (Input k)) (subst (λ ws. IsVariable ws p a (Input k)) words is)) [
+      elim (pushed wold (variable term (Input number)) p (variable a (Input k))
+      (subst (λ ws. IsVariable ws p a (Input k)) words is)) [
         | inl h ↦ width_stays told tnew width a extends keeps (widths k p a h.1)
         | inr h ↦ subst (λ x. IsOfWidth tnew width x) (ap (λ (w : Word). w.term) h.1)
             (record { there = made.there; width_is = made.width })
@@ -474,7 +484,8 @@ acted_take s t0 t1 w0 w1 m p q target term stands right made is =
         count = set_size p.values target term ∙ stands.count;
         each = λ i within. set_each (λ a v. IsOfWidth t1 (slice_index s.widths a) v) p.values target term i
             (subst (λ w. IsOfWidth t1 w term) parts.1 own)
-            (width_later t0 t1 (slice_index s.widths i) (slice_index p.values i) goes.later (stands.each i within)) inside;
+            (width_later t0 t1 (slice_index s.widths i) (slice_index p.values i) goes.later (stands.each i within))
+            inside;
         event = event_push t1 s.word p.events (Taken term)
             (λ i e at. width_later t0 t1 s.word (event_term e) goes.later (stands.event i e at)) own;
         input = widths;
@@ -486,7 +497,8 @@ acted_take s t0 t1 w0 w1 m p q target term stands right made is =
           let none : 0 + p.taken ≡ p.taken = omega arith in
           let v : term_value t1 given term ≡ slice_index inputs (0 + p.taken) =
           rw none (sym (are p.taken made.place term made.there)) in
-          ap (λ vs. now vs (held_by t1 given m Machine image) (map (event_of t1 given) (p.events ++ Taken term ∷ [])) (p.taken + 1))
+          ap (λ vs. now vs (held_by t1 given m Machine image) (map (event_of t1 given) (p.events ++ Taken term ∷ []))
+          (p.taken + 1))
           (map_set (λ a. term_value t1 given a) p.values target term)
           ∙ ap (λ es. now (slice_set (values_at t1 given p.values) target (term_value t1 given term))
           (held_by t1 given m Machine image) es (p.taken + 1))

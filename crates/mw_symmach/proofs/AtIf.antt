@@ -1,5 +1,6 @@
 -- Where a step stands at an `if`, and goes into one of its lists.
-use Rattle.std.proofs.Common.{◌≡◌, ℕ, zero, suc, ◌+◌, ◌<◌, ◌≤◌, List, [], ◌∷◌, ◌++◌, Bool, true, false, refl, ap, ap₂, arith, ◌∙◌, add-one}
+use Rattle.std.proofs.Common.{◌≡◌, ℕ, zero, suc, ◌+◌, ◌<◌, ◌≤◌, List, [], ◌∷◌, ◌++◌, Bool, true, false, refl, ap, ap₂}
+use Rattle.std.proofs.Common.{arith, ◌∙◌, add-one}
 use Rattle.std.specs.Prelude.{if◌then◌else◌, Option, Some, None}
 use Rattle.mw_expr.specs.declared.shape.Shape.{Shape}
 use Rattle.mw_macro.specs.declared.counts.Counted.TheVariants.{Statements}
@@ -13,7 +14,8 @@ use Rattle.mw_symmach.specs.Places.{dropped, then_acts, list_at, left_of, innerm
 use Rattle.mw_symmach.specs.Steps.{Parts}
 use Rattle.mw_symmach.specs.Turns.{level_of}
 
-dropped_after : (n : ℕ) (all : Acts) (act : Act) (rest : Acts) → dropped n all ≡ next act rest → dropped (suc n) all ≡ rest
+dropped_after : (n : ℕ) (all : Acts) (act : Act) (rest : Acts)
+    → dropped n all ≡ next act rest → dropped (suc n) all ≡ rest
 dropped_after zero nothing act rest is = absurd cc
 dropped_after zero (next first behind) act rest is = rests is
   where
@@ -22,7 +24,8 @@ dropped_after zero (next first behind) act rest is = rests is
 dropped_after (suc n) nothing act rest is = absurd cc
 dropped_after (suc n) (next first behind) act rest is = dropped_after n behind act rest is
 
-dropped_next : (n : ℕ) (all : Acts) (act : Act) (rest : Acts) → dropped n all ≡ next act rest → dropped (n + 1) all ≡ rest
+dropped_next : (n : ℕ) (all : Acts) (act : Act) (rest : Acts)
+    → dropped n all ≡ next act rest → dropped (n + 1) all ≡ rest
 dropped_next n all act rest is = rw add-one (dropped_after n all act rest is)
 
 pub then_assoc : (xs ys zs : Acts) → then_acts (then_acts xs ys) zs ≡ then_acts xs (then_acts ys zs)
@@ -42,7 +45,8 @@ left_at_if all [] position at = record {
   behind = at.rest;
   here = at.is;
   within = λ first.
-      ap₂ then_acts (ap (list_at first) at.is) (dropped_next position all (choose at.condition at.one at.other) at.rest at.is);
+      ap₂ then_acts (ap (list_at first) at.is)
+      (dropped_next position all (choose at.condition at.one at.other) at.rest at.is);
 }
 left_at_if all (level ∷ deeper) position at =
     let inner : IsAtIf (list_at level.first (dropped level.position all)) deeper position =
@@ -93,7 +97,8 @@ innermost_within all (level ∷ deeper) =
       dropped_within level.position all,
     )
 
-position_within : (n : ℕ) (all : Acts) (act : Act) (rest : Acts) → dropped n all ≡ next act rest → n < total Statements all
+position_within : (n : ℕ) (all : Acts) (act : Act) (rest : Acts)
+    → dropped n all ≡ next act rest → n < total Statements all
 position_within zero nothing act rest is = absurd cc
 position_within zero (next first behind) act rest is = omega (arith, statement_counts first)
 position_within (suc n) nothing act rest is = absurd cc

@@ -1,5 +1,7 @@
 -- Elements that are 0 before the first statement.
-use Rattle.std.proofs.Common.{◌≡◌, ℕ, zero, suc, ◌+◌, ◌-◌, ◌<◌, List, [], ◌∷◌, ◌++◌, length, map, replicate, slice_index, append-nil, append_assoc, refl, ap, ap₂, arith, sym, subst, take_all, add-one, ◌∙◌, take, drop}
+use Rattle.std.proofs.Common.{◌≡◌, ℕ, zero, suc, ◌+◌, ◌-◌, ◌<◌, List, [], ◌∷◌, ◌++◌, length, map, replicate}
+use Rattle.std.proofs.Common.{slice_index, append-nil, append_assoc, refl, ap, ap₂, arith, sym, subst, take_all}
+use Rattle.std.proofs.Common.{add-one, ◌∙◌, take, drop}
 use Rattle.std.specs.Prelude.{slice_get, Option, Some, None}
 use Rattle.mw_macro.specs.DescribedStep.{now}
 use Rattle.mw_macro.specs.Machine.{Description, IsFormed}
@@ -71,7 +73,11 @@ zeros_first t widths terms wide = record {
 }
 
 later_of : (told tnew : Table) (words : List Word) → IsTable told → Grows told tnew words words [] → IsLater told tnew
-later_of told tnew words table grows = record { extends = grows.extends; keeps = grows.keeps; table = grows.table table }
+later_of told tnew words table grows = record {
+  extends = grows.extends;
+  keeps = grows.keeps;
+  table = grows.table table;
+}
 
 wide_later : (told tnew : Table) (widths terms : List ℕ) → IsLater told tnew → AreWide told widths terms
     → AreWide tnew widths terms
@@ -87,13 +93,19 @@ pub zeros_more : (a b c : Table) (widths old new : List ℕ) (zeros width term :
     → HaveZeros a c widths old (new ++ term ∷ []) (zeros + 1)
 zeros_more a b c widths old new zeros width term table have gives wide =
     let made : (words : List Word) → Grows b c words words [] =
-    λ words. record { words = sym (append-nil words); extends = (gives words).grows.extends; keeps = (gives words).grows.keeps; table = (gives words).grows.table; of = (gives words).grows.of } in
+    λ words. record {
+      words = sym (append-nil words);
+      extends = (gives words).grows.extends;
+      keeps = (gives words).grows.keeps;
+      table = (gives words).grows.table;
+      of = (gives words).grows.of;
+    } in
     let later = later_of b c [] ((have.grows []).table table) (made []) in
     record {
       grows = λ words. grows_then a b c words words words [] [] (have.grows words) (made words);
       count = omega (arith, size_more new term, have.count);
-      wide = each_more (λ i v. IsOfWidth c (slice_index widths i) v) new term (wide_later b c widths new later have.wide)
-          (subst (λ w. IsOfWidth c w term) wide (gives []).is);
+      wide = each_more (λ i v. IsOfWidth c (slice_index widths i) v) new term
+          (wide_later b c widths new later have.wide) (subst (λ w. IsOfWidth c w term) wide (gives []).is);
       values = λ given.
           map_both (λ x. term_value c given x) new (term ∷ [])
           ∙ ap₂ (λ (xs : List ℕ) (x : ℕ). xs ++ x ∷ [])
@@ -115,7 +127,8 @@ pub begun_stands : (d : Description) (told tnew : Table) (words : List Word) (m 
     → HaveZeros told tnew d.shape.widths registers new (length d.names - d.registers)
     → Stands d.shape tnew words m (parts_of (new ++ request ∷ []) [] 0)
 begun_stands d told tnew words m registers new request formed waits have =
-    let goes = begun_goes told tnew words m d.shape.widths registers new (length d.names - d.registers) waits.workspace have in
+    let goes =
+    begun_goes told tnew words m d.shape.widths registers new (length d.names - d.registers) waits.workspace have in
     let all : length new ≡ length d.names = omega (arith, have.count, waits.count, formed.registers) in
     let size = size_more new request in
     let wide : AreWide tnew d.shape.widths (new ++ request ∷ []) =
@@ -151,14 +164,16 @@ begun_with old values request =
 
 pub begun_is : (old between new : Stepping) (request : ℕ)
     → between ≡ with_parts old (parts_of between.parts.values old.parts.events old.parts.taken) old.request
-    → new ≡ with_parts between (parts_of (between.parts.values ++ request ∷ []) between.parts.events between.parts.taken) None
+    → new
+    ≡ with_parts between (parts_of (between.parts.values ++ request ∷ []) between.parts.events between.parts.taken) None
     → new ≡ begun_with old between.parts.values request
 begun_is old between new request first second =
-    second ∙ ap (λ o. with_parts o (parts_of (between.parts.values ++ request ∷ []) o.parts.events o.parts.taken) None) first
+    second
+    ∙ ap (λ o. with_parts o (parts_of (between.parts.values ++ request ∷ []) o.parts.events o.parts.taken) None) first
 
 -- what is so before the temporaries have their terms
-pub record Before (d : Description) (told tnew : Table) (words : List Word) (m : Memory) (old : Stepping) (values : List ℕ)
-    (request : ℕ) : Type 0 where
+pub record Before (d : Description) (told tnew : Table) (words : List Word) (m : Memory) (old : Stepping)
+    (values : List ℕ) (request : ℕ) : Type 0 where
   pub asks : old.request ≡ Some request
   pub formed : IsFormed d
   pub stepping : IsStepping d told words m old
@@ -183,7 +198,8 @@ begun_same d told tnew words m old new values request given image before is =
     let waits = waits_of d told words m old request before.asks before.stepping in
     let keeps = (begun_goes_on d told tnew words m old values request before).later.keeps in
     ap (λ o. now_in d tnew given m image o) is
-    ∙ ap (λ vs. now vs (held_by tnew given m Machine image) (map (event_of tnew given) old.parts.events) old.parts.taken)
+    ∙ ap
+    (λ vs. now vs (held_by tnew given m Machine image) (map (event_of tnew given) old.parts.events) old.parts.taken)
     (begun_values d told tnew words m given old.parts.values values request waits.0 before.zeros)
     ∙ ap (λ held. now (values_in d told given old.parts.values (Some request)) held
     (map (event_of tnew given) old.parts.events) old.parts.taken)
@@ -206,8 +222,8 @@ begun_stepping d told tnew words m old new values request before is =
       at = before.stepping.at;
     })
 
-pub begun_listed : (d : Description) (told tnew : Table) (words : List Word) (m : Memory) (old new : Stepping) (values : List ℕ)
-    (request : ℕ) → Before d told tnew words m old values request
+pub begun_listed : (d : Description) (told tnew : Table) (words : List Word) (m : Memory) (old new : Stepping)
+    (values : List ℕ) (request : ℕ) → Before d told tnew words m old values request
     → new ≡ with_parts old (parts_of (values ++ request ∷ []) old.parts.events old.parts.taken) None
     → ((ws : List Word) (reads : List Held)
     → with_zeros (take (length d.names - d.registers) (drop d.registers d.shape.widths)) old.parts.values

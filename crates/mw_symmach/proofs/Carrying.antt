@@ -1,5 +1,6 @@
 -- What a step has left to do as it goes on.
-use Rattle.std.proofs.Common.{◌≡◌, ℕ, zero, suc, ◌+◌, ◌<◌, ◌≤◌, List, [], ◌∷◌, ◌++◌, length, map, drop, ◌^◌, Bool, true, false, refl, ap, ap₂, arith, sym, subst, append_assoc, add-one, take, take-take, ◌∙◌}
+use Rattle.std.proofs.Common.{◌≡◌, ℕ, zero, suc, ◌+◌, ◌<◌, ◌≤◌, List, [], ◌∷◌, ◌++◌, length, map, drop, ◌^◌, Bool, true}
+use Rattle.std.proofs.Common.{false, refl, ap, ap₂, arith, sym, subst, append_assoc, add-one, take, take-take, ◌∙◌}
 use Rattle.std.specs.Prelude.{Option, Some, None}
 use Rattle.std.proofs.Math.Seq.{drop-nil}
 use Rattle.std.proofs.lemmas.Bool.{and_parts}
@@ -28,7 +29,8 @@ use Rattle.mw_symmach.specs.declared.level.Level.{Level}
 use Rattle.mw_symmach.specs.Expressions.{IsMade}
 use Rattle.mw_symmach.proofs.Acting.{asked_width, goes_of_made, stands_after, term_is, now_same, value_same}
 use Rattle.mw_symmach.specs.Steps.{Parts, now_of, AreInputsOf, IsOfStep, Stands, Acted}
-use Rattle.mw_symmach.specs.Places.{dropped, then_acts, list_at, left_of, is_plain, AsksNext, IsAsked, IsDone, Reaches, Carries, reads_first}
+use Rattle.mw_symmach.specs.Places.{dropped, then_acts, list_at, left_of, is_plain, AsksNext, IsAsked, IsDone, Reaches}
+use Rattle.mw_symmach.specs.Places.{Carries, reads_first}
 
 -- ---- acts behind others
 
@@ -46,7 +48,8 @@ branches_then s inputs first (next act rest) other x =
     (branches_then s inputs first rest other (after s inputs first act x))
     ∙ sym (append_assoc (branches s inputs first act x) _ _)
 
-pub total_then : (what : Counted) (one other : Acts) → total what (then_acts one other) ≡ total what one + total what other
+pub total_then : (what : Counted) (one other : Acts)
+    → total what (then_acts one other) ≡ total what one + total what other
 total_then what nothing other = omega arith
 total_then what (next act rest) other = omega (arith, total_then what rest other)
 
@@ -119,7 +122,8 @@ carries_behind s told tnew wold wnew mold mnew pold pnew lold lnew rest more car
       ∙ sym (branches_then s inputs 0 lold rest (now_of told given mold image pold));
 }
 
-plain_branches : (s : Shape) (inputs : List ℕ) (act : Act) (x : Now) → is_plain act ≡ true → branches s inputs 0 act x ≡ []
+plain_branches : (s : Shape) (inputs : List ℕ) (act : Act) (x : Now)
+    → is_plain act ≡ true → branches s inputs 0 act x ≡ []
 plain_branches s inputs (assign target e) x plain = refl
 plain_branches s inputs (write address e) x plain = refl
 plain_branches s inputs (put e) x plain = refl
@@ -172,8 +176,9 @@ left_nothing (level ∷ deeper) position =
 
 -- ---- the condition of an `if`
 
-pub asked_if : (s : Shape) (t0 t1 : Table) (w0 w1 : List Word) (m0 m1 : Memory) (p : Parts) (c : Tree) (one other : Acts)
-    (term : ℕ) → Stands s t0 w0 m0 p → is_right s (choose c one other) ≡ true
+pub asked_if : (s : Shape) (t0 t1 : Table) (w0 w1 : List Word) (m0 m1 : Memory) (p : Parts) (c : Tree)
+    (one other : Acts) (term : ℕ)
+    → Stands s t0 w0 m0 p → is_right s (choose c one other) ≡ true
     → IsMade t0 t1 w0 w1 m0 m1 p.values Machine c term
     → IsAsked s t0 t1 w0 w1 m0 m1 p (choose c one other) term
 asked_if s t0 t1 w0 w1 m0 m1 p c one other term stands right made =
@@ -326,7 +331,8 @@ carries_out s a b wa wb ma mb pa pb la lb rest reaches =
 
 -- ---- lists within statements
 
-pub right_list : (s : Shape) (first : Bool) (all : Acts) → are_right s all ≡ true → are_right s (list_at first all) ≡ true
+pub right_list : (s : Shape) (first : Bool) (all : Acts)
+    → are_right s all ≡ true → are_right s (list_at first all) ≡ true
 right_list s first nothing right = refl
 right_list s true (next (choose c one other) rest) right = (and_parts _ _ (and_parts _ _ (and_parts _ _ right).0).1).0
 right_list s false (next (choose c one other) rest) right = (and_parts _ _ (and_parts _ _ (and_parts _ _ right).0).1).1
@@ -378,7 +384,8 @@ pub reaches_out : (s : Shape) (a b : Table) (wa wb : List Word) (ma mb : Memory)
     → Reaches s a b wa wb ma mb pa pb (left_of all (level ∷ old) from) (left_of all (level ∷ new) position) (Some term)
 reaches_out s a b wa wb ma mb pa pb all level old new from position term reaches =
     reaches_behind s a b wa wb ma mb pa pb (left_of (list_at level.first (dropped level.position all)) old from)
-    (left_of (list_at level.first (dropped level.position all)) new position) (dropped (level.position + 1) all) term reaches
+    (left_of (list_at level.first (dropped level.position all)) new position)
+    (dropped (level.position + 1) all) term reaches
 
 pub out_then : (s : Shape) (a b c : Table) (wa wb wc : List Word) (ma mb mc : Memory) (pa pb pc : Parts) (all : Acts)
     (level : Level) (old : List Level) (from position : ℕ) (last : Acts) (asked : Option ℕ)

@@ -1,5 +1,6 @@
 -- The forms of expressions, as terms.
-use Rattle.std.proofs.Common.{◌≡◌, ℕ, zero, suc, ◌+◌, ◌-◌, ◌<◌, ◌≤◌, List, [], ◌∷◌, ◌++◌, length, length-append, map, slice_index, refl, ap, ap₂, arith, sym, subst, ◌∙◌}
+use Rattle.std.proofs.Common.{◌≡◌, ℕ, zero, suc, ◌+◌, ◌-◌, ◌<◌, ◌≤◌, List, [], ◌∷◌, ◌++◌, length, length-append, map}
+use Rattle.std.proofs.Common.{slice_index, refl, ap, ap₂, arith, sym, subst, ◌∙◌}
 use Rattle.std.specs.Prelude.{◌==◌, nat_le, if◌then◌else◌, Option, Some, IsSome, Result, Ok, Err, IfOk, OnOk, unwrap_or}
 use Rattle.std.proofs.lemmas.Bool.Decides.{nat_tests}
 use Rattle.mw_base.specs.Words as bits
@@ -19,11 +20,15 @@ use Rattle.mw_term.specs.declared.word.Word.{Word}
 use Rattle.mw_symmem.specs.Words.{AreOf}
 use Rattle.mw_symmem.specs.Memory.{Memory, IsMemory, IsRead, IsImage, IsOfWidth, FitImage, AddsRead, held_by, with_read}
 use Rattle.mw_symmem.specs.Workspace.{IsWorkspace}
-use Rattle.mw_symmem.proofs.Later.{held_by_stays, images_fit_before, image_before, goes_then, goes_by_read, writes_by_read, writes_then}
-use Rattle.mw_symmach.specs.Expressions.{AreTerms, values_at, shape_over, IsBase, Means, MeanParts, Runs, IsReady, IsMade, AreReady, AreMade}
+use Rattle.mw_symmem.proofs.Later.{held_by_stays, images_fit_before, image_before, goes_then, goes_by_read}
+use Rattle.mw_symmem.proofs.Later.{writes_by_read, writes_then}
+use Rattle.mw_symmach.specs.Expressions.{AreTerms, values_at, shape_over, IsBase, Means, MeanParts, Runs, IsReady}
+use Rattle.mw_symmach.specs.Expressions.{IsMade, AreReady, AreMade}
 use Rattle.mw_symmach.specs.GivenTerms.{Gives}
 use Rattle.mw_symmach.specs.Joined.{width_together, joined_value}
-use Rattle.mw_symmach.proofs.Making.{ready_next, pair_wide, choice_wide, added_wide, are_later, shape_same, runs_nowhere, runs_then, means_from, means_later, made_by, pair_is, choice_is, part_is, widened_is, memory_is, constant_is}
+use Rattle.mw_symmach.proofs.Making.{ready_next, pair_wide, choice_wide, added_wide, are_later, shape_same}
+use Rattle.mw_symmach.proofs.Making.{runs_nowhere, runs_then, means_from, means_later, made_by, pair_is, choice_is}
+use Rattle.mw_symmach.proofs.Making.{part_is, widened_is, memory_is, constant_is}
 use Rattle.mw_symmach.proofs.Single.{inside_widths, of_own_width, gives_itself}
 
 -- ---- elements and constants
@@ -83,8 +88,8 @@ pub made_part : (t0 t1 t2 : Table) (w0 w1 w2 : List Word) (m0 m1 : Memory) (elem
     → Gives t1 t2 w1 w2 (high - low + 1) term (λ given. bits.part low (high - low + 1) (term_value t1 given a))
     → IsMade t0 t2 w0 w2 m0 m1 elements side (tree.part e high low) term
 made_part t0 t1 t2 w0 w1 w2 m0 m1 elements side e high low a term ready made gives =
-    made_by t0 t1 t2 w0 w1 w2 m0 m1 elements side (tree.part e high low) term (high - low + 1) (reads e) _ made.runs refl
-    gives (part_is high low _ (term_width t1 a) made.means.width ready.wide).2
+    made_by t0 t1 t2 w0 w1 w2 m0 m1 elements side (tree.part e high low) term (high - low + 1)
+    (reads e) _ made.runs refl gives (part_is high low _ (term_width t1 a) made.means.width ready.wide).2
     (λ given image is fits. ap (bits.part low (high - low + 1)) (made.means.value given image is fits))
 
 pub made_widened : (t0 t1 t2 : Table) (w0 w1 w2 : List Word) (m0 m1 : Memory) (elements : List ℕ) (side : Side)
@@ -299,8 +304,8 @@ pub join_most : (t0 t1 : Table) (w0 w1 : List Word) (m0 m1 : Memory) (elements :
     (terms : List ℕ) → IsReady t0 w0 m0 elements (tree.join parts)
     → AreMade t0 t1 w0 w1 m0 m1 elements side parts terms → (0 < length terms) × (width_together t1 terms ≤ 32)
 join_most t0 t1 w0 w1 m0 m1 elements side parts terms ready made =
-    let is = join_is (count parts) _ (width_together t1 terms) (parts_width t0 t1 m0 m1 elements side parts terms made.mean)
-    ready.wide in
+    let is = join_is (count parts) _ (width_together t1 terms)
+    (parts_width t0 t1 m0 m1 elements side parts terms made.mean) ready.wide in
     (omega (arith, is.0, parts_count t0 t1 m0 m1 elements side parts terms made.mean), is.1)
 
 pub made_join : (t0 t1 t2 : Table) (w0 w1 w2 : List Word) (m0 m1 : Memory) (elements : List ℕ) (side : Side)
@@ -309,8 +314,8 @@ pub made_join : (t0 t1 t2 : Table) (w0 w1 w2 : List Word) (m0 m1 : Memory) (elem
     → Gives t1 t2 w1 w2 (width_together t1 terms) term (λ given. joined_value t1 given terms)
     → IsMade t0 t2 w0 w2 m0 m1 elements side (tree.join parts) term
 made_join t0 t1 t2 w0 w1 w2 m0 m1 elements side parts terms term ready made gives =
-    let is = join_is (count parts) _ (width_together t1 terms) (parts_width t0 t1 m0 m1 elements side parts terms made.mean)
-    ready.wide in
+    let is = join_is (count parts) _ (width_together t1 terms)
+    (parts_width t0 t1 m0 m1 elements side parts terms made.mean) ready.wide in
     made_by t0 t1 t2 w0 w1 w2 m0 m1 elements side (tree.join parts) term (width_together t1 terms) (reads_in parts) _
     made.runs refl gives is.2
     (λ given image is_image fits. parts_value t0 t1 m0 m1 elements side parts terms given image made.mean is_image fits)

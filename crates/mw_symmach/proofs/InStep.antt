@@ -1,5 +1,6 @@
 -- A described step on terms is the step of the machine.
-use Rattle.std.proofs.Common.{◌≡◌, ◌<◌, ℕ, zero, suc, List, [], ◌∷◌, ◌++◌, length, slice_index, Bool, append-nil, append_assoc, refl, ap, arith, sym, subst, ◌∙◌}
+use Rattle.std.proofs.Common.{◌≡◌, ◌<◌, ℕ, zero, suc, List, [], ◌∷◌, ◌++◌, length, slice_index, Bool, append-nil}
+use Rattle.std.proofs.Common.{append_assoc, refl, ap, arith, sym, subst, ◌∙◌}
 use Rattle.std.specs.Prelude.{Option, Some, None, slice_get}
 use Rattle.mw_macro.specs.Machine.{Description, IsFormed}
 use Rattle.mw_term.specs.declared.kinds.WordKind.TheVariants.{Input}
@@ -43,7 +44,9 @@ turns_are_of_the_step d told tnew words mold mnew old new turn given x s request
 pub bits_are_of_the_step : BitsAreOfTheStep
 bits_are_of_the_step d t words m old new value given x s request bits is within next =
     let first : slice_get (bits_to_come d t given m x old) 0 ≡ Some value =
-    sym (next_behind bits (bits_to_come d t given m x old)) ∙ ap (λ all. slice_get all (length bits)) (sym within.bits) ∙ next in
+    sym (next_behind bits (bits_to_come d t given m x old))
+    ∙ ap (λ all. slice_get all (length bits)) (sym within.bits)
+    ∙ next in
     record {
       bits = within.bits ∙ ap (λ more. bits ++ more) (is.bits given x first)
           ∙ sym (append_assoc bits (value ∷ []) (bits_to_come d t given m x new));

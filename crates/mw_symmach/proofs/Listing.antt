@@ -10,7 +10,8 @@ use Rattle.mw_macro.specs.ExpressionWords.{expression_words, words_of_parts, joi
 use Rattle.mw_term.specs.declared.op.Op.TheVariants.{Ite, Join, Part}
 use Rattle.mw_term.specs.declared.word.Word.{Word}
 use Rattle.mw_term.specs.Table.{Table, term_width}
-use Rattle.mw_term.specs.WordList.{WordList, Ended, AllEnded, ended, list_of, memory_read_words, with_constant, with_part, with_word, with_zeros_above}
+use Rattle.mw_term.specs.WordList.{WordList, Ended, AllEnded, ended, list_of, memory_read_words, with_constant}
+use Rattle.mw_term.specs.WordList.{with_part, with_word, with_zeros_above}
 use Rattle.mw_symmem.specs.declared.side.Side.{Side}
 use Rattle.mw_symmem.specs.Listed.{list_in, Lists, ListsAllOver, ListsOver}
 use Rattle.mw_symmem.specs.Memory.{Memory, writes_of}
@@ -34,15 +35,17 @@ abbrev pub words_over : Table → Memory → (elements : List ℕ) → Side → 
 words_over t m elements side e l = expression_words (shape_over t elements m) elements (writes_of m side) e l
 
 -- those that an expression adds further on are said over the shape and the writes of before
-pub listed_later : (t0 t1 t2 : Table) (w0 w1 w2 : List Word) (m0 m1 m2 : Memory) (elements : List ℕ) (side : Side) (e : Tree)
-    (count term : ℕ) → AreTerms t0 elements → Runs t0 t1 w0 w1 m0 m1 count
+pub listed_later : (t0 t1 t2 : Table) (w0 w1 w2 : List Word) (m0 m1 m2 : Memory) (elements : List ℕ) (side : Side)
+    (e : Tree) (count term : ℕ)
+    → AreTerms t0 elements → Runs t0 t1 w0 w1 m0 m1 count
     → ListsOver (words_over t1 m1 elements side e) t1 t2 w1 w2 m1 m2 term
     → ListsOver (words_over t0 m0 elements side e) t1 t2 w1 w2 m1 m2 term
 listed_later t0 t1 t2 w0 w1 w2 m0 m1 m2 elements side e count term are runs listed =
     listed
     ∙ ap (λ s. expression_words s elements (writes_of m1 side) e (list_in t1 w1 m1))
     (shape_same t0 t1 m0 m1 elements runs.goes.later.keeps runs.goes.reads are)
-    ∙ ap (λ writes. expression_words (shape_over t0 elements m0) elements writes e (list_in t1 w1 m1)) (runs.writes.each side)
+    ∙ ap (λ writes. expression_words (shape_over t0 elements m0) elements writes e (list_in t1 w1 m1))
+    (runs.writes.each side)
 
 pub listed_pair : (t0 t1 t2 t3 : Table) (w0 w1 w2 w3 : List Word) (m0 m1 m2 : Memory) (elements : List ℕ) (side : Side)
     (sign : Pair2) (a b : Tree) (x y term : ℕ) → AreTerms t0 elements → IsMade t0 t1 w0 w1 m0 m1 elements side a x
@@ -51,8 +54,8 @@ pub listed_pair : (t0 t1 t2 t3 : Table) (w0 w1 w2 w3 : List Word) (m0 m1 m2 : Me
     → ListsOver (words_over t0 m0 elements side (tree.pair sign a b)) t0 t3 w0 w3 m0 m2 term
 listed_pair t0 t1 t2 t3 w0 w1 w2 w3 m0 m1 m2 elements side sign a b x y term are made first second third =
     let right = words_over t0 m0 elements side b in
-    then_over (words_over t0 m0 elements side a) (λ left. (λ l. sign_words sign left (right l).term (right l).list)) t0 t1 t3
-    w0 w1 w3 m0 m1 m2 x term first
+    then_over (words_over t0 m0 elements side a) (λ left. (λ l. sign_words sign left (right l).term (right l).list))
+    t0 t1 t3 w0 w1 w3 m0 m1 m2 x term first
     (then_list right (sign_words sign x) t1 t2 t3 w1 w2 w3 m1 m2 y term
     (listed_later t0 t1 t2 w0 w1 w2 m0 m1 m2 elements side b _ y are made.runs second) third)
 
@@ -62,8 +65,8 @@ pub listed_choice : (t0 t1 t2 t3 t4 : Table) (w0 w1 w2 w3 w4 : List Word) (m0 m1
     → ListsOver (words_over t1 m1 elements side a) t1 t2 w1 w2 m1 m2 y
     → ListsOver (words_over t2 m2 elements side b) t2 t3 w2 w3 m2 m3 z → Lists (with_word (Ite x y z)) t3 t4 w3 w4 term
     → ListsOver (words_over t0 m0 elements side (tree.choice c a b)) t0 t4 w0 w4 m0 m3 term
-listed_choice t0 t1 t2 t3 t4 w0 w1 w2 w3 w4 m0 m1 m2 m3 elements side c a b x y z term n are made runs zeroth first second
-    third =
+listed_choice t0 t1 t2 t3 t4 w0 w1 w2 w3 w4 m0 m1 m2 m3 elements side c a b x y z term n are made runs zeroth
+    first second third =
     let one = words_over t0 m0 elements side a in
     let other = words_over t0 m0 elements side b in
     let last = λ (condition : ℕ). (λ (first : ℕ). (λ (l : WordList).
@@ -80,43 +83,44 @@ bits_of : (t0 t1 : Table) (w0 w1 : List Word) (m0 m1 : Memory) (elements : List 
     → IsMade t0 t1 w0 w1 m0 m1 elements side e a → term_width t1 a ≡ bits (shape_over t0 elements m0) e
 bits_of t0 t1 w0 w1 m0 m1 elements side e a made = ap (λ o. unwrap_or o 0) (sym made.means.width)
 
-pub listed_part : (t0 t1 t2 : Table) (w0 w1 w2 : List Word) (m0 m1 : Memory) (elements : List ℕ) (side : Side) (e : Tree)
-    (high low a term : ℕ) → IsMade t0 t1 w0 w1 m0 m1 elements side e a
+pub listed_part : (t0 t1 t2 : Table) (w0 w1 w2 : List Word) (m0 m1 : Memory) (elements : List ℕ) (side : Side)
+    (e : Tree) (high low a term : ℕ) → IsMade t0 t1 w0 w1 m0 m1 elements side e a
     → ListsOver (words_over t0 m0 elements side e) t0 t1 w0 w1 m0 m1 a
     → Lists (with_part (term_width t1 a) a low (high - low + 1)) t1 t2 w1 w2 term
     → ListsOver (words_over t0 m0 elements side (tree.part e high low)) t0 t2 w0 w2 m0 m1 term
 listed_part t0 t1 t2 w0 w1 w2 m0 m1 elements side e high low a term made first second =
     then_list (words_over t0 m0 elements side e)
-    (λ whole. with_part (bits (shape_over t0 elements m0) e) whole low (high - low + 1)) t0 t1 t2 w0 w1 w2 m0 m1 a term first
-    (λ reads. second reads
+    (λ whole. with_part (bits (shape_over t0 elements m0) e) whole low (high - low + 1))
+    t0 t1 t2 w0 w1 w2 m0 m1 a term first (λ reads. second reads
     ∙ ap (λ w. with_part w a low (high - low + 1) (list_of t1.ops w1 reads))
     (bits_of t0 t1 w0 w1 m0 m1 elements side e a made))
 
-pub listed_widened : (t0 t1 t2 : Table) (w0 w1 w2 : List Word) (m0 m1 : Memory) (elements : List ℕ) (side : Side) (e : Tree)
-    (width a term : ℕ) → IsMade t0 t1 w0 w1 m0 m1 elements side e a
+pub listed_widened : (t0 t1 t2 : Table) (w0 w1 w2 : List Word) (m0 m1 : Memory) (elements : List ℕ) (side : Side)
+    (e : Tree) (width a term : ℕ) → IsMade t0 t1 w0 w1 m0 m1 elements side e a
     → ListsOver (words_over t0 m0 elements side e) t0 t1 w0 w1 m0 m1 a
     → Lists (with_zeros_above (term_width t1 a) width a) t1 t2 w1 w2 term
     → ListsOver (words_over t0 m0 elements side (tree.widened e width)) t0 t2 w0 w2 m0 m1 term
 listed_widened t0 t1 t2 w0 w1 w2 m0 m1 elements side e width a term made first second =
-    then_list (words_over t0 m0 elements side e) (λ narrow. with_zeros_above (bits (shape_over t0 elements m0) e) width narrow)
-    t0 t1 t2 w0 w1 w2 m0 m1 a term first
+    then_list (words_over t0 m0 elements side e)
+    (λ narrow. with_zeros_above (bits (shape_over t0 elements m0) e) width narrow) t0 t1 t2 w0 w1 w2 m0 m1 a term first
     (λ reads. second reads
     ∙ ap (λ w. with_zeros_above w width a (list_of t1.ops w1 reads)) (bits_of t0 t1 w0 w1 m0 m1 elements side e a made))
 
-pub listed_memory : (t0 t1 t2 : Table) (w0 w1 w2 : List Word) (m0 m1 m2 : Memory) (elements : List ℕ) (side : Side) (e : Tree)
-    (a term : ℕ) → IsMade t0 t1 w0 w1 m0 m1 elements side e a
+pub listed_memory : (t0 t1 t2 : Table) (w0 w1 w2 : List Word) (m0 m1 m2 : Memory) (elements : List ℕ) (side : Side)
+    (e : Tree) (a term : ℕ) → IsMade t0 t1 w0 w1 m0 m1 elements side e a
     → ListsOver (words_over t0 m0 elements side e) t0 t1 w0 w1 m0 m1 a
     → ListsOver (memory_read_words m1.word a (writes_of m1 side)) t1 t2 w1 w2 m1 m2 term
     → ListsOver (words_over t0 m0 elements side (tree.memory e)) t0 t2 w0 w2 m0 m2 term
 listed_memory t0 t1 t2 w0 w1 w2 m0 m1 m2 elements side e a term made first second =
-    then_over (words_over t0 m0 elements side e) (λ place. memory_read_words m0.word place (writes_of m0 side)) t0 t1 t2 w0 w1 w2
-    m0 m1 m2 a term first
+    then_over (words_over t0 m0 elements side e) (λ place. memory_read_words m0.word place (writes_of m0 side))
+    t0 t1 t2 w0 w1 w2 m0 m1 m2 a term first
     (second
     ∙ ap (λ w. memory_read_words w a (writes_of m1 side) (list_in t1 w1 m1)) made.runs.goes.reads.word
     ∙ ap (λ writes. memory_read_words m0.word a writes (list_in t1 w1 m1)) (made.runs.writes.each side))
 
-pub listed_join : (parts : WordList → AllEnded) (t0 t1 t2 : Table) (w0 w1 w2 : List Word) (m0 m1 : Memory) (terms : List ℕ)
-    (term : ℕ) → ListsAllOver parts t0 t1 w0 w1 m0 m1 terms → Lists (join_words terms) t1 t2 w1 w2 term
+pub listed_join : (parts : WordList → AllEnded) (t0 t1 t2 : Table) (w0 w1 w2 : List Word) (m0 m1 : Memory)
+    (terms : List ℕ) (term : ℕ)
+    → ListsAllOver parts t0 t1 w0 w1 m0 m1 terms → Lists (join_words terms) t1 t2 w1 w2 term
     → ListsOver (λ l. all_joined (parts l)) t0 t2 w0 w2 m0 m1 term
 listed_join parts t0 t1 t2 w0 w1 w2 m0 m1 terms term all last =
     last m1.reads
@@ -128,8 +132,9 @@ abbrev pub parts_over : Table → Memory → (elements : List ℕ) → Side → 
 parts_over t m elements side parts l = words_of_parts (shape_over t elements m) elements (writes_of m side) parts l
 
 -- one part more: what is to come of the others is what was to come behind it
-pub parts_next : (t0 t1 t2 : Table) (w0 w1 w2 : List Word) (m0 m1 m2 : Memory) (elements : List ℕ) (side : Side) (count term : ℕ)
-    (terms : List ℕ) (e : Tree) (rest : Trees) (all : AllEnded) → AreTerms t0 elements → Runs t0 t1 w0 w1 m0 m1 count
+pub parts_next : (t0 t1 t2 : Table) (w0 w1 w2 : List Word) (m0 m1 m2 : Memory) (elements : List ℕ) (side : Side)
+    (count term : ℕ) (terms : List ℕ) (e : Tree) (rest : Trees) (all : AllEnded)
+    → AreTerms t0 elements → Runs t0 t1 w0 w1 m0 m1 count
     → ((parts_over t0 m0 elements side (tree.more e rest) (list_in t1 w1 m1)).list ≡ all.list)
     × (terms ++ (parts_over t0 m0 elements side (tree.more e rest) (list_in t1 w1 m1)).terms ≡ all.terms)
     → ListsOver (words_over t1 m1 elements side e) t1 t2 w1 w2 m1 m2 term

@@ -1,5 +1,6 @@
 -- How expressions become terms, node by node.
-use Rattle.std.proofs.Common.{◌≡◌, ℕ, suc, ◌+◌, ◌-◌, ◌^◌, ◌<◌, ◌≤◌, List, [], ◌∷◌, map, refl, ap, ap₂, arith, sym, subst, ◌∙◌}
+use Rattle.std.proofs.Common.{◌≡◌, ℕ, suc, ◌+◌, ◌-◌, ◌^◌, ◌<◌, ◌≤◌, List, [], ◌∷◌, map, refl, ap, ap₂, arith, sym}
+use Rattle.std.proofs.Common.{subst, ◌∙◌}
 use Rattle.std.specs.Prelude.{true, ◌==◌, nat_lt, nat_le, Option, Some, None, IsSome}
 use Rattle.std.proofs.lemmas.Bool.{and_parts}
 use Rattle.std.proofs.lemmas.Bool.Decides.{nat_tests}
@@ -7,7 +8,8 @@ use Rattle.mw_expr.specs.declared.expr.Pair2.{Pair2}
 use Rattle.mw_expr.specs.declared.shape.Shape.{Shape}
 use Rattle.mw_expr.specs.Tree.{Tree}
 use Rattle.mw_expr.specs.Values.{value}
-use Rattle.mw_expr.specs.Widths.{width, width_if, width_after, pair_width, choice_width, part_width, added, join_width, widened_width, memory_width}
+use Rattle.mw_expr.specs.Widths.{width, width_if, width_after, pair_width, choice_width, part_width, added, join_width}
+use Rattle.mw_expr.specs.Widths.{widened_width, memory_width}
 use Rattle.mw_expr.proofs.Parts.{width_if-some}
 use Rattle.mw_macro.specs.Counts.{reads}
 use Rattle.mw_term.specs.Assigned.{Given}
@@ -17,7 +19,8 @@ use Rattle.mw_symmem.specs.declared.side.Side.{Side}
 use Rattle.mw_term.specs.declared.word.Word.{Word}
 use Rattle.mw_symmem.specs.Memory.{Memory, IsMemory, IsImage, FitImage, held_by}
 use Rattle.mw_symmem.specs.Workspace.{IsLater, IsWorkspace, ReadsMore}
-use Rattle.mw_symmem.proofs.Later.{held_by_stays, images_fit_before, image_before, goes_nowhere, goes_then, goes_by_growth, writes_itself, writes_then}
+use Rattle.mw_symmem.proofs.Later.{held_by_stays, images_fit_before, image_before, goes_nowhere, goes_then}
+use Rattle.mw_symmem.proofs.Later.{goes_by_growth, writes_itself, writes_then}
 use Rattle.mw_symmach.specs.Expressions.{AreTerms, values_at, shape_over, IsBase, Means, Runs, IsReady, IsMade}
 use Rattle.mw_symmach.specs.GivenTerms.{Gives}
 

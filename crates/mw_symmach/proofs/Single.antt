@@ -1,5 +1,6 @@
 -- What single nodes give.
-use Rattle.std.proofs.Common.{◌≡◌, ℕ, ◌+◌, ◌-◌, ◌%◌, ◌^◌, ◌<◌, ◌≤◌, List, [], ◌∷◌, ◌++◌, length, refl, ap, ap₂, arith, sym, ◌∙◌}
+use Rattle.std.proofs.Common.{◌≡◌, ℕ, ◌+◌, ◌-◌, ◌%◌, ◌^◌, ◌<◌, ◌≤◌, List, [], ◌∷◌, ◌++◌, length, refl, ap, ap₂, arith}
+use Rattle.std.proofs.Common.{sym, ◌∙◌}
 use Rattle.std.specs.Prelude.{Bool, true, false, not, ◌==◌, if◌then◌else◌}
 use Rattle.std.proofs.lemmas.Bool.Decides.{nat_tests}
 use Rattle.mw_base.specs.Words as bits
@@ -10,7 +11,8 @@ use Rattle.mw_expr.specs.Widths.{width_after}
 use Rattle.mw_term.specs.declared.op.Op.{Op}
 use Rattle.mw_term.specs.declared.op.Op.TheVariants.{Con, Var, Not, And, Or, Xor, Sum, Eq, Lt, Ite, Part, Join}
 use Rattle.mw_term.specs.Assigned.{Given}
-use Rattle.mw_term.specs.Table.{Table, table_of, op_width, widths_of, term_width, width_over, ArePair, IsBit, Fits, IsTable, IsWidth, Extends}
+use Rattle.mw_term.specs.Table.{Table, table_of, op_width, widths_of, term_width, width_over, ArePair, IsBit, Fits}
+use Rattle.mw_term.specs.Table.{IsTable, IsWidth, Extends}
 use Rattle.mw_term.specs.Values.{IsTermOf, Keeps, term_value, value_over, op_value}
 use Rattle.mw_term.proofs.Tables.{widths_count, widths_range, words_of}
 use Rattle.mw_term.specs.declared.word.Word.{Word}
@@ -146,8 +148,8 @@ gives_sum t0 t1 t2 w0 w2 a b c term w number first second carry gives =
     let there = still t0 t1 w0 w0 1 c w a (λ given. number) carry first in
     gives_then t0 t1 t2 w0 w0 w2 1 c w term (λ given. number)
     (λ given. (term_value t0 given a + term_value t0 given b + number) % 2 ^ w) carry
-    (gives_alike t1 t2 w0 w2 _ w term _ (λ given. (term_value t0 given a + term_value t0 given b + number) % 2 ^ w) gives
-    there.width_is
+    (gives_alike t1 t2 w0 w2 _ w term _ (λ given. (term_value t0 given a + term_value t0 given b + number) % 2 ^ w)
+    gives there.width_is
     (λ given. sum_value _ _ _ w _ (term_value t0 given a) (term_value t0 given b) number
     (carry.grows.keeps.values given a first.there) (carry.grows.keeps.values given b second.there) (carry.value given)
     there.width_is))
@@ -168,8 +170,8 @@ pub gives_difference : (t0 t1 t2 : Table) (w0 w1 w2 : List Word) (a b c term w :
 gives_difference t0 t1 t2 w0 w1 w2 a b c term w table first second turned gives =
     gives_then t0 t1 t2 w0 w1 w2 w c w term (λ given. bits.complement w (term_value t0 given b))
     (λ given. (term_value t0 given a + (2 ^ w - term_value t0 given b)) % 2 ^ w) turned
-    (gives_alike t1 t2 w1 w2 w w term _ (λ given. (term_value t0 given a + (2 ^ w - term_value t0 given b)) % 2 ^ w) gives
-    refl
+    (gives_alike t1 t2 w1 w2 w w term _
+    (λ given. (term_value t0 given a + (2 ^ w - term_value t0 given b)) % 2 ^ w) gives refl
     (λ given. difference_value (term_value t0 given a) (term_value t0 given b) (term_value t1 given c) w
     (term_value t1 given a) (turned.grows.keeps.values given a first.there) (turned.value given)
     (word_of_term t0 w b table second given)))
@@ -221,7 +223,8 @@ Signed told tnew wold wnew sign a b term =
     (λ given. pair_value sign (term_width told a) (term_value told given a) (term_value told given b))
 
 abbrev pub ByOp : (told tnew : Table) (wold wnew : List Word) (op : Op) (term : ℕ) → Type 0
-ByOp told tnew wold wnew op term = Gives told tnew wold wnew (width_over told op) term (λ given. value_over told given op)
+ByOp told tnew wold wnew op term =
+    Gives told tnew wold wnew (width_over told op) term (λ given. value_over told given op)
 
 pub signed_and : (told tnew : Table) (wold wnew : List Word) (a b term : ℕ) → ByOp told tnew wold wnew (And a b) term
     → Signed told tnew wold wnew sign.And a b term

@@ -1,5 +1,6 @@
 -- The turns of a step.
-use Rattle.std.proofs.Common.{◌≡◌, ℕ, ◌+◌, ◌<◌, ◌≤◌, ◌^◌, List, [], ◌∷◌, length, map, Bool, true, false, refl, ap, ap₂, arith, sym, subst, ◌∙◌}
+use Rattle.std.proofs.Common.{◌≡◌, ℕ, ◌+◌, ◌<◌, ◌≤◌, ◌^◌, List, [], ◌∷◌, length, map, Bool, true, false, refl, ap, ap₂}
+use Rattle.std.proofs.Common.{arith, sym, subst, ◌∙◌}
 use Rattle.std.specs.Prelude.{if◌then◌else◌, ◌==◌, Option, Some, None, slice_get}
 use Rattle.mw_expr.specs.declared.shape.Shape.{Shape}
 use Rattle.mw_expr.specs.Tree.{Tree}
@@ -24,7 +25,10 @@ use Rattle.mw_symmach.specs.declared.machine.Pending.{Pending}
 use Rattle.mw_symmach.specs.declared.machine.Pending.TheVariants as pendings
 use Rattle.mw_symmach.specs.Places.{left_of, then_acts, reads_first, AsksNext, Carries, IsAtIf, Reaches, StopsAt}
 use Rattle.mw_symmach.specs.Steps.{Parts, IsOfStep, Stands, now_of, event_of}
-use Rattle.mw_symmach.specs.Turns.{Stepping, Scene, Asks, HasTerms, IsDecided, IsSaid, IsStart, IsStepping, IsTurn, StandsAtIf, bits_to_come, come_to, end_of, entered, entered_by, given_so, is_asked, left_by, left_in, now_in, reads_behind, reads_by, reads_to_come, turn_of, values_in, with_parts}
+use Rattle.mw_symmach.specs.Turns.{Stepping, Scene, Asks, HasTerms, IsDecided, IsSaid, IsStart, IsStepping, IsTurn}
+use Rattle.mw_symmach.specs.Turns.{StandsAtIf, bits_to_come, come_to, end_of, entered, entered_by, given_so, is_asked}
+use Rattle.mw_symmach.specs.Turns.{left_by, left_in, now_in, reads_behind, reads_by, reads_to_come, turn_of, values_in}
+use Rattle.mw_symmach.specs.Turns.{with_parts}
 use Rattle.mw_symmach.proofs.AtIf.{at_if_within, left_at_if}
 use Rattle.mw_symmach.specs.Walks.{Walks, asked_by, chosen, underway_in, underway_of}
 use Rattle.mw_symmach.proofs.Carrying.{after_then, branches_then, total_then}
@@ -37,8 +41,8 @@ pub starts : (d : Description) (t : Table) (m : Memory) (given : Given) (registe
 starts d t m given registers request x s bit start =
     rw (start.values, start.memory, start.line) refl
 
-pub start_bits : (d : Description) (t : Table) (m : Memory) (given : Given) (registers : List ℕ) (request : ℕ) (x : Scene)
-    (s : MachineState) (bit : Bool) → IsStart t m given registers request x s bit
+pub start_bits : (d : Description) (t : Table) (m : Memory) (given : Given) (registers : List ℕ) (request : ℕ)
+    (x : Scene) (s : MachineState) (bit : Bool) → IsStart t m given registers request x s bit
     → branches_in d.shape x.inputs 0 d.acts
     (now (values_in d t given registers (Some request)) (held_by t given m Machine x.image) [] 0)
     ≡ branches_of d s bit x.inputs 0
@@ -46,8 +50,8 @@ unfolding branches_of
 start_bits d t m given registers request x s bit start =
     ap (branches_in d.shape x.inputs 0 d.acts) (starts d t m given registers request x s bit start)
 
-pub start_ends : (d : Description) (t : Table) (m : Memory) (given : Given) (registers : List ℕ) (request : ℕ) (x : Scene)
-    (s : MachineState) (bit : Bool) → IsStart t m given registers request x s bit
+pub start_ends : (d : Description) (t : Table) (m : Memory) (given : Given) (registers : List ℕ) (request : ℕ)
+    (x : Scene) (s : MachineState) (bit : Bool) → IsStart t m given registers request x s bit
     → ended d (after_all d.shape x.inputs 0 d.acts
     (now (values_in d t given registers (Some request)) (held_by t given m Machine x.image) [] 0))
     ≡ step_of d s bit x.inputs 0
@@ -151,7 +155,8 @@ may_go_on d t words m old begun o idle stands stepping few is =
     subst (λ request. HasTerms d t words m begun.parts request) (request_before old begun stands) stepping.terms in
     rw is (record {
       stands = rw parts terms;
-      few_reads = rw left (omega (arith, few, reads_idle d old idle, ap (total Reads) (left_before d old begun stands)));
+      few_reads =
+          rw left (omega (arith, few, reads_idle d old idle, ap (total Reads) (left_before d old begun stands)));
       few_events = rw (parts, left) stepping.few;
     })
 
@@ -161,7 +166,8 @@ pub went_on : (d : Description) (t1 t2 : Table) (w0 w2 : List Word) (m0 m2 : Mem
     → o ≡ entered begun
     → Reaches d.shape t1 t2 w0 w2 m0 m2 o.parts new.parts (left_of d.acts o.levels o.position)
     (left_of d.acts new.levels position) asked
-    → Reaches d.shape t1 t2 w0 w2 m0 m2 begun.parts new.parts (left_in d begun) (left_of d.acts new.levels position) asked
+    → Reaches d.shape t1 t2 w0 w2 m0 m2 begun.parts new.parts (left_in d begun)
+    (left_of d.acts new.levels position) asked
 went_on d t1 t2 w0 w2 m0 m2 old begun o new position asked idle stands is reaches =
     let from = rw is at reaches in
     rw (entered_parts begun, entered_left d begun (begun_idle old begun stands idle)) at from
@@ -205,14 +211,14 @@ pub went_goes : (d : Description) (t0 t1 t2 : Table) (w0 w2 : List Word) (m0 m2 
     → GoesOn IsOfStep t0 t2 w0 w2 m0 m2
 went_goes d t0 t1 t2 w0 w2 m0 m2 old begun new position asked went =
     goes_then IsOfStep t0 t1 t2 w0 w0 w2 m0 m0 m2 went.goes
-    (carries_of d.shape t1 t2 w0 w2 m0 m2 begun.parts new.parts (left_in d begun) (left_of d.acts new.levels position) asked
-    went.reaches).goes
+    (carries_of d.shape t1 t2 w0 w2 m0 m2 begun.parts new.parts (left_in d begun) (left_of d.acts new.levels position)
+    asked went.reaches).goes
 
 pub went_board : (d : Description) (t0 t1 t2 : Table) (w0 w2 : List Word) (m0 m2 : Memory) (old begun new : Stepping)
     (position : ℕ) (asked : Option ℕ) → Went d t0 t1 t2 w0 w2 m0 m2 old begun new position asked → m2.board ≡ m0.board
 went_board d t0 t1 t2 w0 w2 m0 m2 old begun new position asked went =
-    (carries_of d.shape t1 t2 w0 w2 m0 m2 begun.parts new.parts (left_in d begun) (left_of d.acts new.levels position) asked
-    went.reaches).board
+    (carries_of d.shape t1 t2 w0 w2 m0 m2 begun.parts new.parts (left_in d begun) (left_of d.acts new.levels position)
+    asked went.reaches).board
 
 came : (d : Description) (new : Stepping) (t : Table) (m : Memory) (position : ℕ) (asked : Option ℕ) (given : Given)
     (x : Scene) → new.request ≡ None
@@ -222,8 +228,8 @@ came d new t m position asked given x begun =
     ap₂ (branches_in d.shape x.inputs 0) (come_left d new position asked)
     (come_now d t given m x.image new position asked begun)
 
-came_ends : (d : Description) (new : Stepping) (t : Table) (m : Memory) (position : ℕ) (asked : Option ℕ) (given : Given)
-    (x : Scene) → new.request ≡ None
+came_ends : (d : Description) (new : Stepping) (t : Table) (m : Memory) (position : ℕ) (asked : Option ℕ)
+    (given : Given) (x : Scene) → new.request ≡ None
     → end_of d t given m x (come_to new position asked)
     ≡ ended d (after_all d.shape x.inputs 0 (left_of d.acts new.levels position) (now_of t given m x.image new.parts))
 came_ends d new t m position asked given x begun =
@@ -245,7 +251,8 @@ asked_says d t words m new position term begun asks = record {
 
 said : (d : Description) (t1 t2 : Table) (w0 w2 : List Word) (m0 m2 : Memory) (begun new : Stepping) (position : ℕ)
     (asked : Option ℕ) → new.request ≡ None
-    → Reaches d.shape t1 t2 w0 w2 m0 m2 begun.parts new.parts (left_in d begun) (left_of d.acts new.levels position) asked
+    → Reaches d.shape t1 t2 w0 w2 m0 m2 begun.parts new.parts (left_in d begun)
+    (left_of d.acts new.levels position) asked
     → IsSaid d t2 w2 m2 (come_to new position asked) (turn_of asked)
 said d t1 t2 w0 w2 m0 m2 begun new position None request reaches = record {
   idle = refl;
@@ -282,9 +289,10 @@ reads_at_if : (left : Acts) (c : Tree) (one other rest : Acts) → left ≡ next
     → reads_behind left + reads_first left ≡ total Reads left
 reads_at_if left c one other rest is = rw is (omega arith)
 
-come_reads : (d : Description) (t1 t2 : Table) (w0 w2 : List Word) (m0 m2 : Memory) (begun new : Stepping) (position : ℕ)
-    (asked : Option ℕ)
-    → Reaches d.shape t1 t2 w0 w2 m0 m2 begun.parts new.parts (left_in d begun) (left_of d.acts new.levels position) asked
+come_reads : (d : Description) (t1 t2 : Table) (w0 w2 : List Word) (m0 m2 : Memory) (begun new : Stepping)
+    (position : ℕ) (asked : Option ℕ)
+    → Reaches d.shape t1 t2 w0 w2 m0 m2 begun.parts new.parts (left_in d begun)
+    (left_of d.acts new.levels position) asked
     → reads_to_come d (come_to new position asked) + reads_asked asked (left_of d.acts new.levels position)
     ≡ total Reads (left_of d.acts new.levels position)
 come_reads d t1 t2 w0 w2 m0 m2 begun new position None reaches = omega arith
@@ -307,11 +315,13 @@ went_few d t0 t1 t2 w0 w2 m0 m2 old begun new position asked went =
     )
 
 come_at : (acts : Acts) (o : Stepping) (position : ℕ) (asked : Option ℕ) → StopsAt acts o.levels position asked
-    → StandsAtIf acts (come_to o position asked).levels (come_to o position asked).position (come_to o position asked).pending
+    → StandsAtIf acts (come_to o position asked).levels (come_to o position asked).position
+    (come_to o position asked).pending
 come_at acts o position None stops = tt
 come_at acts o position (Some term) stops = stops
 
-come_terms : (d : Description) (t : Table) (words : List Word) (m : Memory) (o : Stepping) (position : ℕ) (asked : Option ℕ)
+come_terms : (d : Description) (t : Table) (words : List Word) (m : Memory) (o : Stepping) (position : ℕ)
+    (asked : Option ℕ)
     → HasTerms d t words m o.parts o.request
     → HasTerms d t words m (come_to o position asked).parts (come_to o position asked).request
 come_terms d t words m o position None has = has
@@ -381,8 +391,10 @@ decided d t words m o bit asked stepping =
     ap (left_by d.acts o.levels o.position) is ∙ left.here in
     let next_is = left.within bit in
     let head : (given : Given) (x : Scene) → slice_get (bits_to_come d t given m x o) 0 ≡ Some bit
-    → (value d.shape (now_in d t given m x.image o).values (now_in d t given m x.image o).memory at.condition == 1) ≡ bit =
-    λ given x is_next. first_bit d.shape x.inputs at.condition at.one at.other left.behind (now_in d t given m x.image o) bit
+    → (value d.shape (now_in d t given m x.image o).values (now_in d t given m x.image o).memory at.condition
+    == 1) ≡ bit =
+    λ given x is_next.
+    first_bit d.shape x.inputs at.condition at.one at.other left.behind (now_in d t given m x.image o) bit
     (rw here at is_next) in
     record {
       bits = λ given x is_next.
@@ -398,7 +410,8 @@ decided d t words m o bit asked stepping =
       few = rw (next_is, ap₂ reads_by is here) (chosen_reads at.condition at.one at.other left.behind bit);
       stepping = record {
         terms = stepping.terms;
-        few = rw next_is (omega (arith, rw here at stepping.few, chosen_events at.condition at.one at.other left.behind bit));
+        few = rw next_is
+            (omega (arith, rw here at stepping.few, chosen_events at.condition at.one at.other left.behind bit));
         at = at;
       };
     }
@@ -438,8 +451,8 @@ pub went_listed : (d : Description) (t0 t1 t2 : Table) (w0 w2 : List Word) (m0 m
     → o ≡ entered begun → underway_in t1 w0 m0 begun.parts ≡ underway_of d t0 w0 m0 old
     → Walks d.shape (underway_in t1 w0 m0 o.parts) (underway_in t2 w2 m2 new.parts) (left_of d.acts o.levels o.position)
     (left_of d.acts new.levels position) asked
-    → Walks d.shape (underway_of d t0 w0 m0 old) (underway_in t2 w2 m2 (come_to new position asked).parts) (left_in d old)
-    (left_in d (come_to new position asked)) (asked_by (turn_of asked))
+    → Walks d.shape (underway_of d t0 w0 m0 old) (underway_in t2 w2 m2 (come_to new position asked).parts)
+    (left_in d old) (left_in d (come_to new position asked)) (asked_by (turn_of asked))
 went_listed d t0 t1 t2 w0 w2 m0 m2 old begun o new position asked idle stands is listed walks =
     let from = rw is at walks in
     let inside = rw (

@@ -1,11 +1,13 @@
 -- The words of statements, one after another.
-use Rattle.std.proofs.Common.{◌≡◌, ℕ, suc, ◌+◌, ◌-◌, List, [], ◌∷◌, ◌++◌, ◌<◌, drop, length, take, ap, refl, sym, ◌∙◌, arith}
+use Rattle.std.proofs.Common.{◌≡◌, ℕ, suc, ◌+◌, ◌-◌, List, [], ◌∷◌, ◌++◌, ◌<◌, drop, length, take, ap, refl, sym, ◌∙◌}
+use Rattle.std.proofs.Common.{arith}
 use Rattle.std.specs.Prelude.{Bool, true, false, if◌then◌else◌, Option, Some, None, slice_index, slice_set}
 use Rattle.mw_expr.specs.declared.shape.Shape.{Shape}
 use Rattle.mw_expr.specs.Tree.{Tree}
 use Rattle.mw_macro.specs.ExpressionWords.{expression_words}
 use Rattle.mw_macro.specs.Statements.{Act, choose, Acts, nothing, next}
-use Rattle.mw_macro.specs.StepWords.{Underway, underway, stopped, then_by, then_behind, act_words, acts_words, assign_words, put_words, take_words, write_words}
+use Rattle.mw_macro.specs.StepWords.{Underway, underway, stopped, then_by, then_behind, act_words, acts_words}
+use Rattle.mw_macro.specs.StepWords.{assign_words, put_words, take_words, write_words}
 use Rattle.mw_term.specs.declared.event.SymEvent.TheVariants.{Out, Taken}
 use Rattle.mw_term.specs.declared.word.Word.{Word}
 use Rattle.mw_term.specs.MemoryRead.{Held, held}
@@ -70,7 +72,8 @@ write_listed s t0 t1 t2 w0 w1 w2 m0 m1 m2 p a e place term stands first second o
     ap (λ writes. underway (list_in t2 w2 m2) p.values (writes ++ held place term ∷ []) p.events p.taken)
     (second.runs.writes.each Machine ∙ before)
     ∙ ap (behind place)
-    (said_over s t1 t2 w1 w2 m1 m2 p e term middle other ∙ ap (λ writes. say writes (ended place (list_in t1 w1 m1))) before)
+    (said_over s t1 t2 w1 w2 m1 m2 p e term middle other
+    ∙ ap (λ writes. say writes (ended place (list_in t1 w1 m1))) before)
     ∙ ap (λ (x : Ended). behind x.term (say m0.machine x)) (said_over s t0 t1 w0 w1 m0 m1 p a place stands one)
 
 pub take_listed : (s : Shape) (t0 t1 : Table) (w0 w1 : List Word) (m : Memory) (p : Parts) (target term : ℕ)
@@ -79,18 +82,21 @@ pub take_listed : (s : Shape) (t0 t1 : Table) (w0 w1 : List Word) (m : Memory) (
     (parts_of (slice_set p.values target term) (p.events ++ Taken term ∷ []) (p.taken + 1))
     ≡ take_words s target (underway_in t0 w0 m p)
 take_listed s t0 t1 w0 w1 m p target term listed =
-    ap (λ (x : Ended). underway x.list (slice_set p.values target x.term) m.machine (p.events ++ Taken x.term ∷ []) (p.taken + 1))
+    ap (λ (x : Ended).
+    underway x.list (slice_set p.values target x.term) m.machine (p.events ++ Taken x.term ∷ []) (p.taken + 1))
     (listed m.reads)
 
-pub condition_walks : (s : Shape) (t0 t1 : Table) (w0 w1 : List Word) (m0 m1 : Memory) (p : Parts) (e : Tree) (one other : Acts)
-    (term : ℕ) → Stands s t0 w0 m0 p → IsMade t0 t1 w0 w1 m0 m1 p.values Machine e term
+pub condition_walks : (s : Shape) (t0 t1 : Table) (w0 w1 : List Word) (m0 m1 : Memory) (p : Parts) (e : Tree)
+    (one other : Acts) (term : ℕ)
+    → Stands s t0 w0 m0 p → IsMade t0 t1 w0 w1 m0 m1 p.values Machine e term
     → ListsOver (words_over t0 m0 p.values Machine e) t0 t1 w0 w1 m0 m1 term
     → ActWalks s (underway_in t0 w0 m0 p) (underway_in t1 w1 m1 p) (choose e one other) (Some term)
 condition_walks s t0 t1 w0 w1 m0 m1 p e one other term stands made listed =
     let said = sym (said_over s t0 t1 w0 w1 m0 m1 p e term stands listed) in
     let writes = sym (made.runs.writes.each Machine) in
     let behind = λ (ws : List Held). (λ (x : Ended). underway x.list p.values ws p.events p.taken) in
-    let here : behind m0.machine (expression_words s p.values m0.machine e (list_in t0 w0 m0)) ≡ underway_in t1 w1 m1 p =
+    let here : behind m0.machine (expression_words s p.values m0.machine e (list_in t0 w0 m0))
+    ≡ underway_in t1 w1 m1 p =
     ap (behind m0.machine) said ∙ ap (λ ws. behind ws (ended term (list_in t1 w1 m1))) writes in (
       ap (λ (x : Ended). stopped x.term (behind m0.machine x)) said
           ∙ ap (λ ws. stopped term (behind ws (ended term (list_in t1 w1 m1)))) writes,
@@ -126,8 +132,8 @@ pub act_done : (s : Shape) (old new : Underway) (act : Act) (rest : Acts) → Ac
     → Walks s old new (next act rest) rest None
 act_done s old new act rest walks bits = ap (λ c. then_behind c (acts_words s rest)) (walks bits)
 
-pub act_asks : (s : Shape) (old new : Underway) (act : Act) (rest : Acts) (term : ℕ) → ActWalks s old new act (Some term)
-    → Walks s old new (next act rest) (next act rest) (Some term)
+pub act_asks : (s : Shape) (old new : Underway) (act : Act) (rest : Acts) (term : ℕ)
+    → ActWalks s old new act (Some term) → Walks s old new (next act rest) (next act rest) (Some term)
 act_asks s old new act rest term walks = (
   ap (λ c. then_behind c (acts_words s rest)) walks.0,
   λ bit bits. ap (λ c. then_behind c (acts_words s rest)) (walks.1 bit bits)

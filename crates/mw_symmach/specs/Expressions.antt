@@ -25,7 +25,11 @@ values_at t given terms = map (λ term. term_value t given term) terms
 
 -- the shape over which terms stand for elements: the widths of these terms, and those of a memory
 abbrev pub shape_over : Table → (elements : List ℕ) → Memory → Shape
-shape_over t elements m = record { widths = map (λ term. term_width t term) elements; address = m.address; word = m.word }
+shape_over t elements m = record {
+  widths = map (λ term. term_width t term) elements;
+  address = m.address;
+  word = m.word;
+}
 
 -- a variable of a base read
 abbrev pub IsBase : WordKind → Type 0

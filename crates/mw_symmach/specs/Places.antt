@@ -1,5 +1,6 @@
 -- Where a step stands in the statements of its machine, and what it has left to do.
-use Rattle.std.specs.Prelude.{◌≡◌, ℕ, zero, suc, ◌+◌, ◌≤◌, List, [], ◌∷◌, length, Bool, true, false, if◌then◌else◌, Option, Some, None}
+use Rattle.std.specs.Prelude.{◌≡◌, ℕ, zero, suc, ◌+◌, ◌≤◌, List, [], ◌∷◌, length, Bool, true, false, if◌then◌else◌}
+use Rattle.std.specs.Prelude.{Option, Some, None}
 use Rattle.mw_expr.specs.declared.shape.Shape.{Shape}
 use Rattle.mw_expr.specs.Tree.{Tree}
 use Rattle.mw_expr.specs.Values.{value}
@@ -66,8 +67,8 @@ StopsAt acts levels position (Some term) = IsAtIf acts levels position
 
 -- A run went on from parts of a step with some acts left to parts with others left: what these come to, and the bits
 -- that they branch by, is what the first come to, for every assignment, every image that the base reads fit, and the
--- inputs that the variables of inputs have as values. No more base reads were added than are left fewer, and `more`, and
--- the board's writes are what they were.
+-- inputs that the variables of inputs have as values. No more base reads were added than are left fewer, and `more`,
+-- and the board's writes are what they were.
 pub record Carries (s : Shape) (told tnew : Table) (wold wnew : List Word) (mold mnew : Memory) (pold pnew : Parts)
     (lold lnew : Acts) (more : ℕ) : Type 0 where
   pub goes : GoesOn IsOfStep told tnew wold wnew mold mnew

@@ -78,8 +78,8 @@ pub record Stands (s : Shape) (t : Table) (words : List Word) (m : Memory) (p : 
   pub input : (k place term : ℕ) → IsVariable words place term (Input k) → IsOfWidth t s.word term
 
 -- A statement was done on terms: what they stand for is what there is after the statement, for every assignment, every
--- image that the base reads fit, and the inputs that the variables of inputs have as values. The board's writes are what
--- they were.
+-- image that the base reads fit, and the inputs that the variables of inputs have as values. The board's writes are
+-- what they were.
 pub record Acted (s : Shape) (told tnew : Table) (wold wnew : List Word) (mold mnew : Memory) (pold pnew : Parts)
     (act : Act) : Type 0 where
   pub goes : GoesOn IsOfStep told tnew wold wnew mold mnew

@@ -1,5 +1,6 @@
 -- A described step on terms, and what its turns say: under every assignment it is a step of the machine.
-use Rattle.std.specs.Prelude.{◌≡◌, ℕ, ◌+◌, ◌-◌, ◌<◌, ◌≤◌, ◌^◌, ◌==◌, List, [], ◌∷◌, ◌++◌, length, map, replicate, slice_get, slice_index, Bool, true, false, Option, Some, None}
+use Rattle.std.specs.Prelude.{◌≡◌, ℕ, ◌+◌, ◌-◌, ◌<◌, ◌≤◌, ◌^◌, ◌==◌, List, [], ◌∷◌, ◌++◌, length, map, replicate}
+use Rattle.std.specs.Prelude.{slice_get, slice_index, Bool, true, false, Option, Some, None}
 use Rattle.mw_base.specs.Words.{num}
 use Rattle.mw_macro.specs.declared.counts.Counted.TheVariants.{Reads, Events}
 use Rattle.mw_macro.specs.Branches.{branches_in}
@@ -121,7 +122,8 @@ abbrev pub end_of : Description → Table → Given → Memory → Scene → Ste
 end_of d t given m x o = ended d (after_all d.shape x.inputs 0 (left_in d o) (now_in d t given m x.image o))
 
 -- a state and a request bit have the values of terms for the registers and the request
-pub record IsStart (t : Table) (m : Memory) (given : Given) (registers : List ℕ) (request : ℕ) (x : Scene) (s : MachineState) (bit : Bool)
+pub record IsStart (t : Table) (m : Memory) (given : Given) (registers : List ℕ) (request : ℕ) (x : Scene)
+    (s : MachineState) (bit : Bool)
     : Type 0 where
   pub values : s.registers ≡ values_at t given registers
   pub memory : s.memory ≡ held_by t given m Machine x.image
@@ -131,7 +133,8 @@ pub record IsStart (t : Table) (m : Memory) (given : Given) (registers : List �
 
 -- There is a term for each register, as wide as it, and one of one bit for the request; the memory's widths are the
 -- machine's, and the variables of inputs have the width of its words.
-pub record Waits (d : Description) (t : Table) (words : List Word) (m : Memory) (registers : List ℕ) (request : ℕ) : Type 0 where
+pub record Waits (d : Description) (t : Table) (words : List Word) (m : Memory) (registers : List ℕ)
+    (request : ℕ) : Type 0 where
   pub workspace : IsWorkspace t words m
   pub address : m.address ≡ d.shape.address
   pub word : m.word ≡ d.shape.word
@@ -176,7 +179,8 @@ reads_to_come d o = reads_by o.pending (left_in d o)
 
 -- It asks for a branch bit: in every scene in which the step is seen it is the next of those that are to come, and the
 -- term has its value.
-pub record Asks (d : Description) (t : Table) (words : List Word) (m : Memory) (o : Stepping) (kind : DecidedKind) (term : ℕ) : Type 0 where
+pub record Asks (d : Description) (t : Table) (words : List Word) (m : Memory) (o : Stepping) (kind : DecidedKind)
+    (term : ℕ) : Type 0 where
   pub branch : kind ≡ Branch
   pub asked : is_asked o.pending ≡ true
   pub wide : IsOfWidth t 1 term
@@ -196,7 +200,8 @@ IsSaid d t words m o Finished = IsDone d t words m o
 
 -- A turn of a step, from one table and memory to others: in every scene in which it is seen, what is to come and what
 -- it comes to are as they were.
-pub record IsTurn (d : Description) (told tnew : Table) (words : List Word) (mold mnew : Memory) (old new : Stepping) (turn : Turn)
+pub record IsTurn (d : Description) (told tnew : Table) (words : List Word) (mold mnew : Memory) (old new : Stepping)
+    (turn : Turn)
     : Type 0 where
   pub bits : (given : Given) (x : Scene) → IsSeen tnew words mnew given x
       → bits_to_come d tnew given mnew x new ≡ bits_to_come d told given mold x old
@@ -206,7 +211,8 @@ pub record IsTurn (d : Description) (told tnew : Table) (words : List Word) (mol
 
 -- A bit was given: where it is the next of those that were to come, the others are to come, and the step comes to what
 -- it came to.
-pub record IsDecided (d : Description) (t : Table) (words : List Word) (m : Memory) (old new : Stepping) (value : Bool) : Type 0 where
+pub record IsDecided (d : Description) (t : Table) (words : List Word) (m : Memory) (old new : Stepping)
+    (value : Bool) : Type 0 where
   pub bits : (given : Given) (x : Scene) → slice_get (bits_to_come d t given m x old) 0 ≡ Some value
       → bits_to_come d t given m x old ≡ value ∷ bits_to_come d t given m x new
   pub ends : (given : Given) (x : Scene) → slice_get (bits_to_come d t given m x old) 0 ≡ Some value

@@ -39,8 +39,8 @@ abbrev pub chosen : (bit : Bool) → Acts → Acts
 chosen bit nothing = nothing
 chosen bit (next act rest) = then_acts (list_of bit act) rest
 
--- Some acts were done, up to others that are left: the words along all bits are those of what is left. Where the next is an
--- `if` that asks for its bit, its condition's words are there, and each bit goes on in its list.
+-- Some acts were done, up to others that are left: the words along all bits are those of what is left. Where the next
+-- is an `if` that asks for its bit, its condition's words are there, and each bit goes on in its list.
 abbrev pub Walks : Shape → (old new : Underway) → (lold lnew : Acts) → (asked : Option ℕ) → Type 0
 Walks s old new lold lnew None = (bits : List Bool) → acts_words s lold bits old ≡ acts_words s lnew bits new
 Walks s old new lold lnew (Some term) =

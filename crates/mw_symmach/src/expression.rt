@@ -14,11 +14,11 @@ use mw_symmem::{Side, SymMemory, Words};
 use mw_term::{Term, Terms};
 use std::alloc::Global;
 
-/// The term that stands for an expression: its value is the expression's, for every assignment, and for every image that
-/// the base reads fit, where each element has the value of its term and the memory holds what the side's holds.
+/// The term that stands for an expression: its value is the expression's, for every assignment, and for every image
+/// that the base reads fit, where each element has the value of its term and the memory holds what the side's holds.
 ///
-/// There is a term for each element. The expression has a width over these terms and the memory, and the numbers of base
-/// reads stay below 2^32.
+/// There is a term for each element. The expression has a width over these terms and the memory, and the numbers of
+/// base reads stay below 2^32.
 ///
 /// # Errors
 ///
@@ -37,8 +37,8 @@ pub fn expr_term(
     ensures made { IfOk result (IsMade terms.old terms.new words.old words.new memory.old memory.new elements.now side
         (view expr.now)) }
     ensures listed { IfOk result (ListsOver
-        (expression_words (shape_over terms.old elements.now memory.old) elements.now (writes_of memory.old side) (view expr.now))
-        terms.old terms.new words.old words.new memory.old memory.new) }
+        (expression_words (shape_over terms.old elements.now memory.old) elements.now (writes_of memory.old side)
+        (view expr.now)) terms.old terms.new words.old words.new memory.old memory.new) }
 {
     match expr {
         Expr::Element(element) => Ok(elements[*element as usize]),
@@ -89,7 +89,8 @@ fn part_terms(
     memory: &mut SymMemory,
 ) -> Result<Vec<Term>, NoMemory>
     requires { AreReady terms.old words.old memory.old elements.now (trees_of (map view parts.now)) }
-    ensures made { IfOk result (λ made. AreMade terms.old terms.new words.old words.new memory.old memory.new elements.now side
+    ensures made { IfOk result
+        (λ made. AreMade terms.old terms.new words.old words.new memory.old memory.new elements.now side
         (trees_of (map view parts.now)) made.items) }
     ensures listed { IfOk result (λ made. ListsAllOver
         (words_of_parts (shape_over terms.old elements.now memory.old) elements.now (writes_of memory.old side)

@@ -22,8 +22,8 @@ pub(crate) fn joined(
     requires some { 0 < length parts.now }
     requires there { AreTerms terms.old parts.now }
     requires most { width_together terms.old parts.now ≤ 32 }
-    ensures gives { IfOk result (λ term. Gives terms.old terms.new words.old words.new (width_together terms.old parts.now) term
-        (λ given. joined_value terms.old given parts.now)) }
+    ensures gives { IfOk result (λ term. Gives terms.old terms.new words.old words.new
+        (width_together terms.old parts.now) term (λ given. joined_value terms.old given parts.now)) }
     ensures listed { IfOk result (Lists (join_words parts.now) terms.old terms.new words.old words.new) }
 {
     let mut whole = parts[0];

@@ -2,8 +2,8 @@
 ghost use Rattle.mw_symmach.specs.Along.{BitsGoAlong, StepsBeginAlong, TurnsGoAlong};
 ghost use Rattle.mw_symmach.specs.Laws.{BitsAreOfTheStep, ScenesAreSeenBefore, TermsAreThere, TurnsAreOfTheStep};
 
-/// The law of turns: a step on terms asks for the branch bits of the machine's own step, one after another, and when all
-/// were given its terms have the values of what that step comes to.
+/// The law of turns: a step on terms asks for the branch bits of the machine's own step, one after another, and when
+/// all were given its terms have the values of what that step comes to.
 pub fn turns_are_of_the_step()
     ensures turns { TurnsAreOfTheStep }
     ensures bits { BitsAreOfTheStep }

@@ -1,5 +1,6 @@
 // One step of a described machine on terms.
-ghost use Rattle.std.specs.Prelude.{◌≡◌, ℕ, ◌+◌, ◌-◌, ◌<◌, ◌≤◌, ◌^◌, List, [], ◌∷◌, ◌++◌, drop, length, slice_index, take, true, false, Bool, None, Some, IfOk, OnOk};
+ghost use Rattle.std.specs.Prelude.{◌≡◌, ℕ, ◌+◌, ◌-◌, ◌<◌, ◌≤◌, ◌^◌, List, [], ◌∷◌, ◌++◌, drop, length, slice_index};
+ghost use Rattle.std.specs.Prelude.{take, true, false, Bool, None, Some, IfOk, OnOk};
 ghost use Rattle.mw_macro.specs.declared.counts.Counted.TheVariants.{Reads, Events};
 ghost use Rattle.mw_macro.specs.Branches.{branches_of};
 ghost use Rattle.mw_macro.specs.Counts.{total};
@@ -21,7 +22,9 @@ ghost use Rattle.mw_macro.specs.Statements.{nothing};
 ghost use Rattle.mw_symmem.specs.declared.turn.Turn.TheVariants.{Finished};
 ghost use Rattle.mw_symmach.specs.Places.{left_of, Reaches, StopsAt};
 ghost use Rattle.mw_symmach.specs.Steps.{IsOfStep, Stands, parts_of};
-ghost use Rattle.mw_symmach.specs.Turns.{Scene, IsStart, Waits, IsStepping, IsTurn, IsDecided, bits_to_come, left_in, end_of, is_asked, given_so, now_in, entered, reads_to_come, with_parts, turn_of, come_to};
+ghost use Rattle.mw_symmach.specs.Turns.{Scene, IsStart, Waits, IsStepping, IsTurn, IsDecided, bits_to_come, left_in};
+ghost use Rattle.mw_symmach.specs.Turns.{end_of, is_asked, given_so, now_in, entered, reads_to_come, with_parts};
+ghost use Rattle.mw_symmach.specs.Turns.{turn_of, come_to};
 ghost use Rattle.mw_symmach.specs.Walks.{Walks, asked_by, chosen, underway_in, underway_of};
 ghost use Rattle.mw_symmach.specs.Zeros.{AreWide, HaveZeros};
 
@@ -64,12 +67,18 @@ impl Model for SymMach {
 
     ghost Value = { turns.Stepping };
 
-    ghost view = { λ s. record { parts = s.parts; request = s.request; levels = s.levels.items; position = s.position; pending = s.pending } };
+    ghost view = { λ s. record {
+      parts = s.parts;
+      request = s.request;
+      levels = s.levels.items;
+      position = s.position;
+      pending = s.pending;
+    } };
 }
 
 impl SymMach {
-    /// A step from these terms for the registers, by their numbers, and one for the request. It may go on where each has
-    /// its register's width, and the request one bit. There is no event, and no input was taken.
+    /// A step from these terms for the registers, by their numbers, and one for the request. It may go on where each
+    /// has its register's width, and the request one bit. There is no event, and no input was taken.
     ///
     /// # Errors
     ///
@@ -81,10 +90,13 @@ impl SymMach {
         request: Term,
     ) -> Result<SymMach, NoMemory>
         requires count { length registers.now ≡ (description_of machine.now).registers }
-        ensures step { IfOk result (λ s. (t : Table) (m : Memory) (given : Given) (x : Scene) (state : MachineState) (bit : Bool)
+        ensures step { IfOk result
+            (λ s. (t : Table) (m : Memory) (given : Given) (x : Scene) (state : MachineState) (bit : Bool)
             → IsStart t m given registers.now request x state bit
-            → (bits_to_come (description_of machine.now) t given m x s ≡ branches_of (description_of machine.now) state bit x.inputs 0)
-            × (end_of (description_of machine.now) t given m x s ≡ step_of (description_of machine.now) state bit x.inputs 0)) }
+            → (bits_to_come (description_of machine.now) t given m x s
+            ≡ branches_of (description_of machine.now) state bit x.inputs 0)
+            × (end_of (description_of machine.now) t given m x s
+            ≡ step_of (description_of machine.now) state bit x.inputs 0)) }
         ensures left { IfOk result (λ s. left_in (description_of machine.now) s ≡ (description_of machine.now).acts) }
         ensures listed { IfOk result (λ s. (t : Table) (words : List Word) (m : Memory)
             → underway_of (description_of machine.now) t words m s
@@ -92,7 +104,8 @@ impl SymMach {
         ensures registers { IfOk result (λ s. s.parts.values ≡ registers.now) }
         ensures events { IfOk result (λ s. s.parts.events ≡ []) }
         ensures idle { IfOk result (λ s. is_asked s.pending ≡ false) }
-        ensures reads { IfOk result (λ s. reads_to_come (description_of machine.now) s ≡ total Reads (description_of machine.now).acts) }
+        ensures reads { IfOk result
+            (λ s. reads_to_come (description_of machine.now) s ≡ total Reads (description_of machine.now).acts) }
         ensures stepping { IfOk result (λ s. (t : Table) (words : List Word) (m : Memory)
             → Waits (description_of machine.now) t words m registers.now request
             → IsStepping (description_of machine.now) t words m s) }
@@ -128,8 +141,8 @@ impl SymMach {
             (length (description_of machine.now).names - (description_of machine.now).registers)) }
         ensures listed { OnOk result ((words : List Word) (reads : List Held)
             → with_zeros (take (length (description_of machine.now).names - (description_of machine.now).registers)
-            (drop (description_of machine.now).registers (description_of machine.now).shape.widths)) self.old.parts.values
-            (list_of terms.old.ops words reads)
+            (drop (description_of machine.now).registers (description_of machine.now).shape.widths))
+            self.old.parts.values (list_of terms.old.ops words reads)
             ≡ record { list = list_of terms.new.ops words reads; terms = self.new.parts.values }) }
         ensures same { OnOk result (self.new ≡ with_parts self.old
             (parts_of self.new.parts.values self.old.parts.events self.old.parts.taken) self.old.request) }
@@ -171,7 +184,8 @@ impl SymMach {
         ensures listed { OnOk result (underway_in terms.new words.now memory.now self.new.parts
             ≡ underway_of (description_of machine.now) terms.old words.now memory.now self.old) }
         ensures goes { OnOk result (GoesOn IsOfStep terms.old terms.new words.now words.now memory.now memory.now) }
-        ensures stepping { OnOk result (IsStepping (description_of machine.now) terms.new words.now memory.now self.new) }
+        ensures stepping { OnOk result
+            (IsStepping (description_of machine.now) terms.new words.now memory.now self.new) }
     {
         let Some(request) = self.request() else {
             return Ok(());
@@ -199,7 +213,8 @@ impl SymMach {
     }
 
     /// Goes on to the next `if` that asks for its bit, or to the end of the step. It isn't called while a bit that was
-    /// asked for waits for `decide`. The memory has the machine's widths, and the numbers of base reads stay below 2^32.
+    /// asked for waits for `decide`. The memory has the machine's widths, and the numbers of base reads
+    /// stay below 2^32.
     ///
     /// # Errors
     ///
@@ -215,18 +230,21 @@ impl SymMach {
         requires idle { is_asked self.old.pending ≡ false }
         requires few { length memory.old.reads + reads_to_come (description_of machine.now) self.old ≤ 2 ^ 32 }
         requires stepping { IsStepping (description_of machine.now) terms.old words.old memory.old self.old }
-        ensures turn { IfOk result (IsTurn (description_of machine.now) terms.old terms.new words.new memory.old memory.new self.old self.new) }
+        ensures turn { IfOk result (IsTurn (description_of machine.now)
+            terms.old terms.new words.new memory.old memory.new self.old self.new) }
         ensures listed { IfOk result (λ turn. Walks (description_of machine.now).shape
             (underway_of (description_of machine.now) terms.old words.old memory.old self.old)
             (underway_in terms.new words.new memory.new self.new.parts)
-            (left_in (description_of machine.now) self.old) (left_in (description_of machine.now) self.new) (asked_by turn)) }
+            (left_in (description_of machine.now) self.old) (left_in (description_of machine.now) self.new)
+            (asked_by turn)) }
         ensures done { IfOk result (λ turn. turn ≡ Finished → left_in (description_of machine.now) self.new ≡ nothing) }
         ensures begun { OnOk result (self.new.request ≡ None) }
         ensures goes { OnOk result (GoesOn IsOfStep terms.old terms.new words.old words.new memory.old memory.new) }
         ensures board { OnOk result (memory.new.board ≡ memory.old.board) }
         ensures few { OnOk result (length memory.new.reads + reads_to_come (description_of machine.now) self.new
             ≤ length memory.old.reads + reads_to_come (description_of machine.now) self.old) }
-        ensures stepping { OnOk result (IsStepping (description_of machine.now) terms.new words.new memory.new self.new) }
+        ensures stepping { OnOk result
+            (IsStepping (description_of machine.now) terms.new words.new memory.new self.new) }
     {
         self.begin(alloc, machine, terms, words, memory)?;
         self.enter()?;
@@ -248,15 +266,17 @@ impl SymMach {
             + total Reads (left_of (description_of machine.now).acts self.old.levels self.old.position) ≤ 2 ^ 32 }
         requires few_events { self.old.parts.taken
             + total Events (left_of (description_of machine.now).acts self.old.levels self.old.position) < 2 ^ 32 }
-        ensures reaches { IfOk result (λ reached. Reaches (description_of machine.now).shape terms.old terms.new words.old words.new
-            memory.old memory.new self.old.parts self.new.parts
+        ensures reaches { IfOk result (λ reached. Reaches (description_of machine.now).shape terms.old terms.new
+            words.old words.new memory.old memory.new self.old.parts self.new.parts
             (left_of (description_of machine.now).acts self.old.levels self.old.position)
             (left_of (description_of machine.now).acts self.new.levels reached.position) reached.asked) }
         ensures listed { IfOk result (λ reached. Walks (description_of machine.now).shape
-            (underway_in terms.old words.old memory.old self.old.parts) (underway_in terms.new words.new memory.new self.new.parts)
+            (underway_in terms.old words.old memory.old self.old.parts)
+            (underway_in terms.new words.new memory.new self.new.parts)
             (left_of (description_of machine.now).acts self.old.levels self.old.position)
             (left_of (description_of machine.now).acts self.new.levels reached.position) reached.asked) }
-        ensures stops { IfOk result (λ reached. StopsAt (description_of machine.now).acts self.new.levels reached.position reached.asked) }
+        ensures stops { IfOk result
+            (λ reached. StopsAt (description_of machine.now).acts self.new.levels reached.position reached.asked) }
         ensures request { self.new.request ≡ self.old.request }
     {
         go_on(

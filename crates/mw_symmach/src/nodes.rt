@@ -7,7 +7,8 @@ ghost use Rattle.mw_term.specs.Table.{ArePair, Fits, IsBit, IsTable, IsWidth, te
 ghost use Rattle.mw_term.specs.Values.{term_value, value_over};
 ghost use Rattle.mw_term.specs.declared.word.Word.{Word};
 ghost use Rattle.mw_term.specs.declared.op.Op.TheVariants.{Ite, Join};
-ghost use Rattle.mw_term.specs.WordList.{with_complement, with_constant, with_part, with_sum, with_word, with_zeros_above};
+ghost use Rattle.mw_term.specs.WordList.{with_complement, with_constant, with_part, with_sum, with_word};
+ghost use Rattle.mw_term.specs.WordList.{with_zeros_above};
 ghost use Rattle.mw_macro.specs.ExpressionWords.{difference_words, sign_words, unequal_words};
 ghost use Rattle.mw_symmem.specs.Listed.{Lists};
 ghost use Rattle.mw_symmem.specs.Words.{IsNoVariable};
@@ -40,8 +41,10 @@ pub(crate) fn constant(
 ) -> Result<Term, NoMemory>
     requires width { IsWidth width }
     requires below { number < 2 ^ width }
-    ensures gives { IfOk result (λ term. (ws : List Word) → Gives terms.old terms.new ws ws width term (λ given. number)) }
-    ensures listed { IfOk result (λ term. (ws : List Word) → Lists (with_constant number width) terms.old terms.new ws ws term) }
+    ensures gives { IfOk result
+        (λ term. (ws : List Word) → Gives terms.old terms.new ws ws width term (λ given. number)) }
+    ensures listed { IfOk result
+        (λ term. (ws : List Word) → Lists (with_constant number width) terms.old terms.new ws ws term) }
 {
     let term = terms.build(alloc, Op::Con(number, width))?;
     Ok(term)
@@ -55,8 +58,8 @@ pub(crate) fn complement(
     words: &mut Words,
 ) -> Result<Term, NoMemory>
     requires { operand < length terms.old.ops }
-    ensures gives { IfOk result (λ term. Gives terms.old terms.new words.old words.new (term_width terms.old operand) term
-        (λ given. bits.complement (term_width terms.old operand) (term_value terms.old given operand))) }
+    ensures gives { IfOk result (λ term. Gives terms.old terms.new words.old words.new (term_width terms.old operand)
+        term (λ given. bits.complement (term_width terms.old operand) (term_value terms.old given operand))) }
     ensures listed { IfOk result (Lists (with_complement operand) terms.old terms.new words.old words.new) }
 {
     let term = add(alloc, Op::Not(operand), terms, words)?;
@@ -134,7 +137,8 @@ pub(crate) fn signed(
     requires table { IsTable terms.old }
     ensures gives { IfOk result (λ term. Gives terms.old terms.new words.old words.new
         (width_after sign (term_width terms.old a)) term
-        (λ given. pair_value sign (term_width terms.old a) (term_value terms.old given a) (term_value terms.old given b))) }
+        (λ given.
+        pair_value sign (term_width terms.old a) (term_value terms.old given a) (term_value terms.old given b))) }
     ensures listed { IfOk result (Lists (sign_words sign a b) terms.old terms.new words.old words.new) }
 {
     match sign {
@@ -184,7 +188,8 @@ pub(crate) fn part(
     requires table { IsTable terms.old }
     ensures gives { IfOk result (λ term. Gives terms.old terms.new words.old words.new (high - low + 1) term
         (λ given. bits.part low (high - low + 1) (term_value terms.old given whole))) }
-    ensures listed { IfOk result (Lists (with_part (term_width terms.old whole) whole low (high - low + 1)) terms.old terms.new
+    ensures listed { IfOk result
+        (Lists (with_part (term_width terms.old whole) whole low (high - low + 1)) terms.old terms.new
         words.old words.new) }
 {
     let all = terms.width(whole);
@@ -210,8 +215,8 @@ pub(crate) fn widened(
     requires table { IsTable terms.old }
     ensures gives { IfOk result (λ term. Gives terms.old terms.new words.old words.new width term
         (λ given. term_value terms.old given narrow)) }
-    ensures listed { IfOk result (Lists (with_zeros_above (term_width terms.old narrow) width narrow) terms.old terms.new
-        words.old words.new) }
+    ensures listed { IfOk result
+        (Lists (with_zeros_above (term_width terms.old narrow) width narrow) terms.old terms.new words.old words.new) }
 {
     let from = terms.width(narrow);
     if from == width {
@@ -235,7 +240,8 @@ pub(crate) fn above(
     requires most { term_width terms.old high + term_width terms.old low ≤ 32 }
     ensures gives { IfOk result (λ term. Gives terms.old terms.new words.old words.new
         (term_width terms.old high + term_width terms.old low) term
-        (λ given. bits.join (term_width terms.old low) (term_value terms.old given high) (term_value terms.old given low))) }
+        (λ given.
+        bits.join (term_width terms.old low) (term_value terms.old given high) (term_value terms.old given low))) }
     ensures listed { IfOk result (Lists (with_word (Join high low)) terms.old terms.new words.old words.new) }
 {
     let term = add(alloc, Op::Join(high, low), terms, words)?;

@@ -1,5 +1,6 @@
 // The parts of a described step on terms, and single statements.
-ghost use Rattle.std.specs.Prelude.{◌≡◌, ℕ, ◌+◌, ◌-◌, ◌<◌, ◌≤◌, ◌^◌, List, [], ◌∷◌, ◌++◌, true, drop, length, slice_index, take, Some, IfOk, OnOk};
+ghost use Rattle.std.specs.Prelude.{◌≡◌, ℕ, ◌+◌, ◌-◌, ◌<◌, ◌≤◌, ◌^◌, List, [], ◌∷◌, ◌++◌, true, drop, length};
+ghost use Rattle.std.specs.Prelude.{slice_index, take, Some, IfOk, OnOk};
 ghost use Rattle.mw_expr.specs.Tree.{view};
 ghost use Rattle.mw_expr.specs.Widths.{width_of};
 ghost use Rattle.mw_macro.specs.Counts.{reads, own_reads, own_events, total};
@@ -101,8 +102,8 @@ impl Parts {
         ensures zeros { OnOk result (HaveZeros terms.old terms.new widths.now self.old.values self.new.values
             (elements - length self.old.values)) }
         ensures listed { OnOk result ((words : List Word) (reads : List Held)
-            → with_zeros (take (elements - length self.old.values) (drop (length self.old.values) widths.now)) self.old.values
-            (list_of terms.old.ops words reads)
+            → with_zeros (take (elements - length self.old.values) (drop (length self.old.values) widths.now))
+            self.old.values (list_of terms.old.ops words reads)
             ≡ record { list = list_of terms.new.ops words reads; terms = self.new.values }) }
         ensures events { OnOk result (self.new.events ≡ self.old.events) }
         ensures taken { OnOk result (self.new.taken ≡ self.old.taken) }
@@ -148,8 +149,8 @@ impl Parts {
         requires stands { Stands shape.now terms.old words.old memory.old self.old }
         requires right { is_right shape.now (assign target (view expr.now)) ≡ true }
         requires few { length memory.old.reads + own_reads (assign target (view expr.now)) ≤ 2 ^ 32 }
-        ensures acted { OnOk result (Acted shape.now terms.old terms.new words.old words.new memory.old memory.new self.old
-            self.new (assign target (view expr.now))) }
+        ensures acted { OnOk result (Acted shape.now terms.old terms.new words.old words.new memory.old memory.new
+            self.old self.new (assign target (view expr.now))) }
         ensures listed { OnOk result (underway_in terms.new words.new memory.new self.new
             ≡ assign_words shape.now target (view expr.now) (underway_in terms.old words.old memory.old self.old)) }
     {
@@ -181,10 +182,11 @@ impl Parts {
         requires stands { Stands shape.now terms.old words.old memory.old self.old }
         requires right { is_right shape.now (write (view address.now) (view expr.now)) ≡ true }
         requires few { length memory.old.reads + own_reads (write (view address.now) (view expr.now)) ≤ 2 ^ 32 }
-        ensures acted { OnOk result (Acted shape.now terms.old terms.new words.old words.new memory.old memory.new self.old
-            self.new (write (view address.now) (view expr.now))) }
+        ensures acted { OnOk result (Acted shape.now terms.old terms.new words.old words.new memory.old memory.new
+            self.old self.new (write (view address.now) (view expr.now))) }
         ensures listed { OnOk result (underway_in terms.new words.new memory.new self.new
-            ≡ write_words shape.now (view address.now) (view expr.now) (underway_in terms.old words.old memory.old self.old)) }
+            ≡ write_words shape.now (view address.now) (view expr.now)
+            (underway_in terms.old words.old memory.old self.old)) }
     {
         let _shape = shape;
         let place = expr_term(
@@ -222,8 +224,8 @@ impl Parts {
         requires stands { Stands shape.now terms.old words.old memory.old self.old }
         requires right { is_right shape.now (put (view expr.now)) ≡ true }
         requires few { length memory.old.reads + own_reads (put (view expr.now)) ≤ 2 ^ 32 }
-        ensures acted { OnOk result (Acted shape.now terms.old terms.new words.old words.new memory.old memory.new self.old
-            self.new (put (view expr.now))) }
+        ensures acted { OnOk result (Acted shape.now terms.old terms.new words.old words.new memory.old memory.new
+            self.old self.new (put (view expr.now))) }
         ensures listed { OnOk result (underway_in terms.new words.new memory.new self.new
             ≡ put_words shape.now (view expr.now) (underway_in terms.old words.old memory.old self.old)) }
     {
@@ -254,8 +256,8 @@ impl Parts {
         requires stands { Stands shape.now terms.old words.old _memory.now self.old }
         requires right { is_right shape.now (take_in target) ≡ true }
         requires few { self.old.taken + 1 < 2 ^ 32 }
-        ensures acted { OnOk result (Acted shape.now terms.old terms.new words.old words.new _memory.now _memory.now self.old
-            self.new (take_in target)) }
+        ensures acted { OnOk result (Acted shape.now terms.old terms.new words.old words.new _memory.now _memory.now
+            self.old self.new (take_in target)) }
         ensures listed { OnOk result (underway_in terms.new words.new _memory.now self.new
             ≡ take_words shape.now target (underway_in terms.old words.old _memory.now self.old)) }
     {
@@ -314,8 +316,8 @@ impl Parts {
         requires right { is_right shape.now (act_of statement.now) ≡ true }
         requires few_reads { length memory.old.reads + own_reads (act_of statement.now) ≤ 2 ^ 32 }
         requires few_events { self.old.taken + own_events (act_of statement.now) < 2 ^ 32 }
-        ensures done { IfOk result (IsDone shape.now terms.old terms.new words.old words.new memory.old memory.new self.old
-            self.new (act_of statement.now)) }
+        ensures done { IfOk result (IsDone shape.now terms.old terms.new words.old words.new memory.old memory.new
+            self.old self.new (act_of statement.now)) }
         ensures listed { IfOk result (ActWalks shape.now (underway_in terms.old words.old memory.old self.old)
             (underway_in terms.new words.new memory.new self.new) (act_of statement.now)) }
     {
@@ -358,7 +360,8 @@ impl Parts {
         requires right { are_right shape.now (acts statements.now) ≡ true }
         requires few_reads { length memory.old.reads + total Reads (dropped from (acts statements.now)) ≤ 2 ^ 32 }
         requires few_events { self.old.taken + total Events (dropped from (acts statements.now)) < 2 ^ 32 }
-        ensures reaches { IfOk result (λ reached. Reaches shape.now terms.old terms.new words.old words.new memory.old memory.new
+        ensures reaches { IfOk result
+            (λ reached. Reaches shape.now terms.old terms.new words.old words.new memory.old memory.new
             self.old self.new (dropped from (acts statements.now)) (dropped reached.position (acts statements.now))
             reached.asked) }
         ensures listed { IfOk result (λ reached. Walks shape.now (underway_in terms.old words.old memory.old self.old)

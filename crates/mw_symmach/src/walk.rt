@@ -41,9 +41,11 @@ pub(crate) fn go_on(
         memory.new parts.old parts.new (left_of (acts statements.now) (drop level levels.old.items) position)
         (left_of (acts statements.now) (drop level levels.new.items) reached.position) reached.asked) }
     ensures listed { IfOk result (λ reached. Walks shape.now (underway_in terms.old words.old memory.old parts.old)
-        (underway_in terms.new words.new memory.new parts.new) (left_of (acts statements.now) (drop level levels.old.items) position)
+        (underway_in terms.new words.new memory.new parts.new)
+        (left_of (acts statements.now) (drop level levels.old.items) position)
         (left_of (acts statements.now) (drop level levels.new.items) reached.position) reached.asked) }
-    ensures stops { IfOk result (λ reached. StopsAt (acts statements.now) (drop level levels.new.items) reached.position reached.asked) }
+    ensures stops { IfOk result
+        (λ reached. StopsAt (acts statements.now) (drop level levels.new.items) reached.position reached.asked) }
     ensures front { OnOk result (take level levels.new.items ≡ take level levels.old.items) }
 {
     if level >= levels.len() {

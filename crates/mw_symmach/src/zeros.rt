@@ -28,8 +28,8 @@ pub(crate) fn push_zeros(
     ensures zeros { OnOk result (HaveZeros terms.old terms.new widths.now values.old.items values.new.items
         (elements - length values.old.items)) }
     ensures listed { OnOk result ((words : List Word) (reads : List Held)
-        → with_zeros (take (elements - length values.old.items) (drop (length values.old.items) widths.now)) values.old.items
-        (list_of terms.old.ops words reads)
+        → with_zeros (take (elements - length values.old.items) (drop (length values.old.items) widths.now))
+        values.old.items (list_of terms.old.ops words reads)
         ≡ record { list = list_of terms.new.ops words reads; terms = values.new.items }) }
 {
     for element in values.len()..elements {

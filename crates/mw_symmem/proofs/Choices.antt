@@ -1,5 +1,6 @@
 -- The parts of a memory read: which ops fit, and what is made of one more.
-use Rattle.std.proofs.Common.{◌≡◌, ℕ, suc, ◌+◌, ◌<◌, List, [], ◌∷◌, ◌++◌, length, drop, drop-cons, get_or, refl, ap, arith, sym, ◌∙◌}
+use Rattle.std.proofs.Common.{◌≡◌, ℕ, suc, ◌+◌, ◌<◌, List, [], ◌∷◌, ◌++◌, length, drop, drop-cons, get_or, refl, ap}
+use Rattle.std.proofs.Common.{arith, sym, ◌∙◌}
 use Rattle.mw_term.specs.declared.op.Op.TheVariants.{Eq, Ite}
 use Rattle.mw_term.specs.MemoryRead.{Held}
 use Rattle.mw_term.specs.Table.{Table, Extends, ArePair, IsBit, widths_of, op_width}

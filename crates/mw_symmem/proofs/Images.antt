@@ -1,5 +1,6 @@
 -- The image of base reads.
-use Rattle.std.proofs.Common.{◌≡◌, ℕ, zero, suc, ◌+◌, ◌<◌, ◌^◌, List, [], ◌∷◌, ◌++◌, length, take, drop, get_or, slice_index, map, replicate, refl, ap, arith, sym, ◌∙◌}
+use Rattle.std.proofs.Common.{◌≡◌, ℕ, zero, suc, ◌+◌, ◌<◌, ◌^◌, List, [], ◌∷◌, ◌++◌, length, take, drop, get_or}
+use Rattle.std.proofs.Common.{slice_index, map, replicate, refl, ap, arith, sym, ◌∙◌}
 use Rattle.std.specs.Prelude.{Bool, true, false, ◌==◌, if◌then◌else◌, slice_set}
 use Rattle.mw_term.specs.Assigned.{Given}
 use Rattle.mw_term.specs.MemoryRead.{Held}
@@ -29,7 +30,8 @@ value_within t given w term table is =
 pub written : (n : ℕ) (old new is : List ℕ) → length old ≡ n → length is ≡ length old → new ≡ is
     → take n (new ++ drop (length new) old) ≡ is
 written n old new is all same whole =
-    rw whole (take-append-le n is (drop (length is) old) (omega (arith, all, same)) ∙ take_all n is (omega (arith, all, same)))
+    rw whole
+    (take-append-le n is (drop (length is) old) (omega (arith, all, same)) ∙ take_all n is (omega (arith, all, same)))
 
 -- one read more, from the newest to the oldest
 pub image_next : (t : Table) (given : Given) (reads : List Held) (place : ℕ) (read : Held) (image : List ℕ)

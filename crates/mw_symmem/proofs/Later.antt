@@ -1,5 +1,6 @@
 -- What stays true as a run goes on.
-use Rattle.std.proofs.Common.{◌≡◌, inl, inr, ℕ, suc, List, [], ◌∷◌, ◌++◌, length, map, take, append-nil, append_assoc, refl, ap, ap₂, arith, sym, subst, ◌∙◌}
+use Rattle.std.proofs.Common.{◌≡◌, inl, inr, ℕ, suc, List, [], ◌∷◌, ◌++◌, length, map, take, append-nil, append_assoc}
+use Rattle.std.proofs.Common.{refl, ap, ap₂, arith, sym, subst, ◌∙◌}
 use Rattle.std.specs.Prelude.{Some, slice_get, slice_index}
 use Rattle.std.proofs.lemmas.List.{take-append-le, take_all}
 use Rattle.std.proofs.lemmas.Option.{slice_get_within}
@@ -15,9 +16,11 @@ use Rattle.mw_symmem.specs.declared.side.Side.TheVariants.{Board, Machine}
 use Rattle.mw_term.specs.declared.word.Word.{Word}
 use Rattle.mw_term.specs.WordList.{plain, variable}
 use Rattle.mw_symmem.specs.Words.{IsVariable, AreOf, IsNoVariable}
-use Rattle.mw_symmem.specs.Memory.{Memory, IsMemory, IsImage, IsHeld, IsOfWidth, AreHeld, AddsRead, after, held_by, read_value, valued, writes_of, with_read, with_write}
+use Rattle.mw_symmem.specs.Memory.{Memory, IsMemory, IsImage, IsHeld, IsOfWidth, AreHeld, AddsRead, after, held_by}
+use Rattle.mw_symmem.specs.Memory.{read_value, valued, writes_of, with_read, with_write}
 use Rattle.mw_symmem.specs.Steps.{Grows}
-use Rattle.mw_symmem.specs.Workspace.{IsLater, IsWorkspace, HaveKinds, ReadsMore, GoesOn, KeepsWrites, ImagesFitBefore, ReadsStay}
+use Rattle.mw_symmem.specs.Workspace.{IsLater, IsWorkspace, HaveKinds, ReadsMore, GoesOn, KeepsWrites, ImagesFitBefore}
+use Rattle.mw_symmem.specs.Workspace.{ReadsStay}
 use Rattle.mw_symmem.proofs.Growth.{extends_then, keeps_then, width_stays}
 use Rattle.mw_symmem.proofs.Lists.{behind, among, no_variable, only_variable}
 use Rattle.mw_symmem.proofs.Listed.{of_without_word}
@@ -234,15 +237,16 @@ pub goes_by_read : (K : WordKind → Type 0) (told tnew : Table) (wold wnew : Li
     (side : Side) (address base term : ℕ) → ((n : ℕ) → K (Base n)) → AddsRead wold wnew mold
     → mnew ≡ with_read mold (held address base) → IsMemory tnew wnew mnew → AreOf tnew wnew → Extends told tnew
     → Keeps told tnew → IsTable tnew → GoesOn K told tnew wold wnew mold mnew
-goes_by_read K told tnew wold wnew mold mnew side address base term is adds read memory of extends keeps table = record {
-  later = record { extends = extends; keeps = keeps; table = table };
-  more = map plain adds.same ++ variable adds.base (Base (length mold.reads)) ∷ map plain adds.rest;
-  words = adds.words ∙ append_assoc wold (map plain adds.same)
-      (variable adds.base (Base (length mold.reads)) ∷ map plain adds.rest);
-  kinds = read_kinds K adds.same adds.rest adds.base (length mold.reads) (is (length mold.reads));
-  reads = rw read (with_read_more mold (held address base));
-  workspace = record { table = table; of = of; memory = memory };
-}
+goes_by_read K told tnew wold wnew mold mnew side address base term is adds read memory of extends keeps table =
+    record {
+      later = record { extends = extends; keeps = keeps; table = table };
+      more = map plain adds.same ++ variable adds.base (Base (length mold.reads)) ∷ map plain adds.rest;
+      words = adds.words ∙ append_assoc wold (map plain adds.same)
+          (variable adds.base (Base (length mold.reads)) ∷ map plain adds.rest);
+      kinds = read_kinds K adds.same adds.rest adds.base (length mold.reads) (is (length mold.reads));
+      reads = rw read (with_read_more mold (held address base));
+      workspace = record { table = table; of = of; memory = memory };
+    }
 
 pub writes_by_read : (mold mnew : Memory) (address base : ℕ) → mnew ≡ with_read mold (held address base)
     → KeepsWrites mold mnew

@@ -1,5 +1,6 @@
 -- Words of a table that grows.
-use Rattle.std.proofs.Common.{◌≡◌, inl, inr, ℕ, ◌+◌, ◌<◌, List, [], ◌∷◌, ◌++◌, length, length-append, refl, ap, arith, sym, ◌∙◌}
+use Rattle.std.proofs.Common.{◌≡◌, inl, inr, ℕ, ◌+◌, ◌<◌, List, [], ◌∷◌, ◌++◌, length, length-append, refl, ap, arith}
+use Rattle.std.proofs.Common.{sym, ◌∙◌}
 use Rattle.std.specs.Prelude.{Some, slice_get}
 use Rattle.mw_term.specs.declared.kinds.WordKind.{WordKind}
 use Rattle.mw_term.specs.declared.op.Op.{Op}
@@ -30,7 +31,8 @@ still_listed words w term n is = record {
 
 -- each word's term is one of the table with one more
 terms_there : (t : Table) (words : List Word) (op : Op) (w : Word) → AreOf t words → w.term ≡ length t.ops
-    → (place : ℕ) (found : Word) → slice_get (words ++ w ∷ []) place ≡ Some found → found.term < length (with_op t op).ops
+    → (place : ℕ) (found : Word)
+    → slice_get (words ++ w ∷ []) place ≡ Some found → found.term < length (with_op t op).ops
 terms_there t words op w of last place found is = elim (pushed words w place found is) [
   | inl h ↦ inside_more t op found.term (of.there place found h.1)
   | inr h ↦ let term : found.term ≡ length t.ops = ap (λ (x : Word). x.term) (sym h.1) ∙ last in

@@ -1,7 +1,9 @@
 -- Words of a list with one more.
-use Rattle.std.proofs.Common.{◌≡◌, ◌⊎◌, inl, inr, ℕ, zero, suc, ◌+◌, List, [], ◌∷◌, ◌++◌, length, map, refl, ap, arith, sym, ◌∙◌}
+use Rattle.std.proofs.Common.{◌≡◌, ◌⊎◌, inl, inr, ℕ, zero, suc, ◌+◌, List, [], ◌∷◌, ◌++◌, length, map, refl, ap, arith}
+use Rattle.std.proofs.Common.{sym, ◌∙◌}
 use Rattle.std.specs.HashMap.{HashMap, get, get_by}
-use Rattle.std.specs.Prelude.{OnOk, OnErr, Result, Ok, Err, Bool, true, false, ◌==◌, nat_eq, Option, Some, None, slice_get, unwrap_or, cond, if◌then◌else◌}
+use Rattle.std.specs.Prelude.{OnOk, OnErr, Result, Ok, Err, Bool, true, false, ◌==◌, nat_eq, Option, Some, None}
+use Rattle.std.specs.Prelude.{slice_get, unwrap_or, cond, if◌then◌else◌}
 use Rattle.std.proofs.lemmas.Option.{same_Some}
 use Rattle.mw_term.specs.declared.kinds.WordKind.{WordKind}
 use Rattle.mw_term.specs.declared.word.Word.{Word}
@@ -53,7 +55,8 @@ term_variable words term own kind absent =
     ∙ first_new (same_kind own kind) term (term_of words kind)
     (λ same. ap (term_of words) (sym (kind_is own kind same)) ∙ absent)
 
-taken_or : (b : Bool) (term : ℕ) (found : Option ℕ) → (if b then Some term else found) ≡ None → (b ≡ false) × (found ≡ None)
+taken_or : (b : Bool) (term : ℕ) (found : Option ℕ)
+    → (if b then Some term else found) ≡ None → (b ≡ false) × (found ≡ None)
 taken_or true term found none = absurd cc
 taken_or false term found none = (refl, none)
 

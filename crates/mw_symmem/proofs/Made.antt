@@ -1,5 +1,6 @@
 -- What a memory read makes of a memory.
-use Rattle.std.proofs.Common.{◌≡◌, inl, inr, ℕ, zero, suc, ◌+◌, ◌<◌, ◌^◌, ◌%◌, List, [], ◌∷◌, ◌++◌, length, length-append, append_assoc, slice_index, map, refl, ap, arith, sym, subst, ◌∙◌}
+use Rattle.std.proofs.Common.{◌≡◌, inl, inr, ℕ, zero, suc, ◌+◌, ◌<◌, ◌^◌, ◌%◌, List, [], ◌∷◌, ◌++◌, length}
+use Rattle.std.proofs.Common.{length-append, append_assoc, slice_index, map, refl, ap, arith, sym, subst, ◌∙◌}
 use Rattle.std.specs.Prelude.{Some, slice_get}
 use Rattle.std.proofs.lemmas.Option.{slice_get_within}
 use Rattle.std.proofs.Math.Seq.{take-append_seam}
@@ -17,7 +18,8 @@ use Rattle.mw_term.specs.declared.word.Word.{Word}
 use Rattle.mw_term.specs.WordList.{plain, variable}
 use Rattle.mw_symmem.specs.Words.{IsVariable, AreOf}
 use Rattle.mw_symmem.specs.Memory.{Memory, writes_of, with_read, valued, first_at, IsRead, Has, AddsRead}
-use Rattle.mw_symmem.specs.Memory.{IsOfWidth, IsHeld, AreHeld, op_number, variable_number, DependsBefore, IsBaseRead, IsMemory}
+use Rattle.mw_symmem.specs.Memory.{IsOfWidth, IsHeld, AreHeld, op_number, variable_number, DependsBefore, IsBaseRead}
+use Rattle.mw_symmem.specs.Memory.{IsMemory}
 use Rattle.mw_symmem.specs.Steps.{Grows, AreSame, IsBaseValue, IsSideValue, IsMade}
 use Rattle.mw_symmem.proofs.Lists.{pushed, behind, pushed_there, among, seam, no_variable, only_variable}
 use Rattle.mw_symmem.proofs.Growth.{extends_then, keeps_then, op_stays, has_made, has_stays, width_stays, map_both}
@@ -217,12 +219,13 @@ module _ (told t : Table) (old new : List Word) (m : Memory) (side : Side) (addr
   old_read : (k : ℕ) (read : Held) → slice_get m.reads k ≡ Some read → IsBaseRead t new m.word k read
   old_read k read is =
       subst (λ ws. IsBaseRead t ws m.word k read) (sym all_words)
-      (read_stays told t old (map plain made.same ++ back) m.address m.word k read made.extends made.keeps (memory.reads k read is)
-      (memory.bases k read is))
+      (read_stays told t old (map plain made.same ++ back) m.address m.word k read made.extends made.keeps
+      (memory.reads k read is) (memory.bases k read is))
 
   -- its number in the table is its number in the old one, and is a number of the old list
   old_number : (k : ℕ) (read : Held) → slice_get m.reads k ≡ Some read
-      → (variable_number t read.word ≡ variable_number told read.word) × (variable_number t read.word < length front + 1)
+      → (variable_number t read.word ≡ variable_number told read.word)
+      × (variable_number t read.word < length front + 1)
   old_number k read is =
       let before = memory.bases k read is in
       let same : variable_number t read.word ≡ before.place + 1 =
@@ -312,8 +315,10 @@ module _ (told t : Table) (old new : List Word) (m : Memory) (side : Side) (addr
   write_inside : (given : Given) (image : List ℕ) → length image ≡ 2 ^ m.address → (k : ℕ) (write : Held)
       → slice_get (writes_of m side) k ≡ Some write → term_value t given write.address < length image
   write_inside given image size k write is =
-      let is_held = held_stays told t m.address m.word write made.extends made.keeps (side_held told old m side memory k write is) in
-      let inside : write.address < length (widths_of t.ops) = omega (arith, is_held.address.there, widths_count t.ops) in
+      let is_held =
+      held_stays told t m.address m.word write made.extends made.keeps (side_held told old m side memory k write is) in
+      let inside : write.address < length (widths_of t.ops) =
+      omega (arith, is_held.address.there, widths_count t.ops) in
       let below = (words_of t given made.table).words write.address inside in
       let width = is_held.address.width_is in
       rw (size, ← width) below

@@ -1,5 +1,6 @@
 -- What a memory read means.
-use Rattle.std.proofs.Common.{◌≡◌, inl, inr, ℕ, suc, ◌<◌, List, [], ◌∷◌, length, slice_index, map, refl, ap, arith, sym, ◌∙◌}
+use Rattle.std.proofs.Common.{◌≡◌, inl, inr, ℕ, suc, ◌<◌, List, [], ◌∷◌, length, slice_index, map, refl, ap, arith, sym}
+use Rattle.std.proofs.Common.{◌∙◌}
 use Rattle.std.specs.Prelude.{Bool, true, false, Some, ◌==◌, if◌then◌else◌, slice_get, slice_set}
 use Rattle.std.proofs.lemmas.Bool.Decides.{eqb_tells}
 use Rattle.std.proofs.lemmas.List.{get_or-set_same, get_or-set_other, length-set}
@@ -38,13 +39,15 @@ chosen t given a b s w v next same has =
 -- the value over the base reads
 pub base_meaning : (t : Table) (given : Given) (address : ℕ) (reads : List Held) (same : List ℕ) (base : ℕ)
     (made : List ℕ) (value : ℕ) → AreSame t address reads same → IsBaseValue t reads same base made value
-    → term_value t given value ≡ first_at (map (valued t given) reads) (term_value t given address) (term_value t given base)
+    → term_value t given value
+    ≡ first_at (map (valued t given) reads) (term_value t given address) (term_value t given base)
 base_meaning t given address [] [] base made value are is = ap (term_value t given) is.1
 base_meaning t given address [] (s ∷ same) base made value are is = absurd is
 base_meaning t given address (read ∷ newer) [] base made value are is = absurd is
 base_meaning t given address (read ∷ newer) (s ∷ same) base made value are is =
     chosen t given address read.address s read.word is.1 value are.0 is.4
-    ∙ ap (λ n. if term_value t given address == term_value t given read.address then term_value t given read.word else n)
+    ∙ ap
+    (λ n. if term_value t given address == term_value t given read.address then term_value t given read.word else n)
     (base_meaning t given address newer same base is.0 is.1 are.1 is.3)
 
 -- a place of a list that was written

@@ -1,5 +1,6 @@
 -- Every image is reached.
-use Rattle.std.proofs.Common.{◌≡◌, ◌≢◌, inl, inr, ℕ, zero, suc, ◌<◌, ◌%◌, ◌^◌, List, [], ◌∷◌, take, slice_index, map, refl, ap, arith, sym, ◌∙◌}
+use Rattle.std.proofs.Common.{◌≡◌, ◌≢◌, inl, inr, ℕ, zero, suc, ◌<◌, ◌%◌, ◌^◌, List, [], ◌∷◌, take, slice_index, map}
+use Rattle.std.proofs.Common.{refl, ap, arith, sym, ◌∙◌}
 use Rattle.std.specs.Prelude.{Bool, Some, ◌==◌, if◌then◌else◌, slice_get}
 use Rattle.std.proofs.lemmas.Bool.Decides.{eqb_tells}
 use Rattle.std.proofs.lemmas.Option.{same_Some}
@@ -102,8 +103,8 @@ all_hold t w image given (first ∷ newer) table below good rising zero read is 
     rw (← same) (first_holds t w image given first newer table below good rising)
 all_hold t w image given (first ∷ newer) table below good rising (suc k) read is =
     all_hold t w image
-    (set_to given (variable_number t first.word) (slice_index image (term_value t given first.address))) newer table below
-    (λ i other at. good (suc i) other at)
+    (set_to given (variable_number t first.word) (slice_index image (term_value t given first.address)))
+    newer table below (λ i other at. good (suc i) other at)
     (λ i j one two at_one at_two before. rising (suc i) (suc j) one two at_one at_two (omega (arith, before)))
     k read is
 
@@ -111,7 +112,8 @@ all_hold t w image given (first ∷ newer) table below good rising (suc k) read 
 first_fits : (t : Table) (given : Given) (image : List ℕ) (hs : List Held) (address otherwise : ℕ)
     → ((k : ℕ) (h : Held) → slice_get hs k ≡ Some h
     → term_value t given h.word ≡ slice_index image (term_value t given h.address))
-    → otherwise ≡ slice_index image address → first_at (map (valued t given) hs) address otherwise ≡ slice_index image address
+    → otherwise ≡ slice_index image address
+    → first_at (map (valued t given) hs) address otherwise ≡ slice_index image address
 first_fits t given image [] address otherwise hold is = is
 first_fits t given image (h ∷ rest) address otherwise hold is =
     let rest_is = first_fits t given image rest address otherwise (λ k other at. hold (suc k) other at) is in

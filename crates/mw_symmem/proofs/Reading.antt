@@ -4,12 +4,15 @@ use Rattle.mw_term.specs.declared.kinds.WordKind.TheVariants.{Base}
 use Rattle.mw_term.specs.declared.word.Word.{Word}
 use Rattle.mw_term.specs.MemoryRead.{Held, held}
 use Rattle.mw_term.specs.Table.{Table}
-use Rattle.mw_term.specs.WordList.{Ended, ended, kept_read, list_of, memory_read_words, over_reads, over_writes, with_same, with_variable}
+use Rattle.mw_term.specs.WordList.{Ended, ended, kept_read, list_of, memory_read_words, over_reads, over_writes}
+use Rattle.mw_term.specs.WordList.{with_same, with_variable}
 use Rattle.mw_symmem.specs.Listed.{Lists, ListsAll}
 
-pub read_listed : (width address base middle value : ℕ) (reads writes : List Held) (same : List ℕ) (t0 t1 t2 t3 t4 : Table)
-    (w0 w1 w2 w3 w4 : List Word) → ListsAll (with_same address reads) t0 t1 w0 w1 same
-    → Lists (with_variable (Base (length reads)) width) t1 t2 w1 w2 base → Lists (over_reads reads same base) t2 t3 w2 w3 middle
+pub read_listed : (width address base middle value : ℕ) (reads writes : List Held) (same : List ℕ)
+    (t0 t1 t2 t3 t4 : Table) (w0 w1 w2 w3 w4 : List Word)
+    → ListsAll (with_same address reads) t0 t1 w0 w1 same
+    → Lists (with_variable (Base (length reads)) width) t1 t2 w1 w2 base
+    → Lists (over_reads reads same base) t2 t3 w2 w3 middle
     → Lists (over_writes address writes middle) t3 t4 w3 w4 value
     → ended value (list_of t4.ops w4 (reads ++ held address base ∷ []))
     ≡ memory_read_words width address writes (list_of t0.ops w0 reads)

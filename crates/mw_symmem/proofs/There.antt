@@ -21,7 +21,8 @@ length_listed f (suc n) = ap suc (length_listed (λ k. f (suc k)) n)
 listed_at : (f : ℕ → ℕ) (n k : ℕ) → ((beyond : ℕ) → n ≤ beyond → f beyond ≡ 0) → slice_index (listed f n) k ≡ f k
 listed_at f zero k none = sym (none k (omega arith))
 listed_at f (suc n) zero none = refl
-listed_at f (suc n) (suc k) none = listed_at (λ i. f (suc i)) n k (λ beyond past. none (suc beyond) (omega (arith, past)))
+listed_at f (suc n) (suc k) none =
+    listed_at (λ i. f (suc i)) n k (λ beyond past. none (suc beyond) (omega (arith, past)))
 
 -- no read is at an address of more bits
 none_beyond : (t : Table) (given : Given) (a w : ℕ) (reads : List Held) (address : ℕ) → IsTable t → AreHeld t a w reads

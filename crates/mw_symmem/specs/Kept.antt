@@ -13,7 +13,9 @@ with_number numbers term number other =
     if term == other then Some (unwrap_or (numbers other) number) else numbers other
 
 -- the two maps answer as the list does, and no two of its variables have one kind
-pub record AreMapsOf {S R : Type 0} (words : List Word) (by_term : HashMap ℕ ℕ S) (by_kind : HashMap Key ℕ R) : Type 0 where
+pub record AreMapsOf {
+    S R : Type 0
+    } (words : List Word) (by_term : HashMap ℕ ℕ S) (by_kind : HashMap Key ℕ R) : Type 0 where
   pub numbers : (term : ℕ) → get nat_eq by_term term ≡ word_number words term
   pub terms : (kind : WordKind) → get_by (λ key. same_kind kind key.0) by_kind ≡ term_of words kind
   pub own : HaveOwnKinds words

@@ -16,7 +16,8 @@ Lists said told tnew wold wnew term =
     (reads : List Held) → ended term (list_of tnew.ops wnew reads) ≡ said (list_of told.ops wold reads)
 
 -- the same of several terms
-abbrev pub ListsAll : (said : WordList → AllEnded) → (told tnew : Table) → (wold wnew : List Word) → (terms : List ℕ) → Type 0
+abbrev pub ListsAll : (said : WordList → AllEnded)
+    → (told tnew : Table) → (wold wnew : List Word) → (terms : List ℕ) → Type 0
 ListsAll said told tnew wold wnew terms =
     (reads : List Held)
     → ((said (list_of told.ops wold reads)).list ≡ list_of tnew.ops wnew reads)
@@ -28,8 +29,8 @@ abbrev pub ListsOver : (said : WordList → Ended) → (told tnew : Table) → (
 ListsOver said told tnew wold wnew mold mnew term = ended term (list_in tnew wnew mnew) ≡ said (list_in told wold mold)
 
 -- and of several terms
-abbrev pub ListsAllOver : (said : WordList → AllEnded) → (told tnew : Table) → (wold wnew : List Word) → (mold mnew : Memory)
-    → (terms : List ℕ) → Type 0
+abbrev pub ListsAllOver : (said : WordList → AllEnded)
+    → (told tnew : Table) → (wold wnew : List Word) → (mold mnew : Memory) → (terms : List ℕ) → Type 0
 ListsAllOver said told tnew wold wnew mold mnew terms =
     ((said (list_in told wold mold)).list ≡ list_in tnew wnew mnew)
     × ((said (list_in told wold mold)).terms ≡ terms)

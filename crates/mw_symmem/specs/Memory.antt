@@ -1,5 +1,6 @@
 -- One base image under the writes of two sides.
-use Rattle.std.specs.Prelude.{◌≡◌, ℕ, ◌+◌, ◌<◌, ◌≤◌, ◌^◌, List, [], ◌∷◌, ◌++◌, length, map, take, Some, slice_get, slice_index}
+use Rattle.std.specs.Prelude.{◌≡◌, ℕ, ◌+◌, ◌<◌, ◌≤◌, ◌^◌, List, [], ◌∷◌, ◌++◌, length, map, take, Some, slice_get}
+use Rattle.std.specs.Prelude.{slice_index}
 use Rattle.std.specs.Prelude.{slice_set, Option, ◌==◌, if◌then◌else◌}
 use Rattle.mw_term.specs.declared.kinds.WordKind.TheVariants.{Base}
 use Rattle.mw_term.specs.declared.op.Op.{Op}
@@ -119,7 +120,8 @@ variable_number t term = op_number (slice_get t.ops term)
 -- a term has one value under assignments that agree on the numbers before this one
 abbrev pub DependsBefore : Table → (number term : ℕ) → Type 0
 DependsBefore t number term =
-    (given other : Given) → ((n : ℕ) → n < number → given n ≡ other n) → term_value t given term ≡ term_value t other term
+    (given other : Given)
+    → ((n : ℕ) → n < number → given n ≡ other n) → term_value t given term ≡ term_value t other term
 
 -- A base read of this number: its word is the list's variable of that kind, and its address depends only on
 -- variables before it.
@@ -149,8 +151,8 @@ pub record Has (t : Table) (op : Op) (term : ℕ) : Type 0 where
   pub is : IsTermOf t t op term
   pub op_is : slice_get t.ops term ≡ Some op
 
--- The words that a memory read adds to a list: some that are no variables, the variable of the next base read, and others
--- that are none.
+-- The words that a memory read adds to a list: some that are no variables, the variable of the next base read, and
+-- others that are none.
 pub record AddsRead (old new : List Word) (m : Memory) : Type 0 where
   pub same : List ℕ
   pub base : ℕ

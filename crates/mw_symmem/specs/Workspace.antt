@@ -35,7 +35,8 @@ pub record ReadsMore (old new : Memory) : Type 0 where
 
 -- A run went on from one workspace to another: terms, words and base reads were added behind those that there were, and
 -- the variables among these words are of these kinds.
-pub record GoesOn (IsKind : WordKind → Type 0) (told tnew : Table) (wold wnew : List Word) (mold mnew : Memory) : Type 0 where
+pub record GoesOn (IsKind : WordKind → Type 0) (told tnew : Table) (wold wnew : List Word)
+    (mold mnew : Memory) : Type 0 where
   pub later : IsLater told tnew
   pub more : List Word
   pub words : wnew ≡ wold ++ more

@@ -1,5 +1,6 @@
 // Laws of symbolic memory.
-ghost use Rattle.mw_symmem.specs.Memory.{ImagesAreReached, ImagesAreThere, IsMemoryAtFirst, StaysWithWords, StaysWithWrites};
+ghost use Rattle.mw_symmem.specs.Memory.{ImagesAreReached, ImagesAreThere, IsMemoryAtFirst, StaysWithWords};
+ghost use Rattle.mw_symmem.specs.Memory.{StaysWithWrites};
 ghost use Rattle.mw_symmem.specs.Words.{AreOfAtFirst};
 ghost use Rattle.mw_symmem.specs.Workspace.{ImagesFitBefore, ReadsStay};
 
@@ -25,7 +26,8 @@ pub fn is_memory_at_first()
     ensures { IsMemoryAtFirst }
 {}
 
-/// The law of words: a memory is one over a table that has grown, and with more words that are no base reads' variables.
+/// The law of words: a memory is one over a table that has grown, and with more words that are no base
+/// reads' variables.
 pub fn stays_with_words()
     ensures { StaysWithWords }
 {}

@@ -8,7 +8,8 @@ ghost use Rattle.mw_term.specs.declared.word.Word.{Word};
 ghost use Rattle.mw_term.specs.WordList.{ended, list_of, memory_read_words};
 ghost use Rattle.mw_symmem.specs.Listed.{list_in, ListsOver};
 ghost use Rattle.mw_symmem.specs.Memory.{base_word, FitImage, IsImage};
-ghost use Rattle.mw_symmem.specs.Memory.{memory_of, writes_of, with_read, with_write, AddsRead, IsMemory, IsOfWidth, IsRead};
+ghost use Rattle.mw_symmem.specs.Memory.{memory_of, writes_of, with_read, with_write, AddsRead, IsMemory, IsOfWidth};
+ghost use Rattle.mw_symmem.specs.Memory.{IsRead};
 ghost use Rattle.mw_symmem.specs.Steps.{IsMade};
 ghost use Rattle.mw_symmem.specs.Words.{AreOf};
 
@@ -89,7 +90,8 @@ impl SymMemory {
             IsMade terms.old terms.new words.old words.new self.now side address made.base made.value) }
         ensures listed { IfOk result (λ made. ended made.value
             (list_of terms.new.ops words.new (self.now.reads ++ held address made.base ∷ []))
-            ≡ memory_read_words self.now.word address (writes_of self.now side) (list_in terms.old words.old self.now)) }
+            ≡ memory_read_words self.now.word address (writes_of self.now side)
+            (list_in terms.old words.old self.now)) }
     {
         let number = self.reads.len() as u32;
         let same = same(alloc, &self.reads, address, terms, words)?;

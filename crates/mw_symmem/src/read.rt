@@ -35,10 +35,12 @@ pub(crate) fn same(
     terms: &mut Terms,
     words: &mut Words,
 ) -> Result<Vec<Term>, NoMemory>
-    requires { (k : ℕ) (read : kept.Held) → slice_get reads.now k ≡ Some read → Fits terms.old (Eq address read.address) }
+    requires { (k : ℕ) (read : kept.Held)
+        → slice_get reads.now k ≡ Some read → Fits terms.old (Eq address read.address) }
     ensures grows { IfOk result (λ same. Grows terms.old terms.new words.old words.new same.items) }
     ensures are { IfOk result (λ same. AreSame terms.new address reads.now same.items) }
-    ensures listed { IfOk result (λ same. ListsAll (with_same address reads.now) terms.old terms.new words.old words.new same.items) }
+    ensures listed { IfOk result
+        (λ same. ListsAll (with_same address reads.now) terms.old terms.new words.old words.new same.items) }
 {
     let mut same = Vec::new(alloc);
     for read in reads {

@@ -1,5 +1,6 @@
 // The words of a case.
-ghost use Rattle.std.specs.Prelude.{◌≡◌, ℕ, ◌+◌, [], ◌∷◌, ◌++◌, length, None, Some, slice_get, nat_eq, if◌then◌else◌, IfOk, OnOk, OnErr};
+ghost use Rattle.std.specs.Prelude.{◌≡◌, ℕ, ◌+◌, [], ◌∷◌, ◌++◌, length, None, Some, slice_get, nat_eq, if◌then◌else◌};
+ghost use Rattle.std.specs.Prelude.{IfOk, OnOk, OnErr};
 ghost use Rattle.std.specs.HashMap.{get, get_by};
 ghost use Rattle.mw_term.specs.declared.op.Op.TheVariants.{Var};
 ghost use Rattle.mw_term.specs.Table.{Extends, Fits, IsWidth, IsTable};

@@ -16,20 +16,20 @@ use Rattle.mw_term.proofs.Tables.{widths_append, widths_begin, values_append, va
 use Rattle.mw_term.proofs.Tables.{values_push, values_count, words_before, words_of, widths_range, terms_have_ops}
 
 -- there is a width for each term
-pub kept_inside : (ops : List Op) (widths map : List ℕ) (term : ℕ) → IsTableWithWidths ops widths map → term < length ops
-    → term < length widths
+pub kept_inside : (ops : List Op) (widths map : List ℕ) (term : ℕ)
+    → IsTableWithWidths ops widths map → term < length ops → term < length widths
 kept_inside ops widths map term kept inside = omega (arith, inside, ap length kept.widths ∙ widths_count ops)
 
 -- which is the term's
-pub kept_width : (ops : List Op) (widths map : List ℕ) (term w : ℕ) → IsTableWithWidths ops widths map → term < length ops
-    → w ≡ get_or widths term w → w ≡ term_width (table_of ops map) term
+pub kept_width : (ops : List Op) (widths map : List ℕ) (term w : ℕ) → IsTableWithWidths ops widths map
+    → term < length ops → w ≡ get_or widths term w → w ≡ term_width (table_of ops map) term
 kept_width ops widths map term w kept inside read =
     get_or_read widths term w (kept_inside ops widths map term kept inside) read 0
     ∙ ap (λ ws. slice_index ws term) kept.widths
 
 -- and is 1 to 32 bits
-pub kept_range : (ops : List Op) (widths map : List ℕ) (term w : ℕ) → IsTableWithWidths ops widths map → term < length ops
-    → w ≡ get_or widths term w → IsWidth w
+pub kept_range : (ops : List Op) (widths map : List ℕ) (term w : ℕ)
+    → IsTableWithWidths ops widths map → term < length ops → w ≡ get_or widths term w → IsWidth w
 kept_range ops widths map term w kept inside read =
     let is : w ≡ term_width (table_of ops map) term = kept_width ops widths map term w kept inside read in
     let there : term < length (widths_of ops) = omega (arith, inside, widths_count ops) in
@@ -51,22 +51,22 @@ widths_take ops n within =
     ∙ take_all n front (omega (arith, size))
 
 -- the op at a place fits the terms before it
-pub kept_fits : (ops : List Op) (widths map : List ℕ) (place : ℕ) (op : Op) → IsTableWithWidths ops widths map → place < length ops
-    → op ≡ get_or ops place op → OpFits map (take place widths) op
+pub kept_fits : (ops : List Op) (widths map : List ℕ) (place : ℕ) (op : Op) → IsTableWithWidths ops widths map
+    → place < length ops → op ≡ get_or ops place op → OpFits map (take place widths) op
 kept_fits ops widths map place op kept inside read =
     let fits = kept.table.fit place op (slice_get_read ops (length ops) place op refl inside read) in
     rw (kept.widths, widths_take ops place (omega arith)) fits
 
 -- and the terms that there are
-pub kept_op : (ops : List Op) (widths map : List ℕ) (term : ℕ) (op : Op) → IsTableWithWidths ops widths map → term < length ops
-    → op ≡ get_or ops term op → Fits (table_of ops map) op
+pub kept_op : (ops : List Op) (widths map : List ℕ) (term : ℕ) (op : Op)
+    → IsTableWithWidths ops widths map → term < length ops → op ≡ get_or ops term op → Fits (table_of ops map) op
 kept_op ops widths map term op kept inside read =
     let here : slice_get ops term ≡ Some op = slice_get_read ops (length ops) term op refl inside read in
     (terms_have_ops (table_of ops map) term op kept.table here).fits
 
 -- and these have words
-pub kept_words : (ops : List Op) (widths map values : List ℕ) (given : Given) (place : ℕ) → IsTableWithWidths ops widths map
-    → place < length ops
+pub kept_words : (ops : List Op) (widths map values : List ℕ) (given : Given) (place : ℕ)
+    → IsTableWithWidths ops widths map → place < length ops
     → values ≡ values_of map given (take place ops) → AreWords (take place widths) values
 kept_words ops widths map values given place kept inside so_far =
     rw (kept.widths, widths_take ops place (omega arith), so_far)

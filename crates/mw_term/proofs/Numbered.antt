@@ -1,5 +1,6 @@
 -- Each term of a list that is no constant has a word, whatever is added.
-use Rattle.std.proofs.Common.{◌≡◌, inl, inr, ℕ, suc, ◌+◌, ◌-◌, ◌<◌, List, [], ◌∷◌, ◌++◌, length, length-append, refl, ap, arith, sym, ◌∙◌}
+use Rattle.std.proofs.Common.{◌≡◌, inl, inr, ℕ, suc, ◌+◌, ◌-◌, ◌<◌, List, [], ◌∷◌, ◌++◌, length, length-append, refl}
+use Rattle.std.proofs.Common.{ap, arith, sym, ◌∙◌}
 use Rattle.std.specs.Prelude.{Bool, true, false, ◌==◌, if◌then◌else◌, unwrap_or, Option, Some, None, IsSome, slice_get}
 use Rattle.std.proofs.lemmas.Bool.{false≢true}
 use Rattle.std.proofs.lemmas.Bool.Decides.{nat_tests}
@@ -9,8 +10,12 @@ use Rattle.mw_term.specs.declared.op.Op.{Op}
 use Rattle.mw_term.specs.declared.op.Op.TheVariants.{Con, Var, Sum, Eq, Ite, Part, Join}
 use Rattle.mw_term.specs.declared.word.Word.{Word}
 use Rattle.mw_term.specs.MemoryRead.{Held}
-use Rattle.mw_term.specs.Numbered.{is_constant, IsNumbered, StaysWithConstants, StaysWithWords, StaysWithVariables, StaysWithReads}
-use Rattle.mw_term.specs.WordList.{WordList, ended, list_of, plain, variable, number_from, word_number, term_of, with_constant, with_variable, variable_or, with_input, with_word, with_sum, with_part, with_zeros_above, with_same, over_reads, over_write, over_writes, with_base, memory_read_words}
+use Rattle.mw_term.specs.Numbered.{is_constant, IsNumbered, StaysWithConstants, StaysWithWords, StaysWithVariables}
+use Rattle.mw_term.specs.Numbered.{StaysWithReads}
+use Rattle.mw_term.specs.WordList.{WordList, ended, list_of, plain, variable, number_from, word_number, term_of}
+use Rattle.mw_term.specs.WordList.{with_constant, with_variable, variable_or, with_input, with_word, with_sum}
+use Rattle.mw_term.specs.WordList.{with_part, with_zeros_above, with_same, over_reads, over_write, over_writes}
+use Rattle.mw_term.specs.WordList.{with_base, memory_read_words}
 use Rattle.mw_term.proofs.Pushed.{pushed, number_push}
 
 -- ---- one more

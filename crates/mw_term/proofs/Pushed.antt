@@ -1,5 +1,6 @@
 -- Lists with one item more.
-use Rattle.std.proofs.Common.{◌≡◌, ◌⊎◌, inl, inr, ℕ, zero, suc, ◌+◌, ◌<◌, List, [], ◌∷◌, ◌++◌, length, refl, ap, arith, ◌∙◌}
+use Rattle.std.proofs.Common.{◌≡◌, ◌⊎◌, inl, inr, ℕ, zero, suc, ◌+◌, ◌<◌, List, [], ◌∷◌, ◌++◌, length, refl, ap, arith}
+use Rattle.std.proofs.Common.{◌∙◌}
 use Rattle.std.specs.Prelude.{Bool, true, false, ◌==◌, Option, Some, None, slice_get, unwrap_or, if◌then◌else◌}
 use Rattle.std.proofs.lemmas.Option.{same_Some}
 use Rattle.mw_term.specs.declared.word.Word.{Word}
@@ -39,11 +40,13 @@ number_head false own k n found = refl
 
 pub number_push : (k : ℕ) (words : List Word) (w : Word) (term : ℕ)
     → number_from k (words ++ w ∷ []) term
-    ≡ (if w.term == term then Some (unwrap_or (number_from k words term) (k + length words)) else number_from k words term)
+    ≡ (if w.term == term then Some (unwrap_or (number_from k words term) (k + length words))
+    else number_from k words term)
 number_push k [] w term = ap (λ n. if w.term == term then Some n else None) (omega arith)
 number_push k (x ∷ words) w term =
     ap (λ found. if x.term == term then Some k else found)
     (number_push (k + 1) words w term
-    ∙ ap (λ n. if w.term == term then Some (unwrap_or (number_from (k + 1) words term) n) else number_from (k + 1) words term)
+    ∙ ap (λ n.
+    if w.term == term then Some (unwrap_or (number_from (k + 1) words term) n) else number_from (k + 1) words term)
     (omega arith))
     ∙ number_head (x.term == term) (w.term == term) k (k + length (x ∷ words)) (number_from (k + 1) words term)

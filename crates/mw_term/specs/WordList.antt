@@ -1,6 +1,7 @@
--- The words of a case, under way. They are numbered from 1. A constant is no word: it stands among the terms before what
--- it is needed for.
-use Rattle.std.specs.Prelude.{ℕ, ◌+◌, ◌-◌, List, [], ◌∷◌, ◌++◌, length, ◌==◌, if◌then◌else◌, Bool, true, false, Option, Some, None}
+-- The words of a case, under way. They are numbered from 1. A constant is no word: it stands among the terms before
+-- what it is needed for.
+use Rattle.std.specs.Prelude.{ℕ, ◌+◌, ◌-◌, List, [], ◌∷◌, ◌++◌, length, ◌==◌, if◌then◌else◌, Bool, true, false, Option}
+use Rattle.std.specs.Prelude.{Some, None}
 use Rattle.mw_term.specs.declared.kinds.WordKind.{WordKind}
 use Rattle.mw_term.specs.declared.kinds.WordKind.TheVariants.{Element, Line, Noise, Base, Input, Probe}
 use Rattle.mw_term.specs.declared.op.Op.{Op}
@@ -131,8 +132,8 @@ with_same address (read ∷ newer) l =
     let others = with_same address newer first.list in
     record { list = others.list; terms = first.term ∷ others.terms }
 
--- From the newest of some base reads to the oldest: where the address is that read's, its variable, and else the value so
--- far, which begins as a variable of its own.
+-- From the newest of some base reads to the oldest: where the address is that read's, its variable, and else the value
+-- so far, which begins as a variable of its own.
 abbrev pub over_reads : (reads : List Held) → (same : List ℕ) → (base : ℕ) → WordList → Ended
 over_reads [] same base l = ended base l
 over_reads (read ∷ newer) [] base l = ended base l

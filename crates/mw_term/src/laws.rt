@@ -4,7 +4,8 @@ ghost use Rattle.mw_term.specs.Examples.{RowsAsWritten};
 ghost use Rattle.mw_term.specs.Laws.{CountsAreApart, FixedAreBefore, LaterHasTwo, MapsAreShort, OpsAreWords};
 ghost use Rattle.mw_term.specs.Laws.{RowsMakeValues, TerminalCasesHaveNone, TermsHaveOps, TermsHaveWidths};
 ghost use Rattle.mw_term.specs.Laws.{VariableHasOne};
-ghost use Rattle.mw_term.specs.Numbered.{IsNumbered, StaysWithConstants, StaysWithReads, StaysWithVariables, StaysWithWords};
+ghost use Rattle.mw_term.specs.Numbered.{IsNumbered, StaysWithConstants, StaysWithReads, StaysWithVariables};
+ghost use Rattle.mw_term.specs.Numbered.{StaysWithWords};
 ghost use Rattle.mw_term.specs.WordList.{list_of};
 
 /// The law of terms: each term of a table has the width and, under every assignment, the value of its op, and no more

@@ -4,4 +4,6 @@ use Rattle.mw_asm.specs.Views.{known_seen}
 use Rattle.mw_asm.proofs.first_pass.first_pass.Given as goal
 
 abbrev pub invariant-loop-line : goal.invariant-loop-line
-invariant-loop-line l = first_pass l.board.fields l.text (known_seen l.known) (drop l.line-index l.lines) ≡ first_pass l.board.fields l.text at_first l.lines
+invariant-loop-line l =
+    first_pass l.board.fields l.text (known_seen l.known) (drop l.line-index l.lines)
+    ≡ first_pass l.board.fields l.text at_first l.lines

@@ -8,4 +8,8 @@ use Rattle.mw_asm.proofs.listed.listing.Goals.{then-is_used+in_ok-push_line, els
 pub loop-at-preserved : goal.loop-at-preserved
 loop-at-preserved c =
     let more = lines_more (line_at c.args.board.now c.args.made.now) c.args.made.now.used c.loop-at.at in
-    elim c.if-is_used.branch [ then-is_used+in_ok-push_line w ↦ let here = c.in_ok-names.ensures.each c.loop-at.at (omega arith) in grind (arith, common_steps, more, here, w.in_ok-push_line.ensures) | else-is_used w ↦ grind (arith, common_steps, more) ]
+    elim c.if-is_used.branch [
+      | then-is_used+in_ok-push_line w ↦ let here = c.in_ok-names.ensures.each c.loop-at.at (omega arith) in
+          grind (arith, common_steps, more, here, w.in_ok-push_line.ensures)
+      | else-is_used w ↦ grind (arith, common_steps, more)
+    ]

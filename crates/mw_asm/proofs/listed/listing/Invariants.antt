@@ -4,4 +4,6 @@ use Rattle.mw_asm.specs.Listing.{line_at}
 use Rattle.mw_asm.proofs.listed.listing.Given as goal
 
 abbrev pub invariant-loop-at : goal.invariant-loop-at
-invariant-loop-at l = l.text.items ≡ flat_map (line_at l.board l.made) (filter (λ at. get_or l.made.used at false) (range_with_len 0 l.at))
+invariant-loop-at l =
+    l.text.items
+    ≡ flat_map (line_at l.board l.made) (filter (λ at. get_or l.made.used at false) (range_with_len 0 l.at))

@@ -12,9 +12,10 @@ loop-at-preserved c = record {
 
 pub returns-clause-pushed : goal.returns-clause-pushed
 returns-clause-pushed c =
-    sym (line_done c.loop-at.tokens.items c.args.number c.args.start c.loop-at.at c.args.line.now c.loop-at-test.false) ∙ c.loop-at.invariant.reads
+    sym (line_done c.loop-at.tokens.items c.args.number c.args.start c.loop-at.at c.args.line.now c.loop-at-test.false)
+    ∙ c.loop-at.invariant.reads
 
 pub returns-clause-ordered : goal.returns-clause-ordered
 returns-clause-ordered c = λ text front is old.
-    in_order_on text (c.args.start + c.loop-at.at) (c.args.start + length c.args.line.now) _ (c.loop-at.invariant.ordered text front is old)
-    (omega (arith, c.loop-at.invariant.inside))
+    in_order_on text (c.args.start + c.loop-at.at) (c.args.start + length c.args.line.now) _
+    (c.loop-at.invariant.ordered text front is old) (omega (arith, c.loop-at.invariant.inside))

@@ -9,7 +9,8 @@ invariant-loop-at l = record {
   reads : with_front l.tokens.items (tokens_from l.number l.start l.at 0 (drop l.at l.line))
       ≡ with_front l.initial.tokens.items (tokens_from l.number l.start 0 0 l.line);
   ordered : (text : List ℕ) (front : List Token) → slice text l.start (l.start + length l.line) ≡ l.line
-      → InOrder text l.start (front ++ l.initial.tokens.items) → InOrder text (l.start + l.at) (front ++ l.tokens.items);
+      → InOrder text l.start (front ++ l.initial.tokens.items)
+      → InOrder text (l.start + l.at) (front ++ l.tokens.items);
   inside : l.at ≤ length l.line;
 }
 

@@ -8,4 +8,5 @@ returns-in_ok-push-clause-ordered c = λ text front spells old.
     let next = place + c.args.piece.length in
     let spelled = spells c.in-Some.kind c.in-Some.is in
     rw c.in_ok-push.ensures.items
-    (in_order_push text place next front c.args.tokens.now.items _ old (omega arith) (omega (arith, c.requires.some)) (omega arith) spelled)
+    (in_order_push text place next front c.args.tokens.now.items _ old (omega arith) (omega (arith, c.requires.some))
+    (omega arith) spelled)

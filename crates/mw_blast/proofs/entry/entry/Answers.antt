@@ -39,8 +39,8 @@ loop-place-preserved c =
 pub returns-in-Err-clause-made : goal.returns-in-Err-clause-made
 returns-in-Err-clause-made c = λ F stand.
     rw c.at.ensures
-    (refused_at (entry_row F (length c.args.index.now) c.args.map.now) 12 c.args.budget c.loop-place.place c.in-Err.fault
-    c.loop-place-test.true
+    (refused_at (entry_row F (length c.args.index.now) c.args.map.now)
+    12 c.args.budget c.loop-place.place c.in-Err.fault c.loop-place-test.true
     (c.in-Err.ensures.made F (stay_each _ _ _ F c.loop-place.invariant.keeps stand)))
 
 pub returns-in-Err-clause-keeps : goal.returns-in-Err-clause-keeps

@@ -39,8 +39,8 @@ returns-in_err-left-2-clause-made c = λ F stand.
     (refused_left c.args.dds.now now c.args.index.now (bits_at c.args.place c.args.map.now) c.loop-chosen.chosen-index x
     c.args.budget c.loop-chosen.left.items c.in_err-left-2.field-0.0 c.loop-chosen.invariant c.loop-chosen-test.true
     (get_or_read c.args.index.now c.loop-chosen.chosen-index x c.loop-chosen-test.true c.chosen-item.is 0)
-    (subst (λ (xs : List ℕ). RefusesHalves now x c.args.budget xs c.in_err-left-2.field-0.0) c.deref.ensures.value c.in_err-left-2.ensures.made)
-    F stand)
+    (subst (λ (xs : List ℕ). RefusesHalves now x c.args.budget xs c.in_err-left-2.field-0.0)
+    c.deref.ensures.value c.in_err-left-2.ensures.made) F stand)
 
 pub returns-in_err-left-2-clause-keeps : goal.returns-in_err-left-2-clause-keeps
 returns-in_err-left-2-clause-keeps c = keeps-then _ _ _ c.loop-chosen.invariant.keeps c.halved.ensures.keeps

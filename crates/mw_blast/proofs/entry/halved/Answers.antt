@@ -52,13 +52,13 @@ returns-in_err-half-clause-made c = λ I fs i stand.
     get_or_read xs (2 * k) c.index-functions-pair.result (omega (arith, first)) c.index-functions-pair.is 0
     ∙ ap (slice_index xs) (omega arith) in
     handed_on c.from_residual.result _ _ _ c.from_residual.ensures.1
-    (half_refused I (length xs / 2) k fs c.args.budget _ (omega (arith, stand.count, c.requires.pairs)) c.loop-pair-test.true
-    (c.in_err-half.ensures.made I (function_at fs (k + k + 1)) (function_at fs (k + k))
+    (half_refused I (length xs / 2) k fs c.args.budget _ (omega (arith, stand.count, c.requires.pairs))
+    c.loop-pair-test.true (c.in_err-half.ensures.made I (function_at fs (k + k + 1)) (function_at fs (k + k))
     (stays old now c.args.chosen I c.loop-pair.invariant.keeps i)
-    (operand old now xs (k + k + 1) c.index-functions-pair-in-loop-pair.result (function_at fs) c.loop-pair.invariant.keeps
-    stand.each second at_second)
-    (operand old now xs (k + k) c.index-functions-pair.result (function_at fs) c.loop-pair.invariant.keeps stand.each first
-    at_first)))
+    (operand old now xs (k + k + 1) c.index-functions-pair-in-loop-pair.result
+    (function_at fs) c.loop-pair.invariant.keeps stand.each second at_second)
+    (operand old now xs (k + k) c.index-functions-pair.result
+    (function_at fs) c.loop-pair.invariant.keeps stand.each first at_first)))
 
 pub returns-in_err-half-clause-keeps : goal.returns-in_err-half-clause-keeps
 returns-in_err-half-clause-keeps c = keeps-then _ _ _ c.loop-pair.invariant.keeps c.operate.ensures.keeps
@@ -88,8 +88,8 @@ loop-pair-preserved c =
     get_or_read xs (2 * k) c.index-functions-pair.result (omega (arith, first)) c.index-functions-pair.is 0
     ∙ ap (slice_index xs) (omega arith) in
     rw c.in_ok-append.ensures (record {
-      there = each_push (λ i x. IsDd new x) ys one (stay_there now new ys c.operate.ensures.keeps c.loop-pair.invariant.there)
-          c.in_ok-half.ensures.there;
+      there = each_push (λ i x. IsDd new x) ys one
+          (stay_there now new ys c.operate.ensures.keeps c.loop-pair.invariant.there) c.in_ok-half.ensures.there;
       keeps = keeps-then old now new c.loop-pair.invariant.keeps c.operate.ensures.keeps;
       made = λ I fs i stand.
           let before = c.loop-pair.invariant.made I fs i stand in

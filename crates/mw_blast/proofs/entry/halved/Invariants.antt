@@ -10,6 +10,7 @@ invariant-loop-pair l = record {
   there : AreThere l.dds l.halves.items;
   keeps : Keeps l.initial.dds l.dds;
   made : (I : Function) (fs : List Function) → StandsFor l.initial.dds l.chosen I
-      → AreFor l.initial.dds (length fs) (function_at fs) l.functions → AreFor l.dds l.pair (half_at I fs) l.halves.items;
+      → AreFor l.initial.dds (length fs) (function_at fs) l.functions
+      → AreFor l.dds l.pair (half_at I fs) l.halves.items;
   count : length l.halves.items ≡ l.pair;
 }

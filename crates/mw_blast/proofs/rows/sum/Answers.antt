@@ -15,7 +15,8 @@ pub returns-in_err-inverse-clause-made : goal.returns-in_err-inverse-clause-made
 returns-in_err-inverse-clause-made c = λ A B K a b k.
     refused_first c.from_residual-in_err-inverse.result _ _ (xor_row A B) (inverse K ∷ [])
     (ite (made (difference A B)) (made (inverse K)) K ∷ next_carry A B K ∷ []) c.args.budget
-    c.from_residual-in_err-inverse.ensures.1 (c.in_err-inverse.ensures.made K (stays _ _ _ K c.difference.ensures.keeps k))
+    c.from_residual-in_err-inverse.ensures.1
+    (c.in_err-inverse.ensures.made K (stays _ _ _ K c.difference.ensures.keeps k))
 
 pub returns-in_err-bit-clause-made : goal.returns-in_err-bit-clause-made
 returns-in_err-bit-clause-made c = λ A B K a b k.
@@ -50,7 +51,8 @@ returns-clause-made c = λ A B K a b k.
     let third = c.operate.ensures.keeps in
     let differs = stays _ _ _ X second (c.in_ok-differs.ensures.made A B a b) in
     let into = stays _ _ _ K first k in
-    let bit = c.in_ok-bit.ensures.made X M K differs (c.in_ok-inverse.ensures.made K into) (stays _ _ _ K second into) in
+    let bit =
+    c.in_ok-bit.ensures.made X M K differs (c.in_ok-inverse.ensures.made K into) (stays _ _ _ K second into) in
     record {
       bit = stays _ _ _ (made (ite X M K)) c.operate-2.ensures.keeps bit;
       carried = c.in_ok-carried.ensures.made X K A (stays _ _ _ X third differs)

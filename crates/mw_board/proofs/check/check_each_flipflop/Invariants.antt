@@ -3,4 +3,6 @@ use Rattle.mw_board.specs.Check.{flipflops_from}
 use Rattle.mw_board.proofs.check.check_each_flipflop.Given as goal
 
 abbrev pub invariant-loop-i : goal.invariant-loop-i
-invariant-loop-i l = flipflops_from l.parts.width l.parts.fields (length l.parts.flipflop) (take l.i l.flipflops) l.i (drop l.i l.flipflops) ≡ flipflops_from l.parts.width l.parts.fields (length l.parts.flipflop) [] 0 l.flipflops
+invariant-loop-i l =
+    flipflops_from l.parts.width l.parts.fields (length l.parts.flipflop) (take l.i l.flipflops) l.i
+    (drop l.i l.flipflops) ≡ flipflops_from l.parts.width l.parts.fields (length l.parts.flipflop) [] 0 l.flipflops

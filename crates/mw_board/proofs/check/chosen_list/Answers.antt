@@ -9,9 +9,13 @@ pub returns-in_err-each : goal.returns-in_err-each
 unfolding list_check
 returns-in_err-each g c = λ test follows.
     let p = err_from_is_err_and c.from_residual-in_err-each.result c.from_residual-in_err-each.ensures.1 in
-    rw (p.1, p.2) (sym (second_fails _ (ap (place_of c.args.list 0) (sym c.chosen_rule.ensures) ∙ sym c.placed_in.ensures ∙ c.in_ok-placed_in.was) (sym (c.each.ensures test follows) ∙ c.in_err-each.was)))
+    rw (p.1, p.2) (sym (second_fails _ (ap (place_of c.args.list 0) (sym c.chosen_rule.ensures)
+    ∙ sym c.placed_in.ensures
+    ∙ c.in_ok-placed_in.was) (sym (c.each.ensures test follows) ∙ c.in_err-each.was)))
 
 pub returns : goal.returns
 unfolding list_check
 returns g c = λ test follows.
-    c.placed_in-2.ensures ∙ ap (place_of c.args.list 0) c.list_rule.ensures ∙ sym (third_answers (ap (place_of c.args.list 0) (sym c.chosen_rule.ensures) ∙ sym c.placed_in.ensures ∙ c.in_ok-placed_in.was) (sym (c.each.ensures test follows) ∙ c.in_ok-each.was))
+    c.placed_in-2.ensures ∙ ap (place_of c.args.list 0) c.list_rule.ensures ∙ sym (third_answers
+    (ap (place_of c.args.list 0) (sym c.chosen_rule.ensures) ∙ sym c.placed_in.ensures ∙ c.in_ok-placed_in.was)
+    (sym (c.each.ensures test follows) ∙ c.in_ok-each.was))

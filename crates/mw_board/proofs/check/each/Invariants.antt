@@ -8,4 +8,5 @@ abbrev pub invariant-loop-n : goal.invariant-loop-n
 invariant-loop-n g l =
     goal.F-IsAlwaysCallable g l.rule
     × ((test : g.row.T.Denot → Verdict) → Follows (goal.F-post g l.rule) test
-    → each_from (λ n entry. place_of l.list n (test entry)) l.n (drop l.n l.entries) ≡ each_from (λ n entry. place_of l.list n (test entry)) 0 l.entries)
+    → each_from (λ n entry. place_of l.list n (test entry)) l.n (drop l.n l.entries)
+    ≡ each_from (λ n entry. place_of l.list n (test entry)) 0 l.entries)

@@ -8,5 +8,6 @@ use Rattle.mw_board.proofs.element.flipflop_of.Goals as goal
 
 pub returns : goal.returns
 returns c =
-    position_from_yields_List (λ (f : FlipFlop). bytes_eq c.args.name.now f.name) _ _ c.position.result c.position.ensures.ran (YieldsList-from_slice _ c.iter.ensures.rest) (λ x b q k. search (rules, tests))
+    position_from_yields_List (λ (f : FlipFlop). bytes_eq c.args.name.now f.name) _ _ c.position.result
+    c.position.ensures.ran (YieldsList-from_slice _ c.iter.ensures.rest) (λ x b q k. search (rules, tests))
     ∙ sym (position-map (bytes_eq c.args.name.now) (λ (f : FlipFlop). f.name) c.args.flipflops.now)

@@ -9,5 +9,6 @@ use Rattle.mw_board.proofs.element.place_of.Goals as goal
 
 pub returns : goal.returns
 returns c =
-    position_from_yields_List (λ (other : Bor (List ℕ)). bytes_eq c.args.name.now other.now) _ _ c.position.result c.position.ensures.ran (YieldsList-from_slice _ c.iter.ensures.rest) (λ x b q k. search (rules, tests))
+    position_from_yields_List (λ (other : Bor (List ℕ)). bytes_eq c.args.name.now other.now) _ _ c.position.result
+    c.position.ensures.ran (YieldsList-from_slice _ c.iter.ensures.rest) (λ x b q k. search (rules, tests))
     ∙ sym (position-map (bytes_eq c.args.name.now) (λ (other : Bor (List ℕ)). other.now) c.args.names.now)

@@ -10,5 +10,8 @@ returns-in-Ok c = rw (is_utf8-from_IsUtf8 _ c.in-Ok.ensures.ok.0, c.in-Ok.ensure
 
 pub returns-in-Err : goal.returns-in-Err
 returns-in-Err c =
-    fails_from c.refusal_of.result no_document (document_or_fault (document_of c.args.bytes.now)) c.refusal_of.ensures.refused
-    (λ other. rw (none_from c.args.bytes.now (c.in-Err.ensures.refused (λ memory. other (c.refusal_of.ensures.memory memory)))) refl)
+    fails_from c.refusal_of.result no_document
+    (document_or_fault (document_of c.args.bytes.now)) c.refusal_of.ensures.refused
+    (λ other.
+    rw (none_from c.args.bytes.now (c.in-Err.ensures.refused (λ memory. other (c.refusal_of.ensures.memory memory))))
+    refl)

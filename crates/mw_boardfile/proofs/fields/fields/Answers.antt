@@ -12,13 +12,18 @@ use Rattle.mw_boardfile.proofs.fields.fields.Goals as goal
 pub returns-in-None-clause-gives : goal.returns-in-None-clause-gives
 returns-in-None-clause-gives c =
     let none : c.table_or_none.result ≡ Ok None = c.in_ok-table.ensures.came ∙ ap Ok c.in-None.is in
-    let read : table_or_none (given c.member.result) ≡ Ok no_members = subst (λ r. Answers members r (table_or_none (given c.member.result))) none c.table_or_none.ensures in
-    let there : table_or_none (get_member (codes "fields") (table_view c.args.document.now)) ≡ Ok no_members = subst (λ g. table_or_none g ≡ Ok no_members) c.member.ensures read in
-    no_fields c.args.microword (table_view c.args.document.now) there ∙ ap Ok (sym (c.from_vec.ensures ∙ c.new.ensures.items))
+    let read : table_or_none (given c.member.result) ≡ Ok no_members =
+    subst (λ r. Answers members r (table_or_none (given c.member.result))) none c.table_or_none.ensures in
+    let there : table_or_none (get_member (codes "fields") (table_view c.args.document.now)) ≡ Ok no_members =
+    subst (λ g. table_or_none g ≡ Ok no_members) c.member.ensures read in
+    no_fields c.args.microword (table_view c.args.document.now) there
+    ∙ ap Ok (sym (c.from_vec.ensures ∙ c.new.ensures.items))
 
 pub returns-in_ok-under_whole-in-Some-clause-kept : goal.returns-in_ok-under_whole-in-Some-clause-kept
 returns-in_ok-under_whole-in-Some-clause-kept c =
-    fields_all c.args.microword (table_view c.in-Some.table.now) c.each_field.result (ap fields_rule (sym c.count_of.ensures) ∙ sym c.fields_rule.ensures ∙ c.in_ok-under_whole-in-Some.ensures.came) c.each_field.ensures.names c.each_field.ensures.kept
+    fields_all c.args.microword (table_view c.in-Some.table.now) c.each_field.result
+    (ap fields_rule (sym c.count_of.ensures) ∙ sym c.fields_rule.ensures ∙ c.in_ok-under_whole-in-Some.ensures.came)
+    c.each_field.ensures.names c.each_field.ensures.kept
 
 pub returns-in-None-clause-kept : goal.returns-in-None-clause-kept
 returns-in-None-clause-kept c = rw (c.from_vec.ensures, c.new.ensures.items) (no_fields_keep c.args.microword)

@@ -6,4 +6,5 @@ use Rattle.mw_boardfile.proofs.flipflops.loads_of.Goals as goal
 
 pub returns-clause-kept : goal.returns-clause-kept
 returns-clause-kept c =
-    came_keeps (ListKeeps (load_rule c.args.width (length c.args.flipflops.now)) c.args.fields.now c.args.control) c.loads.result c.under_list.result c.under_list.ensures.came c.loads.ensures.kept
+    came_keeps (ListKeeps (load_rule c.args.width (length c.args.flipflops.now)) c.args.fields.now c.args.control)
+    c.loads.result c.under_list.result c.under_list.ensures.came c.loads.ensures.kept

@@ -15,7 +15,8 @@ returns-in_err-none_refused-clause-exact g c = λ reader reads.
 pub returns-in_err-none_refused-2-clause-exact : goal.returns-in_err-none_refused-2-clause-exact
 unfolding list_faults
 returns-in_err-none_refused-2-clause-exact g c = λ reader reads.
-    let p = err_from_is_err_and c.from_residual-in_err-none_refused-2.result c.from_residual-in_err-none_refused-2.ensures.1 in
+    let p =
+    err_from_is_err_and c.from_residual-in_err-none_refused-2.result c.from_residual-in_err-none_refused-2.ensures.1 in
     rw (
       p.1,
       p.2,
@@ -26,7 +27,8 @@ returns-in_err-none_refused-2-clause-exact g c = λ reader reads.
 pub returns-in_err-none_refused-3-clause-exact : goal.returns-in_err-none_refused-3-clause-exact
 unfolding list_faults
 returns-in_err-none_refused-3-clause-exact g c = λ reader reads.
-    let p = err_from_is_err_and c.from_residual-in_err-none_refused-3.result c.from_residual-in_err-none_refused-3.ensures.1 in
+    let p =
+    err_from_is_err_and c.from_residual-in_err-none_refused-3.result c.from_residual-in_err-none_refused-3.ensures.1 in
     rw (
       p.1,
       p.2,
@@ -52,7 +54,8 @@ returns-in_err-whole-clause-exact g c = λ reader reads.
 pub returns-in_err-none_refused-4-clause-exact : goal.returns-in_err-none_refused-4-clause-exact
 unfolding list_faults
 returns-in_err-none_refused-4-clause-exact g c = λ reader reads.
-    let p = err_from_is_err_and c.from_residual-in_err-none_refused-4.result c.from_residual-in_err-none_refused-4.ensures.1 in
+    let p =
+    err_from_is_err_and c.from_residual-in_err-none_refused-4.result c.from_residual-in_err-none_refused-4.ensures.1 in
     rw (
       p.1,
       p.2,
@@ -77,4 +80,6 @@ returns-clause-exact g c = λ reader reads.
     ) (c.whole-2.ensures.exact ∙ ap whole c.list_rule.ensures)
 
 pub returns-clause-kept : goal.returns-clause-kept
-returns-clause-kept g c = chosen_keeps c.args.fields.now c.args.control (length c.args.values.now) c.whole-2.result (sym c.chosen_rule.ensures ∙ c.in_ok-whole.ensures.came) (rw (← c.list_rule.ensures) c.whole-2.ensures.came)
+returns-clause-kept g c =
+    chosen_keeps c.args.fields.now c.args.control (length c.args.values.now) c.whole-2.result
+    (sym c.chosen_rule.ensures ∙ c.in_ok-whole.ensures.came) (rw (← c.list_rule.ensures) c.whole-2.ensures.came)

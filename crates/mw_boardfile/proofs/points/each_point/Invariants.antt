@@ -7,5 +7,6 @@ use Rattle.mw_boardfile.proofs.points.each_point.Given as goal
 
 abbrev pub invariant-loop-point : goal.invariant-loop-point
 invariant-loop-point l =
-    (each_point l.fields (members l.table) l.drivers (drop l.point-index l.points) ≡ each_point l.fields (members l.table) default_points l.points)
+    (each_point l.fields (members l.table) l.drivers (drop l.point-index l.points)
+    ≡ each_point l.fields (members l.table) default_points l.points)
     × DriversKeep l.fields l.drivers

@@ -7,9 +7,11 @@ use Rattle.mw_boardfile.proofs.reader.parts.Goals as goal
 pub returns-clause-kept : goal.returns-clause-kept
 returns-clause-kept c =
     let count = c.in_ok-flipflop.ensures.count in
-    let few = of_value (λ vs. Kept (flipflops_rule (length vs.now))) c.in_ok-tables.ensures.came c.tables.ensures.kept in
+    let few =
+    of_value (λ vs. Kept (flipflops_rule (length vs.now))) c.in_ok-tables.ensures.came c.tables.ensures.kept in
     let named = c.as_slice-named.ensures in
     let flips = c.in_ok-flipflop.ensures.kept in
     let lists = c.in_ok-lists.ensures.kept in
     let points = c.in_ok-control.ensures.kept in
-    parts_keep _ c.in_ok-sizes.ensures.kept c.in_ok-fields.ensures.kept (rw count few) (rw (count, ← named) flips) (rw (← named) points) (rw (count, ← named) lists) c.in_ok-map.ensures.kept
+    parts_keep _ c.in_ok-sizes.ensures.kept c.in_ok-fields.ensures.kept (rw count few) (rw (count, ← named) flips)
+    (rw (← named) points) (rw (count, ← named) lists) c.in_ok-map.ensures.kept

@@ -5,4 +5,5 @@ use Rattle.mw_boardfile.proofs.values.list.Goals as goal
 
 pub returns-in-Some : goal.returns-in-Some
 unfolding list
-returns-in-Some c = rw (c.as_slice.ensures.value, sym c.in-Some.ensures, values_of-items_view c.in-Some.array.now.items) refl
+returns-in-Some c =
+    rw (c.as_slice.ensures.value, sym c.in-Some.ensures, values_of-items_view c.in-Some.array.now.items) refl

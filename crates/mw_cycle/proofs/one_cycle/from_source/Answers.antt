@@ -5,7 +5,8 @@ use Rattle.mw_cycle.proofs.one_cycle.from_source.Goals as goal
 
 pub returns-in-Mar-clause-below : goal.returns-in-Mar-clause-below
 returns-in-Mar-clause-below c =
-    let word : c.args.state.now.mar < 2 ^ c.args.board.now.width = short_below _ _ _ c.width.ensures.valid.sizes.address_within c.requires.fits.mar in
+    let word : c.args.state.now.mar < 2 ^ c.args.board.now.width =
+    short_below _ _ _ c.width.ensures.valid.sizes.address_within c.requires.fits.mar in
     grind arith
 
 pub returns-in-Flip-clause-below : goal.returns-in-Flip-clause-below

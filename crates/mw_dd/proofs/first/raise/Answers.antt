@@ -22,5 +22,6 @@ returns c = record {
   own = on_ok_weaker c.set.result
       (λ e. rw (is_raised c e) (raised-own c.args.assignment.now c.args.variable)) c.set.ensures.ok;
   others = on_ok_weaker c.set.result
-      (λ e u differ. rw (is_raised c e) (raised-others c.args.assignment.now c.args.variable u differ)) c.set.ensures.ok;
+      (λ e u differ. rw (is_raised c e) (raised-others c.args.assignment.now c.args.variable u differ))
+      c.set.ensures.ok;
 }

@@ -30,7 +30,8 @@ returns-in-Some-find-clause-value t c =
     let done = found_done c.args.nodes.now c.args.memo.now c.in-Some-find.place c.args.t c.requires.settled
     c.in-Some-find.ensures.found in
     let one : done.result ≡ c.index.result.now =
-    sym (get_or_from_slice_get c.args.memo.now.results.items c.in-Some-find.place done.result c.index.result.now done.at)
+    sym
+    (get_or_from_slice_get c.args.memo.now.results.items c.in-Some-find.place done.result c.index.result.now done.at)
     ∙ sym c.index.ensures in
     subst (IsResult c.args.nodes.now c.args.t) one done.is
 
@@ -53,8 +54,8 @@ choose-requires t c =
     let memo1 = c.begin.new.self in
     let begun : IsBegun memo0 memo1 c.args.t =
     record { triples = c.in_ok-place.ensures.triples; results = c.in_ok-place.ensures.results } in
-    let keys = begun_keys n1 memo0 memo1 c.args.t begun c.requires.keys c.requires.there (c.in_default.ensures.none refl)
-    (c.in_default-find.ensures.absent refl) in
+    let keys = begun_keys n1 memo0 memo1 c.args.t begun c.requires.keys c.requires.there
+    (c.in_default.ensures.none refl) (c.in_default-find.ensures.absent refl) in
     let less = c.side-at_low.ensures.earlier in
     let settled = begun_settled n1 memo0 memo1 c.args.t begun c.requires.keys (size c.side-at_low.result) less
     c.requires.settled in
@@ -84,10 +85,12 @@ choose-requires-2 t c =
     let begun : IsBegun memo0 memo1 c.args.t =
     record { triples = c.in_ok-place.ensures.triples; results = c.in_ok-place.ensures.results } in
     let less = c.side-at_high.ensures.earlier in
-    let there = dds-grows n1 c.choose.new.nodes c.side-at_high.result c.in-Ok.ensures.grows c.side-at_high.ensures.there in
+    let there =
+    dds-grows n1 c.choose.new.nodes c.side-at_high.result c.in-Ok.ensures.grows c.side-at_high.ensures.there in
     let settled = settled-settles n1 c.choose.new.nodes memo1 c.choose.new.memo (size c.side-at_high.result)
     c.in-Ok.ensures.settles
-    (begun_settled n1 memo0 memo1 c.args.t begun c.requires.keys (size c.side-at_high.result) less c.requires.settled) in
+    (begun_settled n1 memo0 memo1 c.args.t begun c.requires.keys
+    (size c.side-at_high.result) less c.requires.settled) in
     let reduced = c.in-Ok.ensures.reduced in
     let keys = c.in-Ok.ensures.keys in
     let within = c.in-Ok.ensures.within in
@@ -190,8 +193,8 @@ all_among t c =
     (begun_at c.args.nodes.now c.args.memo.now c.begin.new.self c.args.t (began t c) c.requires.keys)) in
     step_among c.args.nodes.now c.choose.new.nodes c.choose-2.new.nodes c.make.new.nodes c.args.t c.side-at_low.result
     c.side-at_high.result c.top-variable.result c.in-Ok.low c.in-Ok-choose.high c.in_ok-made.made (stepped t c)
-    c.choose.new.memo.triples c.choose-2.new.memo.triples place c.requires.reduced c.in-Ok-choose.ensures.settles.stay at
-    c.in-Ok.ensures.among c.in-Ok-choose.ensures.among
+    c.choose.new.memo.triples c.choose-2.new.memo.triples place c.requires.reduced c.in-Ok-choose.ensures.settles.stay
+    at c.in-Ok.ensures.among c.in-Ok-choose.ensures.among
 
 pub returns-clause-value : goal.returns-clause-value
 returns-clause-value t c =

@@ -5,5 +5,6 @@ pub returns : goal.returns
 returns c =
     let first = c.earlier_variable-variable.ensures in
     let second = c.earlier_variable.ensures in
-    top-is c.args.nodes.now c.args.t c.inner-variable.result c.earlier_variable-variable.result c.earlier_variable.result c.requires.inner
+    top-is c.args.nodes.now c.args.t c.inner-variable.result c.earlier_variable-variable.result
+    c.earlier_variable.result c.requires.inner
     c.inner-variable.ensures first.own first.no_later first.from second.own second.no_later second.from

@@ -4,7 +4,8 @@ use Rattle.mw_debug.proofs.Elements.{bound_of_bits}
 use Rattle.mw_debug.proofs.element.bound_of.Goals as goal
 
 pub two_to-requires : goal.two_to-requires
-two_to-requires c = width_few c.args.board.now c.args.number c.in-Some.width c.parts.ensures.valid (sym c.in-Some.ensures)
+two_to-requires c =
+    width_few c.args.board.now c.args.number c.in-Some.width c.parts.ensures.valid (sym c.in-Some.ensures)
 
 pub returns-in-Some-clause-most : goal.returns-in-Some-clause-most
 returns-in-Some-clause-most c = rw c.two_to.ensures (bound_of_bits c.in-Some.width

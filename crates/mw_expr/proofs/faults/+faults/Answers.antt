@@ -3,7 +3,8 @@ use Rattle.std.specs.Prelude.{Some, ◌||◌}
 use Rattle.mw_base.proofs.Lists as lists
 use Rattle.mw_expr.specs.declared.placed.Placed.{the_lemmas}
 use Rattle.mw_expr.specs.Placed.{placed, parts_of, constant, complement, group}
-use Rattle.mw_expr.specs.Faults.{seen_width, seen_total, pair_breaks, is_other, part_breaks, is_past, deep, below, broken, is_improper, faults, faults_in}
+use Rattle.mw_expr.specs.Faults.{seen_width, seen_total, pair_breaks, is_other, part_breaks, is_past, deep, below}
+use Rattle.mw_expr.specs.Faults.{broken, is_improper, faults, faults_in}
 use Rattle.mw_base.specs.FirstFaults.{first_in}
 use Rattle.mw_base.proofs.FirstFaults.{first_in_append, after_two, after_three, after_four, after_five}
 use Rattle.mw_expr.proofs.faults.+faults.Goals as goal
@@ -106,7 +107,8 @@ check_widening-returns-clause-faults t c =
     let e = rw c.below.ensures at c.check-narrow.ensures.faults in
     let breaks = rw (c.widen_breaks.ensures, c.check-narrow.ensures.width) at c.note_broken.ensures in
     after_three _ _ _ _ (deep levels c.args.token) (faults s (below levels) inside)
-    (broken (is_improper c.args.width || is_past c.args.width (seen_width s inside)) c.args.token) c.note_deep.ensures e breaks
+    (broken (is_improper c.args.width || is_past c.args.width (seen_width s inside)) c.args.token)
+    c.note_deep.ensures e breaks
 
 pub check_memory-returns-clause-faults : goal.check_memory-returns-clause-faults
 check_memory-returns-clause-faults t c =

@@ -5,4 +5,5 @@ use Rattle.mw_expr.proofs.written.+mems.Given as goal
 
 abbrev pub invariant-push_mems_in-loop-part : goal.invariant-push_mems_in-loop-part
 invariant-push_mems_in-loop-part l =
-    l.tokens.items ++ mems_in (parts_of (map placed (drop l.part-index l.parts))) ≡ l.initial.tokens.items ++ mems_in (parts_of (map placed l.parts))
+    l.tokens.items ++ mems_in (parts_of (map placed (drop l.part-index l.parts)))
+    ≡ l.initial.tokens.items ++ mems_in (parts_of (map placed l.parts))

@@ -60,7 +60,8 @@ returns-clause-nodes c = λ are.
     (c.in_ok-reached.ensures.nodes number first.0 kept
     (on_run_first job number first.0 c.args.way.now c.in_ok-run.run' c.shape-shape.ensures.valid first.1
     c.in_ok-run.ensures.idle c.requires.anew are)
-    bound (subst (AreDecidedWithin job number c.args.nodes) (sym c.requires.anew) (within_none job number c.args.nodes)))
+    bound
+    (subst (AreDecidedWithin job number c.args.nodes) (sym c.requires.anew) (within_none job number c.args.nodes)))
 
 pub returns-in_err-reached-clause-over : goal.returns-in_err-reached-clause-over
 returns-in_err-reached-clause-over c =

@@ -86,7 +86,8 @@ returns-in_default-clause-paths c = c.in_ok-turn.ensures.paths _ c.loop-turn.inv
 
 pub returns-in_err-decide_branch-clause-over : goal.returns-in_err-decide_branch-clause-over
 returns-in_err-decide_branch-clause-over c =
-    let p = err_from_is_err_and c.from_residual-in_err-decide_branch.result c.from_residual-in_err-decide_branch.ensures.1 in
+    let p =
+    err_from_is_err_and c.from_residual-in_err-decide_branch.result c.from_residual-in_err-decide_branch.ensures.1 in
     rw (p.1, p.2) (λ number cycles elements from segment board on.
     c.in_err-decide_branch.ensures.over number cycles elements from segment board
     (asks_on (job_of c.args.job.now) number cycles elements from segment board _ _ _ _ _ _ _ _ _ _

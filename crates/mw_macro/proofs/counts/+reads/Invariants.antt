@@ -5,4 +5,5 @@ use Rattle.mw_macro.proofs.counts.+reads.Given as goal
 
 abbrev pub invariant-reads_left_in-loop-part : goal.invariant-reads_left_in-loop-part
 invariant-reads_left_in-loop-part l =
-    l.left - reads_in (trees_of (map view (drop l.part-index l.parts))) ≡ l.budget - reads_in (trees_of (map view l.parts))
+    l.left - reads_in (trees_of (map view (drop l.part-index l.parts)))
+    ≡ l.budget - reads_in (trees_of (map view l.parts))

@@ -14,7 +14,8 @@ lists_right s condition first second right = and_parts _ _ (and_parts _ _ right)
 
 pub run-run_all-requires : goal.run-run_all-requires
 run-run_all-requires t c =
-    let seen : act_of c.args.statement.now ≡ choose (view c.in-If.condition) (acts c.in-If.first.items) (acts c.in-If.second.items) =
+    let seen : act_of c.args.statement.now
+    ≡ choose (view c.in-If.condition) (acts c.in-If.first.items) (acts c.in-If.second.items) =
     rw c.in-If.is (search (rules, the_lemmas)) in
     let lists = lists_right _ _ _ _ (rw seen at c.requires.right) in
     let room = rw seen at c.requires.room in
@@ -29,7 +30,10 @@ run-run_all-requires t c =
             c.requires.memory_fits,
             (
               c.requires.inputs_fit,
-              (rw c.deref.ensures.value (omega arith), (rw c.deref.ensures.value (omega arith), (rw c.deref.ensures.value (omega arith)))),
+              (
+                rw c.deref.ensures.value (omega arith),
+                (rw c.deref.ensures.value (omega arith), (rw c.deref.ensures.value (omega arith))),
+              ),
             ),
           ),
         ),
@@ -38,7 +42,8 @@ run-run_all-requires t c =
 
 pub run-run_all-requires-else-value-eq1 : goal.run-run_all-requires-else-value-eq1
 run-run_all-requires-else-value-eq1 t c =
-    let seen : act_of c.args.statement.now ≡ choose (view c.in-If.condition) (acts c.in-If.first.items) (acts c.in-If.second.items) =
+    let seen : act_of c.args.statement.now
+    ≡ choose (view c.in-If.condition) (acts c.in-If.first.items) (acts c.in-If.second.items) =
     rw c.in-If.is (search (rules, the_lemmas)) in
     let lists = lists_right _ _ _ _ (rw seen at c.requires.right) in
     let room = rw seen at c.requires.room in
@@ -53,7 +58,13 @@ run-run_all-requires-else-value-eq1 t c =
             c.requires.memory_fits,
             (
               c.requires.inputs_fit,
-              (rw c.deref-else-value-eq1.ensures.value (omega arith), (rw c.deref-else-value-eq1.ensures.value (omega arith), (rw c.deref-else-value-eq1.ensures.value (omega arith)))),
+              (
+                rw c.deref-else-value-eq1.ensures.value (omega arith),
+                (
+                  rw c.deref-else-value-eq1.ensures.value (omega arith),
+                  (rw c.deref-else-value-eq1.ensures.value (omega arith)),
+                ),
+              ),
             ),
           ),
         ),

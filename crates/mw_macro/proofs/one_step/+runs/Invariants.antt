@@ -20,5 +20,6 @@ invariant-run_all-loop-statement l =
       capacity : vec_capacity l.fn.events ≤ vec_capacity l.events;
       few : l.so_far + total Events rest ≤ l.taken + total Events (acts l.statements);
       told : after_all shape l.given.inputs.now l.given.first rest (now l.values l.memory l.events.items l.so_far)
-          ≡ after_all shape l.given.inputs.now l.given.first (acts l.statements) (now l.fn.values l.fn.memory l.fn.events.items l.taken);
+          ≡ after_all shape l.given.inputs.now l.given.first (acts l.statements)
+          (now l.fn.values l.fn.memory l.fn.events.items l.taken);
     }

@@ -28,7 +28,8 @@ returns-clause-leaves c =
     let values : c.begin.new.values ≡ (begun m state c.args.request).values =
     c.begin.ensures (length m.names - m.registers)
     (omega (arith, wide, formed.elements, formed.registers, c.requires.fits.count, c.requires.count)) in
-    let exact : now c.run_all-taken.new.values c.run_all-taken.new.memory c.run_all-taken.new.events.items c.run_all-taken.result
+    let exact : now c.run_all-taken.new.values c.run_all-taken.new.memory c.run_all-taken.new.events.items
+    c.run_all-taken.result
     ≡ after_all given.shape.now given.inputs.now given.first (acts c.statements.result.now)
     (now c.begin.new.values c.args.memory.now c.args.events.now.items 0) =
     c.run_all-taken.ensures.exact in
@@ -40,7 +41,8 @@ returns-clause-leaves c =
 pub returns-clause-fits : goal.returns-clause-fits
 returns-clause-fits c =
     let m = description_of c.args.machine.now in
-    let words : AreWords c.args.given.now.shape.now.widths c.run_all-taken.new.values = c.run_all-taken.ensures.values_fit in
+    let words : AreWords c.args.given.now.shape.now.widths c.run_all-taken.new.values =
+    c.run_all-taken.ensures.values_fit in
     let image : IsImage c.args.given.now.shape.now c.run_all-taken.new.memory = c.run_all-taken.ensures.memory_fits in
     rw (c.copy_from_slice.ensures.after, c.requires.fits.count)
     (left_fits m c.run_all-taken.new.values c.run_all-taken.new.memory c.args.machine.now.is_machine.formed

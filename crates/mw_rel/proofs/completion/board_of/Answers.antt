@@ -20,5 +20,6 @@ stand_at-requires-clause-size c =
 pub returns-clause-fits : goal.returns-clause-fits
 returns-clause-fits c =
     rw c.stand_at.ensures.exact
-    (standing_fits (job_of c.args.job.now) c.set_elements.new.state c.args.at.now.address c.args.at.now.sp c.args.memory.now
+    (standing_fits (job_of c.args.job.now)
+    c.set_elements.new.state c.args.at.now.address c.args.at.now.sp c.args.memory.now
     c.shape.ensures.valid c.set_elements.ensures.fits c.requires.at c.requires.pointer c.requires.image)

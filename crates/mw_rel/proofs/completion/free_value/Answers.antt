@@ -11,4 +11,5 @@ offset_bounds-given-before c =
 pub bounds-given-before : goal.bounds-given-before
 bounds-given-before c =
     let is = sym c.is_free_at.ensures ∙ c.if-is_free_at.true in
-    omega (arith, c.requires.before, c.requires.room, before_free (is_free (boundary_of c.args.at.now)) c.args.number is)
+    omega
+    (arith, c.requires.before, c.requires.room, before_free (is_free (boundary_of c.args.at.now)) c.args.number is)

@@ -23,7 +23,7 @@ pub returns-clause-words : goal.returns-clause-words
 returns-clause-words c =
     let given : c.as_slice.result.now ≡ c.args.begin.now.values =
     c.as_slice.ensures.value ∙ ap (λ (b : Begin). b.values) c.begin.view_is in
-    free_words (job_of c.args.job.now) (boundary_of c.args.at.now) c.args.begin.now c.place_free.new.places c.requires.begins
-    (c.place_free.ensures.size ∙ c.requires.size)
+    free_words (job_of c.args.job.now) (boundary_of c.args.at.now)
+    c.args.begin.now c.place_free.new.places c.requires.begins (c.place_free.ensures.size ∙ c.requires.size)
     (λ e below. c.place_free.ensures.placed e (omega (arith, c.requires.size))
     ∙ ap (λ (values : List ℕ). free_value (is_free (boundary_of c.args.at.now)) values e) given)

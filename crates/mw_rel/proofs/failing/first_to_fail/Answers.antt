@@ -5,5 +5,5 @@ use Rattle.mw_rel.proofs.failing.first_to_fail.Goals as goal
 
 pub line_holds-requires-clause-line_of : goal.line_holds-requires-clause-line_of
 line_holds-requires-clause-line_of c =
-    each_seen (IsLineOf c.args.job.now.relation.shape) line_of c.args.lines.now c.loop-line.line-index c.line-item.result
-    c.requires.lines_of c.loop-line-test.true c.line-item.is
+    each_seen (IsLineOf c.args.job.now.relation.shape) line_of c.args.lines.now c.loop-line.line-index
+    c.line-item.result c.requires.lines_of c.loop-line-test.true c.line-item.is

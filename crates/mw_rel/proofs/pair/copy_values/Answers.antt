@@ -38,7 +38,7 @@ loop-number-2-preserved c =
 
 pub returns : goal.returns
 returns c = record {
-  exact = values_are c.args.board.now c.args.state.now c.args.registers.now c.loop-number-2.values c.loop-number-2.number
-      c.loop-number-2.invariant.places
+  exact = values_are c.args.board.now c.args.state.now c.args.registers.now c.loop-number-2.values
+      c.loop-number-2.number c.loop-number-2.invariant.places
       (omega (arith, c.loop-number-2-test.false, c.loop-number-2.auto.number-end)) c.loop-number-2.invariant.so_far;
 }

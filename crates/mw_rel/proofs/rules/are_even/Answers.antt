@@ -5,5 +5,5 @@ use Rattle.mw_rel.proofs.rules.are_even.Goals as goal
 
 pub is_even-requires : goal.is_even-requires
 is_even-requires c =
-    (each_seen (IsFormedLine c.args.shape.now) line_of c.args.lines.now c.loop-line.line-index c.line-item.result c.requires
-    c.loop-line-test.true c.line-item.is).left
+    (each_seen (IsFormedLine c.args.shape.now) line_of c.args.lines.now c.loop-line.line-index c.line-item.result
+    c.requires c.loop-line-test.true c.line-item.is).left

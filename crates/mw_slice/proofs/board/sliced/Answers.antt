@@ -10,7 +10,8 @@ unfolding sliced_of
 returns-clause-slices c =
     let args = c.args in
     let n : ℕ = c.bits-slices.result / 4 in
-    let into = carry_into_slice (generate_at n args.ins args.a args.b args.q args.d) (propagate_at n args.ins args.a args.b args.q args.d) args.cin in
+    let into = carry_into_slice (generate_at n args.ins args.a args.b args.q args.d)
+    (propagate_at n args.ins args.a args.b args.q args.d) args.cin in
     c.answers.ensures.exact
     ∙ ap (λ (into : List Bool). answers_of n args.ins args.a args.b args.q args.d (line into)) c.carries.ensures
     ∙ answers_of-lines n args.ins args.a args.b args.q args.d into (omega (arith, c.requires.width_in)) (omega arith)

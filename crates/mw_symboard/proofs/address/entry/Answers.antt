@@ -14,7 +14,8 @@ word-requires-clause-fits c =
     let board = c.args.board.now in
     let e = c.in_ok-index.ensures in
     let t1 = c.part.new.terms in
-    let wide = subst (λ (p : BoardParts). IsOfWidth t1 p.map_bits c.in_ok-index.index) c.parts-parts.ensures.exact e.wide in
+    let wide =
+    subst (λ (p : BoardParts). IsOfWidth t1 p.map_bits c.in_ok-index.index) c.parts-parts.ensures.exact e.wide in
     fits_tab t1 board.map_bits c.in_ok-index.index wide
     (ap length (e.grew.1.extends.map ∙ c.requires.map) ∙ c.parts-parts.ensures.valid.map.size
     ∙ map_size_is board.map_bits c.requires.some)
@@ -50,6 +51,8 @@ returns-clause-listed c = λ reads.
     c.in_ok-term.ensures.listed reads
     ∙ ap (λ x. with_word (Tab x.term) x.list)
     (c.in_ok-index.ensures.listed reads
-    ∙ ap (λ (p : BoardParts). with_part c.bits-width.result c.args.ir p.map_low p.map_bits (list_of c.args.terms.now.ops c.args.words.now reads))
+    ∙ ap (λ (p : BoardParts).
+    with_part c.bits-width.result c.args.ir p.map_low p.map_bits (list_of c.args.terms.now.ops c.args.words.now reads))
     c.parts-parts.ensures.exact
-    ∙ ap (λ w. with_part w c.args.ir board.map_low board.map_bits (list_of c.args.terms.now.ops c.args.words.now reads)) width))
+    ∙ ap (λ w. with_part w c.args.ir board.map_low board.map_bits (list_of c.args.terms.now.ops c.args.words.now reads))
+    width))

@@ -14,7 +14,8 @@ word-requires-clause-fits c =
     let one = c.in_ok-ones.ensures in
     let two = c.in_ok-zero.ensures in
     fits_sum t2 12 c.args.r c.in_ok-ones.ones c.in_ok-zero.zero
-    (wide_later t1 t2 ws ws 12 c.args.r (two.grew ws) (wide_later told t1 ws ws 12 c.args.r (one.grew ws) c.requires.wide))
+    (wide_later t1 t2 ws ws 12 c.args.r (two.grew ws)
+    (wide_later told t1 ws ws 12 c.args.r (one.grew ws) c.requires.wide))
     (wide_later t1 t2 ws ws 12 c.in_ok-ones.ones (two.grew ws) one.wide) two.wide
 
 pub returns-clause-is : goal.returns-clause-is

@@ -11,7 +11,8 @@ returns-clause-wide c =
     let stack = c.parts.inside.stack.items in
     let there : i < depth_of c.args.board.now = omega (arith, c.if-sp-eq0.false, c.requires.sp) in
     let inside : i < length stack = omega (arith, there, parts.stack) in
-    let s : c.index.result.now ≡ slice_index stack i = get_or_read stack i c.index.result.now inside c.index.ensures 0 in
+    let s : c.index.result.now ≡ slice_index stack i =
+    get_or_read stack i c.index.result.now inside c.index.ensures 0 in
     rw s (stack_wide _ _ _ i parts there)
 
 pub returns-then-sp-eq0-clause-listed : goal.returns-then-sp-eq0-clause-listed

@@ -30,8 +30,8 @@ returns-clause-register c =
     let all = grew_then c.register_word.new.terms c.flips.new.terms c.mar.new.terms c.register_word.new.words
     c.flips.new.words c.mar.new.words first c.in_ok-mar.ensures.grew in
     rw (← c.place.view_is)
-    (written_b_stays (destination_of m.instruction) b m c.register_word.new.terms c.mar.new.terms c.place.inside.parts c.place.inside.sp
-    c.args.reading.now.sources c.in_ok-register.register all.1.extends c.in_ok-register.ensures.is)
+    (written_b_stays (destination_of m.instruction) b m c.register_word.new.terms c.mar.new.terms c.place.inside.parts
+    c.place.inside.sp c.args.reading.now.sources c.in_ok-register.register all.1.extends c.in_ok-register.ensures.is)
 
 pub returns-clause-q : goal.returns-clause-q
 returns-clause-q c =
@@ -40,15 +40,15 @@ returns-clause-q c =
     let all = grew_then c.q_word.new.terms c.flips.new.terms c.mar.new.terms c.q_word.new.words c.flips.new.words
     c.mar.new.words c.in_ok-flips.ensures.grew c.in_ok-mar.ensures.grew in
     rw (← c.place.view_is)
-    (written_q_stays (destination_of m.instruction) b m c.q_word.new.terms c.mar.new.terms c.place.inside.parts c.place.inside.sp
-    c.args.reading.now.sources
+    (written_q_stays (destination_of m.instruction)
+    b m c.q_word.new.terms c.mar.new.terms c.place.inside.parts c.place.inside.sp c.args.reading.now.sources
     c.in_ok-q.q all.1.extends c.in_ok-q.ensures.is)
 
 pub returns-clause-flips : goal.returns-clause-flips
 returns-clause-flips c =
     rw (← c.place.view_is)
-    (all_loaded_stay c.args.board.now c.args.microword.now c.flips.new.terms c.mar.new.terms c.place.inside.parts c.place.inside.sp
-    c.args.reading.now.sources
+    (all_loaded_stay c.args.board.now c.args.microword.now c.flips.new.terms c.mar.new.terms c.place.inside.parts
+    c.place.inside.sp c.args.reading.now.sources
     c.in_ok-flips.flips.items c.in_ok-mar.ensures.grew.1.extends c.in_ok-flips.ensures.are)
 
 pub returns-clause-grew : goal.returns-clause-grew

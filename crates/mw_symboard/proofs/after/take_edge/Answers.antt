@@ -40,7 +40,8 @@ returns-clause-is c =
           last.1.extends e.register;
       regs = s.regs;
       taken = taken.q;
-      is_taken = written_q_stays (destination_of m.instruction) b m t tnew old.parts old.sp n taken.q last.1.extends e.q;
+      is_taken =
+          written_q_stays (destination_of m.instruction) b m t tnew old.parts old.sp n taken.q last.1.extends e.q;
       q = s.q;
       mar = subst (λ (x : ℕ). IsMar m.mar_load b tnew old.parts.mar y x) (sym s.mar)
           (mar_stays m.mar_load b t tnew old.parts.mar y taken.mar last.1.extends e.mar);
@@ -72,7 +73,8 @@ returns-clause-parts c =
     let all = grew_then told t tnew c.args.words.now ws ws e.grew last in
     let before = parts_stay b told tnew old.parts all.1.extends all.1.keeps c.requires.parts in
     let later = λ (w term : ℕ) (is : IsOfWidth t w term). wide_later t tnew ws ws w term last is in
-    parts_kept b tnew old.parts m.b_address taken.register taken.q c.moved-moved.result.pushed new.parts before (record {
+    parts_kept b tnew old.parts m.b_address taken.register taken.q c.moved-moved.result.pushed new.parts before
+    (record {
       b_in = c.requires.microword.b_address;
       regs = s.regs;
       written_wide = some_later t tnew b.width taken.register (later b.width) e.register_wide;
@@ -95,8 +97,8 @@ returns-clause-parts c =
 pub returns-clause-grew : goal.returns-clause-grew
 returns-clause-grew c =
     let ws = c.edge_made.new.words in
-    grew_then c.args.terms.now c.edge_made.new.terms c.constant.new.terms c.args.words.now ws ws c.in_ok-taken.ensures.grew
-    (c.in_ok-pc.ensures.grew ws)
+    grew_then c.args.terms.now c.edge_made.new.terms c.constant.new.terms c.args.words.now ws ws
+    c.in_ok-taken.ensures.grew (c.in_ok-pc.ensures.grew ws)
 
 pub returns-clause-listed : goal.returns-clause-listed
 returns-clause-listed c = λ reads writes events.
@@ -120,11 +122,12 @@ returns-clause-listed c = λ reads writes events.
     let count : c.from.result ≡ c.decided_next-next.result.pc = cc in
     let counted : c.from.result ≡ (new.at + num m.ci) % 2 ^ 12 =
     count ∙ c.decided_next-next.ensures.pc ∙ ap (λ x. (x + num m.ci) % 2 ^ 12) (sym s.at) in
-    let parts = parts_are new.parts (parts_after board m old.parts old.sp made reading.y pc c.args.leaving.r effect.stack) s.regs s.q
-    s.mar s.ir s.flips s.pc s.r (s.stack ∙ ap (λ o. with_pushed old.parts.stack o old.parts.pc) c.moved-moved.ensures.pushed) in
+    let parts = parts_are new.parts
+    (parts_after board m old.parts old.sp made reading.y pc c.args.leaving.r effect.stack) s.regs s.q s.mar s.ir s.flips
+    s.pc s.r (s.stack ∙ ap (λ o. with_pushed old.parts.stack o old.parts.pc) c.moved-moved.ensures.pushed) in
     edge_are board m (standing_of old writes events) reading (leaving_of c.args.leaving) effect new.at
-    (list_of c.args.terms.now.ops c.args.words.now reads) (list_of c.constant.new.terms.ops c.edge_made.new.words reads) made pc
-    (c.in_ok-taken.ensures.listed reads)
+    (list_of c.args.terms.now.ops c.args.words.now reads) (list_of c.constant.new.terms.ops c.edge_made.new.words reads)
+    made pc (c.in_ok-taken.ensures.listed reads)
     (c.in_ok-pc.ensures.listed c.edge_made.new.words reads ∙ ap (λ n. with_constant n 12 l1) counted)
     ∙ ap (λ (x : Standing). stands (list_of c.constant.new.terms.ops c.edge_made.new.words reads) x)
     (standing_is m old new reading writes events new.at (sp_after effect.stack (depth_of board) old.sp)

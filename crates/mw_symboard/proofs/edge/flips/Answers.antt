@@ -1,4 +1,5 @@
-use Rattle.std.proofs.Common.{◌≡◌, ◌∙◌, ℕ, ◌<◌, ◌≤◌, [], ◌∷◌, List, get_or, length, length-append, slice_index, Some, ap, sym, refl, subst, arith, rules}
+use Rattle.std.proofs.Common.{◌≡◌, ◌∙◌, ℕ, ◌<◌, ◌≤◌, [], ◌∷◌, List, get_or, length, length-append, slice_index, Some}
+use Rattle.std.proofs.Common.{ap, sym, refl, subst, arith, rules}
 use Rattle.std.specs.Prelude.{slice_get}
 use Rattle.std.proofs.lemmas.Option.{slice_get_read, slice_get_within}
 use Rattle.mw_board.specs.declared.bit.Load.{Load}
@@ -54,7 +55,8 @@ loop-flipflop-preserved c =
     c.loop-flipflop.flipflop-index f refl c.loop-flipflop-test.true c.flipflop-item.is in
     let here = subst (λ k. slice_get board.flipflop k ≡ Some f) (sym before.count)
     (subst (λ (xs : List FlipFlop). slice_get xs c.loop-flipflop.flipflop-index ≡ Some f) flipflops read) in
-    let loaded = subst (λ (load : Load). IsLoaded load board t2 p c.args.sp c.args.sources.now c.old_value-old.result c.in_ok-term.term)
+    let loaded = subst
+    (λ (load : Load). IsLoaded load board t2 p c.args.sp c.args.sources.now c.old_value-old.result c.in_ok-term.term)
     c.load-load.ensures.exact e.is in
     let is = subst (λ was. IsLoaded (load_of board m f) board t2 p c.args.sp c.args.sources.now was c.in_ok-term.term)
     old loaded in
@@ -82,14 +84,16 @@ loop-flipflop-preserved c =
           ∙ ap (with_flip terms) (sym (e.listed reads)) ∙ ap after (sym c.in_ok-push.ensures.items) in
           before.listed reads
           ∙ flip_on board m p c.args.sp n board.flipflop p.flips i f c.old_value-old.result
-          (loaded_in t1 c.loop-flipflop.words reads c.loop-flipflop.bits terms) (after c.push.new.self.items) inside item there was step);
+          (loaded_in t1 c.loop-flipflop.words reads c.loop-flipflop.bits terms)
+          (after c.push.new.self.items) inside item there was step);
     }
 
 pub returns-clause-listed : goal.returns-clause-listed
 returns-clause-listed c = λ reads.
     (let flipflops : c.as_slice-flipflop-items.result.now ≡ c.args.board.now.flipflop = search rules in
     let many : length c.as_slice-flipflop-items.result.now ≡ length c.args.board.now.flipflop = ap length flipflops in
-    let past : length c.args.board.now.flipflop ≤ c.loop-flipflop.flipflop-index = omega (arith, many, c.loop-flipflop-test.false) in
+    let past : length c.args.board.now.flipflop ≤ c.loop-flipflop.flipflop-index =
+    omega (arith, many, c.loop-flipflop-test.false) in
     c.loop-flipflop.invariant.listed reads
     ∙ flips_all c.args.board.now c.args.microword.now c.args.parts.now c.args.sp (sources_of c.args.sources.now)
     c.args.board.now.flipflop c.args.parts.now.flips c.loop-flipflop.flipflop-index _ past)

@@ -14,7 +14,8 @@ invariant-loop-flipflop l = record {
   grew : Grew l.fn.terms l.terms l.fn.words l.words;
   right : AreBits l.board l.terms l.parts l.sp l.sources l.bits;
   so_far : AreSoFar l.board l.microword l.terms l.parts l.sp l.sources l.flips.items;
-  listed : (reads : List Held) → flips_words l.board l.microword l.parts l.sp (sources_of l.sources) l.board.flipflop l.parts.flips
+  listed : (reads : List Held)
+      → flips_words l.board l.microword l.parts l.sp (sources_of l.sources) l.board.flipflop l.parts.flips
       (loaded_in l.fn.terms l.fn.words reads l.fn.bits [])
       ≡ flips_words l.board l.microword l.parts l.sp (sources_of l.sources) (drop l.flipflop-index l.board.flipflop)
       (drop l.flipflop-index l.parts.flips) (loaded_in l.terms l.words reads l.bits l.flips.items);

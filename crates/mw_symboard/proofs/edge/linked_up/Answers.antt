@@ -21,8 +21,8 @@ returns-clause-is c =
       c.in_ok-low.low,
       c.in_ok-term.term,
       refl,
-      bit_term_stays c.args.board.now c.bit.new.terms c.shifted_up.new.terms c.args.parts.now c.args.sp c.args.sources.now
-          c.args.link c.in_ok-low.low e.grew.1.extends c.in_ok-low.ensures.is,
+      bit_term_stays c.args.board.now c.bit.new.terms c.shifted_up.new.terms c.args.parts.now c.args.sp
+          c.args.sources.now c.args.link c.in_ok-low.low e.grew.1.extends c.in_ok-low.ensures.is,
       is,
     )
 
@@ -39,8 +39,8 @@ returns-clause-right c =
 
 pub returns-clause-grew : goal.returns-clause-grew
 returns-clause-grew c =
-    grew_then c.args.terms.now c.bit.new.terms c.shifted_up.new.terms c.args.words.now c.bit.new.words c.shifted_up.new.words
-    c.in_ok-low.ensures.grew c.in_ok-term.ensures.grew
+    grew_then c.args.terms.now c.bit.new.terms c.shifted_up.new.terms c.args.words.now c.bit.new.words
+    c.shifted_up.new.words c.in_ok-low.ensures.grew c.in_ok-term.ensures.grew
 
 pub returns-clause-listed : goal.returns-clause-listed
 returns-clause-listed c = λ reads.

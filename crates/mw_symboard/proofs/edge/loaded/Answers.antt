@@ -26,5 +26,5 @@ returns-in-Invert-clause-right c =
 pub returns-in-Invert-clause-listed : goal.returns-in-Invert-clause-listed
 returns-in-Invert-clause-listed c =
     rw c.in-Invert.is
-    (beside_bits c.word.result (with_complement c.args.old) c.args.terms.now c.word.new.terms c.args.words.now c.word.new.words
-    c.args.bits.now c.word.ensures.listed)
+    (beside_bits c.word.result (with_complement c.args.old)
+    c.args.terms.now c.word.new.terms c.args.words.now c.word.new.words c.args.bits.now c.word.ensures.listed)

@@ -12,7 +12,8 @@ pub word-requires-clause-fits : goal.word-requires-clause-fits
 word-requires-clause-fits c =
     let e = c.in_ok-carry.ensures in
     fits_xor c.bit.new.terms 1 c.args.old c.in_ok-carry.carry
-    (wide_later c.args.terms.now c.bit.new.terms c.args.words.now c.bit.new.words 1 c.args.old e.grew c.requires.old) e.wide
+    (wide_later c.args.terms.now c.bit.new.terms c.args.words.now c.bit.new.words 1 c.args.old e.grew c.requires.old)
+    e.wide
 
 pub returns-clause-is : goal.returns-clause-is
 returns-clause-is c = (
@@ -24,9 +25,10 @@ returns-clause-is c = (
 
 pub returns-clause-wide : goal.returns-clause-wide
 returns-clause-wide c =
-    wide_xor c.bit.new.terms c.word.new.terms 1 c.args.old c.in_ok-carry.carry c.in_ok-term.term c.in_ok-term.ensures.made
-    (wide_later c.args.terms.now c.bit.new.terms c.args.words.now c.bit.new.words 1 c.args.old c.in_ok-carry.ensures.grew
-    c.requires.old)
+    wide_xor c.bit.new.terms c.word.new.terms 1 c.args.old c.in_ok-carry.carry c.in_ok-term.term
+    c.in_ok-term.ensures.made
+    (wide_later c.args.terms.now c.bit.new.terms c.args.words.now c.bit.new.words 1 c.args.old
+    c.in_ok-carry.ensures.grew c.requires.old)
 
 pub returns-clause-right : goal.returns-clause-right
 returns-clause-right c =
@@ -42,4 +44,5 @@ returns-clause-grew c =
 pub returns-clause-listed : goal.returns-clause-listed
 returns-clause-listed c = λ reads.
     (ap (bit_ended c.bit.new.self) (c.in_ok-term.ensures.listed reads)
-    ∙ ap (λ (b : BitEnded). bit_ended b.bits (with_word (Xor c.args.old b.term) b.list)) (c.in_ok-carry.ensures.listed reads))
+    ∙ ap (λ (b : BitEnded). bit_ended b.bits (with_word (Xor c.args.old b.term) b.list))
+    (c.in_ok-carry.ensures.listed reads))

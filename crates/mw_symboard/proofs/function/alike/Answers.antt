@@ -37,4 +37,5 @@ returns-clause-grew c =
 
 pub returns-clause-listed : goal.returns-clause-listed
 returns-clause-listed c = λ reads.
-    (c.in_ok-term.ensures.listed reads ∙ ap (λ x. with_complement x.term x.list) (c.in_ok-differing.ensures.listed reads))
+    (c.in_ok-term.ensures.listed reads
+    ∙ ap (λ x. with_complement x.term x.list) (c.in_ok-differing.ensures.listed reads))

@@ -14,14 +14,16 @@ returns-in-Add-clause-wide c =
     let tnew = c.word.new.terms in
     IfOk-weaker c.word.result (IsTermOf told tnew (Sum c.args.addends.0 c.args.addends.1 c.args.carry))
     (IsOfWidth tnew c.args.width)
-    (λ term made. wide_sum told tnew c.args.width c.args.addends.0 c.args.addends.1 c.args.carry term made c.requires.first)
+    (λ term made.
+    wide_sum told tnew c.args.width c.args.addends.0 c.args.addends.1 c.args.carry term made c.requires.first)
     c.word.ensures.made
 
 pub returns-in-Or-clause-wide : goal.returns-in-Or-clause-wide
 returns-in-Or-clause-wide c =
     let told = c.args.terms.now in
     let tnew = c.word-in-Or.new.terms in
-    IfOk-weaker c.word-in-Or.result (IsTermOf told tnew (Or c.args.operands.0 c.args.operands.1)) (IsOfWidth tnew c.args.width)
+    IfOk-weaker c.word-in-Or.result (IsTermOf told tnew (Or c.args.operands.0 c.args.operands.1))
+    (IsOfWidth tnew c.args.width)
     (λ term made. wide_or told tnew c.args.width c.args.operands.0 c.args.operands.1 term made c.requires.r)
     c.word-in-Or.ensures.made
 
@@ -29,7 +31,8 @@ pub returns-in-And-clause-wide : goal.returns-in-And-clause-wide
 returns-in-And-clause-wide c =
     let told = c.args.terms.now in
     let tnew = c.word-in-And.new.terms in
-    IfOk-weaker c.word-in-And.result (IsTermOf told tnew (And c.args.operands.0 c.args.operands.1)) (IsOfWidth tnew c.args.width)
+    IfOk-weaker c.word-in-And.result (IsTermOf told tnew (And c.args.operands.0 c.args.operands.1))
+    (IsOfWidth tnew c.args.width)
     (λ term made. wide_and told tnew c.args.width c.args.operands.0 c.args.operands.1 term made c.requires.r)
     c.word-in-And.ensures.made
 
@@ -37,7 +40,8 @@ pub returns-in-Exor-clause-wide : goal.returns-in-Exor-clause-wide
 returns-in-Exor-clause-wide c =
     let told = c.args.terms.now in
     let tnew = c.word-in-Exor.new.terms in
-    IfOk-weaker c.word-in-Exor.result (IsTermOf told tnew (Xor c.args.operands.0 c.args.operands.1)) (IsOfWidth tnew c.args.width)
+    IfOk-weaker c.word-in-Exor.result (IsTermOf told tnew (Xor c.args.operands.0 c.args.operands.1))
+    (IsOfWidth tnew c.args.width)
     (λ term made. wide_xor told tnew c.args.width c.args.operands.0 c.args.operands.1 term made c.requires.r)
     c.word-in-Exor.ensures.made
 
@@ -59,5 +63,7 @@ returns-in-Exnor-clause-listed c = rw c.in-Exnor.is c.alike.ensures.listed
 pub returns-in-Add-clause-listed : goal.returns-in-Add-clause-listed
 returns-in-Add-clause-listed c =
     IfOk-weaker c.word.result _ _
-    (λ term lists. λ reads. (lists reads ∙ sum_words c.args.function c.args.operands.0 c.args.operands.1 c.args.addends.0 c.args.addends.1
-    c.args.carry (list_of c.args.terms.now.ops c.args.words.now reads) c.in-Add.is)) c.word.ensures.listed
+    (λ term lists. λ reads.
+    (lists reads ∙ sum_words c.args.function c.args.operands.0 c.args.operands.1 c.args.addends.0 c.args.addends.1
+    c.args.carry (list_of c.args.terms.now.ops c.args.words.now reads) c.in-Add.is))
+    c.word.ensures.listed

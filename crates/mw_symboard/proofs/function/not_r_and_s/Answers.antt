@@ -40,4 +40,5 @@ returns-clause-grew c =
 
 pub returns-clause-listed : goal.returns-clause-listed
 returns-clause-listed c = λ reads.
-    (c.in_ok-term.ensures.listed reads ∙ ap (λ x. with_word (And x.term c.args.s) x.list) (c.in_ok-turned.ensures.listed reads))
+    (c.in_ok-term.ensures.listed reads
+    ∙ ap (λ x. with_word (And x.term c.args.s) x.list) (c.in_ok-turned.ensures.listed reads))

@@ -1,4 +1,5 @@
-use Rattle.mw_symboard.proofs.OnPaths.{passed_go_on, passed_stay, paths_begin, paths_go_on, paths_stay, paths_take_bits, splits_are_by}
+use Rattle.mw_symboard.proofs.OnPaths.{passed_go_on, passed_stay, paths_begin, paths_go_on, paths_stay, paths_take_bits}
+use Rattle.mw_symboard.proofs.OnPaths.{splits_are_by}
 use Rattle.mw_symboard.proofs.laws.paths_are_of_the_run.Goals as goal
 
 pub returns : goal.returns

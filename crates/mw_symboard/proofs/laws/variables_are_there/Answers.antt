@@ -1,4 +1,5 @@
-use Rattle.mw_symboard.proofs.Environments.{begun_has_variables, cycles_are_there, cycles_stay, variables_have_values, variables_stay}
+use Rattle.mw_symboard.proofs.Environments.{begun_has_variables, cycles_are_there, cycles_stay, variables_have_values}
+use Rattle.mw_symboard.proofs.Environments.{variables_stay}
 use Rattle.mw_symboard.proofs.laws.variables_are_there.Goals as goal
 
 pub returns : goal.returns

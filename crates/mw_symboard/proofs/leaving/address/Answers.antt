@@ -4,7 +4,8 @@ use Rattle.mw_symboard.proofs.Ends.{number_below, number_small}
 use Rattle.mw_symboard.proofs.leaving.address.Goals as goal
 
 pub with_bit-address-requires : goal.with_bit-address-requires
-with_bit-address-requires c = omega (arith, number_small c.args.decided.now c.args.before c.loop-place.place (omega arith))
+with_bit-address-requires c =
+    omega (arith, number_small c.args.decided.now c.args.before c.loop-place.place (omega arith))
 
 pub returns-clause-below : goal.returns-clause-below
 returns-clause-below c =

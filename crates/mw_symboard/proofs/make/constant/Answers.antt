@@ -5,7 +5,8 @@ use Rattle.mw_symboard.proofs.make.constant.Goals as goal
 
 pub returns-clause-wide : goal.returns-clause-wide
 returns-clause-wide c =
-    wide_constant c.args.terms.now c.build.new.self c.args.value c.args.width c.in_ok-term.term c.in_ok-term.ensures.made
+    wide_constant c.args.terms.now c.build.new.self c.args.value c.args.width c.in_ok-term.term
+    c.in_ok-term.ensures.made
 
 pub returns-clause-grows : goal.returns-clause-grows
 returns-clause-grows c = λ words.

@@ -17,5 +17,5 @@ returns-clause-wide c =
 pub returns-clause-listed : goal.returns-clause-listed
 returns-clause-listed c = λ reads.
     (c.in_ok-term.ensures.listed reads
-    ∙ sym (fewer_bits c.args.whole_width c.args.whole c.args.low c.args.width (list_of c.args.terms.now.ops c.args.words.now reads)
-    c.if-width-whole_width.false))
+    ∙ sym (fewer_bits c.args.whole_width c.args.whole c.args.low c.args.width
+    (list_of c.args.terms.now.ops c.args.words.now reads) c.if-width-whole_width.false))

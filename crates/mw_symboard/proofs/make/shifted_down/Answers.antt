@@ -7,8 +7,8 @@ use Rattle.mw_symboard.proofs.make.shifted_down.Goals as goal
 
 pub word-requires-clause-fits : goal.word-requires-clause-fits
 word-requires-clause-fits c =
-    fits_part c.args.terms.now c.args.width c.args.shifted 1 (c.args.width - 1) c.requires.wide (omega arith, omega arith)
-    (omega arith)
+    fits_part c.args.terms.now c.args.width c.args.shifted 1 (c.args.width - 1) c.requires.wide
+    (omega arith, omega arith) (omega arith)
 
 pub word-requires-2-clause-fits : goal.word-requires-2-clause-fits
 word-requires-2-clause-fits c =

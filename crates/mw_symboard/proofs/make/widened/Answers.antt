@@ -43,4 +43,5 @@ pub returns-clause-listed : goal.returns-clause-listed
 returns-clause-listed c = λ reads.
     (c.in_ok-term.ensures.listed reads
     ∙ ap (λ x. with_word (Join x.term c.args.narrow) x.list) (c.in_ok-zeros.ensures.listed c.args.words.now reads)
-    ∙ sym (more_bits c.args.from c.args.to c.args.narrow (list_of c.args.terms.now.ops c.args.words.now reads) c.if-from-to.false))
+    ∙ sym (more_bits c.args.from c.args.to c.args.narrow (list_of c.args.terms.now.ops c.args.words.now reads)
+    c.if-from-to.false))

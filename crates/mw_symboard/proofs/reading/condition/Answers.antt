@@ -8,8 +8,8 @@ returns-clause-is c =
     let two = c.in_ok-term.ensures in
     rw (← c.place.view_is) (
       c.in_ok-bit.bit,
-      bit_term_stays c.args.board.now c.bit.new.terms c.turned.new.terms c.place.inside.parts c.place.inside.sp c.args.sources.now c.args.microword.now.condition
-          c.in_ok-bit.bit two.grew.1.extends one.is,
+      bit_term_stays c.args.board.now c.bit.new.terms c.turned.new.terms c.place.inside.parts c.place.inside.sp
+          c.args.sources.now c.args.microword.now.condition c.in_ok-bit.bit two.grew.1.extends one.is,
       two.is,
     )
 
@@ -17,8 +17,8 @@ pub returns-clause-right : goal.returns-clause-right
 returns-clause-right c =
     let grew = c.in_ok-term.ensures.grew in
     rw (← c.place.view_is)
-    (bits_stay c.args.board.now c.bit.new.terms c.turned.new.terms c.place.inside.parts c.place.inside.sp c.args.sources.now c.bit.new.self grew.1.extends
-    grew.1.keeps c.in_ok-bit.ensures.right)
+    (bits_stay c.args.board.now c.bit.new.terms c.turned.new.terms c.place.inside.parts c.place.inside.sp
+    c.args.sources.now c.bit.new.self grew.1.extends grew.1.keeps c.in_ok-bit.ensures.right)
 
 pub returns-clause-grew : goal.returns-clause-grew
 returns-clause-grew c =

@@ -1,13 +1,15 @@
 use Rattle.std.proofs.Common.{◌+◌, length, ap, sym, ◌∙◌}
 use Rattle.mw_symmem.proofs.Growth.{width_stays}
-use Rattle.mw_symboard.proofs.Variables.{absent_noise, goes_by_both, inputs_after, line_there, noise_there, none_after, wide_variable}
+use Rattle.mw_symboard.proofs.Variables.{absent_noise, goes_by_both, inputs_after, line_there, noise_there, none_after}
+use Rattle.mw_symboard.proofs.Variables.{wide_variable}
 use Rattle.mw_term.specs.WordList.{Ended, with_variable}
 use Rattle.mw_term.specs.declared.kinds.WordKind.TheVariants.{Noise}
 use Rattle.mw_symboard.proofs.reading.line_and_noise.Goals as goal
 
 pub noise_word-requires : goal.noise_word-requires
 noise_word-requires c =
-    absent_noise c.args.cycle c.args.words.now c.fresh.new.self c.in_ok-line.line c.requires.none c.in_ok-line.ensures.words
+    absent_noise c.args.cycle c.args.words.now c.fresh.new.self c.in_ok-line.line c.requires.none
+    c.in_ok-line.ensures.words
 
 pub returns-clause-line : goal.returns-clause-line
 returns-clause-line c =
@@ -37,7 +39,8 @@ pub returns-clause-goes : goal.returns-clause-goes
 returns-clause-goes c = λ taken m workspace.
     (let one = c.in_ok-line.ensures in
     let two = c.in_ok-noise.ensures in
-    goes_by_both c.args.cycle c.args.terms.now c.fresh.new.terms c.noise_word.new.terms c.args.words.now c.fresh.new.self
+    goes_by_both c.args.cycle c.args.terms.now c.fresh.new.terms c.noise_word.new.terms c.args.words.now
+    c.fresh.new.self
     c.noise_word.new.words c.in_ok-line.line c.in_ok-noise.noise c.requires.none c.in_ok-line.ensures.words
     c.in_ok-noise.ensures.words
     taken m one.extends one.keeps one.table one.of two.extends two.keeps two.table two.of workspace)
@@ -46,7 +49,8 @@ pub returns-clause-inputs : goal.returns-clause-inputs
 returns-clause-inputs c = λ board are n term is.
     (let one = c.in_ok-line.ensures in
     let two = c.in_ok-noise.ensures in
-    inputs_after c.args.cycle c.args.terms.now c.fresh.new.terms c.noise_word.new.terms c.args.words.now c.fresh.new.self
+    inputs_after c.args.cycle c.args.terms.now c.fresh.new.terms c.noise_word.new.terms c.args.words.now
+    c.fresh.new.self
     c.noise_word.new.words c.in_ok-line.line c.in_ok-noise.noise c.requires.none c.in_ok-line.ensures.words
     c.in_ok-noise.ensures.words
     board one.extends one.keeps two.extends two.keeps are n term is)

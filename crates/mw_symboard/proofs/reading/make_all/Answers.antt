@@ -23,11 +23,12 @@ loop-bit-preserved c =
       so_far = λ reads.
           (before.so_far reads
           ∙ read_on c.args.board.now c.args.microword.now c.args.place.now.parts c.args.place.now.sp
-          (sources_of c.args.sources.now) c.args.in_order.now c.loop-bit.bit-index Zero _ _ c.loop-bit-test.true (e.listed reads));
+          (sources_of c.args.sources.now) c.args.in_order.now c.loop-bit.bit-index Zero _ _ c.loop-bit-test.true
+          (e.listed reads));
     }
 
 pub returns-clause-listed : goal.returns-clause-listed
 returns-clause-listed c = λ reads.
     (c.loop-bit.invariant.so_far reads
-    ∙ read_all c.args.board.now c.args.microword.now c.args.place.now.parts c.args.place.now.sp (sources_of c.args.sources.now)
-    c.args.in_order.now c.loop-bit.bit-index _ c.loop-bit-test.false)
+    ∙ read_all c.args.board.now c.args.microword.now c.args.place.now.parts c.args.place.now.sp
+    (sources_of c.args.sources.now) c.args.in_order.now c.loop-bit.bit-index _ c.loop-bit-test.false)

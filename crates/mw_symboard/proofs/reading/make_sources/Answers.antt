@@ -65,10 +65,11 @@ pub returns-clause-listed : goal.returns-clause-listed
 returns-clause-listed c = λ reads.
     (let list = λ (t : Table) (words : List Word). list_of t.ops words reads in
     rw (← c.place.view_is)
-    (sources_are c.args.board.now c.args.microword.now c.place.inside.parts c.place.inside.sp c.args.variables.line c.args.variables.noise c.args.d c.of-function.result
+    (sources_are c.args.board.now c.args.microword.now c.place.inside.parts c.place.inside.sp c.args.variables.line
+    c.args.variables.noise c.args.d c.of-function.result
     (list c.args.terms.now c.args.words.now) (list c.early.new.terms c.early.new.words)
     (list c.operands.new.terms c.operands.new.words) (list c.addends.new.terms c.addends.new.words)
-    (list c.f.new.terms c.f.new.words) c.in_ok-carry.carry c.in_ok-r.r c.in_ok-r.s c.in_ok-first.first c.in_ok-first.second
-    c.in_ok-f.f c.args.bits.now c.early.new.self c.of-function.ensures
+    (list c.f.new.terms c.f.new.words) c.in_ok-carry.carry c.in_ok-r.r c.in_ok-r.s c.in_ok-first.first
+    c.in_ok-first.second c.in_ok-f.f c.args.bits.now c.early.new.self c.of-function.ensures
     (none_made c.args.bits.now c.requires.early c.requires.late) (c.in_ok-carry.ensures.listed reads)
     (c.in_ok-r.ensures.listed reads) (c.in_ok-first.ensures.listed reads) (c.in_ok-f.ensures.listed reads)))

@@ -11,4 +11,5 @@ returns-clause-wide c =
 pub returns-clause-listed : goal.returns-clause-listed
 returns-clause-listed c = λ reads.
     (c.in_ok-term.ensures.listed reads
-    ∙ turned_over c.args.polarity c.args.bit (list_of c.args.terms.now.ops c.args.words.now reads) c.if-not-polarity.false)
+    ∙ turned_over c.args.polarity c.args.bit (list_of c.args.terms.now.ops c.args.words.now reads)
+    c.if-not-polarity.false)

@@ -33,10 +33,12 @@ widened-requires-in-Flip-clause-wide c =
     let n = c.from.result in
     let flips = c.parts.inside.flips.items in
     let named : c.in-Flip.number < length board.flipflop =
-    subst (λ (f : DFrom). IsFrom (length board.fields) (length board.flipflop) f) c.in-Flip.is c.requires.microword.d.from in
+    subst (λ (f : DFrom). IsFrom (length board.fields) (length board.flipflop) f)
+    c.in-Flip.is c.requires.microword.d.from in
     let there : n < length board.flipflop = omega (arith, named) in
     let inside : n < length flips = omega (arith, there, parts.flips) in
-    let s : c.index-flip.result.now ≡ slice_index flips n = get_or_read flips n c.index-flip.result.now inside c.index-flip.ensures 0 in
+    let s : c.index-flip.result.now ≡ slice_index flips n =
+    get_or_read flips n c.index-flip.result.now inside c.index-flip.ensures 0 in
     rw s (flip_wide _ _ _ n parts there)
 
 pub returns-in-Zero-clause-goes : goal.returns-in-Zero-clause-goes
@@ -60,8 +62,8 @@ returns-in-Mar-clause-goes c =
 
 pub returns-in-Mar-clause-inputs : goal.returns-in-Mar-clause-inputs
 returns-in-Mar-clause-inputs c =
-    inputs_ok c.widened.result c.args.board.now c.args.terms.now c.widened.new.terms c.args.words.now c.widened.new.words
-    c.requires.inputs (c.widened.ensures.grew)
+    inputs_ok c.widened.result c.args.board.now c.args.terms.now c.widened.new.terms c.args.words.now
+    c.widened.new.words c.requires.inputs (c.widened.ensures.grew)
 
 pub returns-in-Field-clause-goes : goal.returns-in-Field-clause-goes
 returns-in-Field-clause-goes c =
@@ -96,16 +98,20 @@ returns-in-Zero-clause-listed c =
     constant_over c.constant.result 0 c.bits-width.result _ c.args.terms.now c.constant.new.terms c.args.words.now
     c.args.memory.now
     (λ l. ap (λ w. with_constant 0 w l) width
-    ∙ sym (ap (λ from. source_words board c.args.microword.now.word c.args.parts.now c.args.memory.now.board c.args.taken from l)
+    ∙ sym (ap
+    (λ from. source_words board c.args.microword.now.word c.args.parts.now c.args.memory.now.board c.args.taken from l)
     c.in-Zero.is)) c.constant.ensures.listed
 
 pub returns-in-Field-clause-listed : goal.returns-in-Field-clause-listed
 returns-in-Field-clause-listed c =
     let board = c.args.board.now in
     let width : c.bits-width.result ≡ board.width = c.bits-width.ensures.exact ∙ c.width.ensures.exact in
-    constant_over c.constant-in-Field.result c.field.result c.bits-width.result _ c.args.terms.now c.constant-in-Field.new.terms
-    c.args.words.now c.args.memory.now
+    constant_over c.constant-in-Field.result c.field.result c.bits-width.result _ c.args.terms.now
+    c.constant-in-Field.new.terms c.args.words.now c.args.memory.now
     (λ l. ap (λ n. with_constant n c.bits-width.result l) c.field.ensures.exact
-    ∙ ap (λ w. with_constant (in_field (slice_get board.fields c.in-Field.number) c.args.microword.now.word % 2 ^ board.width) w l) width
-    ∙ sym (ap (λ from. source_words board c.args.microword.now.word c.args.parts.now c.args.memory.now.board c.args.taken from l)
+    ∙ ap (λ w.
+    with_constant (in_field (slice_get board.fields c.in-Field.number) c.args.microword.now.word % 2 ^ board.width) w l)
+    width
+    ∙ sym (ap
+    (λ from. source_words board c.args.microword.now.word c.args.parts.now c.args.memory.now.board c.args.taken from l)
     c.in-Field.is)) c.constant-in-Field.ensures.listed

@@ -10,7 +10,8 @@ word-requires-clause-fits c =
     let e = c.in_ok-constant.ensures in
     let ws = c.args.words.now in
     fits_and c.constant.new.terms c.args.width c.args.whole c.in_ok-constant.constant
-    (wide_later c.args.terms.now c.constant.new.terms ws ws c.args.width c.args.whole (e.grew ws) c.requires.wide) e.wide
+    (wide_later c.args.terms.now c.constant.new.terms ws ws c.args.width c.args.whole (e.grew ws) c.requires.wide)
+    e.wide
 
 pub returns-clause-is : goal.returns-clause-is
 returns-clause-is c = (

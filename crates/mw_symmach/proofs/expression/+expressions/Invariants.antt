@@ -14,7 +14,8 @@ invariant-part_terms-loop-part l = record {
       (trees_of (map view (drop l.part-index l.parts))) (list_in l.terms l.words l.memory)).list
       ≡ (words_of_parts (shape_over l.fn.terms l.elements l.fn.memory) l.elements (writes_of l.fn.memory l.side)
       (trees_of (map view l.parts)) (list_in l.fn.terms l.fn.words l.fn.memory)).list)
-      × (l.made.items ++ (words_of_parts (shape_over l.fn.terms l.elements l.fn.memory) l.elements (writes_of l.fn.memory l.side)
+      × (l.made.items
+      ++ (words_of_parts (shape_over l.fn.terms l.elements l.fn.memory) l.elements (writes_of l.fn.memory l.side)
       (trees_of (map view (drop l.part-index l.parts))) (list_in l.terms l.words l.memory)).terms
       ≡ (words_of_parts (shape_over l.fn.terms l.elements l.fn.memory) l.elements (writes_of l.fn.memory l.side)
       (trees_of (map view l.parts)) (list_in l.fn.terms l.fn.words l.fn.memory)).terms);

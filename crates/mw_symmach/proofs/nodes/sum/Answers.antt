@@ -9,8 +9,8 @@ pub add-requires-clause-fits : goal.add-requires-clause-fits
 add-requires-clause-fits c =
     let t = c.args.terms.now in
     fits_sum t c.constant.new.terms [] c.args.a c.args.b c.in_ok-carry_in.carry_in (term_width t c.args.a)
-    (λ given. c.args.carry) (first_of t c.args.a c.args.b c.requires.pair) (second_of t c.args.a c.args.b c.requires.pair)
-    (c.in_ok-carry_in.ensures.gives [])
+    (λ given. c.args.carry) (first_of t c.args.a c.args.b c.requires.pair)
+    (second_of t c.args.a c.args.b c.requires.pair) (c.in_ok-carry_in.ensures.gives [])
 
 pub returns-clause-gives : goal.returns-clause-gives
 returns-clause-gives c =
@@ -23,4 +23,5 @@ returns-clause-gives c =
 pub returns-clause-listed : goal.returns-clause-listed
 returns-clause-listed c = λ reads.
     (c.in_ok-term.ensures.listed reads
-    ∙ ap (λ x. with_word (Sum c.args.a c.args.b x.term) x.list) (c.in_ok-carry_in.ensures.listed c.args.words.now reads))
+    ∙ ap (λ x. with_word (Sum c.args.a c.args.b x.term) x.list)
+    (c.in_ok-carry_in.ensures.listed c.args.words.now reads))

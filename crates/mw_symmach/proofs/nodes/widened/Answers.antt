@@ -15,8 +15,8 @@ add-requires-clause-fits c =
       width_is = sym c.width-from.ensures.exact;
     } in
     let wider = rw (← c.width-from.ensures.exact) at c.requires.wider in
-    fits_zeros t c.constant.new.terms [] c.args.narrow c.in_ok-zeros.zeros c.args.width c.width-from.result (λ given. 0) is
-    (c.in_ok-zeros.ensures.gives []) wider c.requires.most
+    fits_zeros t c.constant.new.terms [] c.args.narrow c.in_ok-zeros.zeros c.args.width c.width-from.result
+    (λ given. 0) is (c.in_ok-zeros.ensures.gives []) wider c.requires.most
 
 pub returns-clause-gives : goal.returns-clause-gives
 returns-clause-gives c =
@@ -27,8 +27,8 @@ returns-clause-gives c =
     } in
     let wider = rw (← c.width-from.ensures.exact) at c.requires.wider in
     gives_widened t c.constant.new.terms c.add.new.terms c.args.words.now c.add.new.words c.args.narrow
-    c.in_ok-zeros.zeros c.in_ok-term.term c.args.width c.width-from.result is wider (c.in_ok-zeros.ensures.gives c.args.words.now)
-    c.in_ok-term.ensures.gives
+    c.in_ok-zeros.zeros c.in_ok-term.term c.args.width c.width-from.result is wider
+    (c.in_ok-zeros.ensures.gives c.args.words.now) c.in_ok-term.ensures.gives
 
 pub returns-clause-listed : goal.returns-clause-listed
 returns-clause-listed c = λ reads.

@@ -4,7 +4,8 @@ use Rattle.mw_macro.specs.declared.counts.Counted.TheVariants.{Reads, Events}
 use Rattle.mw_macro.specs.Statements.{acts}
 use Rattle.mw_symmach.specs.Places.{dropped, list_at, left_of, then_acts}
 use Rattle.mw_symmach.proofs.AtIf.{stops_here, stops_within}
-use Rattle.mw_symmach.proofs.Carrying.{within_few, right_list, right_dropped, reaches_out, out_then, carries_out, front_at, front_before, none_behind, past_end}
+use Rattle.mw_symmach.proofs.Carrying.{within_few, right_list, right_dropped, reaches_out, out_then, carries_out}
+use Rattle.mw_symmach.proofs.Carrying.{front_at, front_before, none_behind, past_end}
 use Rattle.mw_symmach.proofs.Walking.{walks_out, walks_then, walks_within}
 use Rattle.mw_symmach.proofs.walk.+go_on.Goals as goal
 
@@ -15,7 +16,8 @@ go_on-requires t c =
     let i = c.args.level in
     let within = c.index-within.result.now in
     let s = c.args.shape.now in
-    let here : drop i old ≡ within ∷ drop (i + 1) old = rw add-one (drop-cons old i within (omega (arith, c.len.ensures))
+    let here : drop i old ≡ within ∷ drop (i + 1) old =
+    rw add-one (drop-cons old i within (omega (arith, c.len.ensures))
     ∙ ap (λ x. x ∷ drop (suc i) old) (sym c.index-within.ensures)) in
     let few_reads = rw here at c.requires.few_reads in
     let few_events = rw here at c.requires.few_events in
@@ -27,7 +29,10 @@ go_on-requires t c =
         (
           rw c.list-list.ensures (right_list s within.first (dropped within.position all)
               (right_dropped s within.position all c.requires.right)),
-          (rw c.list-list.ensures (omega (arith, few_reads, reads_in)), rw c.list-list.ensures (omega (arith, few_events, events_in))),
+          (
+            rw c.list-list.ensures (omega (arith, few_reads, reads_in)),
+            rw c.list-list.ensures (omega (arith, few_events, events_in)),
+          ),
         ),
       ),
     )
@@ -39,7 +44,8 @@ returns-in-Some-clause-reaches t c =
     let i = c.args.level in
     let within = c.index-within.result.now in
     let s = c.args.shape.now in
-    let here : drop i old ≡ within ∷ drop (i + 1) old = rw add-one (drop-cons old i within (omega (arith, c.len.ensures))
+    let here : drop i old ≡ within ∷ drop (i + 1) old =
+    rw add-one (drop-cons old i within (omega (arith, c.len.ensures))
     ∙ ap (λ x. x ∷ drop (suc i) old) (sym c.index-within.ensures)) in
     let few_reads = rw here at c.requires.few_reads in
     let few_events = rw here at c.requires.few_events in
@@ -48,8 +54,8 @@ returns-in-Some-clause-reaches t c =
     let reaches = rw (c.list-list.ensures, c.in-Some.is) at c.in_ok-inner.ensures.reaches in
     rw (here, front_at i new old within front here)
     (reaches_out s c.args.terms.now c.go_on.new.terms c.args.words.now c.go_on.new.words c.args.memory.now
-    c.go_on.new.memory c.args.parts.now c.go_on.new.parts all within (drop (i + 1) old) (drop (i + 1) new) c.args.position
-    c.in_ok-inner.inner.position c.in-Some.term reaches)
+    c.go_on.new.memory c.args.parts.now c.go_on.new.parts all within (drop (i + 1) old)
+    (drop (i + 1) new) c.args.position c.in_ok-inner.inner.position c.in-Some.term reaches)
 
 pub returns-in-Some-clause-front : goal.returns-in-Some-clause-front
 returns-in-Some-clause-front t c =
@@ -62,14 +68,16 @@ go_through-requires-2-clause-few_reads t c =
     let i = c.args.level in
     let within = c.index-within.result.now in
     let s = c.args.shape.now in
-    let here : drop i old ≡ within ∷ drop (i + 1) old = rw add-one (drop-cons old i within (omega (arith, c.len.ensures))
+    let here : drop i old ≡ within ∷ drop (i + 1) old =
+    rw add-one (drop-cons old i within (omega (arith, c.len.ensures))
     ∙ ap (λ x. x ∷ drop (suc i) old) (sym c.index-within.ensures)) in
     let few_reads = rw here at c.requires.few_reads in
     let few_events = rw here at c.requires.few_events in
     let new = c.go_on.new.levels.items in
     let front = c.in_ok-inner.ensures.front in
     let reaches = rw (c.list-list.ensures, c.in_default.is) at c.in_ok-inner.ensures.reaches in
-    let last = left_of (list_at within.first (dropped within.position all)) (drop (i + 1) new) c.in_ok-inner.inner.position in
+    let last =
+    left_of (list_at within.first (dropped within.position all)) (drop (i + 1) new) c.in_ok-inner.inner.position in
     let out = carries_out s c.args.terms.now c.go_on.new.terms c.args.words.now c.go_on.new.words c.args.memory.now
     c.go_on.new.memory c.args.parts.now c.go_on.new.parts
     (left_of (list_at within.first (dropped within.position all)) (drop (i + 1) old) c.args.position) last
@@ -83,14 +91,16 @@ go_through-requires-2-clause-few_events t c =
     let i = c.args.level in
     let within = c.index-within.result.now in
     let s = c.args.shape.now in
-    let here : drop i old ≡ within ∷ drop (i + 1) old = rw add-one (drop-cons old i within (omega (arith, c.len.ensures))
+    let here : drop i old ≡ within ∷ drop (i + 1) old =
+    rw add-one (drop-cons old i within (omega (arith, c.len.ensures))
     ∙ ap (λ x. x ∷ drop (suc i) old) (sym c.index-within.ensures)) in
     let few_reads = rw here at c.requires.few_reads in
     let few_events = rw here at c.requires.few_events in
     let new = c.go_on.new.levels.items in
     let front = c.in_ok-inner.ensures.front in
     let reaches = rw (c.list-list.ensures, c.in_default.is) at c.in_ok-inner.ensures.reaches in
-    let last = left_of (list_at within.first (dropped within.position all)) (drop (i + 1) new) c.in_ok-inner.inner.position in
+    let last =
+    left_of (list_at within.first (dropped within.position all)) (drop (i + 1) new) c.in_ok-inner.inner.position in
     let out = carries_out s c.args.terms.now c.go_on.new.terms c.args.words.now c.go_on.new.words c.args.memory.now
     c.go_on.new.memory c.args.parts.now c.go_on.new.parts
     (left_of (list_at within.first (dropped within.position all)) (drop (i + 1) old) c.args.position) last
@@ -104,14 +114,16 @@ returns-clause-reaches t c =
     let i = c.args.level in
     let within = c.index-within.result.now in
     let s = c.args.shape.now in
-    let here : drop i old ≡ within ∷ drop (i + 1) old = rw add-one (drop-cons old i within (omega (arith, c.len.ensures))
+    let here : drop i old ≡ within ∷ drop (i + 1) old =
+    rw add-one (drop-cons old i within (omega (arith, c.len.ensures))
     ∙ ap (λ x. x ∷ drop (suc i) old) (sym c.index-within.ensures)) in
     let few_reads = rw here at c.requires.few_reads in
     let few_events = rw here at c.requires.few_events in
     let new = c.go_on.new.levels.items in
     let front = c.in_ok-inner.ensures.front in
     let reaches = rw (c.list-list.ensures, c.in_default.is) at c.in_ok-inner.ensures.reaches in
-    let last = left_of (list_at within.first (dropped within.position all)) (drop (i + 1) new) c.in_ok-inner.inner.position in
+    let last =
+    left_of (list_at within.first (dropped within.position all)) (drop (i + 1) new) c.in_ok-inner.inner.position in
     let none : drop i c.truncate.new.self.items ≡ [] = ap (drop i) c.truncate.ensures.items ∙ none_behind i new in
     rw (here, none) (out_then s c.args.terms.now c.go_on.new.terms c.go_through-2.new.terms c.args.words.now
     c.go_on.new.words c.go_through-2.new.words c.args.memory.now c.go_on.new.memory c.go_through-2.new.memory
@@ -140,7 +152,8 @@ returns-in-Some-clause-stops t c =
     let old = c.args.levels.now.items in
     let i = c.args.level in
     let within = c.index-within.result.now in
-    let here : drop i old ≡ within ∷ drop (i + 1) old = rw add-one (drop-cons old i within (omega (arith, c.len.ensures))
+    let here : drop i old ≡ within ∷ drop (i + 1) old =
+    rw add-one (drop-cons old i within (omega (arith, c.len.ensures))
     ∙ ap (λ x. x ∷ drop (suc i) old) (sym c.index-within.ensures)) in
     let new = c.go_on.new.levels.items in
     let stops = rw (c.list-list.ensures, c.in-Some.is) at c.in_ok-inner.ensures.stops in
@@ -165,7 +178,8 @@ returns-in-Some-clause-listed t c =
     let i = c.args.level in
     let within = c.index-within.result.now in
     let s = c.args.shape.now in
-    let here : drop i old ≡ within ∷ drop (i + 1) old = rw add-one (drop-cons old i within (omega (arith, c.len.ensures))
+    let here : drop i old ≡ within ∷ drop (i + 1) old =
+    rw add-one (drop-cons old i within (omega (arith, c.len.ensures))
     ∙ ap (λ x. x ∷ drop (suc i) old) (sym c.index-within.ensures)) in
     let new = c.go_on.new.levels.items in
     let front = c.in_ok-inner.ensures.front in
@@ -184,7 +198,8 @@ returns-clause-listed t c =
     let i = c.args.level in
     let within = c.index-within.result.now in
     let s = c.args.shape.now in
-    let here : drop i old ≡ within ∷ drop (i + 1) old = rw add-one (drop-cons old i within (omega (arith, c.len.ensures))
+    let here : drop i old ≡ within ∷ drop (i + 1) old =
+    rw add-one (drop-cons old i within (omega (arith, c.len.ensures))
     ∙ ap (λ x. x ∷ drop (suc i) old) (sym c.index-within.ensures)) in
     let new = c.go_on.new.levels.items in
     let front = c.in_ok-inner.ensures.front in

@@ -22,7 +22,8 @@ loop-element-preserved c =
           ∙ sym (ap (λ ws. with_zeros ws l.values.items (list_of l.terms.ops words reads))
           (first_width widths l.element c.args.elements (omega arith) (omega arith)))
           ∙ l.invariant.listed words reads);
-      zeros = rw (c.in_ok-push.ensures.items, ← one_more) (zeros_more c.args.terms.now l.terms c.constant.new.terms widths
+      zeros = rw (c.in_ok-push.ensures.items, ← one_more)
+          (zeros_more c.args.terms.now l.terms c.constant.new.terms widths
           old l.values.items (l.element - length old) (slice_index widths l.element) c.in_ok-zero.zero c.requires.table
           l.invariant.zeros c.in_ok-zero.ensures.gives read);
     }
@@ -32,4 +33,5 @@ returns-clause-listed c = λ words reads.
     (let l = c.loop-element in
     let none : c.args.elements - l.element ≡ 0 = omega arith in
     sym (l.invariant.listed words reads)
-    ∙ ap (λ n. with_zeros (take n (drop l.element c.args.widths.now)) l.values.items (list_of l.terms.ops words reads)) none)
+    ∙ ap (λ n. with_zeros (take n (drop l.element c.args.widths.now)) l.values.items (list_of l.terms.ops words reads))
+    none)

@@ -46,7 +46,8 @@ loop-place-preserved c =
     let given = given_by c.args.given.now in
     let inside : i < length reads = omega (arith, c.loop-place-test.true, c.loop-place.invariant.within) in
     let last : c.loop-place.place ≡ i + 1 = omega (arith, c.loop-place-test.true) in
-    let here : slice_get reads i ≡ Some read = slice_get_read reads (length reads) i read refl inside c.index-reads-place.is in
+    let here : slice_get reads i ≡ Some read =
+    slice_get_read reads (length reads) i read refl inside c.index-reads-place.is in
     let width = (c.requires.held.1 i read here).address.width_is in
     let address : c.in_ok-address.address ≡ term_value c.args.terms.now given read.address =
     rw c.address.ensures at c.in_ok-address.ensures.exact in
@@ -56,8 +57,9 @@ loop-place-preserved c =
     rw (c.address.ensures, width) at c.in_ok-address.ensures.below in
     let within : term_value c.args.terms.now given read.address < length items =
     omega (arith, below, address, c.loop-place.invariant.size) in
-    let whole = written c.loop-place.image.len items c.put.new.image (slice_set items c.in_ok-address.address c.in_ok-word.word)
-    (omega (arith, c.loop-place.image.ok.0)) (length-set items c.in_ok-address.address c.in_ok-word.word) (rw c.deref_mut.ensures.value at c.put.ensures) in
+    let whole = written c.loop-place.image.len items c.put.new.image
+    (slice_set items c.in_ok-address.address c.in_ok-word.word) (omega (arith, c.loop-place.image.ok.0))
+    (length-set items c.in_ok-address.address c.in_ok-word.word) (rw c.deref_mut.ensures.value at c.put.ensures) in
     record {
       within = omega (arith, c.loop-place.invariant.within);
       size = rw whole (length-set items c.in_ok-address.address c.in_ok-word.word ∙ c.loop-place.invariant.size);

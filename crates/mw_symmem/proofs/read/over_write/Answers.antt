@@ -15,7 +15,8 @@ pub add-requires-2-clause-fits : goal.add-requires-2-clause-fits
 add-requires-2-clause-fits c =
     let e = c.in_ok-same.ensures in (
       bit_of_same c.add.new.terms c.args.address c.address.result c.in_ok-same.same e.has,
-      rw c.word.ensures (pair_stays c.args.terms.now c.add.new.terms c.args.write.word c.args.value e.grows.extends c.requires.pair),
+      rw c.word.ensures
+          (pair_stays c.args.terms.now c.add.new.terms c.args.write.word c.args.value e.grows.extends c.requires.pair),
     )
 
 pub returns-clause-made : goal.returns-clause-made

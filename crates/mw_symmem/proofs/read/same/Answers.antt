@@ -42,7 +42,8 @@ loop-read-preserved c =
           one.grows.extends one.grows.keeps c.loop-read.invariant.are)
           has);
       listed = λ reads'.
-          (let before = rw (dropped reads i read c.loop-read-test.true c.read-item.is) at (c.loop-read.invariant.listed reads') in
+          (let before =
+          rw (dropped reads i read c.loop-read-test.true c.read-item.is) at (c.loop-read.invariant.listed reads') in
           let first = rw c.address.ensures at (one.listed reads') in
           let others = λ (x : Ended). with_same c.args.address (drop (i + 1) reads) x.list in (
             ap (λ x. (others x).list) first ∙ before.0,

@@ -13,5 +13,6 @@ invariant-loop-write l = record {
   listed : (reads : List Held)
       → over_writes l.address (drop l.write-index l.writes) l.value (list_of l.terms.ops l.words reads)
       ≡ over_writes l.address l.writes l.fn.base (list_of l.fn.terms.ops l.fn.words reads);
-  pairs : (k : ℕ) (write : Held) → slice_get l.writes k ≡ Some write → ArePair (widths_of l.terms.ops) write.word l.value;
+  pairs : (k : ℕ) (write : Held)
+      → slice_get l.writes k ≡ Some write → ArePair (widths_of l.terms.ops) write.word l.value;
 }

@@ -11,7 +11,8 @@ returns-in-Err-clause-err_terms c = λ other.
     (get_by (λ key. same_kind other key.0) c.args.terms.now)
     (get_by (λ key. same_kind other key.0) c.insert.new.self)
     (get_by (λ key. same_kind other key.0) c.remove.new.self)
-    (λ same. ap (λ kind. get_by (λ key. same_kind kind key.0) c.args.terms.now) (sym (kind_is c.args.kind other same)) ∙ c.requires)
+    (λ same. ap (λ kind. get_by (λ key. same_kind kind key.0) c.args.terms.now) (sym (kind_is c.args.kind other same))
+    ∙ c.requires)
     (c.in_ok-insert.ensures.updates.0 (record { 0 = other }))
     (c.remove.ensures.updates.0 (record { 0 = other }))
 

@@ -1,4 +1,5 @@
-use Rattle.mw_term.proofs.Numbered.{numbered_at_first, numbered_constant, numbered_word, numbered_variable, numbered_read}
+use Rattle.mw_term.proofs.Numbered.{numbered_at_first, numbered_constant, numbered_word, numbered_variable}
+use Rattle.mw_term.proofs.Numbered.{numbered_read}
 use Rattle.mw_term.proofs.laws.terms_are_numbered.Goals as goal
 
 pub returns : goal.returns

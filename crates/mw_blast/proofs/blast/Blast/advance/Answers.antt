@@ -1,7 +1,8 @@
 use Rattle.std.proofs.Common.{◌≡◌, ℕ, ◌-◌, length, take, ap, sym, ◌∙◌}
 use Rattle.mw_blast.specs.declared.fault.BlastFault.TheVariants.{NoMemory}
 use Rattle.mw_blast.proofs.Operations.{handed_on}
-use Rattle.mw_blast.proofs.Waiting.{last, waits_inside, waits_room, waits_operands, waits_cause, operand_waits, term_made}
+use Rattle.mw_blast.proofs.Waiting.{last, waits_inside, waits_room, waits_operands, waits_cause, operand_waits}
+use Rattle.mw_blast.proofs.Waiting.{term_made}
 use Rattle.mw_blast.proofs.blast.Blast.advance.Goals as goal
 
 pub op-requires : goal.op-requires

@@ -10,8 +10,8 @@ use Rattle.mw_blast.proofs.blast.Blast.make_all.Goals as goal
 
 pub returns-in_err-reserve-clause-of : goal.returns-in_err-reserve-clause-of
 returns-in_err-reserve-clause-of c =
-    same_of c.args.terms.now c.args.dds.now c.args.self.now c.reserve.new.self c.reserve.ensures.starts c.reserve.ensures.bits
-    c.requires.of
+    same_of c.args.terms.now c.args.dds.now c.args.self.now c.reserve.new.self c.reserve.ensures.starts
+    c.reserve.ensures.bits c.requires.of
 
 pub returns-in_err-reserve-clause-over : goal.returns-in_err-reserve-clause-over
 returns-in_err-reserve-clause-over c =

@@ -64,7 +64,7 @@ returns-clause-made c = λ m k.
     (subst (λ (ys : List ℕ). StandEach now ys out_of) (sym c.deref.ensures.value) are.each) in
     let out : StandsFor now c.index.result.now (out_of top) = rw at (are.each top inside) in
     rw c.at.ensures
-    (subst (λ (n : ℕ). IsRefusedAt (row t (Ovf c.args.a c.args.b m)) w c.args.budget (fault_at n c.in-Err.fault)) (sym same)
-    (overflow_last t c.args.a c.args.b m c.args.budget c.in-Err.fault some
+    (subst (λ (n : ℕ). IsRefusedAt (row t (Ovf c.args.a c.args.b m)) w c.args.budget (fault_at n c.in-Err.fault))
+    (sym same) (overflow_last t c.args.a c.args.b m c.args.budget c.in-Err.fault some
     (subst (λ (n : ℕ). IsRefused (xor_row (into_of n) (out_of n)) c.args.budget c.in-Err.fault) same
     (c.in-Err.ensures.made (into_of top) (out_of top) into out))))

@@ -32,10 +32,12 @@ word-requires-clause-width c =
     a.count ∙ c.requires.ready.pair.2 ∙ sym b.count
 
 pub word-requires-clause-a : goal.word-requires-clause-a
-word-requires-clause-a c = λ j inside. ((c.bits_of-a.ensures.are c.args.dds.now c.requires.ready.of).each j inside).there
+word-requires-clause-a c =
+    λ j inside. ((c.bits_of-a.ensures.are c.args.dds.now c.requires.ready.of).each j inside).there
 
 pub word-requires-clause-b : goal.word-requires-clause-b
-word-requires-clause-b c = λ j inside. ((c.bits_of-b.ensures.are c.args.dds.now c.requires.ready.of).each j inside).there
+word-requires-clause-b c =
+    λ j inside. ((c.bits_of-b.ensures.are c.args.dds.now c.requires.ready.of).each j inside).there
 
 pub returns-clause-count : goal.returns-clause-count
 returns-clause-count c =

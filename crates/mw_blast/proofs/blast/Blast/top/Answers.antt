@@ -29,5 +29,6 @@ returns-clause-made c = λ K k.
     let at : c.index.result.now ≡ slice_index xs top = get_or_read xs top c.index.result.now inside c.index.ensures 0 in
     one_stands c.pair.new.dds (λ j. bit_at c.args.row (bit t c.args.a) (bit t c.args.b) K (w - 1))
     c.in_ok-single.field-0.items c.index.result.now c.in_ok-single.ensures
-    (subst (λ (n : ℕ). StandsFor c.pair.new.dds c.index.result.now (bit_at c.args.row (bit t c.args.a) (bit t c.args.b) K n))
+    (subst
+    (λ (n : ℕ). StandsFor c.pair.new.dds c.index.result.now (bit_at c.args.row (bit t c.args.a) (bit t c.args.b) K n))
     same (rw at (are.each top inside)))

@@ -19,5 +19,6 @@ returns c =
     let flipflops : c.as_slice-flipflops.result.now ≡ c.args.self.now.flipflop = search rules in
     let past : length c.args.self.now.flipflop ≤ c.args.number - 19 = rw (← flipflops) c.if-number-flipflops.false in
     c.name_at-2.ensures
-    ∙ ap (λ (names : List (List ℕ)). slice_get names (c.args.number - 19 - length c.as_slice-flipflops.result.now)) c.names_behind.ensures
+    ∙ ap (λ (names : List (List ℕ)). slice_get names (c.args.number - 19 - length c.as_slice-flipflops.result.now))
+    c.names_behind.ensures
     ∙ rw flipflops (name_behind c.args.self.now c.args.number c.if-number-lt19.false past)

@@ -12,7 +12,8 @@ returns-in-Some-flipflop_of c =
 pub returns-in-Some-place_of : goal.returns-in-Some-place_of
 returns-in-Some-place_of c =
     let flipflops : c.as_slice-flipflops.result.now ≡ c.args.self.now.flipflop = search rules in
-    rw flipflops (number_behind c.args.self.now c.args.name.now c.in-Some-place_of.place (search rules) (search rules) (search rules))
+    rw flipflops (number_behind c.args.self.now c.args.name.now c.in-Some-place_of.place (search rules)
+    (search rules) (search rules))
 
 pub returns-in-None : goal.returns-in-None
 returns-in-None c = no_number c.args.self.now c.args.name.now (search rules) (search rules) (search rules)

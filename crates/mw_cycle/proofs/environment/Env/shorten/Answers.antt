@@ -8,7 +8,8 @@ returns c =
     let line = c.kept-line.result in
     let noise = c.kept-noise.result in
     let inputs = c.kept-inputs.result in
-    let fronts = λ (env : Environment). lists_are (take line env.line) (take noise env.noise) (take inputs env.inputs) in
+    let fronts =
+    λ (env : Environment). lists_are (take line env.line) (take noise env.noise) (take inputs env.inputs) in
     rw (c.truncate.ensures.items, c.truncate-2.ensures.items, c.truncate-3.ensures.items)
     (ap fronts c.self.view_is ∙ fronts_are c.args.self.now line noise inputs c.kept-line.ensures.exact
     c.kept-noise.ensures.exact c.kept-inputs.ensures.exact)

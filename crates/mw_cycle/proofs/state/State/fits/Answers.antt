@@ -5,8 +5,10 @@ use Rattle.mw_cycle.proofs.state.State.fits.Goals as goal
 
 pub returns : goal.returns
 returns c =
-    let tests : (c.are_words.result && c.is_sized.result) ≡ (are_words c.args.board.now c.args.self.now && is_sized c.args.board.now c.args.self.now) =
+    let tests : (c.are_words.result && c.is_sized.result)
+    ≡ (are_words c.args.board.now c.args.self.now && is_sized c.args.board.now c.args.self.now) =
     ap₂ (λ a b. a && b) c.are_words.ensures.exact c.is_sized.ensures.exact in (
-      λ e. in_range_fits c.args.board.now c.args.self.now c.is_sized.ensures.sequencer c.are_words.ensures.sixteen (sym tests ∙ e),
+      λ e. in_range_fits c.args.board.now c.args.self.now c.is_sized.ensures.sequencer c.are_words.ensures.sixteen
+          (sym tests ∙ e),
       λ fits. tests ∙ fits_in_range c.args.board.now c.args.self.now fits,
     )

@@ -9,4 +9,6 @@ returns-then-value-clause-exact c = λ given.
 
 pub returns-else-value-clause-exact : goal.returns-else-value-clause-exact
 returns-else-value-clause-exact c = λ given.
-    ap (value_at given c.args.self.now) c.at-else-value.ensures ∙ value-zero given c.args.self.now ∙ sym c.if-value.false
+    ap (value_at given c.args.self.now) c.at-else-value.ensures
+    ∙ value-zero given c.args.self.now
+    ∙ sym c.if-value.false

@@ -14,12 +14,16 @@ returns-clause-within c =
     let nodes = c.self.inside.nodes in
     let t : Triple = record { f = c.args.f; g = c.args.g; h = c.args.h } in
     let are : AreDds nodes t =
-    subst (λ (ns : List Node). AreDds ns t) (sym c.self.view_is) (record { f = c.requires.f; g = c.requires.g; h = c.requires.h }) in
+    subst (λ (ns : List Node). AreDds ns t) (sym c.self.view_is) (record {
+      f = c.requires.f;
+      g = c.requires.g;
+      h = c.requires.h;
+    }) in
     rw (← c.self.view_is)
     (on_ok_both c.choose.result (AreAmong c.choose.new.nodes c.choose.new.memo.triples t)
     (length c.choose.new.memo.triples ≤ c.args.budget) (HasAtMostCofactors (meaning nodes t) c.args.budget)
-    (λ among few. at_most_before nodes c.choose.new.nodes c.choose.new.memo.triples t c.args.budget c.choose.ensures.grows
-    are among few)
+    (λ among few. at_most_before nodes c.choose.new.nodes c.choose.new.memo.triples t c.args.budget
+    c.choose.ensures.grows are among few)
     c.choose.ensures.among c.choose.ensures.within)
 
 pub returns-clause-over : goal.returns-clause-over

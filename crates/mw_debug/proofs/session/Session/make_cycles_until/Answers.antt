@@ -21,7 +21,9 @@ returns-then-stands_at-clause-exact c =
     more ∙ ap (with_cycles c.args.board.now c.args.store.now.words c.args.env.now c.args.line
     (session_seen c.args.self.now)) (sym (reached _ c.args.address c.args.limit c.cycles.counter
     c.cycles.invariant.left c.cycles-test.true
-    (ap (λ (s : Session). c.args.address == s.now.state.at) (sym more) ∙ sym c.stands_at.ensures ∙ c.if-stands_at.true)))
+    (ap (λ (s : Session). c.args.address == s.now.state.at) (sym more)
+    ∙ sym c.stands_at.ensures
+    ∙ c.if-stands_at.true)))
 
 pub cycles-preserved : goal.cycles-preserved
 cycles-preserved c =
@@ -30,7 +32,9 @@ cycles-preserved c =
     record {
       so_far = more;
       left = goes_on _ c.args.address c.args.limit c.cycles.counter c.cycles.invariant.left c.cycles-test.true
-          (ap (λ (s : Session). c.args.address == s.now.state.at) (sym more) ∙ sym c.stands_at.ensures ∙ c.if-stands_at.false);
+          (ap (λ (s : Session). c.args.address == s.now.state.at) (sym more)
+          ∙ sym c.stands_at.ensures
+          ∙ c.if-stands_at.false);
       kept = c.in_ok-make_cycle.ensures.kept;
     }
 

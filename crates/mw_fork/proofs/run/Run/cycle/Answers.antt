@@ -25,10 +25,12 @@ loop-turn-preserved c =
       idle = record { idle = e.idle.idle; cycles = e.idle.cycles ∙ cycle };
       goes = stays_with job c.args.way.now c.loop-turn.way c.decide_bit.new.way c.args.self.now
           c.loop-turn.self c.turn.new.self
-          c.decide_bit.new.self c.args.self.now.board.place.cycle c.in_ok-turn.turn c.in-Ask.kind c.in-Ask.term c.in-Ask.is
+          c.decide_bit.new.self c.args.self.now.board.place.cycle c.in_ok-turn.turn c.in-Ask.kind c.in-Ask.term
+          c.in-Ask.is
           c.loop-turn.invariant.idle.cycles cycle c.loop-turn.invariant.goes c.in_ok-turn.ensures.goes e.goes;
       nodes =
-          within_with job c.args.nodes c.args.way.now c.loop-turn.way c.decide_bit.new.way c.args.self.now c.loop-turn.self
+          within_with job c.args.nodes c.args.way.now c.loop-turn.way c.decide_bit.new.way c.args.self.now
+          c.loop-turn.self
           c.turn.new.self c.args.self.now.board.place.cycle c.in_ok-turn.turn c.in-Ask.kind c.in-Ask.term c.in-Ask.is
           c.loop-turn.invariant.idle.cycles cycle c.loop-turn.invariant.goes c.in_ok-turn.ensures.goes e.nodes
           c.loop-turn.invariant.nodes;

@@ -9,4 +9,6 @@ pub invariant_of-result : goal.invariant_of-result
 invariant_of-result c =
     let m : Description = described c.args.names.items c.args.registers c.args.shape (acts c.args.statements.items) in
     let accepted : refusal_of m ≡ None = search rules in
-    record { is_machine = record { formed = c.requires.formed; accepted = accepted; right = accepted_right m accepted } }
+    record {
+      is_machine = record { formed = c.requires.formed; accepted = accepted; right = accepted_right m accepted };
+    }

@@ -14,5 +14,7 @@ returns-then-have_widths c =
     let count : length inside.registers.items ≡ m.registers = omega (arith, counted) in
     let size : length inside.memory.items ≡ 2 ^ m.shape.address = omega (arith, sized) in
     rw (← c.self.view_is)
-    (fits_if m (record { registers = inside.registers.items; memory = inside.memory.items }) c.have_bits.result count size
-    (registers.0 (search rules)) memory)
+    (fits_if m (record {
+      registers = inside.registers.items;
+      memory = inside.memory.items;
+    }) c.have_bits.result count size (registers.0 (search rules)) memory)

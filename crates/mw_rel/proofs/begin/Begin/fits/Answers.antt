@@ -29,10 +29,13 @@ returns c =
     let memory : c.as_slice-2.result.now ≡ c.args.self.now.memory =
     c.as_slice-2.ensures.value ∙ ap (λ (b : Begin). b.memory) c.self.view_is in
     fits_if job (numbered job c.args.boundary) c.args.self.now c.are_given-given.result c.is_image-image.result
-    (subst (λ (b : Boundary). IsTrue c.are_given-given.result ↔ AreGiven (is_free b) c.args.self.now.values job.relation.shape.widths)
+    (subst (λ (b : Boundary).
+    IsTrue c.are_given-given.result ↔ AreGiven (is_free b) c.args.self.now.values job.relation.shape.widths)
     c.boundary-at.ensures
-    (subst (λ xs. IsTrue c.are_given-given.result ↔ AreGiven (is_free (boundary_of c.boundary-at.result.now)) c.args.self.now.values xs)
+    (subst (λ xs. IsTrue c.are_given-given.result
+    ↔ AreGiven (is_free (boundary_of c.boundary-at.result.now)) c.args.self.now.values xs)
     widths
-    (subst (λ xs. IsTrue c.are_given-given.result ↔ AreGiven (is_free (boundary_of c.boundary-at.result.now)) xs c.as_slice-widths.result.now)
+    (subst (λ xs. IsTrue c.are_given-given.result
+    ↔ AreGiven (is_free (boundary_of c.boundary-at.result.now)) xs c.as_slice-widths.result.now)
     values c.are_given-given.ensures)))
     (subst (λ xs. IsTrue c.is_image-image.result ↔ IsImage job.relation.shape xs) memory c.is_image-image.ensures)

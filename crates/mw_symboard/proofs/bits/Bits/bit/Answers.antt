@@ -53,7 +53,9 @@ pub returns-in_default-clause-listed : goal.returns-in_default-clause-listed
 returns-in_default-clause-listed c =
     let no = c.in_default in
     said_bit c.early.result (early_words c.args.board.now c.args.parts.now c.args.sp c.args.sources.now.line c.args.bit)
-    (bit_words c.args.board.now c.args.parts.now c.args.sp (sources_of c.args.sources.now) c.args.bit) c.args.terms.now c.early.new.terms c.args.words.now c.early.new.words c.args.self.now c.early.new.self
-    (λ l. no_late_bit c.args.board.now c.args.parts.now c.args.sp (sources_of c.args.sources.now) c.args.bit c.args.self.now l
+    (bit_words c.args.board.now c.args.parts.now c.args.sp (sources_of c.args.sources.now) c.args.bit)
+    c.args.terms.now c.early.new.terms c.args.words.now c.early.new.words c.args.self.now c.early.new.self
+    (λ l.
+    no_late_bit c.args.board.now c.args.parts.now c.args.sp (sources_of c.args.sources.now) c.args.bit c.args.self.now l
     no.not-Carry no.not-Overflow no.not-FZero no.not-Sign no.not-FLow no.not-FHigh)
     c.early.ensures.listed

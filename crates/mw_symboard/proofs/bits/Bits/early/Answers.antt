@@ -16,8 +16,8 @@ pub early_word-requires-clause-fits : goal.early_word-requires-clause-fits
 early_word-requires-clause-fits c =
     let parts = rw (← c.parts.view_is) at c.requires.parts in
     let least : 4 ≤ c.args.board.now.width = c.width.ensures.valid.sizes.least in
-    fits_part c.args.terms.now c.args.board.now.width c.parts.inside.q 0 1 (q_wide _ _ _ parts) (omega arith, omega arith)
-    (omega arith)
+    fits_part c.args.terms.now c.args.board.now.width c.parts.inside.q 0 1 (q_wide _ _ _ parts)
+    (omega arith, omega arith) (omega arith)
 
 pub early_word-requires-in-QHigh-clause-fits : goal.early_word-requires-in-QHigh-clause-fits
 early_word-requires-in-QHigh-clause-fits c =
@@ -30,7 +30,8 @@ pub early_word-requires-in-Ir-clause-fits : goal.early_word-requires-in-Ir-claus
 early_word-requires-in-Ir-clause-fits c =
     let parts = rw (← c.parts.view_is) at c.requires.parts in
     let inside : c.in-Ir.number < c.args.board.now.width =
-    subst (λ (b : Bit). IsBit c.args.board.now.width (length c.args.board.now.flipflop) b) c.in-Ir.is c.requires.valid in
+    subst (λ (b : Bit). IsBit c.args.board.now.width (length c.args.board.now.flipflop) b)
+    c.in-Ir.is c.requires.valid in
     fits_part c.args.terms.now c.args.board.now.width c.parts.inside.ir c.in-Ir.number 1 (ir_wide _ _ _ parts)
     (omega arith, omega arith) (omega (arith, inside))
 
@@ -40,10 +41,12 @@ returns-in-Flip-clause-wide c =
     let n = c.from-in-Flip.result in
     let flips = c.parts.inside.flips.items in
     let named : c.in-Flip.number < length c.args.board.now.flipflop =
-    subst (λ (b : Bit). IsBit c.args.board.now.width (length c.args.board.now.flipflop) b) c.in-Flip.is c.requires.valid in
+    subst (λ (b : Bit). IsBit c.args.board.now.width (length c.args.board.now.flipflop) b)
+    c.in-Flip.is c.requires.valid in
     let there : n < length c.args.board.now.flipflop = omega (arith, named) in
     let inside : n < length flips = omega (arith, there, parts.flips) in
-    let s : c.index.result.now ≡ slice_index flips n = get_or_read flips n c.index.result.now inside c.index.ensures 0 in
+    let s : c.index.result.now ≡ slice_index flips n =
+    get_or_read flips n c.index.result.now inside c.index.ensures 0 in
     rw s (flip_wide _ _ _ n parts there)
 
 pub returns-in-One-clause-right : goal.returns-in-One-clause-right
@@ -66,22 +69,30 @@ returns-in_default-clause-right c =
 
 pub returns-in-One-clause-listed : goal.returns-in-One-clause-listed
 returns-in-One-clause-listed c =
-    constant_bit c.constant.result 1 (early_words c.args.board.now c.args.parts.now c.args.sp c.args.line c.args.bit) c.args.terms.now c.constant.new.terms c.args.words.now c.args.self.now
-    (λ l. sym (ap (λ (bit : Bit). early_words c.args.board.now c.args.parts.now c.args.sp c.args.line bit c.args.self.now l) c.in-One.is))
+    constant_bit c.constant.result 1 (early_words c.args.board.now c.args.parts.now c.args.sp c.args.line c.args.bit)
+    c.args.terms.now c.constant.new.terms c.args.words.now c.args.self.now
+    (λ l.
+    sym (ap (λ (bit : Bit). early_words c.args.board.now c.args.parts.now c.args.sp c.args.line bit c.args.self.now l)
+    c.in-One.is))
     c.constant.ensures.listed
 
 pub returns-in-Full-clause-listed : goal.returns-in-Full-clause-listed
 returns-in-Full-clause-listed c =
     let full = c.from.ensures ∙ ap (λ depth. num (c.args.sp == depth)) c.depth.ensures.exact in
-    constant_bit c.constant-in-Full.result c.from.result (early_words c.args.board.now c.args.parts.now c.args.sp c.args.line c.args.bit) c.args.terms.now c.constant-in-Full.new.terms c.args.words.now c.args.self.now
+    constant_bit c.constant-in-Full.result c.from.result
+    (early_words c.args.board.now c.args.parts.now c.args.sp c.args.line c.args.bit)
+    c.args.terms.now c.constant-in-Full.new.terms c.args.words.now c.args.self.now
     (λ l. ap (λ n. bit_ended c.args.self.now (with_constant n 1 l)) full
-    ∙ sym (ap (λ (bit : Bit). early_words c.args.board.now c.args.parts.now c.args.sp c.args.line bit c.args.self.now l) c.in-Full.is))
+    ∙ sym (ap (λ (bit : Bit). early_words c.args.board.now c.args.parts.now c.args.sp c.args.line bit c.args.self.now l)
+    c.in-Full.is))
     c.constant-in-Full.ensures.listed
 
 pub returns-in_default-clause-listed : goal.returns-in_default-clause-listed
 returns-in_default-clause-listed c =
     let no = c.in_default in
-    constant_bit c.constant-in_default.result 0 (early_words c.args.board.now c.args.parts.now c.args.sp c.args.line c.args.bit) c.args.terms.now c.constant-in_default.new.terms c.args.words.now c.args.self.now
-    (λ l. no_early_bit c.args.board.now c.args.parts.now c.args.sp c.args.line c.args.bit c.args.self.now l no.not-One no.not-QLow
-    no.not-QHigh no.not-Line no.not-Full no.not-Ir no.not-Flip)
+    constant_bit c.constant-in_default.result 0
+    (early_words c.args.board.now c.args.parts.now c.args.sp c.args.line c.args.bit)
+    c.args.terms.now c.constant-in_default.new.terms c.args.words.now c.args.self.now
+    (λ l. no_early_bit c.args.board.now c.args.parts.now c.args.sp c.args.line c.args.bit c.args.self.now l no.not-One
+    no.not-QLow no.not-QHigh no.not-Line no.not-Full no.not-Ir no.not-Flip)
     c.constant-in_default.ensures.listed

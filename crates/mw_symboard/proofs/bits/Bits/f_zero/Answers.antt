@@ -49,7 +49,8 @@ pub returns-clause-listed : goal.returns-clause-listed
 returns-clause-listed c = λ reads.
     (let e = c.in_ok-term.ensures in
     let width : c.bits.result ≡ c.args.board.now.width = c.bits.ensures.exact ∙ c.width.ensures.exact in
-    let none = sym c.in_default.is ∙ c.find.ensures ∙ ap (λ (xs : List MadeBit). made_term xs FZero) c.deref.ensures.value in
+    let none =
+    sym c.in_default.is ∙ c.find.ensures ∙ ap (λ (xs : List MadeBit). made_term xs FZero) c.deref.ensures.value in
     let l = list_of c.args.terms.now.ops c.args.words.now reads in
     rw (← c.self.view_is)
     (late_made FZero (zero_words c.args.board.now.width c.args.sources.now.f) _ l

@@ -29,16 +29,17 @@ returns-clause-right c =
     rw c.in_ok-push.ensures.items
     (late_bits_push c.args.board.now tnew c.args.parts.now c.args.sp c.args.sources.now c.self.inside.late.items
     (record { bit = c.args.bit; term = c.in_ok-term.term })
-    (late_bits_stay c.args.board.now told tnew c.args.parts.now c.args.sp c.args.sources.now c.self.inside.late.items e.grows.extends
-    e.grows.keeps right)
+    (late_bits_stay c.args.board.now told tnew c.args.parts.now c.args.sp c.args.sources.now c.self.inside.late.items
+    e.grows.extends e.grows.keeps right)
     (wide_bit told tnew c.args.op c.in_ok-term.term e.made c.requires.one)
     (c.requires.means tnew c.in_ok-term.term e.is))
 
 pub returns-clause-listed : goal.returns-clause-listed
 returns-clause-listed c = λ reads.
     (let e = c.in_ok-term.ensures in
-    let none = sym c.in_default.is ∙ c.find.ensures ∙ ap (λ (xs : List MadeBit). made_term xs c.args.bit) c.deref.ensures.value in
+    let none =
+    sym c.in_default.is ∙ c.find.ensures ∙ ap (λ (xs : List MadeBit). made_term xs c.args.bit) c.deref.ensures.value in
     rw (← c.self.view_is)
     (late_made c.args.bit (with_word c.args.op) _ (list_of c.args.terms.now.ops c.args.words.now reads)
-    (ended c.in_ok-term.term (list_of c.word.new.terms.ops c.word.new.words reads)) c.push.new.self.items none (e.listed reads)
-    c.in_ok-push.ensures.items))
+    (ended c.in_ok-term.term (list_of c.word.new.terms.ops c.word.new.words reads)) c.push.new.self.items none
+    (e.listed reads) c.in_ok-push.ensures.items))

@@ -34,10 +34,10 @@ returns-clause-grew c =
 pub returns-clause-symbolic : goal.returns-clause-symbolic
 returns-clause-symbolic c =
     rw c.ask.ensures.new
-    (asking_keeps c.args.board.now c.args.store.now.words c.word.new.terms c.word.new.words c.args.memory.now c.args.self.now
-    CounterZero
-    (symbolic_stays c.args.board.now c.args.store.now.words c.args.terms.now c.word.new.terms c.args.words.now c.word.new.words
-    c.args.memory.now c.args.self.now c.requires.workspace
+    (asking_keeps c.args.board.now c.args.store.now.words c.word.new.terms c.word.new.words c.args.memory.now
+    c.args.self.now CounterZero
+    (symbolic_stays c.args.board.now c.args.store.now.words c.args.terms.now c.word.new.terms c.args.words.now
+    c.word.new.words c.args.memory.now c.args.self.now c.requires.workspace
     (grew_then c.args.terms.now c.constant.new.terms c.word.new.terms c.args.words.now c.args.words.now c.word.new.words
     (c.in_ok-zero.ensures.grew c.args.words.now) c.in_ok-is_zero.ensures.grew) c.requires.symbolic))
 
@@ -45,18 +45,18 @@ pub returns-clause-asks : goal.returns-clause-asks
 returns-clause-asks c =
     let grew = grew_then c.args.terms.now c.constant.new.terms c.word.new.terms c.args.words.now c.args.words.now
     c.word.new.words (c.in_ok-zero.ensures.grew c.args.words.now) c.in_ok-is_zero.ensures.grew in
-    let workspace = workspace_grown c.args.terms.now c.word.new.terms c.args.words.now c.word.new.words c.args.memory.now
-    c.requires.workspace grew in
-    let zero = is_later c.constant.new.terms c.word.new.terms c.args.words.now c.word.new.words (Con 0 12) c.in_ok-zero.zero
-    c.in_ok-is_zero.ensures.grew c.in_ok-zero.ensures.is in
+    let workspace = workspace_grown c.args.terms.now c.word.new.terms c.args.words.now c.word.new.words
+    c.args.memory.now c.requires.workspace grew in
+    let zero = is_later c.constant.new.terms c.word.new.terms c.args.words.now c.word.new.words
+    (Con 0 12) c.in_ok-zero.zero c.in_ok-is_zero.ensures.grew c.in_ok-zero.ensures.is in
     let made = rw c.counter.ensures at c.in_ok-is_zero.ensures.is in
     let one = ap num c.requires.counted in (
       CounterZero,
       c.in_ok-is_zero.is_zero,
       c.ask.ensures.turn,
       rw c.ask.ensures.new
-          (counter_asked c.args.board.now c.args.store.now.words c.word.new.terms c.word.new.words c.args.memory.now c.args.self.now
-          c.requires.begun.0 c.in_ok-zero.zero c.in_ok-is_zero.is_zero workspace.table
+          (counter_asked c.args.board.now c.args.store.now.words c.word.new.terms c.word.new.words c.args.memory.now
+          c.args.self.now c.requires.begun.0 c.in_ok-zero.zero c.in_ok-is_zero.is_zero workspace.table
           (symbolic_stays c.args.board.now c.args.store.now.words c.args.terms.now c.word.new.terms c.args.words.now
           c.word.new.words c.args.memory.now c.args.self.now c.requires.workspace grew c.requires.symbolic)
           c.requires.begun.1 (omega (arith, one, c.requires.known)) c.requires.counted c.requires.known zero made
@@ -81,14 +81,18 @@ returns-clause-listed c = λ kind term is.
     let leaving = not_leaving board store c.args.terms.now o.place r o.reading o.leaving c.requires.begun.1
     c.requires.symbolic.leaving (omega (arith, one, c.requires.known)) in
     let made = c.in_ok-is_zero.ensures.listed reads
-    ∙ ap (λ (x : Ended). with_word (Eq c.counter.result x.term) x.list) (c.in_ok-zero.ensures.listed c.args.words.now reads)
+    ∙ ap (λ (x : Ended). with_word (Eq c.counter.result x.term) x.list)
+    (c.in_ok-zero.ensures.listed c.args.words.now reads)
     ∙ ap (λ x. zero_words 12 x l0) c.counter.ensures in
     asked_one c.ask.result CounterZero kind zero_is term (λ k t. StopsAt board store writes o c.ask.new.self l0 l1 k t)
     c.ask.ensures.turn is
     (stops_before board store writes o c.ask.new.self r l0 l1 CounterZero zero_is (Some CounterZero) c.ask.ensures.new
     c.requires.begun.1 leaving
-    (zero_stops (decides_pass m) o.place.decided board m o.place s (reading_of r) l0 refl c.requires.counted refl c.requires.known
+    (zero_stops (decides_pass m) o.place.decided board m o.place s
+    (reading_of r) l0 refl c.requires.counted refl c.requires.known
     ∙ ap (stopped s) (sym made))
-    (λ bit bits. (zero_goes (decides_pass m) o.place.decided board m o.place s (reading_of r) l0 CounterZero bit bits refl
+    (λ bit bits.
+    (zero_goes (decides_pass m) o.place.decided board m o.place s (reading_of r) l0 CounterZero bit bits refl
     c.requires.counted refl c.requires.known
-    ∙ ap (λ (x : Ended). left_behind_reading board m (with_bit o.place CounterZero bit) s (reading_of r) bits x.list) (sym made)))))
+    ∙ ap (λ (x : Ended). left_behind_reading board m (with_bit o.place CounterZero bit) s (reading_of r) bits x.list)
+    (sym made)))))

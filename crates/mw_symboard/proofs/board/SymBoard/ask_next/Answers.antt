@@ -20,12 +20,12 @@ word-requires-clause-fits c =
     let o = c.args.self.now in
     let before : c.bits_before.result ≡ bits_before (microword_of c.args.board.now c.args.store.now.words o.place) =
     c.bits_before.ensures.exact ∙ ap bits_before c.microword-microword.ensures.exact in
-    let left = leaving_known c.args.board.now c.args.store.now.words c.args.terms.now o.place o.reading o.leaving c.requires.begun.0
-    c.requires.leaving.0 c.requires.begun.1 c.requires.leaving.1 c.requires.symbolic.leaving in
+    let left = leaving_known c.args.board.now c.args.store.now.words c.args.terms.now o.place o.reading o.leaving
+    c.requires.begun.0 c.requires.leaving.0 c.requires.begun.1 c.requires.leaving.1 c.requires.symbolic.leaving in
     let known : c.known.result ≡ length o.place.decided = c.known.ensures.exact in
     rw (c.next_address.ensures c.requires.leaving.0 c.requires.leaving.1)
-    (fits_part c.args.terms.now 12 c.requires.leaving.0.next (c.bits_before.result + 11 - c.known.result) 1 left.0.next_wide
-    (omega arith, omega arith) (omega (arith, left.1, before, known)))
+    (fits_part c.args.terms.now 12 c.requires.leaving.0.next (c.bits_before.result + 11 - c.known.result)
+    1 left.0.next_wide (omega arith, omega arith) (omega (arith, left.1, before, known)))
 
 pub returns-clause-asks : goal.returns-clause-asks
 returns-clause-asks c =
@@ -35,27 +35,29 @@ returns-clause-asks c =
     c.bits_before.ensures.exact ∙ ap bits_before c.microword-microword.ensures.exact in
     let known : c.known.result ≡ length o.place.decided = c.known.ensures.exact in
     let micro = rw c.microword-microword.ensures.exact at c.microword-microword.ensures.valid in
-    let workspace = workspace_grown c.args.terms.now c.word.new.terms c.args.words.now c.word.new.words c.args.memory.now
-    c.requires.workspace c.in_ok-bit.ensures.grew in
+    let workspace = workspace_grown c.args.terms.now c.word.new.terms c.args.words.now c.word.new.words
+    c.args.memory.now c.requires.workspace c.in_ok-bit.ensures.grew in
     let made = rw (c.next_address.ensures c.requires.leaving.0 c.requires.leaving.1) at c.in_ok-bit.ensures.is in (
       Next place,
       c.in_ok-bit.bit,
       c.ask.ensures.turn,
       rw c.ask.ensures.new
           (next_asked c.args.board.now c.args.store.now.words c.word.new.terms c.word.new.words c.args.memory.now o
-          c.requires.begun.0 c.requires.leaving.0 place c.in_ok-bit.bit workspace.table c.microword-microword.ensures.board micro
-          (c.in_ok-bit.ensures.grew.1.extends.map ∙ c.requires.map)
+          c.requires.begun.0 c.requires.leaving.0 place c.in_ok-bit.bit workspace.table
+          c.microword-microword.ensures.board micro (c.in_ok-bit.ensures.grew.1.extends.map ∙ c.requires.map)
           (symbolic_stays c.args.board.now c.args.store.now.words c.args.terms.now c.word.new.terms c.args.words.now
           c.word.new.words c.args.memory.now o c.requires.workspace c.in_ok-bit.ensures.grew c.requires.symbolic)
           c.requires.begun.1 c.requires.leaving.1 c.requires.few (omega (arith, before, known)) made
-          (wide_part c.args.terms.now c.word.new.terms c.next_address.result place 1 c.in_ok-bit.bit c.in_ok-bit.ensures.made)),
+          (wide_part c.args.terms.now c.word.new.terms c.next_address.result place 1 c.in_ok-bit.bit
+          c.in_ok-bit.ensures.made)),
     )
 
 pub returns-clause-symbolic : goal.returns-clause-symbolic
 returns-clause-symbolic c =
     rw c.ask.ensures.new
-    (asking_keeps c.args.board.now c.args.store.now.words c.word.new.terms c.word.new.words c.args.memory.now c.args.self.now _
-    (symbolic_stays c.args.board.now c.args.store.now.words c.args.terms.now c.word.new.terms c.args.words.now c.word.new.words
+    (asking_keeps c.args.board.now c.args.store.now.words c.word.new.terms c.word.new.words c.args.memory.now
+    c.args.self.now _ (symbolic_stays c.args.board.now c.args.store.now.words c.args.terms.now c.word.new.terms
+    c.args.words.now c.word.new.words
     c.args.memory.now c.args.self.now c.requires.workspace c.in_ok-bit.ensures.grew c.requires.symbolic))
 
 pub returns-clause-listed : goal.returns-clause-listed
@@ -72,17 +74,19 @@ returns-clause-listed c = λ kind term is.
     let l1 = list_in c.word.new.terms c.word.new.words c.args.memory.now in
     let s = standing_in o writes in
     let place = c.bits_before.result + 11 - c.known.result in
-    let before : c.bits_before.result ≡ bits_before m = c.bits_before.ensures.exact ∙ ap bits_before c.microword-microword.ensures.exact in
+    let before : c.bits_before.result ≡ bits_before m =
+    c.bits_before.ensures.exact ∙ ap bits_before c.microword-microword.ensures.exact in
     let known : c.known.result ≡ length o.place.decided = c.known.ensures.exact in
     let left = leaving_known board store c.args.terms.now o.place o.reading o.leaving r leaving c.requires.begun.1
     c.requires.leaving.1 c.requires.symbolic.leaving in
     let number : 12 - address_bits_of m o.place ≡ suc place = omega (arith, before, known, left.1, c.requires.few) in
     let made = c.in_ok-bit.ensures.listed reads
     ∙ ap (λ x. with_word (Part x place 1) l0) (c.next_address.ensures leaving c.requires.leaving.1) in
-    asked_one c.ask.result (Next place) kind c.in_ok-bit.bit term (λ k t. StopsAt board store writes o c.ask.new.self l0 l1 k t)
-    c.ask.ensures.turn is
+    asked_one c.ask.result (Next place) kind c.in_ok-bit.bit term
+    (λ k t. StopsAt board store writes o c.ask.new.self l0 l1 k t) c.ask.ensures.turn is
     (stops_behind board store writes o c.ask.new.self r leaving l0 l1 (Next place) c.in_ok-bit.bit (Some (Next place))
     c.ask.ensures.new c.requires.begun.1 c.requires.leaving.1
     (address_stops board m o.place s (reading_of r) leaving l0 place number ∙ ap (stopped s) (sym made))
     (λ bit bits. (address_goes board m o.place s (reading_of r) leaving l0 place (Next place) bit bits number left.1
-    ∙ ap (λ (x : Ended). left_of_address board m (with_bit o.place (Next place) bit) s (reading_of r) leaving bits x.list) (sym made)))))
+    ∙ ap (λ (x : Ended).
+    left_of_address board m (with_bit o.place (Next place) bit) s (reading_of r) leaving bits x.list) (sym made)))))

@@ -21,9 +21,11 @@ returns-clause-listed c = λ bits.
     let none = sym (ap (λ (x : Symbolic). x.reading) c.self.view_is)
     ∙ none_is c.self.inside.reading (sym c.is_some.ensures ∙ c.if-is_some.false) in
     let leaving = not_begun board store c.args.terms.now o.place o.reading o.leaving none c.requires.symbolic.leaving in
-    let has = subst (λ (x : Option Reading). HasRead board store c.args.terms.now c.args.words.now c.args.memory.now o.place x)
+    let has =
+    subst (λ (x : Option Reading). HasRead board store c.args.terms.now c.args.words.now c.args.memory.now o.place x)
     none c.requires.symbolic.reading in
-    let reads = rw (c.place.ensures, c.microword-microword.ensures.exact) at (c.in_ok-reading.ensures.listed o.events) in
+    let reads =
+    rw (c.place.ensures, c.microword-microword.ensures.exact) at (c.in_ok-reading.ensures.listed o.events) in
     ap (λ x. left_by board store o.place s x o.leaving bits l0) none
     ∙ begins board store o.place writes o.events (reading_of r) l0 l1 has.0 reads bits
     ∙ sym (ap (λ x. left_by board store o.place s (Some r) x bits l1) leaving)

@@ -10,7 +10,8 @@ use Rattle.mw_symboard.specs.Turns.{AreNoLater, Symbolic, cycle_left}
 use Rattle.mw_symboard.proofs.Growing.{wide_later}
 use Rattle.mw_symboard.proofs.Staying.{events_stay, inputs_stay, none_stay, workspace_grown}
 use Rattle.mw_symboard.proofs.Turning.{read_known}
-use Rattle.mw_symboard.proofs.Finishing.{at_the_end, ended_done, ended_symbolic, shown_keeps, taken_few, written_board, written_machine, written_workspace, written_reads}
+use Rattle.mw_symboard.proofs.Finishing.{at_the_end, ended_done, ended_symbolic, shown_keeps, taken_few, written_board}
+use Rattle.mw_symboard.proofs.Finishing.{written_machine, written_workspace, written_reads}
 use Rattle.mw_cycle.specs.BoardTerms.{Standing}
 use Rattle.mw_cycle.specs.CycleWords.{done}
 use Rattle.mw_cycle.specs.EdgeWords.{edge_words, with_write_if}
@@ -30,7 +31,8 @@ returns-clause-workspace c =
     let left = c.take_leaving-leaving.ensures.new ∙ ap (λ (s : Symbolic). record s { leaving = None })
     c.take_reading-reading.ensures.new in
     let grew = c.in_ok-edge.ensures.grew in
-    let read = (read_known board c.args.store.now.words c.args.terms.now c.args.words.now c.args.memory.now o.place o.reading
+    let read =
+    (read_known board c.args.store.now.words c.args.terms.now c.args.words.now c.args.memory.now o.place o.reading
     c.take_reading-reading.result c.take_reading-reading.ensures.taken c.requires.symbolic.reading).0 in
     rw (c.in_ok-write_memory.ensures, c.mar-mar.ensures, left, c.edge.ensures.y)
     (written_workspace c.microword-microword.result.memory_write c.edge.new.terms c.edge.new.words c.args.memory.now
@@ -50,7 +52,8 @@ returns-clause-machine c =
 pub returns-clause-cycle : goal.returns-clause-cycle
 returns-clause-cycle c =
     let left : c.take_leaving-leaving.new.self ≡ record c.args.self.now { reading = None; leaving = None } =
-    c.take_leaving-leaving.ensures.new ∙ ap (λ (s : Symbolic). record s { leaving = None }) c.take_reading-reading.ensures.new in
+    c.take_leaving-leaving.ensures.new
+    ∙ ap (λ (s : Symbolic). record s { leaving = None }) c.take_reading-reading.ensures.new in
     let cycle = c.edge.ensures.cycle ∙ ap (λ (s : Symbolic). s.place.cycle) left in
     let from = c.microword-microword.result.d.from in
     let keeps = shown_keeps from c.microword-microword.result.out c.edge.new.reading.source c.edge.new.reading.y
@@ -60,7 +63,8 @@ returns-clause-cycle c =
 pub returns-clause-inputs : goal.returns-clause-inputs
 returns-clause-inputs c =
     let left : c.take_leaving-leaving.new.self ≡ record c.args.self.now { reading = None; leaving = None } =
-    c.take_leaving-leaving.ensures.new ∙ ap (λ (s : Symbolic). record s { leaving = None }) c.take_reading-reading.ensures.new in
+    c.take_leaving-leaving.ensures.new
+    ∙ ap (λ (s : Symbolic). record s { leaving = None }) c.take_reading-reading.ensures.new in
     let taken = c.edge.ensures.inputs ∙ ap (λ (s : Symbolic). s.place.taken) left in
     let from = c.microword-microword.result.d.from in
     let keeps = shown_keeps from c.microword-microword.result.out c.edge.new.reading.source c.edge.new.reading.y
@@ -79,9 +83,11 @@ returns-clause-symbolic c =
     let e = c.edge.new.self in
     let r = c.take_reading-reading.result in
     let left : c.take_leaving-leaving.new.self ≡ record o { reading = None; leaving = None } =
-    c.take_leaving-leaving.ensures.new ∙ ap (λ (s : Symbolic). record s { leaving = None }) c.take_reading-reading.ensures.new in
+    c.take_leaving-leaving.ensures.new
+    ∙ ap (λ (s : Symbolic). record s { leaving = None }) c.take_reading-reading.ensures.new in
     let grew = c.in_ok-edge.ensures.grew in
-    let later = (goes_by_growth (λ kind. ⊥) told tnew wold wnew c.args.memory.now grew.0 grew.1 c.requires.workspace).later in
+    let later =
+    (goes_by_growth (λ kind. ⊥) told tnew wold wnew c.args.memory.now grew.0 grew.1 c.requires.workspace).later in
     let known = read_known board c.args.store.now.words told wold c.args.memory.now o.place o.reading r
     c.take_reading-reading.ensures.taken c.requires.symbolic.reading in
     let cycle : e.place.cycle ≡ o.place.cycle = c.edge.ensures.cycle ∙ ap (λ (s : Symbolic). s.place.cycle) left in
@@ -117,19 +123,23 @@ returns-clause-done c = λ given x seen.
     let l = c.take_leaving-leaving.result in
     let m = c.args.memory.now in
     let left : c.take_leaving-leaving.new.self ≡ record o { reading = None; leaving = None } =
-    c.take_leaving-leaving.ensures.new ∙ ap (λ (s : Symbolic). record s { leaving = None }) c.take_reading-reading.ensures.new in
+    c.take_leaving-leaving.ensures.new
+    ∙ ap (λ (s : Symbolic). record s { leaving = None }) c.take_reading-reading.ensures.new in
     let exact = c.microword-microword.ensures.exact in
     let micro = rw exact at c.microword-microword.ensures.valid in
-    let is_left = sym (ap (λ (s : Symbolic). s.leaving) c.take_reading-reading.ensures.new) ∙ c.take_leaving-leaving.ensures.taken in
+    let is_left =
+    sym (ap (λ (s : Symbolic). s.leaving) c.take_reading-reading.ensures.new) ∙ c.take_leaving-leaving.ensures.taken in
     let edge = rw exact at c.in_ok-edge.ensures.is in
-    let at_end = at_the_end board store told tnew wold wnew m o c.take_leaving-leaving.new.self e r l c.microword-microword.ensures.board
+    let at_end = at_the_end board store told tnew wold wnew m o c.take_leaving-leaving.new.self e r l
+    c.microword-microword.ensures.board
     micro c.requires.map c.requires.workspace c.requires.symbolic c.take_reading-reading.ensures.taken is_left
     c.in_ok-edge.ensures.grew c.requires.all (ap (λ (s : Symbolic). s.place) left) edge in
     let cycle : e.place.cycle ≡ o.place.cycle = c.edge.ensures.cycle ∙ ap (λ (s : Symbolic). s.place.cycle) left in
     let taken : e.place.taken ≡ o.place.taken = c.edge.ensures.inputs ∙ ap (λ (s : Symbolic). s.place.taken) left in
     let events : e.events ≡ o.events = c.edge.ensures.events ∙ ap (λ (s : Symbolic). s.events) left in
     let wrote : c.write_memory.new.memory.board
-    ≡ (if (microword_of board store o.place).memory_write then m.board ++ held o.place.parts.mar r.y ∷ [] else m.board) =
+    ≡ (if (microword_of board store o.place).memory_write
+    then m.board ++ held o.place.parts.mar r.y ∷ [] else m.board) =
     rw (c.in_ok-write_memory.ensures, exact, c.mar-mar.ensures, left, c.edge.ensures.y)
     (written_board (microword_of board store o.place).memory_write m o.place.parts.mar r.y) in
     rw (c.leave_cycle.ensures, c.in_ok-show.ensures.shown, exact, c.edge.ensures.source, c.edge.ensures.y)
@@ -153,37 +163,42 @@ returns-clause-listed c =
     let mnew = c.write_memory.new.memory in
     let exact = c.microword-microword.ensures.exact in
     let left : c.take_leaving-leaving.new.self ≡ record o { reading = None; leaving = None } =
-    c.take_leaving-leaving.ensures.new ∙ ap (λ (x : Symbolic). record x { leaving = None }) c.take_reading-reading.ensures.new in
+    c.take_leaving-leaving.ensures.new
+    ∙ ap (λ (x : Symbolic). record x { leaving = None }) c.take_reading-reading.ensures.new in
     let place = ap (λ (x : Symbolic). x.place) left in
-    let is_left = sym (ap (λ (x : Symbolic). x.leaving) c.take_reading-reading.ensures.new) ∙ c.take_leaving-leaving.ensures.taken in
+    let is_left =
+    sym (ap (λ (x : Symbolic). x.leaving) c.take_reading-reading.ensures.new) ∙ c.take_leaving-leaving.ensures.taken in
     let cycle : e.place.cycle ≡ o.place.cycle = c.edge.ensures.cycle ∙ ap (λ (x : Symbolic). x.place.cycle) left in
     let taken : e.place.taken ≡ o.place.taken = c.edge.ensures.inputs ∙ ap (λ (x : Symbolic). x.place.taken) left in
     let events : e.events ≡ o.events = c.edge.ensures.events ∙ ap (λ (x : Symbolic). x.events) left in
     let edge = rw exact at c.in_ok-edge.ensures.is in
     let at : e.place.at ≡ number_in o.place.decided (bits_before m) 12 =
     edge.at ∙ ap (λ (p : Progress). number_in p.decided (bits_before m) 12) place in
-    let words = subst (λ (p : Progress). edge_words board m (standing_of p writes o.events) (reading_of r) (leaving_of l)
-    (effect_by m p.decided) e.place.at l0
+    let words = subst (λ (p : Progress). edge_words board m (standing_of p writes o.events) (reading_of r)
+    (leaving_of l) (effect_by m p.decided) e.place.at l0
     ≡ stands (list_of tnew.ops wnew memory.reads) (standing_after m p e.place (reading_of r) writes o.events)) place
     (rw exact at (c.in_ok-edge.ensures.listed memory.reads writes o.events)) in
     let wrote : mnew.board ≡ with_write_if m.memory_write o.place.parts.mar r.y writes =
     rw (c.in_ok-write_memory.ensures, exact, c.mar-mar.ensures, left, c.edge.ensures.y)
     (writes_after m.memory_write memory o.place.parts.mar r.y) in
     let read : mnew.reads ≡ memory.reads =
-    rw c.in_ok-write_memory.ensures (written_reads c.microword-microword.result.memory_write memory c.mar-mar.result c.edge.new.reading.y) in
-    let ended : c.leave_cycle.new.self ≡ cycle_left (with_shown m.d.from m.out c.edge.new.reading.source c.edge.new.reading.y e) =
+    rw c.in_ok-write_memory.ensures
+    (written_reads c.microword-microword.result.memory_write memory c.mar-mar.result c.edge.new.reading.y) in
+    let ended : c.leave_cycle.new.self
+    ≡ cycle_left (with_shown m.d.from m.out c.edge.new.reading.source c.edge.new.reading.y e) =
     c.leave_cycle.ensures ∙ ap cycle_left (rw exact at c.in_ok-show.ensures.shown
     ∙ shown_is m.d.from m.out c.edge.new.reading.source c.edge.new.reading.y e) in
     record {
       here = λ bits.
           (ap₂ (λ x y. left_by board store o.place s x y bits l0) c.take_reading-reading.ensures.taken is_left
           ∙ address_ends board m o.place s (reading_of r) l l0
-          (stands (list_of tnew.ops wnew memory.reads) (standing_after m o.place e.place (reading_of r) writes o.events)) e.place.at
-          c.requires.all at words bits
+          (stands (list_of tnew.ops wnew memory.reads)
+          (standing_after m o.place e.place (reading_of r) writes o.events)) e.place.at c.requires.all at words bits
           ∙ ap (λ (x : Standing). done bits (stands (list_of tnew.ops wnew memory.reads) x))
-          (left_cycle m c.edge.new.reading.source c.edge.new.reading.y o e (reading_of r) writes mnew.board cycle taken events
-          c.edge.ensures.source c.edge.ensures.y wrote ∙ sym (ap (λ (x : Symbolic). standing_in x mnew.board) ended))
-          ∙ ap (λ (hs : List Held). done bits (stands (list_of tnew.ops wnew hs) (standing_in c.leave_cycle.new.self mnew.board)))
-          (sym read));
+          (left_cycle m c.edge.new.reading.source c.edge.new.reading.y o e
+          (reading_of r) writes mnew.board cycle taken events c.edge.ensures.source c.edge.ensures.y wrote
+          ∙ sym (ap (λ (x : Symbolic). standing_in x mnew.board) ended))
+          ∙ ap (λ (hs : List Held).
+          done bits (stands (list_of tnew.ops wnew hs) (standing_in c.leave_cycle.new.self mnew.board))) (sym read));
       before = ap (λ (x : Symbolic). x.reading) ended ∙ c.edge.ensures.reading ∙ ap (λ (x : Symbolic). x.reading) left;
     }

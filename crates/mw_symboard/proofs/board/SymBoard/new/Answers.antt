@@ -5,5 +5,6 @@ use Rattle.mw_symboard.proofs.board.SymBoard.new.Goals as goal
 pub returns-clause-symbolic : goal.returns-clause-symbolic
 returns-clause-symbolic c = λ store t words m at sp elements inputs none.
     begun_symbolic c.args.board.now store t words m _ at sp
-    (parts_of_elements c.args.board.now t c.args.elements.now _ elements c.in_ok-new.ensures.exact c.in_ok-new.ensures.regs
-    c.in_ok-new.ensures.flips c.in_ok-new.ensures.stack) inputs (search rules) (search rules) refl refl none
+    (parts_of_elements c.args.board.now t c.args.elements.now _ elements c.in_ok-new.ensures.exact
+    c.in_ok-new.ensures.regs c.in_ok-new.ensures.flips c.in_ok-new.ensures.stack)
+    inputs (search rules) (search rules) refl refl none

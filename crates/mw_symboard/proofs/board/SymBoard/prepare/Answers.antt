@@ -15,9 +15,10 @@ returns-clause-symbolic c =
     let noise = c.noise-noise.ensures c.requires.begun.0 c.requires.begun.1 in
     let left = rw (c.place.ensures, noise, c.microword-microword.ensures.exact) at c.in_ok-leaving.ensures.is in
     rw c.set_leaving.ensures
-    (leaving_keeps c.args.board.now c.args.store.now.words c.new.new.terms c.new.new.words c.args.memory.now c.args.self.now
-    c.requires.begun.0 c.in_ok-leaving.leaving c.requires.begun.1 c.requires.known left
-    (symbolic_stays c.args.board.now c.args.store.now.words c.args.terms.now c.new.new.terms c.args.words.now c.new.new.words
+    (leaving_keeps c.args.board.now c.args.store.now.words c.new.new.terms c.new.new.words c.args.memory.now
+    c.args.self.now c.requires.begun.0 c.in_ok-leaving.leaving c.requires.begun.1 c.requires.known left
+    (symbolic_stays c.args.board.now c.args.store.now.words c.args.terms.now c.new.new.terms c.args.words.now
+    c.new.new.words
     c.args.memory.now c.args.self.now c.requires.workspace c.in_ok-leaving.ensures.grew c.requires.symbolic))
 
 pub returns-clause-listed : goal.returns-clause-listed
@@ -37,7 +38,11 @@ returns-clause-listed c = λ bits.
     ∙ none_is c.self.inside.leaving (sym c.is_some.ensures ∙ c.if-is_some.false) in
     let few = few_decided board store c.args.terms.now o.place r o.reading o.leaving c.requires.begun.1 none
     c.requires.symbolic.leaving in
-    let leaves = rw (c.place.ensures, noise, c.microword-microword.ensures.exact) at (c.in_ok-leaving.ensures.listed c.args.memory.now.reads) in
+    let leaves = rw (
+      c.place.ensures,
+      noise,
+      c.microword-microword.ensures.exact,
+    ) at (c.in_ok-leaving.ensures.listed c.args.memory.now.reads) in
     ap₂ (λ x y. left_by board store o.place s x y bits l0) c.requires.begun.1 none
     ∙ prepares board m o.place s (reading_of r) leaving l0 l1 (omega (arith, few, c.requires.known)) leaves bits
     ∙ sym (ap (λ x. left_by board store o.place s x (Some leaving) bits l1) c.requires.begun.1)

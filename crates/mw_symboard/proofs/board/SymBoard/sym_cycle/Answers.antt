@@ -27,7 +27,8 @@ returns-then-known-before-clause-turn c =
 pub returns-then-known-before-clause-goes : goal.returns-then-known-before-clause-goes
 returns-then-known-before-clause-goes c =
     let goes = c.in_ok-begin.ensures.goes in
-    goes_further (IsCycleKind c.args.self.now.place.cycle c.args.self.now.place.taken) c.args.terms.now c.begin.new.terms
+    goes_further (IsCycleKind c.args.self.now.place.cycle c.args.self.now.place.taken)
+    c.args.terms.now c.begin.new.terms
     c.ask_test.new.terms c.args.words.now c.begin.new.words c.ask_test.new.words c.args.memory.now c.begin.new.memory
     c.begin.new.memory goes c.in_ok-turn.ensures.grew (reads_itself c.begin.new.memory)
     (workspace_grown c.begin.new.terms c.ask_test.new.terms c.begin.new.words c.ask_test.new.words c.begin.new.memory
@@ -49,9 +50,10 @@ returns-then-known-before-2-clause-turn c =
 pub returns-then-known-before-2-clause-goes : goal.returns-then-known-before-2-clause-goes
 returns-then-known-before-2-clause-goes c =
     let goes = c.in_ok-begin.ensures.goes in
-    let grew = grew_then c.begin.new.terms c.prepare.new.terms c.ask_next.new.terms c.begin.new.words c.prepare.new.words
-    c.ask_next.new.words c.in_ok-prepare.ensures.grew c.in_ok-turn-2.ensures.grew in
-    goes_further (IsCycleKind c.args.self.now.place.cycle c.args.self.now.place.taken) c.args.terms.now c.begin.new.terms
+    let grew = grew_then c.begin.new.terms c.prepare.new.terms c.ask_next.new.terms c.begin.new.words
+    c.prepare.new.words c.ask_next.new.words c.in_ok-prepare.ensures.grew c.in_ok-turn-2.ensures.grew in
+    goes_further (IsCycleKind c.args.self.now.place.cycle c.args.self.now.place.taken)
+    c.args.terms.now c.begin.new.terms
     c.ask_next.new.terms c.args.words.now c.begin.new.words c.ask_next.new.words c.args.memory.now c.begin.new.memory
     c.begin.new.memory goes grew (reads_itself c.begin.new.memory)
     (workspace_grown c.begin.new.terms c.ask_next.new.terms c.begin.new.words c.ask_next.new.words c.begin.new.memory
@@ -80,7 +82,8 @@ returns-clause-turn c =
 pub returns-clause-goes : goal.returns-clause-goes
 returns-clause-goes c =
     let e = c.in_ok-finish.ensures in
-    goes_further (IsCycleKind c.args.self.now.place.cycle c.args.self.now.place.taken) c.args.terms.now c.begin.new.terms
+    goes_further (IsCycleKind c.args.self.now.place.cycle c.args.self.now.place.taken)
+    c.args.terms.now c.begin.new.terms
     c.finish.new.terms c.args.words.now c.begin.new.words c.finish.new.words c.args.memory.now c.begin.new.memory
     c.finish.new.memory c.in_ok-begin.ensures.goes
     (grew_then c.begin.new.terms c.prepare.new.terms c.finish.new.terms c.begin.new.words c.prepare.new.words
@@ -98,28 +101,32 @@ returns-clause-machine c = c.in_ok-finish.ensures.machine ∙ c.in_ok-begin.ensu
 pub returns-then-known-before-clause-listed : goal.returns-then-known-before-clause-listed
 returns-then-known-before-clause-listed c =
     let asks = c.in_ok-turn.ensures.asks in
-    stops_later c.args.board.now c.args.store.now.words c.args.memory.now.board c.args.self.now c.begin.new.self c.ask_test.new.self
-    _ (list_in c.begin.new.terms c.begin.new.words c.begin.new.memory) _ c.args.memory.now c.begin.new.memory c.in_ok-turn.turn asks.0 asks.1
+    stops_later c.args.board.now c.args.store.now.words c.args.memory.now.board c.args.self.now c.begin.new.self
+    c.ask_test.new.self _ (list_in c.begin.new.terms c.begin.new.words c.begin.new.memory)
+    _ c.args.memory.now c.begin.new.memory c.in_ok-turn.turn asks.0 asks.1
     asks.2 c.begin.ensures.place c.begin.ensures.events refl c.in_ok-begin.ensures.listed
     (subst (λ (ws : List Held). StopsAt c.args.board.now c.args.store.now.words ws c.begin.new.self c.ask_test.new.self
-    (list_in c.begin.new.terms c.begin.new.words c.begin.new.memory) (list_in c.ask_test.new.terms c.ask_test.new.words c.begin.new.memory)
-    asks.0 asks.1) (c.in_ok-begin.ensures.writes.each side.Board) (c.in_ok-turn.ensures.listed asks.0 asks.1 asks.2))
+    (list_in c.begin.new.terms c.begin.new.words c.begin.new.memory)
+    (list_in c.ask_test.new.terms c.ask_test.new.words c.begin.new.memory) asks.0 asks.1)
+    (c.in_ok-begin.ensures.writes.each side.Board) (c.in_ok-turn.ensures.listed asks.0 asks.1 asks.2))
 
 pub returns-then-known-before-2-clause-listed : goal.returns-then-known-before-2-clause-listed
 returns-then-known-before-2-clause-listed c =
     let asks = c.in_ok-turn-2.ensures.asks in
     let writes = c.in_ok-begin.ensures.writes.each side.Board in
-    stops_later c.args.board.now c.args.store.now.words c.args.memory.now.board c.args.self.now c.prepare.new.self c.ask_next.new.self
-    _ (list_in c.prepare.new.terms c.prepare.new.words c.begin.new.memory) _ c.args.memory.now c.begin.new.memory c.in_ok-turn-2.turn asks.0 asks.1
+    stops_later c.args.board.now c.args.store.now.words c.args.memory.now.board c.args.self.now c.prepare.new.self
+    c.ask_next.new.self _ (list_in c.prepare.new.terms c.prepare.new.words c.begin.new.memory)
+    _ c.args.memory.now c.begin.new.memory c.in_ok-turn-2.turn asks.0 asks.1
     asks.2 (c.prepare.ensures.place ∙ c.begin.ensures.place) (c.prepare.ensures.events ∙ c.begin.ensures.events) refl
-    (goes_on c.args.board.now c.args.store.now.words c.args.memory.now.board c.args.self.now c.begin.new.self c.prepare.new.self _ _ _
-    c.in_ok-begin.ensures.listed
+    (goes_on c.args.board.now c.args.store.now.words c.args.memory.now.board c.args.self.now c.begin.new.self
+    c.prepare.new.self _ _ _ c.in_ok-begin.ensures.listed
     (subst (λ (ws : List Held). GoesAlong c.args.board.now c.args.store.now.words ws c.begin.new.self c.prepare.new.self
-    (list_in c.begin.new.terms c.begin.new.words c.begin.new.memory) (list_in c.prepare.new.terms c.prepare.new.words c.begin.new.memory))
-    writes c.in_ok-prepare.ensures.listed))
-    (subst (λ (ws : List Held). StopsAt c.args.board.now c.args.store.now.words ws c.prepare.new.self c.ask_next.new.self
-    (list_in c.prepare.new.terms c.prepare.new.words c.begin.new.memory) (list_in c.ask_next.new.terms c.ask_next.new.words c.begin.new.memory)
-    asks.0 asks.1) writes (c.in_ok-turn-2.ensures.listed asks.0 asks.1 asks.2))
+    (list_in c.begin.new.terms c.begin.new.words c.begin.new.memory)
+    (list_in c.prepare.new.terms c.prepare.new.words c.begin.new.memory)) writes c.in_ok-prepare.ensures.listed))
+    (subst (λ (ws : List Held). StopsAt c.args.board.now c.args.store.now.words ws c.prepare.new.self
+    c.ask_next.new.self (list_in c.prepare.new.terms c.prepare.new.words c.begin.new.memory)
+    (list_in c.ask_next.new.terms c.ask_next.new.words c.begin.new.memory) asks.0 asks.1)
+    writes (c.in_ok-turn-2.ensures.listed asks.0 asks.1 asks.2))
 
 pub returns-clause-listed : goal.returns-clause-listed
 returns-clause-listed c =
@@ -131,8 +138,10 @@ returns-clause-listed c =
     let l0 = list_in c.args.terms.now c.args.words.now c.args.memory.now in
     let l1 = list_in c.begin.new.terms c.begin.new.words c.begin.new.memory in
     let l2 = list_in c.prepare.new.terms c.prepare.new.words c.begin.new.memory in
-    let on = goes_on board store before c.args.self.now c.begin.new.self c.prepare.new.self l0 l1 l2 c.in_ok-begin.ensures.listed
-    (subst (λ (ws : List Held). GoesAlong board store ws c.begin.new.self c.prepare.new.self l1 l2) writes c.in_ok-prepare.ensures.listed) in
+    let on =
+    goes_on board store before c.args.self.now c.begin.new.self c.prepare.new.self l0 l1 l2 c.in_ok-begin.ensures.listed
+    (subst (λ (ws : List Held). GoesAlong board store ws c.begin.new.self c.prepare.new.self l1 l2)
+    writes c.in_ok-prepare.ensures.listed) in
     record {
       here = λ bits. (on bits ∙ subst (λ (ws : List Held). words_left board store c.prepare.new.self ws bits l2
           ≡ done bits (stands (list_in c.finish.new.terms c.finish.new.words c.finish.new.memory)

@@ -44,17 +44,18 @@ returns-clause-is c =
     rw (← c.place.view_is)
     (leaving_is b m c.direct.new.terms c.counter.new.terms c.next.new.terms c.direct.new.words c.counter.new.words
     c.next.new.words _ c.args.noise direct c.in_ok-next.next c.in_ok-r.r effect c.effect-effect.ensures
-    (subst (λ (p : Parts). IsDirect (instruction_of m.sequencer) b m c.direct.new.terms p.ir direct) c.parts.view_is one.is)
+    (subst (λ (p : Parts). IsDirect (instruction_of m.sequencer) b m c.direct.new.terms p.ir direct)
+    c.parts.view_is one.is)
     one.wide two.grew
-    (subst (λ (p : Parts). IsCounter m.rld effect.counter c.counter.new.terms p.r direct c.in_ok-r.r) c.parts.view_is two.is)
-    two.wide three.grew three.is three.wide)
+    (subst (λ (p : Parts). IsCounter m.rld effect.counter c.counter.new.terms p.r direct c.in_ok-r.r)
+    c.parts.view_is two.is) two.wide three.grew three.is three.wide)
 
 pub returns-clause-grew : goal.returns-clause-grew
 returns-clause-grew c =
     let first = grew_then c.args.terms.now c.direct.new.terms c.counter.new.terms c.args.words.now c.direct.new.words
     c.counter.new.words c.in_ok-direct.ensures.grew c.in_ok-r.ensures.grew in
-    grew_then c.args.terms.now c.counter.new.terms c.next.new.terms c.args.words.now c.counter.new.words c.next.new.words
-    first c.in_ok-next.ensures.grew
+    grew_then c.args.terms.now c.counter.new.terms c.next.new.terms c.args.words.now c.counter.new.words
+    c.next.new.words first c.in_ok-next.ensures.grew
 
 pub returns-clause-listed : goal.returns-clause-listed
 returns-clause-listed c = λ reads.
@@ -73,8 +74,8 @@ returns-clause-listed c = λ reads.
     let l1 = list c.direct.new.terms c.direct.new.words in
     let l2 = list c.counter.new.terms c.counter.new.words in
     ap (λ e. leaving_words b m p.parts p.sp c.args.noise e l0) (sym by)
-    ∙ leaving_are b m p.parts p.sp c.args.noise effect l0 l1 l2 (list c.next.new.terms c.next.new.words) direct c.in_ok-r.r
-    c.in_ok-next.next
+    ∙ leaving_are b m p.parts p.sp c.args.noise effect l0 l1 l2 (list c.next.new.terms c.next.new.words)
+    direct c.in_ok-r.r c.in_ok-next.next
     (c.in_ok-direct.ensures.listed reads ∙ ap (λ x. direct_words (instruction_of m.sequencer) b m x l0) ir)
     (c.in_ok-r.ensures.listed reads ∙ ap (λ x. counter_words m.rld effect.counter x direct l1) r)
     (c.in_ok-next.ensures.listed reads

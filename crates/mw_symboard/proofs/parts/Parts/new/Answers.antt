@@ -94,14 +94,16 @@ returns-clause-exact c =
       stack = c.in_ok-stack.stack.items;
     })
     (record {
-      regs = λ k inside. (let same : 0 + k ≡ k = omega arith in c.in_ok-regs.ensures.each k inside ∙ ap (slice_index es) same);
+      regs = λ k inside. (let same : 0 + k ≡ k = omega arith in
+          c.in_ok-regs.ensures.each k inside ∙ ap (slice_index es) same);
       q = get_or_read es 16 c.index-elements-16.result (omega (arith, size)) c.index-elements-16.is 0;
       mar = get_or_read es 17 c.index-elements-17.result (omega (arith, size)) c.index-elements-17.is 0;
       ir = get_or_read es 18 c.index-elements-18.result (omega (arith, size)) c.index-elements-18.is 0;
       flips = λ k inside. c.in_ok-flips.ensures.each k (omega (arith, inside, many));
       pc = get_or_read es (19 + f) c.index-elements-pc.result (omega (arith, size, many)) c.index-elements-pc.is 0
           ∙ ap (λ n. slice_index es (19 + n)) many;
-      r = get_or_read es (19 + f + 1) c.index-elements-pc-2.result (omega (arith, size, many)) c.index-elements-pc-2.is 0
+      r = get_or_read es (19 + f + 1) c.index-elements-pc-2.result
+          (omega (arith, size, many)) c.index-elements-pc-2.is 0
           ∙ ap (λ n. slice_index es (19 + n + 1)) many;
       stack = λ k inside. c.in_ok-stack.ensures.each k (omega (arith, inside, deep))
           ∙ ap (λ n. slice_index es (19 + n + 2 + k)) many;

@@ -58,7 +58,8 @@ make_bits-requires-clause-parts c =
     let goes = c.in_ok-variables.ensures.goes c.place.inside.taken c.args.memory.now c.requires.workspace in
     let first = parts_later b c.args.terms.now t1 p goes.later c.requires.parts in
     let second = parts_later b t1 t2 p c.in_ok-source.ensures.goes.later first in
-    let third = parts_grew b t2 c.masked.new.terms c.from_source.new.words c.masked.new.words p c.in_ok-d.ensures.grew second in
+    let third =
+    parts_grew b t2 c.masked.new.terms c.from_source.new.words c.masked.new.words p c.in_ok-d.ensures.grew second in
     parts_grew b c.masked.new.terms c.make_sources.new.terms c.masked.new.words c.make_sources.new.words p
     c.in_ok-sources.ensures.grew third
 
@@ -71,7 +72,8 @@ condition-requires-clause-parts c =
     let goes = c.in_ok-variables.ensures.goes c.place.inside.taken c.args.memory.now c.requires.workspace in
     let first = parts_later b c.args.terms.now t1 p goes.later c.requires.parts in
     let second = parts_later b t1 t2 p c.in_ok-source.ensures.goes.later first in
-    let third = parts_grew b t2 c.masked.new.terms c.from_source.new.words c.masked.new.words p c.in_ok-d.ensures.grew second in
+    let third =
+    parts_grew b t2 c.masked.new.terms c.from_source.new.words c.masked.new.words p c.in_ok-d.ensures.grew second in
     let fourth = parts_grew b c.masked.new.terms c.make_sources.new.terms c.masked.new.words c.make_sources.new.words p
     c.in_ok-sources.ensures.grew third in
     parts_grew b c.make_sources.new.terms c.make_bits.new.terms c.make_sources.new.words c.make_bits.new.words p
@@ -123,8 +125,8 @@ returns-clause-is c =
     let a_wide = wide_later t2 t6 w2 w6 b.width a all
     (register_wide b t2 p.parts m.a_address parts c.requires.microword.a_address) in
     let f_wide = wide_later t4 t6 w4 w6 b.width n.f late e4.are.sources.f in
-    reading_is b m p t0 t1 t2 t3 t4 t5 t6 w0 w1 w2 w3 w4 w5 w6 m0 m2 goes taken e3.grew e4.grew e5.grew e6.grew _ d e6.is.0
-    (line_is ∙ ap (λ (x : ℕ). Some x) (sym e4.line))
+    reading_is b m p t0 t1 t2 t3 t4 t5 t6 w0 w1 w2 w3 w4 w5 w6 m0 m2 goes taken e3.grew e4.grew e5.grew e6.grew _ d
+    e6.is.0 (line_is ∙ ap (λ (x : ℕ). Some x) (sym e4.line))
     (noise_is ∙ ap (λ (x : ℕ). Some x) (sym e4.noise))
     parts
     (subst (λ (q : Progress). IsFrom b m.word t2 w2 m2 q.parts q.taken m.d.from source) c.place.view_is e2.is)
@@ -203,13 +205,14 @@ returns-clause-listed c = λ events.
     × (with_variable (Noise k) 14 line.list ≡ ended c.in_ok-variables.variables.noise l1))) cycle
     (c.in_ok-variables.ensures.listed before) in
     reading_are board m s l0 l1 l2 (list c.masked.new.terms c.masked.new.words reads)
-    (list c.make_sources.new.terms c.make_sources.new.words reads) (list c.make_bits.new.terms c.make_bits.new.words reads)
-    (list c.condition.new.terms c.condition.new.words reads) c.in_ok-variables.variables.line c.in_ok-variables.variables.noise
+    (list c.make_sources.new.terms c.make_sources.new.words reads)
+    (list c.make_bits.new.terms c.make_bits.new.words reads) (list c.condition.new.terms c.condition.new.words reads)
+    c.in_ok-variables.variables.line c.in_ok-variables.variables.noise
     c.in_ok-source.source c.in_ok-d.d c.y-y.result c.in_ok-condition.condition (sources_of c.in_ok-sources.sources)
     c.make_sources.new.bits c.make_bits.new.bits c.condition.new.bits variables.0 variables.1
     (c.in_ok-source.ensures.listed
     ∙ ap (λ x. source_words board m.word x s.writes c.place.inside.taken m.d.from l1) parts
     ∙ ap (λ x. source_words board m.word p.parts s.writes x m.d.from l1) taken)
     (c.in_ok-d.ensures.listed reads ∙ ap (λ w. masked_words w m.d.mask c.in_ok-source.source l2) width)
-    (c.in_ok-sources.ensures.listed reads) (c.in_ok-make_bits.ensures.listed reads) (c.in_ok-condition.ensures.listed reads)
-    c.y-y.ensures)
+    (c.in_ok-sources.ensures.listed reads) (c.in_ok-make_bits.ensures.listed reads)
+    (c.in_ok-condition.ensures.listed reads) c.y-y.ensures)

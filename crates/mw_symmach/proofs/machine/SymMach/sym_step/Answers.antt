@@ -1,7 +1,8 @@
 use Rattle.std.proofs.Common.{◌∙◌, ap, sym}
 use Rattle.mw_macro.specs.Described.{description_of}
 use Rattle.mw_symmach.specs.Turns.{Stepping}
-use Rattle.mw_symmach.proofs.Turning.{Went, come_request, entered_request, may_go_on, position_fits, went_board, went_done, went_few, went_goes, went_listed, went_on, went_stepping, went_turn}
+use Rattle.mw_symmach.proofs.Turning.{Went, come_request, entered_request, may_go_on, position_fits, went_board}
+use Rattle.mw_symmach.proofs.Turning.{went_done, went_few, went_goes, went_listed, went_on, went_stepping, went_turn}
 use Rattle.mw_symmach.proofs.machine.SymMach.sym_step.Goals as goal
 
 pub enter-requires : goal.enter-requires
@@ -50,7 +51,8 @@ returns c =
           (went_turn d t0 t1 t2 w0 w2 m0 m2 c.args.self.now begun new position asked went);
       listed = rw (c.turn.ensures.said, c.turn.ensures.new)
           (went_listed d t0 t1 t2 w0 w2 m0 m2 c.args.self.now begun c.enter.new.self new position asked c.requires.idle
-          c.in_ok-begin.ensures.stands c.in_ok-enter.ensures c.in_ok-begin.ensures.listed c.in_ok-reached.ensures.listed);
+          c.in_ok-begin.ensures.stands c.in_ok-enter.ensures c.in_ok-begin.ensures.listed
+          c.in_ok-reached.ensures.listed);
       done = λ finished. rw c.turn.ensures.new
           (went_done d t1 t2 w0 w2 m0 m2 _ _ _ new position asked c.in_ok-reached.ensures.reaches
           (sym c.turn.ensures.said ∙ finished));

@@ -17,7 +17,8 @@ expr_term-requires c =
     subst (λ p. Stands c.args.shape.now c.args.terms.now c.args.words.now c.args.memory.now p) (sym c.self.view_is)
     c.requires.stands in
     rw c.deref.ensures.value (ready_of c.args.shape.now c.args.terms.now c.args.words.now c.args.memory.now old
-    (view c.args.expr.now) _ stands (assign_parts c.args.shape.now c.args.target (view c.args.expr.now) c.requires.right).1 c.requires.few)
+    (view c.args.expr.now) _ stands
+    (assign_parts c.args.shape.now c.args.target (view c.args.expr.now) c.requires.right).1 c.requires.few)
 
 pub returns-clause-acted : goal.returns-clause-acted
 returns-clause-acted c =
@@ -50,4 +51,5 @@ returns-clause-listed c =
     ≡ assign_words c.args.shape.now c.args.target (view c.args.expr.now)
     (underway_in c.args.terms.now c.args.words.now c.args.memory.now p)) c.self.view_is
     (assign_listed c.args.shape.now c.args.terms.now c.expr_term.new.terms c.args.words.now c.expr_term.new.words
-    c.args.memory.now c.expr_term.new.memory old c.args.target (view c.args.expr.now) c.in_ok-term.term stands made listed)
+    c.args.memory.now c.expr_term.new.memory old c.args.target
+    (view c.args.expr.now) c.in_ok-term.term stands made listed)

@@ -33,7 +33,8 @@ returns-clause-asked c = λ one other right.
     c.args.memory.now c.expr_term.new.memory p (choose (view c.args.condition.now) one other) c.in_ok-term.term)
     c.self.view_is
     (asked_if c.args.shape.now c.args.terms.now c.expr_term.new.terms c.args.words.now c.expr_term.new.words
-    c.args.memory.now c.expr_term.new.memory old (view c.args.condition.now) one other c.in_ok-term.term stands right made))
+    c.args.memory.now c.expr_term.new.memory old
+    (view c.args.condition.now) one other c.in_ok-term.term stands right made))
 
 pub returns-clause-listed : goal.returns-clause-listed
 returns-clause-listed c = λ one other.
@@ -48,4 +49,5 @@ returns-clause-listed c = λ one other.
     (underway_in c.expr_term.new.terms c.expr_term.new.words c.expr_term.new.memory p)
     (choose (view c.args.condition.now) one other) (Some c.in_ok-term.term)) c.self.view_is
     (condition_walks c.args.shape.now c.args.terms.now c.expr_term.new.terms c.args.words.now c.expr_term.new.words
-    c.args.memory.now c.expr_term.new.memory old (view c.args.condition.now) one other c.in_ok-term.term stands made listed))
+    c.args.memory.now c.expr_term.new.memory old
+    (view c.args.condition.now) one other c.in_ok-term.term stands made listed))

@@ -20,8 +20,8 @@ act-requires-clause-right c =
     let lold = dropped c.args.from (acts xs) in
     let carries = rw now_next at l.invariant.carries in
     let right = rw now_next at (right_dropped s i (acts xs) c.requires.right) in
-    let is = next_is s c.args.terms.now l.terms c.args.words.now l.words c.args.memory.now l.memory c.args.self.now l.self
-    lold (act_of item) rest right carries c.requires.few_reads c.requires.few_events in
+    let is = next_is s c.args.terms.now l.terms c.args.words.now l.words c.args.memory.now l.memory c.args.self.now
+    l.self lold (act_of item) rest right carries c.requires.few_reads c.requires.few_events in
     is.right
 
 pub act-requires-clause-few_reads : goal.act-requires-clause-few_reads
@@ -38,8 +38,8 @@ act-requires-clause-few_reads c =
     let lold = dropped c.args.from (acts xs) in
     let carries = rw now_next at l.invariant.carries in
     let right = rw now_next at (right_dropped s i (acts xs) c.requires.right) in
-    let is = next_is s c.args.terms.now l.terms c.args.words.now l.words c.args.memory.now l.memory c.args.self.now l.self
-    lold (act_of item) rest right carries c.requires.few_reads c.requires.few_events in
+    let is = next_is s c.args.terms.now l.terms c.args.words.now l.words c.args.memory.now l.memory c.args.self.now
+    l.self lold (act_of item) rest right carries c.requires.few_reads c.requires.few_events in
     is.reads
 
 pub act-requires-clause-few_events : goal.act-requires-clause-few_events
@@ -56,8 +56,8 @@ act-requires-clause-few_events c =
     let lold = dropped c.args.from (acts xs) in
     let carries = rw now_next at l.invariant.carries in
     let right = rw now_next at (right_dropped s i (acts xs) c.requires.right) in
-    let is = next_is s c.args.terms.now l.terms c.args.words.now l.words c.args.memory.now l.memory c.args.self.now l.self
-    lold (act_of item) rest right carries c.requires.few_reads c.requires.few_events in
+    let is = next_is s c.args.terms.now l.terms c.args.words.now l.words c.args.memory.now l.memory c.args.self.now
+    l.self lold (act_of item) rest right carries c.requires.few_reads c.requires.few_events in
     is.events
 
 pub returns-in-Some-clause-reaches : goal.returns-in-Some-clause-reaches
@@ -94,7 +94,8 @@ loop-position-preserved c =
     let done = rw c.in_default.is at c.in_ok-asked.ensures.done in
     record {
       carries = carries_more s c.args.terms.now l.terms c.act.new.terms c.args.words.now l.words c.act.new.words
-          c.args.memory.now l.memory c.act.new.memory c.args.self.now l.self c.act.new.self lold (act_of item) rest carries done;
+          c.args.memory.now l.memory c.act.new.memory c.args.self.now l.self c.act.new.self lold
+          (act_of item) rest carries done;
       listed = walks_then s _ _ _ lold (next (act_of item) rest) rest None (rw now_next at l.invariant.listed)
           (act_done s _ _ (act_of item) rest (rw c.in_default.is at c.in_ok-asked.ensures.listed));
     }

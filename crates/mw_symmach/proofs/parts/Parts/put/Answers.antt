@@ -17,7 +17,8 @@ expr_term-requires c =
     subst (λ p. Stands c.args.shape.now c.args.terms.now c.args.words.now c.args.memory.now p) (sym c.self.view_is)
     c.requires.stands in
     rw c.deref.ensures.value (ready_of c.args.shape.now c.args.terms.now c.args.words.now c.args.memory.now old
-    (view c.args.expr.now) _ stands (asked_width c.args.shape.now c.args.shape.now.word (view c.args.expr.now) c.requires.right) c.requires.few)
+    (view c.args.expr.now) _ stands
+    (asked_width c.args.shape.now c.args.shape.now.word (view c.args.expr.now) c.requires.right) c.requires.few)
 
 pub returns-clause-acted : goal.returns-clause-acted
 returns-clause-acted c =

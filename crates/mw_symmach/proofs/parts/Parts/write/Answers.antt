@@ -19,7 +19,8 @@ expr_term-requires c =
     let stands : Stands c.args.shape.now c.args.terms.now c.args.words.now c.args.memory.now old =
     subst (λ p. Stands c.args.shape.now c.args.terms.now c.args.words.now c.args.memory.now p) (sym c.self.view_is)
     c.requires.stands in
-    let few : length c.args.memory.now.reads + reads (view c.args.address.now) ≤ 2 ^ 32 = omega (arith, c.requires.few) in
+    let few : length c.args.memory.now.reads + reads (view c.args.address.now) ≤ 2 ^ 32 =
+    omega (arith, c.requires.few) in
     rw c.deref.ensures.value (ready_of c.args.shape.now c.args.terms.now c.args.words.now c.args.memory.now old
     (view c.args.address.now) c.args.shape.now.address stands
     (write_parts c.args.shape.now (view c.args.address.now) (view c.args.expr.now) c.requires.right).0 few)
@@ -51,10 +52,12 @@ returns-clause-acted c =
     let first = rw c.deref.ensures.value at c.in_ok-place.ensures.made in
     let second = rw c.deref-2.ensures.value at c.in_ok-word.ensures.made in
     let acted = acted_write c.args.shape.now c.args.terms.now c.expr_term.new.terms c.expr_term-2.new.terms
-    c.args.words.now c.expr_term.new.words c.expr_term-2.new.words c.args.memory.now c.expr_term.new.memory c.expr_term-2.new.memory old
+    c.args.words.now c.expr_term.new.words c.expr_term-2.new.words c.args.memory.now c.expr_term.new.memory
+    c.expr_term-2.new.memory old
     (view c.args.address.now) (view c.args.expr.now) c.in_ok-place.place c.in_ok-word.word stands c.requires.right first
     second in
-    rw c.in_ok-write.ensures.ok (subst (λ p. Acted c.args.shape.now c.args.terms.now c.expr_term-2.new.terms c.args.words.now
+    rw c.in_ok-write.ensures.ok
+    (subst (λ p. Acted c.args.shape.now c.args.terms.now c.expr_term-2.new.terms c.args.words.now
     c.expr_term-2.new.words c.args.memory.now
     (with_write c.expr_term-2.new.memory Machine (held c.in_ok-place.place c.in_ok-word.word)) p p
     (write (view c.args.address.now) (view c.args.expr.now))) c.self.view_is acted)
@@ -77,4 +80,5 @@ returns-clause-listed c =
     (underway_in c.args.terms.now c.args.words.now c.args.memory.now p)) c.self.view_is
     (write_listed c.args.shape.now c.args.terms.now c.expr_term.new.terms c.expr_term-2.new.terms c.args.words.now
     c.expr_term.new.words c.expr_term-2.new.words c.args.memory.now c.expr_term.new.memory c.expr_term-2.new.memory old
-    (view c.args.address.now) (view c.args.expr.now) c.in_ok-place.place c.in_ok-word.word stands first second one other))
+    (view c.args.address.now)
+    (view c.args.expr.now) c.in_ok-place.place c.in_ok-word.word stands first second one other))

@@ -25,7 +25,8 @@ fresh-requires-clause-own c =
     (plain_behind c.args.words.now c.in_ok-same.same.items kind
     ∙ absent c.args.words.now kind
     (λ place term is.
-    (let known : c.len-number.result < length c.self.inside.reads.items = memory.all c.len-number.result place term is in
+    (let known : c.len-number.result < length c.self.inside.reads.items =
+    memory.all c.len-number.result place term is in
     omega (arith, known, c.len-number.ensures))))
 
 pub base_value-requires-clause-count : goal.base_value-requires-clause-count
@@ -76,10 +77,12 @@ side_value-requires-clause-same c = λ k write is.
     let e = c.in_ok-base.ensures in
     let two = c.in_ok-middle.ensures.made.1 in
     let extends = extends_then told t1 t3 one.extends (extends_then t1 t2 t3 e.extends two.extends) in
-    let keeps = keeps_then told t1 t3 one.extends.more one.keeps (keeps_then t1 t2 t3 e.extends.more e.keeps two.keeps) in
+    let keeps =
+    keeps_then told t1 t3 one.extends.more one.keeps (keeps_then t1 t2 t3 e.extends.more e.keeps two.keeps) in
     let w = c.self.inside.address in
     pair_of t3 w c.args.address write.address (width_stays told t3 w c.args.address extends keeps address)
-    (width_stays told t3 w write.address extends keeps (side_held told c.args.words.now _ c.args.side memory k write there).address)
+    (width_stays told t3 w write.address extends keeps
+    (side_held told c.args.words.now _ c.args.side memory k write there).address)
 
 pub side_value-requires-clause-pairs : goal.side_value-requires-clause-pairs
 side_value-requires-clause-pairs c = λ k write is.
@@ -95,13 +98,15 @@ side_value-requires-clause-pairs c = λ k write is.
     let two = c.in_ok-middle.ensures.made.1 in
     let base_is = rw (c.deref-3.ensures.value, c.deref-2.ensures.value) at c.in_ok-middle.ensures.made.2 in
     let extends = extends_then told t1 t3 one.extends (extends_then t1 t2 t3 e.extends two.extends) in
-    let keeps = keeps_then told t1 t3 one.extends.more one.keeps (keeps_then t1 t2 t3 e.extends.more e.keeps two.keeps) in
+    let keeps =
+    keeps_then told t1 t3 one.extends.more one.keeps (keeps_then t1 t2 t3 e.extends.more e.keeps two.keeps) in
     let number : ℕ = length c.same.new.words + 1 in
     let w = c.self.inside.word in
     let has = has_made t1 t2 (Var number w) c.in_ok-base.base e.extends memory.word e.made e.op in
     let base = variable_width t2 number w c.in_ok-base.base has in
     pair_of t3 w write.word c.in_ok-middle.middle
-    (width_stays told t3 w write.word extends keeps (side_held told c.args.words.now _ c.args.side memory k write there).word)
+    (width_stays told t3 w write.word extends keeps
+    (side_held told c.args.words.now _ c.args.side memory k write there).word)
     (base_width t3 w c.self.inside.reads.items c.in_ok-same.same.items c.in_ok-base.base c.in_ok-middle.ensures.made.0
     c.in_ok-middle.middle
     (width_stays t2 t3 w c.in_ok-base.base two.extends two.keeps base)

@@ -11,5 +11,6 @@ returns-clause-op c =
 
 pub returns-clause-of : goal.returns-clause-of
 returns-clause-of c = λ of.
-    rw (c.in_ok-push_variable.ensures, c.in_ok-term.ensures.appends, c.in_ok-term.ensures.place, c.next_variable.ensures)
+    rw
+    (c.in_ok-push_variable.ensures, c.in_ok-term.ensures.appends, c.in_ok-term.ensures.place, c.next_variable.ensures)
     (of_variable c.args.terms.now c.args.self.now c.args.kind c.args.width of)
