@@ -12,7 +12,7 @@ use Rattle.mw_base.specs.declared.line.Line.{Line}
 use Rattle.mw_base.specs.declared.refusal.Refused.{Refused}
 use Rattle.mw_base.specs.declared.refusal.TextFault.{TextFault}
 use Rattle.mw_base.specs.declared.token.Token.{Token}
-use Rattle.mw_base.specs.Cursors.{Cursor, at_line, after, misplaced, name_at, number_at, end_at}
+use Rattle.mw_base.specs.Cursors.{Cursor, at_line, after, misplaced, name_at, number_at, first_word, end_at}
 use Rattle.mw_base.specs.Named.{new_name}
 use Rattle.mw_base.specs.Reading.{Gives}
 use Rattle.mw_base.specs.Steps.{steps}

@@ -1,6 +1,8 @@
 // The elements of a script: those of the board, and behind them the stack pointer.
-ghost use Rattle.std.specs.Prelude.{◌≡◌, ◌<◌, ◌≤◌, ◌^◌, IfSome};
+ghost use Rattle.std.specs.Prelude.{◌≡◌, ◌+◌, ◌<◌, ◌≤◌, ◌^◌, IfSome};
+ghost use Rattle.mw_board.specs.Depth.{depth_of};
 ghost use Rattle.mw_cycle.specs.State.{Fits};
+ghost use Rattle.mw_sim.specs.Start.{with_pointer};
 ghost use Rattle.mw_debug.specs.Elements.{number_of_name, number_by_owner, name_of, bound_of, value_in, state_with};
 ghost use Rattle.mw_debug.specs.Kept.{IsElement};
 
@@ -66,6 +68,17 @@ pub(crate) fn value_in(board: &Board, state: &State, number: usize) -> u32
     }
 }
 
+/// Gives the stack pointer a value.
+#[tactic(auto, using(mw_board::proofs::Elements::words_few))]
+fn set_pointer(board: &Board, state: &mut State, value: u32)
+    requires fits { Fits board.now state.old }
+    requires value_in { value < depth_of board.now + 1 }
+    ensures exact { state.new ≡ with_pointer value state.old }
+    ensures fits { Fits board.now state.new }
+{
+    state.seq.sp = value as u8;
+}
+
 /// Gives the element with a number a value.
 pub(crate) fn set_value(board: &Board, state: &mut State, number: usize, value: u32)
     requires fits { Fits board.now state.old }
@@ -77,6 +90,6 @@ pub(crate) fn set_value(board: &Board, state: &mut State, number: usize, value: 
     if number < board.element_count() {
         state.set_element(board, number, value);
     } else {
-        state.seq.sp = value as u8;
+        set_pointer(board, state, value);
     }
 }
