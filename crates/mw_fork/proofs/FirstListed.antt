@@ -6,6 +6,7 @@ use Rattle.std.proofs.lemmas.List.{get_or-drop, get_or-take}
 use Rattle.mw_board.specs.declared.parts.BoardParts.{BoardParts}
 use Rattle.mw_board.specs.Depth.{depth_of}
 use Rattle.mw_board.specs.Elements.{element_count}
+use Rattle.mw_board.proofs.Elements.{count_of}
 use Rattle.mw_cycle.specs.declared.elements.Element.{Element}
 use Rattle.mw_cycle.specs.declared.elements.Element.TheVariants.{Register, Q, Mar, Ir, FlipFlop, Pc, R, StackWord}
 use Rattle.mw_cycle.specs.BoardTerms.{Parts, Standing, term_of_part}
@@ -19,7 +20,7 @@ use Rattle.mw_symboard.specs.Laws.{IsNew}
 use Rattle.mw_symboard.specs.Parts.{AreParts}
 use Rattle.mw_symboard.specs.Turns.{Symbolic}
 use Rattle.mw_symboard.proofs.Begun.{has_number, number_below, number_of_element}
-use Rattle.mw_symboard.proofs.PartElements.{AreFrom, count_of, parts_are}
+use Rattle.mw_symboard.proofs.PartElements.{AreFrom, parts_are}
 use Rattle.mw_rel.specs.CaseWords.{along_cycles, parts_with, registers_in, standing_at, words_along}
 use Rattle.mw_rel.specs.Free.{numbered}
 use Rattle.mw_rel.specs.Job.{Job}

@@ -6,8 +6,6 @@ use Rattle.std.proofs.lemmas.List.{map-id, flat_map_more}
 use Rattle.std.proofs.lemmas.List.FromFn.{map-range_with_len_more}
 use Rattle.mw_rel.specs.Completed.{free_value}
 use Rattle.mw_rel.specs.Job.{Job}
-use Rattle.mw_sim.specs.Settings.{trimmed}
-use Rattle.mw_sim.proofs.Starts.{front_is}
 use Rattle.mw_replay.specs.CounterPrinted.{set_line}
 
 -- the numbers up to one more
@@ -29,17 +27,3 @@ pub left_line : (job : Job) (p : ℕ → Bool) (values : List ℕ) (e : ℕ) →
     → set_line job e (free_value p values e) ≡ []
 unfolding set_line
 left_line job p values e is = rw is refl
-
--- ---- zeros at the end
-
--- the front of a list up to its last number that isn't 0
-pub kept_front : (xs : List ℕ) (kept : ℕ) → kept ≤ length xs
-    → ((i : ℕ) → kept ≤ i → i < length xs → slice_index xs i ≡ 0) → (0 < kept → slice_index xs (kept - 1) ≢ 0)
-    → take kept xs ≡ trimmed xs
-kept_front xs kept within rest last = front_is xs kept (record {
-  within = within;
-  last = λ k is.
-      let place : kept - 1 ≡ k = omega arith in
-      subst (λ i. slice_index xs i ≢ 0) place (last (omega arith));
-  rest = rest;
-})

@@ -9,6 +9,7 @@ pub mod Appended
 pub mod Spelled
 pub mod Tokens
 pub mod Lines
+pub mod ListsBack
 pub mod Statements
 pub mod Fillings
 pub mod Sets

@@ -1,25 +1,21 @@
 -- The text of a counter is read back.
-use Rattle.std.proofs.Common.{◌≡◌, ℕ, ◌+◌, ◌*◌, ◌<◌, ◌≤◌, ◌^◌, List, [], ◌∷◌, ◌++◌, codes, map, take, drop, replicate}
-use Rattle.std.proofs.Common.{length, slice_index, Bool, true, false, Ok, lit<, lit≤, append_assoc, append-nil, ◌==◌}
+use Rattle.std.proofs.Common.{◌≡◌, ℕ, ◌+◌, ◌<◌, ◌≤◌, ◌^◌, List, [], ◌∷◌, ◌++◌, codes, map, drop, replicate}
+use Rattle.std.proofs.Common.{length, slice_index, Bool, true, false, Ok, lit≤, append_assoc}
 use Rattle.std.proofs.Common.{refl, sym, ap, ◌∙◌, subst, arith}
-use Rattle.std.specs.Prelude.{All}
-use Rattle.std.specs.List.{flat_map, range_with_len}
+use Rattle.std.specs.List.{range_with_len}
 use Rattle.std.proofs.Math.Pow.{pow_mono}
 use Rattle.std.proofs.Math.Seq.{drop-append_seam}
-use Rattle.std.proofs.lemmas.List.{drop-drop, length-drop, length-map, length-take, take_all}
-use Rattle.std.proofs.lemmas.List.Elements.{All-weaker}
+use Rattle.std.proofs.lemmas.List.{drop-drop, take_all}
 use Rattle.std.proofs.lemmas.List.FromFn.{get_or-map-range_with_len}
-use Rattle.std.proofs.lemmas.Nat.{pow_pos}
 use Rattle.mw_base.specs.declared.line.Line.{Line}
 use Rattle.mw_base.specs.declared.refusal.TextFault.{TextFault}
 use Rattle.mw_base.specs.declared.token.Kind.TheVariants.{Name}
 use Rattle.mw_base.specs.Lines.{lines_of}
 use Rattle.mw_base.specs.Symbols.{spelled}
 use Rattle.mw_base.specs.TokenLines.{lines_from}
-use Rattle.mw_base.specs.Words.{num}
 use Rattle.mw_board.specs.Check.{check_of}
 use Rattle.mw_asm.specs.declared.assembled.Label.{Label}
-use Rattle.mw_cycle.specs.Environment.{Environment, IsEnvironment}
+use Rattle.mw_cycle.specs.Environment.{Environment, no_values, shortened}
 use Rattle.mw_expr.specs.Values.{IsImage}
 use Rattle.mw_rel.specs.Begin.{Begin, IsBegin, free_elements}
 use Rattle.mw_rel.specs.Completed.{free_before, free_value}
@@ -28,27 +24,28 @@ use Rattle.mw_rel.specs.Job.{Job, IsJob, shape_of}
 use Rattle.mw_rel.specs.Relation.{Boundary}
 use Rattle.mw_rel.proofs.Completed.{given_values}
 use Rattle.mw_rel.proofs.Standing.{board_address}
-use Rattle.mw_sim.specs.Settings.{Settings, nothing_given, trimmed, with_line}
+use Rattle.mw_sim.specs.Settings.{Settings, nothing_given, with_line}
 use Rattle.mw_sim.specs.Start.{environment_with}
 use Rattle.mw_replay.specs.Counter.{Counter, IsCounter}
-use Rattle.mw_replay.specs.CounterPrinted.{AreShort, MayFollow, counter_text, in_short, line_count, memory_lines}
-use Rattle.mw_replay.specs.CounterPrinted.{no_lines, series_line, series_lines, set_line, set_lines, shortened}
-use Rattle.mw_replay.specs.CounterPrinted.{values_at, word_line}
+use Rattle.mw_replay.specs.CounterPrinted.{AreShort, MayFollow, counter_text, in_short, memory_lines}
+use Rattle.mw_replay.specs.CounterPrinted.{environment_lines}
+use Rattle.mw_replay.specs.CounterPrinted.{no_lines, set_line, set_lines}
+use Rattle.mw_replay.specs.CounterPrinted.{word_line}
 use Rattle.mw_replay.specs.CounterText.{counter_in, counter_of, counter_with, settables_of}
-use Rattle.mw_replay.proofs.Chunks.{values_go, values_some, values_within}
 use Rattle.mw_replay.proofs.Fillings.{filled, made_by_number}
 use Rattle.mw_replay.proofs.Heads.{behind_first, behind_second, difference_bytes, difference_has, difference_line}
 use Rattle.mw_replay.proofs.Heads.{difference_plain, difference_word, head_bytes, head_has, head_line, head_plain}
 use Rattle.mw_replay.proofs.Heads.{head_says, head_short, head_tokens, head_word, no_has, no_line, not_difference}
 use Rattle.mw_replay.proofs.Heads.{not_no, number_is, text_says}
-use Rattle.mw_replay.proofs.Lines.{Goes, end_goes, first_read}
+use Rattle.mw_replay.proofs.Lines.{Goes, first_read}
+use Rattle.mw_replay.proofs.ListsBack.{lists_go}
 use Rattle.mw_replay.proofs.Owned.{is_settable}
-use Rattle.mw_replay.proofs.SeriesLines.{inputs_gives, line_gives, noise_gives}
-use Rattle.mw_replay.proofs.Sets.{given_with, set_fills, word_fills, written_with}
+use Rattle.mw_replay.proofs.SeriesLines.{given_with}
+use Rattle.mw_replay.proofs.Sets.{set_fills, word_fills, written_with}
 use Rattle.mw_replay.proofs.Settables.{settables_count}
 use Rattle.mw_replay.proofs.Statements.{spelled_at}
 use Rattle.mw_replay.proofs.Tokens.{token}
-use Rattle.mw_replay.proofs.Trimmed.{bits_below, trimmed_once, trimmed_within}
+use Rattle.mw_replay.proofs.Trimmed.{shortened_once}
 
 -- ---- what is given in the end
 
@@ -81,129 +78,18 @@ counter_parts : (n : ℕ) (values same memory : List ℕ) (env other : Environme
     → counter_made n values memory env ≡ counter_made n same memory other
 counter_parts n values same memory env other one two = rw (one, two) refl
 
--- what is given in the end of an environment
-env_is : (memory : List ℕ) (written : List Bool) (values : List ℕ) (set : List Bool) (env : Environment)
-    → environment_with (given_with memory written (trimmed env.inputs) (trimmed (map num env.line)) (trimmed env.noise)
-    values set)
-    ≡ shortened env
-unfolding environment_with
-env_is memory written values set env =
-    rw (trimmed_once env.inputs, trimmed_once (map num env.line), trimmed_once env.noise) refl
-
 end_is : (job : Job) (counter : Counter) (written set : List Bool) → IsCounter job counter
     → counter_with job counter.boundary
-    (given_with counter.begin.memory written (trimmed counter.begin.env.inputs)
-    (trimmed (map num counter.begin.env.line)) (trimmed counter.begin.env.noise)
+    (given_with counter.begin.memory written (shortened counter.begin.env)
     (all_values job (numbered job counter.boundary) counter.begin.values) set)
     ≡ in_short counter
-unfolding counter_made
+unfolding counter_made environment_with
 end_is job counter written set is =
     let boundary = numbered job counter.boundary in
     let values = all_values job boundary counter.begin.values in
     counter_parts counter.boundary (map (slice_index values) (free_elements job boundary)) counter.begin.values
     counter.begin.memory _ (shortened counter.begin.env) (values_are job boundary counter.begin is.begin)
-    (env_is counter.begin.memory written values set counter.begin.env)
-
--- ---- the lists
-
-chunk_room : (xs : List ℕ) (n : ℕ) → length xs ≤ 65536
-    → length (take (16 * n) xs) + length (values_at xs n) ≤ 65536
-chunk_room xs n few =
-    omega (arith, length-take (16 * n) xs, length-take 16 (drop (16 * n) xs), length-drop (16 * n) xs)
-
-below_more : (v bound most : ℕ) → v < bound → bound ≤ most → v < most
-below_more v bound most below less = omega arith
-
-wider : (bound most : ℕ) (xs : List ℕ) → bound ≤ most → All (λ v. v < bound) xs → All (λ v. v < most) xs
-wider bound most xs less all =
-    All-weaker (λ v. v < bound) (λ v. v < most) (λ v below. below_more v bound most below less) xs all
-
-noise_go : (P : Settings → Type 0) (job : Job) (boundary : Boundary) (text rest xs memory : List ℕ)
-    (written : List Bool) (inputs interrupts values : List ℕ) (set : List Bool)
-    → All (λ v. v < 2 ^ 14) xs → length xs ≤ 65536
-    → Goes P (with_line (settables_of job boundary) job.board.width text) text rest
-    (given_with memory written inputs interrupts xs values set)
-    → Goes P (with_line (settables_of job boundary) job.board.width text) text
-    (flat_map (λ n. series_line (codes "noise") (values_at xs n)) (range_with_len 0 (line_count (length xs))) ++ rest)
-    (given_with memory written inputs interrupts [] values set)
-noise_go P job boundary text rest xs memory written inputs interrupts values set below short next =
-    let elements = settables_of job boundary in
-    let width = job.board.width in
-    let make = λ (xs : List ℕ). given_with memory written inputs interrupts xs values set in
-    let few = wider (2 ^ 14) (2 ^ 32) xs (lit≤ tt) below in
-    let fewer = wider (2 ^ 32) (2 ^ 128) xs (lit≤ tt) few in
-    values_go P (with_line elements width text) text (codes "noise") xs rest make refl (lit≤ tt) few
-    (λ n more number start inside at.
-    noise_gives elements width text more (values_at xs n) number start (make (take (16 * n) xs))
-    (values_some xs n inside) at (values_within (2 ^ 128) xs n fewer) (values_within (2 ^ 14) xs n below)
-    (chunk_room xs n short))
-    next 0 (line_count (length xs)) (omega arith)
-
-line_go : (P : Settings → Type 0) (job : Job) (boundary : Boundary) (text rest xs memory : List ℕ) (written : List Bool)
-    (inputs noise values : List ℕ) (set : List Bool) → All (λ v. v < 2) xs → length xs ≤ 65536
-    → Goes P (with_line (settables_of job boundary) job.board.width text) text rest
-    (given_with memory written inputs xs noise values set)
-    → Goes P (with_line (settables_of job boundary) job.board.width text) text
-    (flat_map (λ n. series_line (codes "line") (values_at xs n)) (range_with_len 0 (line_count (length xs))) ++ rest)
-    (given_with memory written inputs [] noise values set)
-line_go P job boundary text rest xs memory written inputs noise values set below short next =
-    let elements = settables_of job boundary in
-    let width = job.board.width in
-    let make = λ (xs : List ℕ). given_with memory written inputs xs noise values set in
-    let few = wider 2 (2 ^ 32) xs (lit≤ tt) below in
-    let fewer = wider (2 ^ 32) (2 ^ 128) xs (lit≤ tt) few in
-    values_go P (with_line elements width text) text (codes "line") xs rest make refl (lit≤ tt) few
-    (λ n more number start inside at.
-    line_gives elements width text more (values_at xs n) number start (make (take (16 * n) xs))
-    (values_some xs n inside) at (values_within (2 ^ 128) xs n fewer) (values_within 2 xs n below)
-    (chunk_room xs n short))
-    next 0 (line_count (length xs)) (omega arith)
-
-inputs_go : (P : Settings → Type 0) (job : Job) (boundary : Boundary) (text rest xs memory : List ℕ)
-    (written : List Bool) (interrupts noise values : List ℕ) (set : List Bool)
-    → job.board.width ≤ 32
-    → All (λ v. v < 2 ^ job.board.width) xs → length xs ≤ 65536
-    → Goes P (with_line (settables_of job boundary) job.board.width text) text rest
-    (given_with memory written xs interrupts noise values set)
-    → Goes P (with_line (settables_of job boundary) job.board.width text) text
-    (flat_map (λ n. series_line (codes "inputs") (values_at xs n)) (range_with_len 0 (line_count (length xs))) ++ rest)
-    (given_with memory written [] interrupts noise values set)
-inputs_go P job boundary text rest xs memory written interrupts noise values set narrow below short next =
-    let elements = settables_of job boundary in
-    let width = job.board.width in
-    let make = λ (xs : List ℕ). given_with memory written xs interrupts noise values set in
-    let few = wider (2 ^ job.board.width) (2 ^ 32) xs (pow_mono narrow) below in
-    let fewer = wider (2 ^ 32) (2 ^ 128) xs (lit≤ tt) few in
-    values_go P (with_line elements width text) text (codes "inputs") xs rest make refl (lit≤ tt) few
-    (λ n more number start inside at.
-    inputs_gives elements width text more (values_at xs n) number start (make (take (16 * n) xs))
-    (values_some xs n inside) at (values_within (2 ^ 128) xs n fewer) (values_within (2 ^ job.board.width) xs n below)
-    (chunk_room xs n short))
-    next 0 (line_count (length xs)) (omega arith)
-
--- the lines of all three
-lists_go : (P : Settings → Type 0) (job : Job) (boundary : Boundary) (text : List ℕ) (env : Environment)
-    (memory : List ℕ) (written : List Bool) (values : List ℕ) (set : List Bool) → job.board.width ≤ 32
-    → IsEnvironment job.board env → AreShort (shortened env)
-    → P (given_with memory written (trimmed env.inputs) (trimmed (map num env.line)) (trimmed env.noise) values set)
-    → Goes P (with_line (settables_of job boundary) job.board.width text) text
-    (series_lines (codes "inputs") env.inputs
-    ++ (series_lines (codes "line") (map num env.line) ++ (series_lines (codes "noise") env.noise ++ [])))
-    (given_with memory written [] [] [] values set)
-lists_go P job boundary text env memory written values set narrow is short so =
-    let width = job.board.width in
-    let step = with_line (settables_of job boundary) width text in
-    let inputs = trimmed env.inputs in
-    let line = trimmed (map num env.line) in
-    let noise = trimmed env.noise in
-    let size : length line ≤ 65536 = omega (arith, short.line, length-map line (λ (bit : ℕ). bit == 1)) in
-    inputs_go P job boundary text _ inputs memory written [] [] values set narrow
-    (trimmed_within (2 ^ width) env.inputs (pow_pos width) is.inputs) short.inputs
-    (line_go P job boundary text _ line memory written inputs [] values set
-    (trimmed_within 2 (map num env.line) (lit< tt) (bits_below env.line)) size
-    (noise_go P job boundary text [] noise memory written inputs line values set
-    (trimmed_within (2 ^ 14) env.noise (lit< tt) is.noise) short.noise
-    (end_goes P step text (given_with memory written inputs line noise values set) so)))
+    (shortened_once counter.begin.env)
 
 -- ---- elements and memory
 
@@ -222,14 +108,14 @@ memory_words job memory a is image =
 memory_go : (P : Settings → Type 0) (job : Job) (boundary : Boundary) (text rest memory values : List ℕ)
     (set : List Bool) → IsJob job → IsImage job.relation.shape memory
     → ((written : List Bool) → Goes P (with_line (settables_of job boundary) job.board.width text) text rest
-    (given_with memory written [] [] [] values set))
+    (given_with memory written no_values values set))
     → Goes P (with_line (settables_of job boundary) job.board.width text) text (memory_lines memory ++ rest)
-    (given_with (replicate (2 ^ job.board.address) 0) (replicate (2 ^ job.board.address) false) [] [] [] values set)
+    (given_with (replicate (2 ^ job.board.address) 0) (replicate (2 ^ job.board.address) false) no_values values set)
 memory_go P job boundary text rest memory values set is image next =
     let elements = settables_of job boundary in
     let width = job.board.width in
     let step = with_line elements width text in
-    let make = written_with values set [] [] [] in
+    let make = written_with values set no_values in
     let size = memory_size job memory is image in
     let most : 2 ^ job.board.address ≤ 2 ^ 16 = pow_mono is.board.sizes.address_most in
     let whole : map (slice_index memory) (range_with_len 0 (length memory)) ≡ memory =
@@ -242,7 +128,7 @@ memory_go P job boundary text rest memory values set is image next =
     (length memory)
     (λ address inside.
     let low : address < 2 ^ 32 = omega arith in
-    word_fills P elements width text memory address values set [] [] [] low (memory_words job memory address is image)
+    word_fills P elements width text memory address values set no_values low (memory_words job memory address is image)
     is.board.sizes.most)
     0 (length memory) (omega arith) [] [] rest refl refl
     (λ written. subst (λ words. Goes P step text rest (make words written)) (sym whole) (next written)))
@@ -250,10 +136,10 @@ memory_go P job boundary text rest memory values set is image next =
 sets_go : (P : Settings → Type 0) (job : Job) (boundary : Boundary) (text rest : List ℕ) (begin : Begin)
     (memory : List ℕ) (written : List Bool) → IsJob job → check_of job.board ≡ Ok tt → IsBegin job boundary begin
     → ((set : List Bool) → Goes P (with_line (settables_of job boundary) job.board.width text) text rest
-    (given_with memory written [] [] [] (all_values job boundary begin.values) set))
+    (given_with memory written no_values (all_values job boundary begin.values) set))
     → Goes P (with_line (settables_of job boundary) job.board.width text) text
     (set_lines job boundary begin.values ++ rest)
-    (given_with memory written [] [] [] (replicate (length job.relation.shape.widths) 0)
+    (given_with memory written no_values (replicate (length job.relation.shape.widths) 0)
     (replicate (length job.relation.shape.widths) false))
 sets_go P job boundary text rest begin memory written is checked starts next =
     let elements = settables_of job boundary in
@@ -261,9 +147,9 @@ sets_go P job boundary text rest begin memory written is checked starts next =
     let count = length job.relation.shape.widths in
     let value = free_value (is_free boundary) begin.values in
     filled P (with_line elements width text) text (λ e. set_line job e (value e)) value
-    (given_with memory written [] [] []) count
+    (given_with memory written no_values) count
     (λ e below.
-    set_fills P job elements width text value e memory written [] [] []
+    set_fills P job elements width text value e memory written no_values
     (is_settable job boundary begin e is checked starts below))
     0 count (omega arith) [] [] rest refl refl next
 
@@ -273,10 +159,7 @@ sets_go P job boundary text rest begin memory written is checked starts next =
 behind : Job → Counter → List ℕ
 behind job counter =
     set_lines job (numbered job counter.boundary) counter.begin.values
-    ++ (memory_lines counter.begin.memory
-    ++ (series_lines (codes "inputs") counter.begin.env.inputs
-    ++ (series_lines (codes "line") (map num counter.begin.env.line)
-    ++ (series_lines (codes "noise") counter.begin.env.noise ++ []))))
+    ++ (memory_lines counter.begin.memory ++ environment_lines counter.begin.env)
 
 behind_goes : (job : Job) (counter : Counter) (text : List ℕ) → IsJob job → check_of job.board ≡ Ok tt
     → IsCounter job counter → AreShort (shortened counter.begin.env)
@@ -295,12 +178,11 @@ behind_goes job counter text is checked counts short =
     (sym (settables_count job boundary))
     (sets_go P job boundary text _ begin (replicate words 0) (replicate words false) is checked counts.begin
     (λ set. memory_go P job boundary text _ begin.memory values set is counts.begin.memory
-    (λ written. lists_go P job boundary text begin.env begin.memory written values set is.board.sizes.most counts.env
-    short (end_is job counter written set counts))))
+    (λ written. lists_go P job.board (settables_of job boundary) text begin.env begin.memory written values set
+    is.board.sizes.most counts.env short (end_is job counter written set counts))))
 
-regrouped : (head s m a b c : List ℕ)
-    → head ++ 10 ∷ [] ++ s ++ m ++ (a ++ b ++ c) ≡ head ++ 10 ∷ (s ++ (m ++ (a ++ (b ++ (c ++ [])))))
-regrouped head s m a b c = simp (append_assoc, append-nil)
+regrouped : (head s m e : List ℕ) → head ++ 10 ∷ [] ++ s ++ m ++ e ≡ head ++ 10 ∷ (s ++ (m ++ e))
+regrouped head s m e = simp append_assoc
 
 text_is : (job : Job) (counter : Counter)
     → counter_text job counter
@@ -309,9 +191,7 @@ unfolding counter_text behind
 text_is job counter =
     regrouped (head_bytes (numbered job counter.boundary).address)
     (set_lines job (numbered job counter.boundary) counter.begin.values) (memory_lines counter.begin.memory)
-    (series_lines (codes "inputs") counter.begin.env.inputs)
-    (series_lines (codes "line") (map num counter.begin.env.line))
-    (series_lines (codes "noise") counter.begin.env.noise)
+    (environment_lines counter.begin.env)
 
 boundary_low : (job : Job) (n : ℕ) → IsJob job → n < length job.relation.boundaries
     → (numbered job n).address < 2 ^ 12

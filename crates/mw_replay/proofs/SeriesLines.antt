@@ -1,14 +1,14 @@
 -- What the lines of an environment's lists say, as they are printed.
-use Rattle.std.proofs.Common.{◌≡◌, ℕ, ◌+◌, ◌<◌, ◌≤◌, ◌^◌, List, [], ◌∷◌, ◌++◌, codes, map, drop, length, true, cond}
-use Rattle.std.proofs.Common.{Result, Ok, Err, append_assoc, append-nil, length-append, zero-add, refl, sym, ap, ◌∙◌}
+use Rattle.std.proofs.Common.{◌≡◌, ℕ, ◌+◌, ◌<◌, ◌≤◌, ◌^◌, List, [], ◌∷◌, ◌++◌, map, drop, length, true}
+use Rattle.std.proofs.Common.{Bool, Ok, append_assoc, append-nil, zero-add, refl, sym, ap, ◌∙◌}
 use Rattle.std.proofs.Common.{subst, arith}
 use Rattle.std.specs.Prelude.{All, nat_lt}
 use Rattle.std.specs.List.{flat_map}
 use Rattle.std.proofs.lemmas.Bool.{lt-ltb}
 use Rattle.std.proofs.lemmas.List.Elements.{All-tail}
-use Rattle.mw_base.specs.declared.cause.Cause.TheVariants.{BadSyntax, TooMany}
+use Rattle.mw_base.specs.declared.cause.Cause.TheVariants.{BadSyntax}
 use Rattle.mw_base.specs.declared.cursor.Numeral.{Numeral}
-use Rattle.mw_base.specs.declared.line.Line.{Line}
+use Rattle.mw_base.specs.declared.line.Line.{Line as TextLine}
 use Rattle.mw_base.specs.declared.refusal.TextFault.{TextFault}
 use Rattle.mw_base.specs.declared.token.Kind.TheVariants.{Name, Number}
 use Rattle.mw_base.specs.declared.token.Token.{Token}
@@ -18,10 +18,15 @@ use Rattle.mw_base.specs.Numbers.{hex}
 use Rattle.mw_base.specs.Reading.{◌>>=◌}
 use Rattle.mw_base.specs.Steps.{steps}
 use Rattle.mw_base.specs.Symbols.{spelled, symbol_of}
-use Rattle.mw_base.specs.TokenLines.{fault_on}
+use Rattle.mw_base.proofs.Results.{ok_of}
+use Rattle.mw_cycle.specs.declared.series.Series.{Series}
+use Rattle.mw_cycle.specs.declared.series.Series.TheVariants.{Inputs, Line, Noise}
+use Rattle.mw_cycle.specs.Environment.{Environment, values_of, with_values}
+use Rattle.mw_cycle.specs.Series.{keyword_of as series_keyword, series_named, width_of}
+use Rattle.mw_cycle.proofs.Lists.{behind_again, behind_length, none_behind}
 use Rattle.mw_sim.specs.declared.settings.Settable.{Settable}
-use Rattle.mw_sim.specs.Settings.{Settings, value_below, with_entry, with_line}
-use Rattle.mw_sim.specs.Lines.{numbers_of, series_of, statement_of, with_number}
+use Rattle.mw_sim.specs.Settings.{Settings, with_entry, with_line}
+use Rattle.mw_sim.specs.Lines.{numbers_of, series_of, statement_in, statement_of, with_number}
 use Rattle.mw_replay.specs.CounterPrinted.{value_text}
 use Rattle.mw_replay.proofs.Lines.{Gives, line_with}
 use Rattle.mw_replay.proofs.Statements.{further, spelled_at}
@@ -58,39 +63,49 @@ numbers_behind line number start v keyword vs is =
 
 -- ---- entries
 
--- a list to which each step appends a value below a bound
-entries_are : (entry : Settings → Numeral → Result Settings TextFault) (so_far : Settings → List ℕ)
-    (set : List ℕ → Settings → Settings) (bound : ℕ)
-    → ((given : Settings) (numeral : Numeral) → entry given numeral
-    ≡ cond (nat_lt (length (so_far given)) 65536)
-    (value_below bound numeral >>= λ value. Ok (set (so_far given ++ (value ∷ [])) given))
-    (Err (fault_on numeral.token TooMany)))
-    → ((xs : List ℕ) (given : Settings) → so_far (set xs given) ≡ xs)
-    → ((xs ys : List ℕ) (given : Settings) → set xs (set ys given) ≡ set xs given)
-    → ((given : Settings) → set (so_far given) given ≡ given)
-    → (number start at : ℕ) (values : List ℕ) (given : Settings) → All (λ value. value < bound) values
-    → length (so_far given) + length values ≤ 65536
-    → steps entry given (numerals number start at values) ≡ Ok (set (so_far given ++ values) given)
-unfolding steps
-entries_are entry so_far set bound is got again kept number start at [] given all few =
-    ap Ok (sym (kept given) ∙ ap (λ xs. set xs given) (sym (append-nil (so_far given))))
-entries_are entry so_far set bound is got again kept number start at (v ∷ vs) given all few =
+-- what lines gave
+abbrev pub given_with : (memory : List ℕ) (written : List Bool) (env : Environment) → List ℕ
+    → List Bool → Settings
+given_with memory written env values set = record {
+  values = values;
+  set = set;
+  memory = memory;
+  written = written;
+  env = env;
+}
+
+-- what is given with another environment
+abbrev pub with_env : Settings → Environment → Settings
+with_env given env = record given { env = env }
+
+-- values that are entries of a list
+entries_are : (width : ℕ) (series : Series) (number start at : ℕ) (values : List ℕ) (given : Settings)
+    → All (λ value. value < 2 ^ width_of width series) values
+    → length (values_of given.env series) + length values ≤ 65536
+    → steps (with_entry width series) given (numerals number start at values)
+    ≡ Ok (with_env given (with_values series values given.env))
+unfolding steps with_entry
+entries_are width series number start at [] given all few =
+    ap (λ (env : Environment). ok_of {F = TextFault} (with_env given env)) (sym (none_behind series given.env))
+entries_are width series number start at (v ∷ vs) given all few =
     let numeral : Numeral = record {
       token = token number start (at + 1) (Number v) (length (hex v));
       value = v;
     } in
-    let room : nat_lt (length (so_far given)) 65536 ≡ true = lt-ltb (length (so_far given)) 65536 (omega arith) in
-    let small : nat_lt v bound ≡ true = lt-ltb v bound (all 0 v (omega arith)) in
-    let next = set (so_far given ++ (v ∷ [])) given in
-    let one : entry given numeral ≡ Ok next = is given numeral ∙ rw (room, small) refl in
-    let now : so_far next ≡ so_far given ++ (v ∷ []) = got (so_far given ++ (v ∷ [])) given in
-    let fewer : length (so_far next) + length vs ≤ 65536 =
-    omega (arith, ap length now, length-append (so_far given) (v ∷ [])) in
-    ap (λ made. made >>= λ more. steps entry more (numerals number start (at + 1 + length (hex v)) vs)) one
-    ∙ entries_are entry so_far set bound is got again kept number start (at + 1 + length (hex v)) vs next
-    (All-tail (λ value. value < bound) v vs all) fewer
-    ∙ ap Ok (again (so_far next ++ vs) (so_far given ++ (v ∷ [])) given
-    ∙ ap (λ (xs : List ℕ). set xs given) (ap (λ (xs : List ℕ). xs ++ vs) now ∙ append_assoc (so_far given) (v ∷ []) vs))
+    let room : nat_lt (length (values_of given.env series)) 65536 ≡ true =
+    lt-ltb (length (values_of given.env series)) 65536 (omega arith) in
+    let small : nat_lt v (2 ^ width_of width series) ≡ true =
+    lt-ltb v (2 ^ width_of width series) (all 0 v (omega arith)) in
+    let next = with_env given (with_values series (v ∷ []) given.env) in
+    let one : with_entry width series given numeral ≡ Ok next = rw (room, small) refl in
+    let fewer : length (values_of next.env series) + length vs ≤ 65536 =
+    omega (arith, behind_length series (v ∷ []) given.env) in
+    ap
+    (λ made. made >>= λ more. steps (with_entry width series) more (numerals number start (at + 1 + length (hex v)) vs))
+    one
+    ∙ entries_are width series number start (at + 1 + length (hex v)) vs next
+    (All-tail (λ value. value < 2 ^ width_of width series) v vs all) fewer
+    ∙ ap (λ (env : Environment). ok_of {F = TextFault} (with_env given env)) (behind_again series (v ∷ []) vs given.env)
 
 -- ---- lines
 
@@ -106,7 +121,7 @@ series_has number start keyword values is all =
     (subst (λ at. Has number start at (flat_map value_text values) (tokens_of number start (length keyword) values))
     (sym (zero-add (length keyword))) (has_values number start (length keyword) values all))
 
-series_line_with : (number start : ℕ) (keyword values : List ℕ) → Line
+series_line_with : (number start : ℕ) (keyword values : List ℕ) → TextLine
 series_line_with number start keyword values =
     line_with number (series_bytes keyword values) (series_tokens number start keyword values)
 
@@ -119,71 +134,40 @@ keyword_at text keyword values rest number start at =
     (further text (series_bytes keyword values ++ rest) (keyword ++ behind) start 0 at
     (append_assoc keyword (flat_map value_text values) rest))
 
-pub inputs_gives : (elements : List Settable) (width : ℕ) (text rest values : List ℕ)
-    (number start : ℕ) (given : Settings)
-    → 0 < length values → drop start text ≡ series_bytes (codes "inputs") values ++ rest
-    → All (λ value. value < 2 ^ 128) values
-    → All (λ value. value < 2 ^ width) values → length given.inputs + length values ≤ 65536
-    → Gives (with_line elements width text) number start (series_bytes (codes "inputs") values) given
-    (record given { inputs = given.inputs ++ values })
-unfolding with_line statement_of series_of with_entry series_tokens series_line_with
-inputs_gives elements width text rest [] number start given some at few below room = absurd (omega arith)
-inputs_gives elements width text rest (v ∷ vs) number start given some at few below room =
-    let keyword = codes "inputs" in
-    let line = at_line text (series_line_with number start keyword (v ∷ vs)) BadSyntax in
-    let word = keyword_at text keyword (v ∷ vs) rest number start at in
-    record {
-      tokens = series_tokens number start keyword (v ∷ vs);
-      has = series_has number start keyword (v ∷ vs) refl few;
-      gives =
-          rw (word, numbers_behind line number start v keyword vs refl)
-          (entries_are _ (λ given. given.inputs) (λ xs given. record given { inputs = xs }) (2 ^ width)
-          (λ given numeral. refl) (λ xs given. refl) (λ xs ys given. refl) (λ given. refl) number start (length keyword)
-          (v ∷ vs) given below room);
-    }
+-- what a line says that begins with a list's keyword
+statement_is : (line : Cursor) (first : Token) (rest : List Token) (series : Series)
+    → spelled line.text first ≡ series_keyword series → statement_in line (first ∷ rest) ≡ series_of series line
+unfolding series_named
+statement_is line first rest Inputs is = rw is refl
+statement_is line first rest Line is = rw is refl
+statement_is line first rest Noise is = rw is refl
 
-pub line_gives : (elements : List Settable) (width : ℕ) (text rest values : List ℕ)
-    (number start : ℕ) (given : Settings)
-    → 0 < length values → drop start text ≡ series_bytes (codes "line") values ++ rest
-    → All (λ value. value < 2 ^ 128) values
-    → All (λ value. value < 2) values → length given.interrupts + length values ≤ 65536
-    → Gives (with_line elements width text) number start (series_bytes (codes "line") values) given
-    (record given { interrupts = given.interrupts ++ values })
-unfolding with_line statement_of series_of with_entry series_tokens series_line_with
-line_gives elements width text rest [] number start given some at few below room = absurd (omega arith)
-line_gives elements width text rest (v ∷ vs) number start given some at few below room =
-    let keyword = codes "line" in
-    let line = at_line text (series_line_with number start keyword (v ∷ vs)) BadSyntax in
-    let word = keyword_at text keyword (v ∷ vs) rest number start at in
-    record {
-      tokens = series_tokens number start keyword (v ∷ vs);
-      has = series_has number start keyword (v ∷ vs) refl few;
-      gives =
-          rw (word, numbers_behind line number start v keyword vs refl)
-          (entries_are _ (λ given. given.interrupts) (λ xs given. record given { interrupts = xs }) 2
-          (λ given numeral. refl) (λ xs given. refl) (λ xs ys given. refl) (λ given. refl) number start (length keyword)
-          (v ∷ vs) given below room);
-    }
+keyword_spelled : (series : Series) → is_spelled_as_name (series_keyword series) ≡ true
+keyword_spelled Inputs = refl
+keyword_spelled Line = refl
+keyword_spelled Noise = refl
 
-pub noise_gives : (elements : List Settable) (width : ℕ) (text rest values : List ℕ)
+pub series_gives : (elements : List Settable) (width : ℕ) (series : Series) (text rest values : List ℕ)
     (number start : ℕ) (given : Settings)
-    → 0 < length values → drop start text ≡ series_bytes (codes "noise") values ++ rest
-    → All (λ value. value < 2 ^ 128) values
-    → All (λ value. value < 2 ^ 14) values → length given.noise + length values ≤ 65536
-    → Gives (with_line elements width text) number start (series_bytes (codes "noise") values) given
-    (record given { noise = given.noise ++ values })
-unfolding with_line statement_of series_of with_entry series_tokens series_line_with
-noise_gives elements width text rest [] number start given some at few below room = absurd (omega arith)
-noise_gives elements width text rest (v ∷ vs) number start given some at few below room =
-    let keyword = codes "noise" in
+    → 0 < length values → drop start text ≡ series_bytes (series_keyword series) values ++ rest
+    → All (λ value. value < 2 ^ 128) values → All (λ value. value < 2 ^ width_of width series) values
+    → length (values_of given.env series) + length values ≤ 65536
+    → Gives (with_line elements width text) number start (series_bytes (series_keyword series) values) given
+    (with_env given (with_values series values given.env))
+unfolding with_line statement_of series_of series_tokens tokens_of series_line_with
+series_gives elements width series text rest [] number start given some at few below room = absurd (omega arith)
+series_gives elements width series text rest (v ∷ vs) number start given some at few below room =
+    let keyword = series_keyword series in
     let line = at_line text (series_line_with number start keyword (v ∷ vs)) BadSyntax in
     let word = keyword_at text keyword (v ∷ vs) rest number start at in
     record {
       tokens = series_tokens number start keyword (v ∷ vs);
-      has = series_has number start keyword (v ∷ vs) refl few;
+      has = series_has number start keyword (v ∷ vs) (keyword_spelled series) few;
       gives =
-          rw (word, numbers_behind line number start v keyword vs refl)
-          (entries_are _ (λ given. given.noise) (λ xs given. record given { noise = xs }) (2 ^ 14)
-          (λ given numeral. refl) (λ xs given. refl) (λ xs ys given. refl) (λ given. refl) number start (length keyword)
-          (v ∷ vs) given below room);
+          rw (
+            statement_is line (token number start 0 Name (length keyword))
+                (tokens_of number start (length keyword) (v ∷ vs)) series word,
+            numbers_behind line number start v keyword vs refl,
+          )
+          (entries_are width series number start (length keyword) (v ∷ vs) given below room);
     }

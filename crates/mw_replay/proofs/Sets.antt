@@ -9,6 +9,7 @@ use Rattle.std.proofs.lemmas.Bool.Decides.{nat_tests}
 use Rattle.std.proofs.lemmas.List.Folds.{list_all-append}
 use Rattle.mw_base.specs.Names.{are_word_bytes, is_name_start, is_spelled_as_name, is_word_byte}
 use Rattle.mw_base.specs.Numbers.{hex}
+use Rattle.mw_cycle.specs.Environment.{Environment}
 use Rattle.mw_sim.specs.declared.settings.Owner.{Owner}
 use Rattle.mw_sim.specs.declared.settings.Owner.TheVariants.{Board, Machine}
 use Rattle.mw_sim.specs.declared.settings.Settable.{Settable}
@@ -19,6 +20,7 @@ use Rattle.mw_replay.specs.CounterText.{name_of, owner_of}
 use Rattle.mw_rel.specs.Job.{Job}
 use Rattle.mw_replay.proofs.Fillings.{Fills, get_seam, set_seam}
 use Rattle.mw_replay.proofs.Lines.{Gives, Goes, is_plain, line_goes}
+use Rattle.mw_replay.proofs.SeriesLines.{given_with}
 use Rattle.mw_replay.proofs.Spelled.{digits_are_words, hex_short}
 use Rattle.mw_replay.proofs.Statements.{set_bytes, set_gives, word_bytes, word_gives}
 use Rattle.mw_replay.proofs.Tokens.{other_byte, word_start}
@@ -46,19 +48,6 @@ hex_plain n = word_plain (hex n) (digits_are_words n)
 pub both_plain : (one two : List ℕ) → list_all is_plain one ≡ true → list_all is_plain two ≡ true
     → list_all is_plain (one ++ two) ≡ true
 both_plain one two first second = list_all-append is_plain one two ∙ rw (first, second) refl
-
--- what lines gave
-abbrev pub given_with : (memory : List ℕ) (written : List Bool) (inputs interrupts noise : List ℕ) → List ℕ
-    → List Bool → Settings
-given_with memory written inputs interrupts noise values set = record {
-  values = values;
-  set = set;
-  memory = memory;
-  written = written;
-  inputs = inputs;
-  interrupts = interrupts;
-  noise = noise;
-}
 
 few_bits : (n : ℕ) → n < 2 ^ 32 → n < 2 ^ 128
 few_bits n few =
@@ -117,27 +106,27 @@ pub record IsSettable (job : Job) (elements : List Settable) (value e : ℕ) : T
   pub below : value < bound_of (slice_get elements e)
 
 one_set : (P : Settings → Type 0) (job : Job) (elements : List Settable) (width : ℕ) (text : List ℕ) (value e : ℕ)
-    (memory : List ℕ) (written : List Bool) (inputs interrupts noise before after : List ℕ)
+    (memory : List ℕ) (written : List Bool) (env : Environment) (before after : List ℕ)
     (flags later : List Bool) (rest : List ℕ) → IsSettable job elements value e → length before ≡ e
     → length flags ≡ e
     → ((flag : Bool) → Goes P (with_line elements width text) text rest
-    (given_with memory written inputs interrupts noise (before ++ value ∷ after) (flags ++ flag ∷ later)))
+    (given_with memory written env (before ++ value ∷ after) (flags ++ flag ∷ later)))
     → (b : Bool) → (value == 0) ≡ b
     → Goes P (with_line elements width text) text
     (cond b [] (line (set_bytes (letter_of (owner_of job e)) (name_of job e) value)) ++ rest)
-    (given_with memory written inputs interrupts noise (before ++ 0 ∷ after) (flags ++ false ∷ later))
-one_set P job elements width text value e memory written inputs interrupts noise before after flags later rest is size
+    (given_with memory written env (before ++ 0 ∷ after) (flags ++ false ∷ later))
+one_set P job elements width text value e memory written env before after flags later rest is size
     flagged next true test =
     let none : value ≡ 0 = grind (arith, nat_tests) in
     subst (λ v. Goes P (with_line elements width text) text rest
-    (given_with memory written inputs interrupts noise (before ++ v ∷ after) (flags ++ false ∷ later))) none
+    (given_with memory written env (before ++ v ∷ after) (flags ++ false ∷ later))) none
     (next false)
-one_set P job elements width text value e memory written inputs interrupts noise before after flags later rest is size
+one_set P job elements width text value e memory written env before after flags later rest is size
     flagged next false test =
     let owner = owner_of job e in
     let letter = letter_of owner in
     let name = name_of job e in
-    let make = given_with memory written inputs interrupts noise in
+    let make = given_with memory written env in
     let given = make (before ++ 0 ∷ after) (flags ++ false ∷ later) in
     let named : number_named elements (letter ∷ []) name ≡ Some e =
     ap (λ (text : List ℕ). number_named elements text name) (sym (letter_is owner)) ∙ is.named in
@@ -152,27 +141,27 @@ one_set P job elements width text value e memory written inputs interrupts noise
     (next true)
 
 pub set_fills : (P : Settings → Type 0) (job : Job) (elements : List Settable) (width : ℕ) (text : List ℕ)
-    (value : ℕ → ℕ) (e : ℕ) (memory : List ℕ) (written : List Bool) (inputs interrupts noise : List ℕ)
+    (value : ℕ → ℕ) (e : ℕ) (memory : List ℕ) (written : List Bool) (env : Environment)
     → IsSettable job elements (value e) e
     → Fills P (with_line elements width text) text (λ e. set_line job e (value e)) value
-    (given_with memory written inputs interrupts noise) e
+    (given_with memory written env) e
 unfolding set_line
-set_fills P job elements width text value e memory written inputs interrupts noise is before after flags later rest
+set_fills P job elements width text value e memory written env is before after flags later rest
     size flagged next =
     let v = value e in
     let bytes = set_text (owner_of job e) (name_of job e) v in
     subst (λ (bytes : List ℕ). Goes P (with_line elements width text) text (cond (v == 0) [] (line bytes) ++ rest)
-    (given_with memory written inputs interrupts noise (before ++ 0 ∷ after) (flags ++ false ∷ later))) (sym bytes)
-    (one_set P job elements width text v e memory written inputs interrupts noise before after flags later rest is size
+    (given_with memory written env (before ++ 0 ∷ after) (flags ++ false ∷ later))) (sym bytes)
+    (one_set P job elements width text v e memory written env before after flags later rest is size
     flagged next (v == 0) refl)
 
 -- ---- a word of the memory
 
 -- what lines gave, by the memory
-abbrev pub written_with : (values : List ℕ) (set : List Bool) (inputs interrupts noise : List ℕ) → List ℕ → List Bool
+abbrev pub written_with : (values : List ℕ) (set : List Bool) (env : Environment) → List ℕ → List Bool
     → Settings
-written_with values set inputs interrupts noise memory written =
-    given_with memory written inputs interrupts noise values set
+written_with values set env memory written =
+    given_with memory written env values set
 
 word_text : (address word : ℕ) → codes "mem " ++ hex address ++ codes " " ++ hex word ≡ word_bytes address word
 word_text address word =
@@ -186,22 +175,22 @@ word_short address word low few =
     omega (arith, length-append (hex address) (32 ∷ hex word), hex_short address low, hex_short word few)
 
 one_word : (P : Settings → Type 0) (elements : List Settable) (width : ℕ) (text : List ℕ) (word address : ℕ)
-    (values : List ℕ) (set : List Bool) (inputs interrupts noise before after : List ℕ)
+    (values : List ℕ) (set : List Bool) (env : Environment) (before after : List ℕ)
     (flags later : List Bool) (rest : List ℕ) → address < 2 ^ 32 → word < 2 ^ width → width ≤ 32
     → length before ≡ address → length flags ≡ address
     → ((flag : Bool) → Goes P (with_line elements width text) text rest
-    (written_with values set inputs interrupts noise (before ++ word ∷ after) (flags ++ flag ∷ later)))
+    (written_with values set env (before ++ word ∷ after) (flags ++ flag ∷ later)))
     → (b : Bool) → (word == 0) ≡ b
     → Goes P (with_line elements width text) text (cond b [] (line (word_bytes address word)) ++ rest)
-    (written_with values set inputs interrupts noise (before ++ 0 ∷ after) (flags ++ false ∷ later))
-one_word P elements width text word address values set inputs interrupts noise before after flags later rest low below
+    (written_with values set env (before ++ 0 ∷ after) (flags ++ false ∷ later))
+one_word P elements width text word address values set env before after flags later rest low below
     narrow size flagged next true test =
     let none : word ≡ 0 = grind (arith, nat_tests) in
     subst (λ v. Goes P (with_line elements width text) text rest
-    (written_with values set inputs interrupts noise (before ++ v ∷ after) (flags ++ false ∷ later))) none (next false)
-one_word P elements width text word address values set inputs interrupts noise before after flags later rest low below
+    (written_with values set env (before ++ v ∷ after) (flags ++ false ∷ later))) none (next false)
+one_word P elements width text word address values set env before after flags later rest low below
     narrow size flagged next false test =
-    let make = written_with values set inputs interrupts noise in
+    let make = written_with values set env in
     let given = make (before ++ 0 ∷ after) (flags ++ false ∷ later) in
     let made = ap₂ make (set_seam before after address 0 word size) (set_seam flags later address false true flagged) in
     let most : 2 ^ width ≤ 2 ^ 32 = pow_mono narrow in
@@ -217,16 +206,16 @@ one_word P elements width text word address values set inputs interrupts noise b
     (next true)
 
 pub word_fills : (P : Settings → Type 0) (elements : List Settable) (width : ℕ) (text words : List ℕ) (address : ℕ)
-    (values : List ℕ) (set : List Bool) (inputs interrupts noise : List ℕ) → address < 2 ^ 32
+    (values : List ℕ) (set : List Bool) (env : Environment) → address < 2 ^ 32
     → slice_index words address < 2 ^ width → width ≤ 32
     → Fills P (with_line elements width text) text (λ address. word_line address (slice_index words address))
-    (slice_index words) (written_with values set inputs interrupts noise) address
+    (slice_index words) (written_with values set env) address
 unfolding word_line
-word_fills P elements width text words address values set inputs interrupts noise low below narrow before after flags
+word_fills P elements width text words address values set env low below narrow before after flags
     later rest size flagged next =
     let word = slice_index words address in
     let bytes = word_text address word in
     subst (λ (bytes : List ℕ). Goes P (with_line elements width text) text (cond (word == 0) [] (line bytes) ++ rest)
-    (written_with values set inputs interrupts noise (before ++ 0 ∷ after) (flags ++ false ∷ later))) (sym bytes)
-    (one_word P elements width text word address values set inputs interrupts noise before after flags later rest low
+    (written_with values set env (before ++ 0 ∷ after) (flags ++ false ∷ later))) (sym bytes)
+    (one_word P elements width text word address values set env before after flags later rest low
     below narrow size flagged next (word == 0) refl)

@@ -1,18 +1,16 @@
 -- Lists without the zeros at their ends.
 use Rattle.std.proofs.Common.{◌≡◌, ℕ, zero, suc, ◌<◌, List, [], ◌∷◌, map, slice_index, slice_index_or, Bool, true}
-use Rattle.std.proofs.Common.{false, ◌==◌, lit<, refl, ap, ◌∙◌, subst, sym, arith}
+use Rattle.std.proofs.Common.{false, ◌==◌, refl, ap, ◌∙◌, subst, sym, arith}
 use Rattle.std.specs.Prelude.{All, length}
 use Rattle.std.proofs.Math.Seq.{take-length}
 use Rattle.std.proofs.lemmas.Bool.{eqb-true}
 use Rattle.std.proofs.lemmas.Grind.{get_or_default_zero}
 use Rattle.mw_base.specs.Words.{num}
 use Rattle.mw_cycle.specs.declared.state.CycleIn.{CycleIn}
+use Rattle.mw_cycle.specs.Environment.{Environment, before_trimmed, shortened, trimmed}
 use Rattle.mw_cycle.specs.Trimmed.{EndsWell}
-use Rattle.mw_replay.specs.CounterPrinted.{shortened}
+use Rattle.mw_cycle.proofs.Lists.{bits_back, kept_front, trimmed_below}
 use Rattle.mw_replay.specs.Laws.{NothingIsCut, ZerosGiveNothing}
-use Rattle.mw_sim.specs.Settings.{before_trimmed, trimmed}
-use Rattle.mw_sim.proofs.Starts.{trimmed_below}
-use Rattle.mw_replay.proofs.Appended.{kept_front}
 
 put_once : (x : ℕ) (ys : List ℕ) (b : Bool) → (x == 0) ≡ b → trimmed ys ≡ ys
     → trimmed (before_trimmed x ys) ≡ before_trimmed x ys
@@ -33,12 +31,28 @@ pub trimmed_within : (bound : ℕ) (xs : List ℕ) → 0 < bound → ((n : ℕ) 
 trimmed_within bound xs some each n d inside =
     subst (λ v. v < bound) (sym (get_or_default_zero (trimmed xs) n d inside)) (trimmed_below bound xs some each n)
 
--- bits are below 2
-pub bits_below : (bits : List Bool) (n : ℕ) → slice_index (map num bits) n < 2
-bits_below [] n = lit< tt
-bits_below (true ∷ rest) zero = lit< tt
-bits_below (false ∷ rest) zero = lit< tt
-bits_below (bit ∷ rest) (suc n) = bits_below rest n
+-- bits stay bits
+bits_before : (bit : Bool) (xs : List ℕ) → map num (map (λ x. x == 1) xs) ≡ xs
+    → map num (map (λ x. x == 1) (before_trimmed (num bit) xs)) ≡ before_trimmed (num bit) xs
+bits_before true [] same = refl
+bits_before false [] same = refl
+bits_before true (x ∷ xs) same = ap (λ (rest : List ℕ). 1 ∷ rest) same
+bits_before false (x ∷ xs) same = ap (λ (rest : List ℕ). 0 ∷ rest) same
+
+bits_trimmed : (bits : List Bool) → map num (map (λ x. x == 1) (trimmed (map num bits))) ≡ trimmed (map num bits)
+unfolding trimmed
+bits_trimmed [] = refl
+bits_trimmed (bit ∷ rest) = bits_before bit (trimmed (map num rest)) (bits_trimmed rest)
+
+-- once is enough for an environment
+pub shortened_once : (env : Environment) → shortened (shortened env) ≡ shortened env
+shortened_once env =
+    rw (
+      bits_trimmed env.line,
+      trimmed_once (map num env.line),
+      trimmed_once env.noise,
+      trimmed_once env.inputs,
+    ) refl
 
 -- ---- past its end a list is 0
 
@@ -93,11 +107,6 @@ zeros_give_nothing env place =
 trimmed_stays : (xs : List ℕ) → EndsWell 0 xs → trimmed xs ≡ xs
 trimmed_stays xs ends =
     sym (kept_front xs (length xs) (omega arith) (λ i after before. omega arith) ends) ∙ take-length xs
-
-bits_back : (bits : List Bool) → map (λ bit. bit == 1) (map num bits) ≡ bits
-bits_back [] = refl
-bits_back (true ∷ rest) = ap (λ bits. true ∷ bits) (bits_back rest)
-bits_back (false ∷ rest) = ap (λ bits. false ∷ bits) (bits_back rest)
 
 pub nothing_is_cut : NothingIsCut
 nothing_is_cut env is =

@@ -1,17 +1,18 @@
 -- The text of a counter, as reports print it, and what is left of a counter in it.
 use Rattle.std.specs.Prelude.{◌≡◌, ℕ, true, not, ◌&&◌, Ok, ◌+◌, ◌*◌, ◌/◌, ◌≤◌, List, [], ◌++◌, codes, length, take}
-use Rattle.std.specs.Prelude.{drop, map, slice_index, if◌then◌else◌, ◌==◌}
+use Rattle.std.specs.Prelude.{drop, slice_index, if◌then◌else◌, ◌==◌}
 use Rattle.std.specs.List.{flat_map, list_all, range_with_len}
 use Rattle.mw_base.specs.declared.token.Token.{Token}
 use Rattle.mw_base.specs.Numbers.{hex}
 use Rattle.mw_base.specs.Tokens.{tokens_from}
-use Rattle.mw_base.specs.Words.{num}
-use Rattle.mw_cycle.specs.Environment.{Environment}
+use Rattle.mw_cycle.specs.Environment.{Environment, shortened, trimmed, values_of}
+use Rattle.mw_cycle.specs.declared.series.Series.{Series}
+use Rattle.mw_cycle.specs.Series.{all_series, keyword_of}
 use Rattle.mw_rel.specs.Completed.{free_value}
 use Rattle.mw_rel.specs.Free.{is_free, numbered}
 use Rattle.mw_rel.specs.Job.{Job}
 use Rattle.mw_rel.specs.Relation.{Boundary}
-use Rattle.mw_sim.specs.Settings.{owner_text, trimmed}
+use Rattle.mw_sim.specs.Settings.{owner_text}
 use Rattle.mw_sim.specs.Texts.{line}
 use Rattle.mw_replay.specs.Counter.{Counter}
 use Rattle.mw_replay.specs.CounterText.{owner_of, name_of}
@@ -47,7 +48,7 @@ memory_lines words =
 abbrev pub value_text : ℕ → List ℕ
 value_text value = codes " " ++ hex value
 
--- inputs VALUE .., line VALUE .. or noise VALUE ..
+-- a list's keyword, and VALUE ..
 abbrev pub series_line : List ℕ → List ℕ → List ℕ
 series_line keyword values = line (keyword ++ flat_map value_text values)
 
@@ -59,20 +60,20 @@ line_count values = (values + 15) / 16
 abbrev pub values_at : List ℕ → ℕ → List ℕ
 values_at values n = take 16 (drop (16 * n) values)
 
+-- the lines of values, behind a list's keyword
+abbrev pub values_lines : List ℕ → List ℕ → List ℕ
+values_lines keyword values =
+    flat_map (λ n. series_line keyword (values_at values n)) (range_with_len 0 (line_count (length values)))
+
 -- the lines of a list without the zeros at its end
-abbrev pub series_lines : List ℕ → List ℕ → List ℕ
-series_lines keyword values =
-    flat_map (λ n. series_line keyword (values_at (trimmed values) n))
-    (range_with_len 0 (line_count (length (trimmed values))))
+abbrev pub series_lines : Environment → Series → List ℕ
+series_lines env series = values_lines (keyword_of series) (trimmed (values_of env series))
 
 -- ---- the whole
 
--- the lists of an environment: the input words, the interrupt line and the undefined bits
+-- the lists of an environment, in the order of the table
 abbrev pub environment_lines : Environment → List ℕ
-environment_lines env =
-    series_lines (codes "inputs") env.inputs
-    ++ series_lines (codes "line") (map num env.line)
-    ++ series_lines (codes "noise") env.noise
+environment_lines env = flat_map (series_lines env) all_series
 
 -- the boundary, the free elements, the memory, and the environment: what isn't 0 of each
 unfoldable pub counter_text : Job → Counter → List ℕ
@@ -84,15 +85,7 @@ counter_text job counter =
 
 -- ---- what is read back
 
--- an environment without the zeros at its lists' ends, which gives a run the same in each cycle
-abbrev pub shortened : Environment → Environment
-shortened env = record {
-  line = map (λ bit. bit == 1) (trimmed (map num env.line));
-  noise = trimmed env.noise;
-  inputs = trimmed env.inputs;
-}
-
--- a counter with the lists of its environment so
+-- a counter whose environment's lists have no zeros at their ends, which gives a run the same in each cycle
 abbrev pub in_short : Counter → Counter
 in_short counter = record {
   boundary = counter.boundary;

@@ -1,14 +1,13 @@
 -- Laws of counters and replays.
 use Rattle.std.specs.Prelude.{◌≡◌, ◌↔◌, ℕ, ◌+◌, ◌≤◌, ◌<◌, length, Some}
 use Rattle.mw_cycle.specs.declared.environment.Clock.{Clock}
-use Rattle.mw_cycle.specs.Environment.{Environment, given_at}
+use Rattle.mw_cycle.specs.Environment.{Environment, given_at, shortened}
 use Rattle.mw_cycle.specs.Trimmed.{IsTrimmed}
 use Rattle.mw_rel.specs.declared.difference.Difference.{Difference}
 use Rattle.mw_rel.specs.Differs.{difference_of, DiffersAt}
 use Rattle.mw_rel.specs.Job.{Job, IsJob}
 use Rattle.mw_rel.specs.Start.{Start, IsStart}
 use Rattle.mw_replay.specs.Counter.{Counter, IsCounter, IsStartOf}
-use Rattle.mw_replay.specs.CounterPrinted.{shortened}
 use Rattle.mw_replay.specs.Replay.{IsReached}
 
 -- a counter gives one start at most

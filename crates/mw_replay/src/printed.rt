@@ -1,24 +1,26 @@
 // The text of a counter.
-ghost use Rattle.std.specs.Prelude.{◌≡◌, ℕ, ◌+◌, ◌*◌, ◌<◌, ◌≤◌, ◌++◌, List, IfOk, OnOk, Ok, codes, length, map};
+ghost use Rattle.std.specs.Prelude.{◌≡◌, ℕ, ◌+◌, ◌*◌, ◌<◌, ◌≤◌, ◌++◌, List, IfOk, OnOk, Ok, codes, length};
 ghost use Rattle.std.specs.Prelude.{slice_index, true};
 ghost use Rattle.std.specs.List.{flat_map};
-ghost use Rattle.mw_base.specs.Words.{num};
+ghost use Rattle.mw_cycle.specs.Environment.{shortened, trimmed, values_of};
+ghost use Rattle.mw_cycle.specs.Series.{keyword_of};
 ghost use Rattle.mw_rel.specs.Begin.{free_elements};
 ghost use Rattle.mw_rel.specs.Completed.{free_before, free_value};
 ghost use Rattle.mw_rel.specs.Free.{is_free, numbered};
 ghost use Rattle.mw_rel.specs.Views.{job_of};
-ghost use Rattle.mw_sim.specs.Settings.{owner_text, trimmed};
+ghost use Rattle.mw_sim.specs.Settings.{owner_text};
 ghost use Rattle.mw_replay.specs.Counter.{IsCounter};
 ghost use Rattle.mw_replay.specs.CounterText.{counter_of, owner_of};
 ghost use Rattle.mw_asm.specs.declared.assembled.Label.{Label};
-ghost use Rattle.mw_replay.specs.CounterPrinted.{AreShort, MayFollow, in_short, no_lines, shortened, boundary_line};
+ghost use Rattle.mw_replay.specs.CounterPrinted.{AreShort, MayFollow, in_short, no_lines, boundary_line};
 ghost use Rattle.mw_replay.specs.CounterPrinted.{set_line, set_lines, word_line, memory_lines, value_text, series_line};
-ghost use Rattle.mw_replay.specs.CounterPrinted.{line_count, values_at, series_lines, environment_lines, counter_text};
+ghost use Rattle.mw_replay.specs.CounterPrinted.{line_count, values_at, values_lines, series_lines};
+ghost use Rattle.mw_replay.specs.CounterPrinted.{environment_lines, counter_text};
 
 use crate::counter::Counter;
 use crate::elements::{name_of, owner_of};
 use mw_base::{NoMemory, append_hex};
-use mw_cycle::Env;
+use mw_cycle::{Env, Series};
 use mw_rel::{Job, free};
 use mw_sim::{Owner, append_hex_line, append_line};
 use std::alloc::Global;
@@ -175,64 +177,54 @@ fn values_at(values: &[u32], number: usize) -> &[u32]
     &rest[..rest.len().min(MOST_VALUES)]
 }
 
-/// The values without the zeros at their end.
-fn without_zeros(values: &[u32]) -> &[u32]
-    ensures { result.now ≡ trimmed values.now }
-{
-    let mut kept = values.len();
-    while kept > 0 && values[kept - 1] == 0 {
-        kept -= 1;
-    }
-    &values[..kept]
-}
-
-/// Appends the lines of a list, without the zeros at its end.
-fn append_series(
+/// Appends the lines of values, behind a list's keyword.
+fn append_values_lines(
     alloc: Global,
     text: &mut Vec<u8>,
     keyword: &[u8],
     values: &[u32],
 ) -> Result<(), NoMemory>
-    ensures { OnOk result (text.new.items ≡ text.old.items ++ series_lines keyword.now values.now) }
+    ensures { OnOk result (text.new.items ≡ text.old.items ++ values_lines keyword.now values.now) }
 {
-    let values = without_zeros(values);
     for number in 0..values.len().div_ceil(MOST_VALUES) {
         append_series_line(alloc, text, keyword, values_at(values, number))?;
     }
     Ok(())
 }
 
-/// Bits as numbers.
-fn numbers_of_bits(alloc: Global, bits: &[bool]) -> Result<Vec<u32>, NoMemory>
-    ensures { IfOk result (λ numbers. numbers.items ≡ map num bits.now) }
+/// The values of a list of an environment, without the zeros at its end.
+fn kept_values(alloc: Global, env: &Env, series: Series) -> Result<Vec<u32>, NoMemory>
+    ensures { IfOk result (λ values. values.items ≡ trimmed (values_of env.now series)) }
 {
-    let mut numbers = Vec::new(alloc);
-    for bit in bits {
-        numbers.push(u32::from(*bit))?;
+    let mut values = Vec::new(alloc);
+    for number in 0..env.kept(series) {
+        values.push(env.value(series, number))?;
     }
-    Ok(numbers)
+    Ok(values)
 }
 
-/// Words of 16 bits as numbers.
-fn numbers_of_words(alloc: Global, words: &[u16]) -> Result<Vec<u32>, NoMemory>
-    ensures { IfOk result (λ numbers. numbers.items ≡ words.now) }
+/// Appends the lines of a list of an environment, without the zeros at its end.
+fn append_series(
+    alloc: Global,
+    text: &mut Vec<u8>,
+    env: &Env,
+    series: Series,
+) -> Result<(), NoMemory>
+    ensures { OnOk result (text.new.items ≡ text.old.items ++ series_lines env.now series) }
 {
-    let mut numbers = Vec::new(alloc);
-    for word in words {
-        numbers.push(u32::from(*word))?;
-    }
-    Ok(numbers)
+    let values = kept_values(alloc, env, series)?;
+    append_values_lines(alloc, text, series.keyword(), &values)
 }
 
 /// Appends the lines of the lists of an environment.
 fn append_environment(alloc: Global, text: &mut Vec<u8>, env: &Env) -> Result<(), NoMemory>
     ensures { OnOk result (text.new.items ≡ text.old.items ++ environment_lines env.now) }
 {
-    let line = numbers_of_bits(alloc, &env.line)?;
-    let noise = numbers_of_words(alloc, &env.noise)?;
-    append_series(alloc, text, b"inputs", &env.inputs)?;
-    append_series(alloc, text, b"line", &line)?;
-    append_series(alloc, text, b"noise", &noise)
+    let lists = Series::all();
+    for series in lists {
+        append_series(alloc, text, env, *series)?;
+    }
+    Ok(())
 }
 
 /// The text of a counter of a job.

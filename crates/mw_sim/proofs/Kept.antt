@@ -1,7 +1,7 @@
 -- What each line keeps: what is given is in range.
-use Rattle.std.proofs.Common.{◌≡◌, ℕ, zero, suc, ◌+◌, ◌^◌, ◌<◌, ◌≤◌, List, [], ◌∷◌, ◌++◌, length, length-set, replicate}
+use Rattle.std.proofs.Common.{◌≡◌, ℕ, zero, suc, ◌+◌, ◌^◌, ◌<◌, ◌≤◌, List, [], ◌∷◌, length, length-set, replicate}
 use Rattle.std.proofs.Common.{slice_get, slice_index, slice_set, Bool, true, false, cond, nat_lt, ◌⊎◌, inl, inr, Option}
-use Rattle.std.proofs.Common.{Some, None, Result, Ok, Err, IfSome, ok_or, ◌&&◌, lit<, refl, ◌∙◌, subst, arith}
+use Rattle.std.proofs.Common.{Some, None, Result, Ok, Err, IfSome, ok_or, ◌&&◌, lit≤, refl, ◌∙◌, subst, arith}
 use Rattle.std.proofs.Common.{get_or-set_same, get_or-set_other}
 use Rattle.std.specs.List.{position, position_from}
 use Rattle.std.specs.Prelude.{slice_index_or}
@@ -9,13 +9,14 @@ use Rattle.std.specs.Str.{bytes_eq}
 use Rattle.std.proofs.lemmas.Iterator.Adapters.{position_from-zero}
 use Rattle.std.proofs.lemmas.List.{length-replicate}
 use Rattle.std.proofs.lemmas.List.Elements.{All-tail}
+use Rattle.std.proofs.Math.Pow.{pow_mono}
 use Rattle.std.proofs.lemmas.Nat.{pow_pos}
 use Rattle.std.proofs.lemmas.Bool.{cases_order, ltb-true}
 use Rattle.mw_base.specs.declared.cause.Cause.TheVariants.{BadSyntax, NotFree, TooMany, Twice, UnknownElement}
 use Rattle.mw_base.specs.declared.cause.Cause.TheVariants.{ValueTooWide}
 use Rattle.mw_base.specs.declared.cursor.Dotted.{Dotted}
 use Rattle.mw_base.specs.declared.cursor.Numeral.{Numeral}
-use Rattle.mw_base.specs.declared.line.Line.{Line}
+use Rattle.mw_base.specs.declared.line.Line.{Line as TextLine}
 use Rattle.mw_base.specs.declared.refusal.TextFault.{TextFault}
 use Rattle.mw_base.specs.declared.token.Token.{Token}
 use Rattle.mw_base.specs.Cursors.{at_line}
@@ -29,15 +30,18 @@ use Rattle.mw_base.proofs.Results.{ok_is, ok_of}
 use Rattle.mw_base.proofs.Steps.{steps_keep}
 use Rattle.mw_board.specs.declared.parts.BoardParts.{BoardParts}
 use Rattle.mw_sim.specs.declared.settings.Settable.{Settable}
-use Rattle.mw_sim.specs.declared.lines.Series.{Series}
-use Rattle.mw_sim.specs.declared.lines.Series.TheVariants.{Inputs, Interrupts, Noise}
+use Rattle.mw_cycle.specs.declared.series.Series.{Series}
+use Rattle.mw_cycle.specs.declared.series.Series.TheVariants.{Inputs, Line, Noise}
+use Rattle.mw_cycle.specs.Series.{width_of}
+use Rattle.mw_cycle.specs.Environment.{values_of, with_values}
+use Rattle.mw_cycle.proofs.Lists.{behind_is, none_is}
 use Rattle.mw_sim.specs.declared.lines.Statement.{Statement}
 use Rattle.mw_sim.specs.declared.lines.Statement.TheVariants as statements
 use Rattle.mw_sim.specs.Lines.{statement_of}
 use Rattle.mw_sim.specs.Settings.{AreBounded, Settings, nothing_given, owner_text, Writing, HasImage, AreSettings}
-use Rattle.mw_sim.specs.Settings.{bound_of, is_free, number_named, series_bound, series_so_far, value_below, with_entry}
-use Rattle.mw_sim.specs.Settings.{with_last, with_line, with_more_words, with_next_word, with_set, with_statement}
-use Rattle.mw_sim.specs.Settings.{with_value, with_word, with_words}
+use Rattle.mw_sim.specs.Settings.{bound_of, is_free, number_named, series_bound, value_below, with_entry, with_line}
+use Rattle.mw_sim.specs.Settings.{with_more_words, with_next_word, with_set, with_statement, with_value, with_word}
+use Rattle.mw_sim.specs.Settings.{with_words}
 
 -- ---- what is so of a result that is a value
 
@@ -129,14 +133,6 @@ set_below bound xs n v room each here i = elim (cases_order i n) [
   | inr order ↦ rw (get_or-set_other xs n i v 0 (apart i n order)) (each i)
 ]
 
--- an item behind them
-push_below : (bound : ℕ) (xs : List ℕ) (v : ℕ) → ((i : ℕ) → slice_index xs i < bound) → v < bound → (i : ℕ)
-    → slice_index (xs ++ (v ∷ [])) i < bound
-push_below bound [] v each here zero = here
-push_below bound [] v each here (suc i) = each zero
-push_below bound (x ∷ xs) v each here zero = each zero
-push_below bound (x ∷ xs) v each here (suc i) = push_below bound xs v (λ j. each (suc j)) here i
-
 -- ---- lines
 
 below_then : (bound : ℕ) (numeral : Numeral) → Then (λ value. value < bound) (value_below bound numeral)
@@ -163,7 +159,7 @@ value_set board elements n value given there small is = record {
         (λ j h. is.values.fit j (omega (arith, is.values.each))) small i (omega (arith, is.values.each));
   };
   image = record { each = is.image.each; written = is.image.written; fit = is.image.fit };
-  series = record { inputs = is.series.inputs; interrupts = is.series.interrupts; noise = is.series.noise };
+  env = is.env;
 }
 
 -- an element that a line sets
@@ -254,7 +250,7 @@ given_then board elements place address numeral given is =
     word_then (AreSettings board elements) board.width place address numeral given (λ word low small. record {
       values = record { each = is.values.each; set = is.values.set; fit = is.values.fit };
       image = image_set board given address word low small is.image;
-      series = record { inputs = is.series.inputs; interrupts = is.series.interrupts; noise = is.series.noise };
+      env = is.env;
     })
 
 -- further words
@@ -287,37 +283,25 @@ words_then board elements address (first ∷ rest) given is =
 -- an entry of a list
 last_is : (board : BoardParts) (elements : List Settable) (series : Series) (value : ℕ) (given : Settings)
     → value < series_bound board.width series → AreSettings board elements given
-    → AreSettings board elements (with_last series value given)
-last_is board elements Inputs value given small is = record {
+    → AreSettings board elements (record given { env = with_values series (value ∷ []) given.env })
+last_is board elements series value given small is = record {
   values = record { each = is.values.each; set = is.values.set; fit = is.values.fit };
   image = record { each = is.image.each; written = is.image.written; fit = is.image.fit };
-  series = record {
-    inputs = push_below (2 ^ board.width) given.inputs value is.series.inputs small;
-    interrupts =
-        is.series.interrupts;
-    noise = is.series.noise;
-  };
+  env = behind_is board series value given.env small is.env;
 }
-last_is board elements Interrupts value given small is = record {
-  values = record { each = is.values.each; set = is.values.set; fit = is.values.fit };
-  image = record { each = is.image.each; written = is.image.written; fit = is.image.fit };
-  series = record {
-    inputs = is.series.inputs;
-    interrupts = push_below 2 given.interrupts value is.series.interrupts
-        small;
-    noise = is.series.noise;
-  };
-}
-last_is board elements Noise value given small is = record {
-  values = record { each = is.values.each; set = is.values.set; fit = is.values.fit };
-  image = record { each = is.image.each; written = is.image.written; fit = is.image.fit };
-  series = record {
-    inputs = is.series.inputs;
-    interrupts = is.series.interrupts;
-    noise = push_below (2 ^ 14)
-        given.noise value is.series.noise small;
-  };
-}
+
+-- a value of a list has at most the bits that it has where an input word has 32
+wide : (width : ℕ) (series : Series) → width ≤ 32 → width_of width series ≤ width_of 32 series
+wide width Inputs most = most
+wide width Line most = lit≤ tt
+wide width Noise most = lit≤ tt
+
+pub entry_small : (width : ℕ) (series : Series) (numeral : Numeral) (value : ℕ) → width ≤ 32
+    → value_below (series_bound width series) numeral ≡ Ok value → value < 2 ^ width_of 32 series
+entry_small width series numeral value most is =
+    let small : value < 2 ^ width_of width series = (below_then (series_bound width series) numeral).so value is in
+    let more : 2 ^ width_of width series ≤ 2 ^ width_of 32 series = pow_mono (wide width series most) in
+    omega (arith, small, more)
 
 entry_then : (board : BoardParts) (elements : List Settable) (series : Series) (given : Settings) (numeral : Numeral)
     → AreSettings board elements given
@@ -325,13 +309,14 @@ entry_then : (board : BoardParts) (elements : List Settable) (series : Series) (
 unfolding with_entry
 entry_then board elements series given numeral is =
     let bound = series_bound board.width series in
-    let added = λ (value : ℕ). ok_of {F = TextFault} (with_last series value given) in
+    let made : ℕ → Settings = λ value. record given { env = with_values series (value ∷ []) given.env } in
+    let added = λ (value : ℕ). ok_of {F = TextFault} (made value) in
     let many = fault_on numeral.token TooMany in
-    either (AreSettings board elements) (nat_lt (length (series_so_far series given)) 65536)
+    either (AreSettings board elements) (nat_lt (length (values_of given.env series)) 65536)
     (value_below bound numeral >>= added) (Err many)
     (λ few. later (λ value. value < bound) (AreSettings board elements) (value_below bound numeral) added
     (below_then bound numeral)
-    (λ value small. value_is (AreSettings board elements) (with_last series value given)
+    (λ value small. value_is (AreSettings board elements) (made value)
     (last_is board elements series value given small is)))
     (λ past. fault_is (AreSettings board elements) many)
 
@@ -361,7 +346,8 @@ statement_then board elements text given (statements.Series series values) is =
     (λ before numeral so. entry_then board elements series before numeral so) given values is
 
 -- a line
-pub line_keeps : (board : BoardParts) (elements : List Settable) (text : List ℕ) (before after : Settings) (line : Line)
+pub line_keeps : (board : BoardParts) (elements : List Settable) (text : List ℕ) (before after : Settings)
+    (line : TextLine)
     → with_line elements board.width text before line ≡ Ok after
     → AreSettings board elements before → AreSettings board elements after
 unfolding with_line
@@ -391,7 +377,7 @@ nothing_is board elements bounded = record {
     written = length-replicate {A = Bool} (2 ^ board.address) false;
     fit = λ a. none_below (2 ^ board.address) a (2 ^ board.width) (pow_pos board.width);
   };
-  series = record { inputs = λ i. pow_pos board.width; interrupts = λ i. lit< tt; noise = λ i. lit< tt };
+  env = none_is board;
 }
 
 -- ---- further words of a line, one at a time

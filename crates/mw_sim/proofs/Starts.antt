@@ -1,12 +1,11 @@
 -- What an environment may set, and what is made of it.
-use Rattle.std.proofs.Common.{◌≡◌, ◌≢◌, ℕ, zero, suc, ◌+◌, ◌^◌, ◌<◌, ◌≤◌, Bool, true, false, cond, ◌==◌, List, [], ◌∷◌}
-use Rattle.std.proofs.Common.{◌++◌, length, map, get_or, take, slice_get, slice_index, inl, inr, Option, Some, None}
-use Rattle.std.proofs.Common.{IfSome, option_map, lit≤, refl, sym, ap, ◌∙◌, subst, arith}
+use Rattle.std.proofs.Common.{◌≡◌, ℕ, zero, suc, ◌+◌, ◌^◌, ◌<◌, ◌≤◌, List, [], ◌∷◌, ◌++◌, length, map, get_or, take}
+use Rattle.std.proofs.Common.{slice_get, inl, inr, Option, Some, None, IfSome, option_map, lit≤, refl, ap, ◌∙◌, subst}
+use Rattle.std.proofs.Common.{arith}
 use Rattle.std.specs.List.{All}
 use Rattle.std.specs.Option.{option_to_list}
 use Rattle.std.proofs.Math.Pow.{pow_mono}
 use Rattle.std.proofs.lemmas.Bool.{cases_lt}
-use Rattle.std.proofs.lemmas.Bool.Decides.{nat_tests}
 use Rattle.std.proofs.lemmas.List.{length-append, length-map, take_all}
 use Rattle.std.proofs.lemmas.List.Elements.{All-nil, All-cons, All-map, All-push}
 use Rattle.std.proofs.lemmas.Nat.{pow_pos}
@@ -20,7 +19,7 @@ use Rattle.mw_cycle.specs.declared.elements.Element.TheVariants.{Register, Q, Ma
 use Rattle.mw_cycle.specs.Elements.{IsValueOf, bits_of, element_of}
 use Rattle.mw_cycle.proofs.Values.{width_is}
 use Rattle.mw_sim.specs.declared.settings.Settable.{Settable}
-use Rattle.mw_sim.specs.Settings.{AreBounded, bound_of, before_trimmed, trimmed}
+use Rattle.mw_sim.specs.Settings.{AreBounded, bound_of}
 use Rattle.mw_sim.specs.Start.{settable, stack_pointer, settables_of}
 
 -- ---- the elements of a board
@@ -121,93 +120,3 @@ pointer_in board v small = pointer_bound board (elements_of board) v small
 pub settable_count : (board : BoardParts) → length (settables_of board) ≡ element_count board + 1
 settable_count board = length-append (map settable (elements_of board)) (stack_pointer board ∷ [])
     ∙ ap (λ n. n + 1) (length-map (elements_of board) settable)
-
--- ---- lists without the zeros at their end
-
--- all numbers but 0 stand in the front of this length
-pub record IsFront (xs : List ℕ) (kept n : ℕ) : Type 0 where
-  pub within : kept ≤ n
-  pub last : (k : ℕ) → kept ≡ suc k → slice_index xs k ≢ 0
-  pub rest : (i : ℕ) → kept ≤ i → i < n → slice_index xs i ≡ 0
-
--- a number that isn't 0 fails the test
-nonzero_test : (x : ℕ) → x ≢ 0 → (x == 0) ≡ false
-nonzero_test x other = grind (arith, nat_tests)
-
--- what is put before numbers below a bound is below it
-cond_below : (bound x : ℕ) (b : Bool) → 0 < bound → x < bound → (n : ℕ) → slice_index (cond b [] (x ∷ [])) n < bound
-cond_below bound x true some here n = some
-cond_below bound x false some here zero = here
-cond_below bound x false some here (suc n) = some
-
-before_below : (bound x : ℕ) (rest : List ℕ) → 0 < bound → x < bound → ((n : ℕ) → slice_index rest n < bound)
-    → (n : ℕ) → slice_index (before_trimmed x rest) n < bound
-before_below bound x [] some here each n = cond_below bound x (x == 0) some here n
-before_below bound x (y ∷ rest) some here each zero = here
-before_below bound x (y ∷ rest) some here each (suc n) = each n
-
--- a number before those that are left
-put_before : (x k : ℕ) (xs : List ℕ) → k ≤ length xs → (k ≡ 0 → x ≢ 0) → before_trimmed x (take k xs) ≡ x ∷ take k xs
-put_before x zero xs within other =
-    let tested : (x == 0) ≡ false = nonzero_test x (other refl) in
-    rw tested refl
-put_before x (suc k) [] within other = absurd (omega arith)
-put_before x (suc k) (y ∷ ys) within other = refl
-
--- the front is what is left without the zeros
-pub front_is : (xs : List ℕ) (kept : ℕ) → IsFront xs kept (length xs) → take kept xs ≡ trimmed xs
-unfolding trimmed
-front_is [] kept is = take-nil kept
-front_is (x ∷ xs) zero is =
-    let none : x ≡ 0 = is.rest 0 (omega arith) (omega arith) in
-    let later = front_is xs zero (record {
-      within = omega arith;
-      last = λ k e. absurd cc;
-      rest = λ i after within.
-          is.rest (suc i) (omega arith) (omega arith);
-    }) in
-    rw (sym later, none) refl
-front_is (x ∷ xs) (suc k) is =
-    let fewer : k ≤ length xs = omega (arith, is.within) in
-    let later = front_is xs k (record {
-      within = fewer;
-      last = λ j e. is.last (suc j) (ap suc e);
-      rest = λ i after
-          within. is.rest (suc i) (omega arith) (omega arith);
-    }) in
-    rw (sym later) (sym (put_before x k xs fewer (λ e. is.last 0 (ap suc e))))
-
--- one number more: the front goes on to it where it isn't 0, and is the same where it is
-pub front_grows : (xs : List ℕ) (kept n : ℕ) → slice_index xs n ≢ 0 → IsFront xs kept n → IsFront xs (n + 1) (n + 1)
-front_grows xs kept n some is = record {
-  within = omega arith;
-  last = λ k e. subst (λ (j : ℕ). slice_index xs j ≢ 0) (omega arith) some;
-  rest = λ i after within. absurd (omega arith);
-}
-
-stays_at : (xs : List ℕ) (kept n i : ℕ) → slice_index xs n ≡ 0 → IsFront xs kept n → kept ≤ i → i < n + 1
-    → slice_index xs i ≡ 0
-stays_at xs kept n i none is after within = elim (cases_lt i n) [
-  | inl before ↦ is.rest i after before
-  | inr here ↦ let same : i ≡ n = omega arith in rw same none
-]
-
-pub front_stays : (xs : List ℕ) (kept n : ℕ) → slice_index xs n ≡ 0 → IsFront xs kept n → IsFront xs kept (n + 1)
-front_stays xs kept n none is = record {
-  within = omega (arith, is.within);
-  last = is.last;
-  rest = λ i after within. stays_at xs kept n i none is after within;
-}
-
--- the front of the whole list
-pub front_to : (xs : List ℕ) (kept n : ℕ) → n ≤ length xs → length xs ≤ n → IsFront xs kept n
-    → IsFront xs kept (length xs)
-front_to xs kept n most least is = let all : n ≡ length xs = omega arith in subst (λ m. IsFront xs kept m) all is
-
--- the numbers of a front are the list's
-pub trimmed_below : (bound : ℕ) (xs : List ℕ) → 0 < bound → ((n : ℕ) → slice_index xs n < bound) → (n : ℕ)
-    → slice_index (trimmed xs) n < bound
-unfolding trimmed
-trimmed_below bound [] some each n = some
-trimmed_below bound (x ∷ xs) some each n = before_below bound x (trimmed xs) some (each 0)
-    (trimmed_below bound xs some (λ k. each (suc k))) n

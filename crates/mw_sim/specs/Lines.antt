@@ -1,5 +1,6 @@
 -- What a line of an environment, a start or a counter says, behind their heads.
-use Rattle.std.specs.Prelude.{ℕ, List, [], ◌∷◌, ◌++◌, if◌then◌else◌, codes, Option, Some, None, Result, Ok, Err}
+use Rattle.std.specs.Prelude.{ℕ, List, [], ◌∷◌, ◌++◌, if◌then◌else◌, codes, Option, Some, None, option_map, Result, Ok}
+use Rattle.std.specs.Prelude.{Err}
 use Rattle.std.specs.Str.{bytes_eq}
 use Rattle.mw_base.specs.declared.cursor.Numeral.{Numeral}
 use Rattle.mw_base.specs.declared.refusal.TextFault.{TextFault}
@@ -8,10 +9,10 @@ use Rattle.mw_base.specs.Cursors.{Cursor, after, misplaced, token_at, number_tok
 use Rattle.mw_base.specs.Reading.{◌>>=◌}
 use Rattle.mw_base.specs.Steps.{steps}
 use Rattle.mw_base.specs.Symbols.{spelled, symbol_of}
+use Rattle.mw_cycle.specs.declared.series.Series.{Series}
+use Rattle.mw_cycle.specs.Series.{series_named}
 use Rattle.mw_sim.specs.declared.lines.Keyword.{Keyword}
 use Rattle.mw_sim.specs.declared.lines.Keyword.TheVariants as keywords
-use Rattle.mw_sim.specs.declared.lines.Series.{Series}
-use Rattle.mw_sim.specs.declared.lines.Series.TheVariants.{Inputs, Interrupts, Noise}
 use Rattle.mw_sim.specs.declared.lines.Statement.{Statement}
 use Rattle.mw_sim.specs.declared.lines.Statement.TheVariants as statements
 
@@ -46,7 +47,7 @@ memory_of line = do
   values ← numbers_of (after 2 line)
   Ok (statements.Memory address values)
 
--- inputs VALUE .., line VALUE .. or noise VALUE ..
+-- a list's keyword, and VALUE ..
 unfoldable pub series_of : Series → Cursor → Result Statement TextFault
 series_of series line = do
   values ← numbers_of (after 1 line)
@@ -57,10 +58,7 @@ abbrev pub keyword_of : List ℕ → Option Keyword
 keyword_of name =
     if bytes_eq name (codes "set") then Some keywords.Set
     else (if bytes_eq name (codes "mem") then Some keywords.Memory
-    else (if bytes_eq name (codes "inputs") then Some (keywords.Series Inputs)
-    else (if bytes_eq name (codes "line") then Some (keywords.Series Interrupts)
-    else (if bytes_eq name (codes "noise") then Some (keywords.Series Noise)
-    else None))))
+    else option_map keywords.Series (series_named name))
 
 -- what a line says that begins with this token, which is this keyword, if any
 abbrev pub statement_after : Cursor → Token → Option Keyword → Result Statement TextFault

@@ -1,8 +1,8 @@
 -- What the lines of an environment, a start or a counter give: values of elements, words of the memory, and the lists
 -- of an environment.
-use Rattle.std.specs.Prelude.{◌≡◌, ℕ, ◌+◌, ◌<◌, ◌^◌, ◌≤◌, List, [], ◌∷◌, ◌++◌, codes, length, replicate, slice_index}
+use Rattle.std.specs.Prelude.{◌≡◌, ℕ, ◌+◌, ◌<◌, ◌^◌, ◌≤◌, List, [], ◌∷◌, codes, length, replicate, slice_index}
 use Rattle.std.specs.Prelude.{slice_index_or, slice_set, slice_get, All, Bool, true, false, ◌&&◌, if◌then◌else◌, nat_lt}
-use Rattle.std.specs.Prelude.{◌==◌, ok_or, Option, Some, None, Result, Ok, Err}
+use Rattle.std.specs.Prelude.{ok_or, Option, Some, None, Result, Ok, Err}
 use Rattle.std.specs.List.{position}
 use Rattle.std.specs.Str.{bytes_eq}
 use Rattle.mw_board.specs.declared.parts.BoardParts.{BoardParts}
@@ -18,8 +18,9 @@ use Rattle.mw_base.specs.Reading.{◌>>=◌}
 use Rattle.mw_base.specs.Steps.{steps}
 use Rattle.mw_base.specs.Symbols.{spelled}
 use Rattle.mw_base.specs.TokenLines.{fault_on}
-use Rattle.mw_sim.specs.declared.lines.Series.{Series}
-use Rattle.mw_sim.specs.declared.lines.Series.TheVariants.{Inputs, Interrupts, Noise}
+use Rattle.mw_cycle.specs.declared.series.Series.{Series}
+use Rattle.mw_cycle.specs.Series.{width_of}
+use Rattle.mw_cycle.specs.Environment.{Environment, IsEnvironment, no_values, values_of, with_values}
 use Rattle.mw_sim.specs.declared.lines.Statement.{Statement}
 use Rattle.mw_sim.specs.declared.lines.Statement.TheVariants as statements
 use Rattle.mw_sim.specs.declared.settings.Owner.{Owner}
@@ -38,15 +39,13 @@ number_named elements owner name = position (λ element. bytes_eq owner (owner_t
     element.name) elements
 
 -- What is given so far: the value of each element by number, and whether a line set it; each word of the memory, and
--- whether a line gave it; the input words, the interrupt bits and the noise words.
+-- whether a line gave it; and the lists of the environment.
 pub record Settings : Type 0 where
   pub values : List ℕ
   pub set : List Bool
   pub memory : List ℕ
   pub written : List Bool
-  pub inputs : List ℕ
-  pub interrupts : List ℕ
-  pub noise : List ℕ
+  pub env : Environment
 
 -- nothing yet, of so many elements and so many words: what isn't given is 0
 abbrev pub nothing_given : ℕ → ℕ → Settings
@@ -55,9 +54,7 @@ nothing_given elements words = record {
   set = replicate elements false;
   memory = replicate words 0;
   written = replicate words false;
-  inputs = [];
-  interrupts = [];
-  noise = [];
+  env = no_values;
 }
 
 -- a value below a bound
@@ -128,29 +125,16 @@ with_words width address (numeral ∷ rest) given = do
   more ← with_word width address.token address.value numeral given
   with_more_words width (address.value + 1) rest more
 
--- what a list has so far
-abbrev pub series_so_far : Series → Settings → List ℕ
-series_so_far Inputs given = given.inputs
-series_so_far Interrupts given = given.interrupts
-series_so_far Noise given = given.noise
-
--- the least number that is no entry of a list: input words have so many bits, interrupt bits one, and noise words 14
+-- the least number that is no entry of a list, where an input word has so many bits
 abbrev pub series_bound : ℕ → Series → ℕ
-series_bound width Inputs = 2 ^ width
-series_bound width Interrupts = 2
-series_bound width Noise = 2 ^ 14
-
--- a list with an entry more
-abbrev pub with_last : Series → ℕ → Settings → Settings
-with_last Inputs value given = record given { inputs = given.inputs ++ (value ∷ []) }
-with_last Interrupts value given = record given { interrupts = given.interrupts ++ (value ∷ []) }
-with_last Noise value given = record given { noise = given.noise ++ (value ∷ []) }
+series_bound width series = 2 ^ width_of width series
 
 -- an entry of a list, which has at most 65,536
 unfoldable pub with_entry : ℕ → Series → Settings → Numeral → Result Settings TextFault
 with_entry width series given numeral =
-    if nat_lt (length (series_so_far series given)) 65536 then (
-    value_below (series_bound width series) numeral >>= λ value. Ok (with_last series value given))
+    if nat_lt (length (values_of given.env series)) 65536 then (
+    value_below (series_bound width series) numeral >>= λ value.
+    Ok (record given { env = with_values series (value ∷ []) given.env }))
     else Err (fault_on numeral.token TooMany)
 
 -- what is given after what a line says
@@ -172,16 +156,6 @@ abbrev pub given_by : BoardParts → List Settable → List ℕ → List Line �
 given_by board elements text lines = steps (with_line elements board.width text)
     (nothing_given (length elements) (2 ^ board.address)) lines
 
--- an item before those that are left without the zeros at their end
-abbrev pub before_trimmed : ℕ → List ℕ → List ℕ
-before_trimmed x [] = if x == 0 then [] else x ∷ []
-before_trimmed x (y ∷ rest) = x ∷ y ∷ rest
-
--- a list without the zeros at its end
-unfoldable pub trimmed : List ℕ → List ℕ
-trimmed [] = []
-trimmed (x ∷ rest) = before_trimmed x (trimmed rest)
-
 -- each element has a value, and each value 32 bits
 abbrev pub AreBounded : List Settable → Type 0
 AreBounded elements = All (λ (element : Settable). (0 < element.bound) × (element.bound ≤ 2 ^ 32)) elements
@@ -198,14 +172,8 @@ pub record HasImage (board : BoardParts) (given : Settings) : Type 0 where
   pub written : length given.written ≡ 2 ^ board.address
   pub fit : (a : ℕ) → slice_index given.memory a < 2 ^ board.width
 
--- each entry of a list is below its bound
-pub record HasSeries (board : BoardParts) (given : Settings) : Type 0 where
-  pub inputs : (n : ℕ) → slice_index given.inputs n < 2 ^ board.width
-  pub interrupts : (n : ℕ) → slice_index given.interrupts n < 2
-  pub noise : (n : ℕ) → slice_index given.noise n < 2 ^ 14
-
 -- what is given of a board is in range
 pub record AreSettings (board : BoardParts) (elements : List Settable) (given : Settings) : Type 0 where
   pub values : HasValues elements given
   pub image : HasImage board given
-  pub series : HasSeries board given
+  pub env : IsEnvironment board given.env

@@ -1,6 +1,6 @@
 -- The start of a run that an environment file gives.
 use Rattle.std.specs.Prelude.{ℕ, zero, suc, ◌+◌, ◌^◌, List, [], ◌∷◌, ◌++◌, codes, length, drop, map, slice_index, true}
-use Rattle.std.specs.Prelude.{◌==◌, Option, Result, Ok, Err}
+use Rattle.std.specs.Prelude.{◌==◌, Result, Ok, Err}
 use Rattle.std.specs.List.{prefix_len}
 use Rattle.mw_base.specs.declared.cause.Cause.TheVariants.{BadSyntax}
 use Rattle.mw_base.specs.declared.line.Line.{Line}
@@ -15,12 +15,12 @@ use Rattle.mw_board.specs.Depth.{depth_of}
 use Rattle.mw_board.specs.Elements.{Element, elements_of, element_count, stack_pointer_name}
 use Rattle.mw_cycle.specs.State.{BoardState, cleared}
 use Rattle.mw_cycle.specs.Elements.{with_element}
-use Rattle.mw_cycle.specs.Environment.{Environment}
+use Rattle.mw_cycle.specs.Environment.{Environment, shortened}
 use Rattle.mw_asm.specs.declared.assembled.Label.{Label}
 use Rattle.mw_asm.specs.Labels.{label_named}
 use Rattle.mw_sim.specs.declared.settings.Owner.TheVariants.{Board}
 use Rattle.mw_sim.specs.declared.settings.Settable.{Settable}
-use Rattle.mw_sim.specs.Settings.{Settings, given_by, trimmed}
+use Rattle.mw_sim.specs.Settings.{Settings, given_by}
 
 -- the state in which a run begins, and its environment
 pub record Start : Type 0 where
@@ -73,11 +73,7 @@ state_with board address given =
 
 -- the environment that is given, without the zeros at its lists' ends
 unfoldable pub environment_with : Settings → Environment
-environment_with given = record {
-  line = map (λ bit. bit == 1) (trimmed given.interrupts);
-  noise = trimmed given.noise;
-  inputs = trimmed given.inputs;
-}
+environment_with given = shortened given.env
 
 -- what the lines of an environment say, from its first on: at PLACE, and then what is given
 abbrev pub start_in : BoardParts → List Label → List ℕ → TextFault → List Line → Result Start TextFault

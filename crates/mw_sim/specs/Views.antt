@@ -9,7 +9,5 @@ given_seen given = record {
   set = given.set.items;
   memory = given.memory.items;
   written = given.written.items;
-  inputs = given.inputs.items;
-  interrupts = given.interrupts.items;
-  noise = given.noise.items;
+  env = given.env;
 }

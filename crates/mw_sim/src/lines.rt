@@ -7,18 +7,8 @@ ghost use Rattle.mw_sim.specs.Lines.{statement_of};
 use mw_base::{
     Cursor, Dotted, Items, Numeral, Refusal, Refused, Symbol, TextFault, Token, symbol_of,
 };
+use mw_cycle::Series;
 use std::alloc::Global;
-
-/// A list of an environment.
-#[derive(Clone, Copy)]
-pub(crate) enum Series {
-    /// The input words, by their number.
-    Inputs,
-    /// The interrupt line, by cycle.
-    Interrupts,
-    /// The undefined bits, by cycle.
-    Noise,
-}
 
 /// A word that begins a line.
 #[derive(Clone, Copy)]
@@ -112,14 +102,11 @@ fn keyword_of(name: &[u8]) -> Option<Keyword>
         Some(Keyword::Set)
     } else if name == b"mem".as_slice() {
         Some(Keyword::Memory)
-    } else if name == b"inputs".as_slice() {
-        Some(Keyword::Series(Series::Inputs))
-    } else if name == b"line".as_slice() {
-        Some(Keyword::Series(Series::Interrupts))
-    } else if name == b"noise".as_slice() {
-        Some(Keyword::Series(Series::Noise))
     } else {
-        None
+        match Series::named(name) {
+            Some(series) => Some(Keyword::Series(series)),
+            None => None,
+        }
     }
 }
 

@@ -2,18 +2,20 @@
 ghost use Rattle.std.specs.Prelude.{◌≡◌, ◌<◌, ◌≤◌, ◌^◌, IfOk, OnOk, length, slice_get};
 ghost use Rattle.mw_base.specs.Reading.{Gives};
 ghost use Rattle.mw_base.specs.Steps.{steps};
+ghost use Rattle.mw_cycle.specs.Series.{width_of};
 ghost use Rattle.mw_sim.specs.Settings.{owner_text, number_named, nothing_given, value_below, is_free, bound_of};
-ghost use Rattle.mw_sim.specs.Settings.{with_value, with_set, with_word, with_more_words, with_words, series_so_far};
-ghost use Rattle.mw_sim.specs.Settings.{series_bound, with_last, with_entry, with_statement, with_line, given_by};
-ghost use Rattle.mw_sim.specs.Settings.{AreBounded, HasValues, HasImage, AreSettings};
+ghost use Rattle.mw_sim.specs.Settings.{with_value, with_set, with_word, with_more_words, with_words, series_bound};
+ghost use Rattle.mw_sim.specs.Settings.{with_entry, with_statement, with_line, given_by, AreBounded, HasValues};
+ghost use Rattle.mw_sim.specs.Settings.{HasImage, AreSettings};
 ghost use Rattle.mw_sim.specs.Views.{given_seen};
 
-use crate::lines::{Series, Statement, statement_of};
+use crate::lines::{Statement, statement_of};
 use mw_base::{
     Cause, Cursor, Dotted, Line, Name, NoMemory, Numeral, Refusal, Refused, TextFault, Token,
     fault_on, spelled,
 };
 use mw_board::Board;
+use mw_cycle::{Env, Series};
 use std::alloc::Global;
 
 /// How many entries a list of an environment may have.
@@ -52,12 +54,8 @@ pub struct Settings {
     pub memory: Vec<u32>,
     /// For each word of the memory, whether a line gave it.
     written: Vec<bool>,
-    /// The input words, by their number.
-    pub inputs: Vec<u32>,
-    /// The interrupt line, 0 or 1, by cycle.
-    pub interrupts: Vec<u32>,
-    /// The undefined bits, by cycle.
-    pub noise: Vec<u32>,
+    /// The lists of the environment.
+    pub env: Env,
 }
 
 /// The letter of an owner in texts.
@@ -109,10 +107,17 @@ fn series_bound(width: u8, series: Series) -> u64
     ensures exact { result ≡ series_bound width series }
     ensures most { result ≤ 2 ^ 32 }
 {
-    match series {
-        Series::Inputs => two_to(width),
-        Series::Interrupts => 2,
-        Series::Noise => 1 << 14,
+    two_to(series.width(width))
+}
+
+/// The value of a number that has to be an entry of a list: cause 33 at it.
+fn entry_value(board: &Board, series: Series, entry: Numeral) -> Result<u32, Refusal>
+    ensures gives { Gives (λ value. value) result (value_below (series_bound board.now.width series) entry) }
+    ensures small { IfOk result (λ value. value < 2 ^ width_of 32 series) }
+{
+    match value_below(series_bound(board.width().bits(), series), entry) {
+        Ok(value) => Ok(value),
+        Err(fault) => Err(Refused::At(fault)),
     }
 }
 
@@ -149,9 +154,7 @@ impl Settings {
             set: vec![in alloc; false; elements]?,
             memory: vec![in alloc; 0; words]?,
             written: vec![in alloc; false; words]?,
-            inputs: Vec::new(alloc),
-            interrupts: Vec::new(alloc),
-            noise: Vec::new(alloc),
+            env: Env::nothing(alloc),
         })
     }
 
@@ -273,45 +276,21 @@ impl Settings {
         }
     }
 
-    /// How many entries a list has.
-    fn series_length(&self, series: Series) -> usize
-        ensures { result ≡ length (series_so_far series (given_seen self.now)) }
-    {
-        match series {
-            Series::Inputs => self.inputs.len(),
-            Series::Interrupts => self.interrupts.len(),
-            Series::Noise => self.noise.len(),
-        }
-    }
-
-    /// Appends to a list.
-    fn push(&mut self, series: Series, value: u32) -> Result<(), NoMemory>
-        ensures { OnOk result (given_seen self.new ≡ with_last series value (given_seen self.old)) }
-    {
-        match series {
-            Series::Inputs => self.inputs.push(value)?,
-            Series::Interrupts => self.interrupts.push(value)?,
-            Series::Noise => self.noise.push(value)?,
-        }
-        Ok(())
-    }
-
     /// An entry of a list: cause 14 or 33 at it.
     #[tactic(auto, unfolding(crate::specs::Settings::with_entry))]
     fn add_entry(&mut self, board: &Board, series: Series, entry: Numeral) -> Result<(), Refusal>
         ensures { Gives (λ done. given_seen self.new) result
             (with_entry board.now.width series (given_seen self.old) entry) }
     {
-        if self.series_length(series) >= MOST_ENTRIES {
+        if self.env.length(series) >= MOST_ENTRIES {
             return Err(Refused::At(fault_on(entry.token, Cause::TooMany)));
         }
-        let bound = series_bound(board.width().bits(), series);
-        let value = value_below(bound, entry).map_err(Refused::At)?;
-        self.push(series, value)?;
+        let value = entry_value(board, series, entry)?;
+        self.env.push(series, value)?;
         Ok(())
     }
 
-    /// inputs VALUE .., line VALUE .. or noise VALUE ..: cause 14 or 33 at each.
+    /// A list's keyword, and VALUE ..: cause 14 or 33 at each.
     fn add_entries(
         &mut self,
         board: &Board,

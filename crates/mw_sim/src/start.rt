@@ -1,6 +1,6 @@
 // The start of a run that an environment file gives.
 ghost use Rattle.std.specs.Prelude.{◌≡◌, ℕ, ◌+◌, ◌<◌, ◌≤◌, ◌^◌, ◌++◌, ◌==◌, IfOk, OnOk, length, map, slice_get};
-ghost use Rattle.std.specs.Prelude.{slice_index, take};
+ghost use Rattle.std.specs.Prelude.{slice_index};
 ghost use Rattle.std.specs.Option.{option_to_list};
 ghost use Rattle.mw_base.specs.Reading.{Gives};
 ghost use Rattle.mw_board.specs.Depth.{depth_of};
@@ -8,7 +8,7 @@ ghost use Rattle.mw_board.specs.Elements.{element_count, elements_of};
 ghost use Rattle.mw_cycle.specs.Elements.{IsValueOf};
 ghost use Rattle.mw_cycle.specs.Environment.{IsEnvironment};
 ghost use Rattle.mw_cycle.specs.State.{Fits};
-ghost use Rattle.mw_sim.specs.Settings.{AreBounded, HasSeries, AreSettings, trimmed};
+ghost use Rattle.mw_sim.specs.Settings.{AreBounded, AreSettings};
 ghost use Rattle.mw_sim.specs.Start.{settable, stack_pointer, settables_of, at_of, blank_lines, from_first};
 ghost use Rattle.mw_sim.specs.Start.{with_values, with_pointer, state_with, environment_with, start_in, start_of};
 ghost use Rattle.mw_sim.specs.Views.{given_seen};
@@ -163,50 +163,6 @@ fn set_elements(board: &Board, state: &mut State, values: &[u32])
     }
 }
 
-/// The least length of a list's front that has all its numbers but 0.
-fn kept_length(items: &[u32]) -> usize
-    ensures exact { take result items.now ≡ trimmed items.now }
-    ensures within { result ≤ length items.now }
-{
-    let mut kept = 0;
-    for (n, item) in items.iter().enumerate() {
-        if *item != 0 {
-            kept = n + 1;
-        }
-    }
-    kept
-}
-
-/// The numbers without the zeros at their end.
-fn without_zeros(items: &[u32]) -> &[u32]
-    ensures { result.now ≡ trimmed items.now }
-{
-    &items[..kept_length(items)]
-}
-
-/// Numbers as bits.
-fn bits(alloc: Global, numbers: &[u32]) -> Result<Vec<bool>, NoMemory>
-    ensures { IfOk result (λ bits. bits.items ≡ map (λ number. number == 1) numbers.now) }
-{
-    let mut bits = Vec::new(alloc);
-    for number in numbers {
-        bits.push(*number == 1)?;
-    }
-    Ok(bits)
-}
-
-/// Numbers of 14 bits as words.
-fn noise_words(alloc: Global, numbers: &[u32]) -> Result<Vec<u16>, NoMemory>
-    requires { (n : ℕ) → slice_index numbers.now n < 2 ^ 14 }
-    ensures { IfOk result (λ words. words.items ≡ numbers.now) }
-{
-    let mut words = Vec::new(alloc);
-    for number in numbers {
-        words.push(*number as u16)?;
-    }
-    Ok(words)
-}
-
 /// The environment that is given, without the zeros at its lists' ends. What is given is in range for the board.
 ///
 /// # Errors
@@ -214,18 +170,13 @@ fn noise_words(alloc: Global, numbers: &[u32]) -> Result<Vec<u16>, NoMemory>
 /// Memory ran out.
 #[tactic(auto, unfolding(crate::specs::Start::environment_with))]
 pub fn environment_with(alloc: Global, board: &Board, given: &Settings) -> Result<Env, NoMemory>
-    requires { HasSeries board.now (given_seen given.now) }
+    requires { IsEnvironment board.now given.now.env }
     ensures exact { IfOk result (λ env. env ≡ environment_with (given_seen given.now)) }
     ensures valid { IfOk result (λ env. IsEnvironment board.now env) }
 {
-    let line = bits(alloc, without_zeros(&given.interrupts))?;
-    let noise = noise_words(alloc, without_zeros(&given.noise))?;
-    let inputs = Vec::from_slice(alloc, without_zeros(&given.inputs))?;
-    Ok(Env {
-        line,
-        noise,
-        inputs,
-    })
+    let mut env = given.env.copied(alloc)?;
+    env.shorten();
+    Ok(env)
 }
 
 /// Gives the stack pointer the value behind those of the board's elements.

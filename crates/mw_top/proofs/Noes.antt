@@ -4,7 +4,7 @@ use Rattle.std.proofs.lemmas.Option.{get_or_from_slice_get, slice_get_within}
 use Rattle.mw_asm.specs.declared.assembled.Label.{Label}
 use Rattle.mw_board.specs.Check.{check_of}
 use Rattle.mw_check.specs.Verdict.{IsNo, IsUnknown}
-use Rattle.mw_cycle.specs.Environment.{Environment}
+use Rattle.mw_cycle.specs.Environment.{Environment, shortened}
 use Rattle.mw_fork.specs.declared.budget.Budget.{Budget}
 use Rattle.mw_fork.specs.declared.fault.Over.{Over}
 use Rattle.mw_fork.specs.declared.fault.Over.TheVariants as overs
@@ -15,7 +15,7 @@ use Rattle.mw_rel.specs.Free.{no_boundary}
 use Rattle.mw_rel.specs.Job.{Job, IsJob}
 use Rattle.mw_rel.specs.Start.{Start}
 use Rattle.mw_replay.specs.Counter.{Counter, IsStartOf}
-use Rattle.mw_replay.specs.CounterPrinted.{AreShort, MayFollow, counter_text, in_short, no_lines, shortened}
+use Rattle.mw_replay.specs.CounterPrinted.{AreShort, MayFollow, counter_text, in_short, no_lines}
 use Rattle.mw_replay.specs.CounterText.{counter_of}
 use Rattle.mw_replay.proofs.Starts.{counters_give_starts, starts_are_one}
 use Rattle.mw_replay.proofs.Trimmed.{nothing_is_cut}
