@@ -1,6 +1,7 @@
 pub mod Cycles
 pub mod Edge
 pub mod Fitting
+pub mod Kinds
 pub mod Lists
 pub mod OnLiterals
 pub mod Ranges

@@ -11,7 +11,7 @@ use Rattle.mw_cycle.specs.declared.series.Series.{Series}
 use Rattle.mw_cycle.specs.declared.series.Series.TheVariants.{Inputs, Line, Noise}
 use Rattle.mw_cycle.specs.Series.{width_of}
 use Rattle.mw_cycle.specs.Environment.{Environment, IsEnvironment, before_trimmed, no_values, shortened}
-use Rattle.mw_cycle.specs.Environment.{trimmed, values_of, with_values}
+use Rattle.mw_cycle.specs.Environment.{trimmed, values_of, with_lists, with_values}
 use Rattle.mw_cycle.specs.Environment.{ListsAreAll, RestsAreOfLists, ShortenedAreEnvironments, ValuesHaveWidths}
 
 -- ---- bits as numbers
@@ -26,6 +26,17 @@ pub bits_back : (bits : List Bool) → map (λ bit. bit == 1) (map num bits) ≡
 bits_back [] = refl
 bits_back (true ∷ rest) = ap (λ bits. true ∷ bits) (bits_back rest)
 bits_back (false ∷ rest) = ap (λ bits. false ∷ bits) (bits_back rest)
+
+number_back : (x : ℕ) → x < 2 → num (x == 1) ≡ x
+number_back zero small = refl
+number_back (suc zero) small = refl
+number_back (suc (suc x)) small = absurd (omega arith)
+
+pub numbers_back : (values : List ℕ) → ((n : ℕ) → slice_index values n < 2)
+    → map num (map (λ value. value == 1) values) ≡ values
+numbers_back [] small = refl
+numbers_back (x ∷ rest) small =
+    rw (number_back x (small zero)) (ap (λ xs. x ∷ xs) (numbers_back rest (λ n. small (suc n))))
 
 -- ---- lists without the zeros at their end
 
@@ -115,8 +126,22 @@ values_have_widths board env Inputs i is = is.inputs i
 values_have_widths board env Line i is = bits_below env.line i
 values_have_widths board env Noise i is = is.noise i
 
+-- an environment whose values have the widths of their lists is one
+pub widths_are_all : (board : BoardParts) (env : Environment)
+    → ((series : Series) (i : ℕ) → slice_index (values_of env series) i < 2 ^ width_of board.width series)
+    → IsEnvironment board env
+widths_are_all board env each = record { noise = each Noise; inputs = each Inputs }
+
 pub lists_are_all : ListsAreAll
 lists_are_all env = rw (bits_back env.line) refl
+
+-- the lists of what is made of lists whose values have their widths
+pub lists_back : (values : Series → List ℕ) (width : ℕ) (series : Series)
+    → ((i : ℕ) → slice_index (values series) i < 2 ^ width_of width series)
+    → values_of (with_lists values) series ≡ values series
+lists_back values width Inputs each = refl
+lists_back values width Line each = numbers_back (values Line) each
+lists_back values width Noise each = refl
 
 pub rests_are_of_lists : RestsAreOfLists
 rests_are_of_lists env place Inputs = refl
