@@ -1,6 +1,6 @@
 -- The variables that stand for the values of an environment.
-use Rattle.std.proofs.Common.{◌≡◌, ℕ, refl, ap}
-use Rattle.std.specs.Prelude.{Some}
+use Rattle.std.proofs.Common.{◌≡◌, ◌≢◌, ℕ, refl, sym, ap, ◌∙◌}
+use Rattle.std.specs.Prelude.{Some, None}
 use Rattle.std.proofs.lemmas.Option.{same_Some}
 use Rattle.mw_term.specs.declared.kinds.WordKind.{WordKind}
 use Rattle.mw_term.specs.declared.kinds.WordKind.TheVariants as kinds
@@ -24,3 +24,19 @@ kind_named (kinds.Input m) series n is = ap kind_at (same_Some (Inputs, m) (seri
 kind_named (kinds.Line m) series n is = ap kind_at (same_Some (Line, m) (series, n) is)
 kind_named (kinds.Noise m) series n is = ap kind_at (same_Some (Noise, m) (series, n) is)
 kind_named kind series n is = absurd cc
+
+-- no list has the variables of another
+pub own_series : (one other : Series) (m n : ℕ) → kind_of one m ≡ kind_of other n → one ≡ other
+own_series one other m n is =
+    ap (λ (value : Series × ℕ). value.0)
+    (same_Some (one, m) (other, n) (sym (value_named_back one m) ∙ ap value_named is ∙ value_named_back other n))
+
+pub own_number : (one other : Series) (m n : ℕ) → kind_of one m ≡ kind_of other n → m ≡ n
+own_number one other m n is =
+    ap (λ (value : Series × ℕ). value.1)
+    (same_Some (one, m) (other, n) (sym (value_named_back one m) ∙ ap value_named is ∙ value_named_back other n))
+
+-- what stands for no value of an environment isn't a list's variable
+pub no_variable : (kind : WordKind) (series : Series) (n : ℕ) → value_named kind ≡ None → kind ≢ kind_of series n
+no_variable kind series n none is =
+    let named : None ≡ Some (series, n) = sym none ∙ ap value_named is ∙ value_named_back series n in absurd cc

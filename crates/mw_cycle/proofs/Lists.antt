@@ -2,6 +2,7 @@
 use Rattle.std.proofs.Common.{◌≡◌, ◌≢◌, ℕ, zero, suc, ◌+◌, ◌-◌, ◌^◌, ◌<◌, ◌≤◌, Bool, true, false, cond, ◌==◌, lit<}
 use Rattle.std.proofs.Common.{List, [], ◌∷◌, ◌++◌, length, map, take, slice_index, append_assoc, append-nil}
 use Rattle.std.proofs.Common.{length-append, refl, sym, ap, ◌∙◌, subst, arith}
+use Rattle.std.specs.Prelude.{slice_index_or}
 use Rattle.std.proofs.lemmas.Bool.Decides.{nat_tests}
 use Rattle.std.proofs.lemmas.List.{drop-map, length-map, map-append, take-map}
 use Rattle.std.proofs.lemmas.Nat.{pow_pos}
@@ -21,6 +22,11 @@ bits_below [] n = lit< tt
 bits_below (true ∷ rest) zero = lit< tt
 bits_below (false ∷ rest) zero = lit< tt
 bits_below (bit ∷ rest) (suc n) = bits_below rest n
+
+pub bit_at : (bits : List Bool) (n : ℕ) → slice_index (map num bits) n ≡ num (slice_index_or bits n false)
+bit_at [] n = refl
+bit_at (bit ∷ rest) zero = refl
+bit_at (bit ∷ rest) (suc n) = bit_at rest n
 
 pub bits_back : (bits : List Bool) → map (λ bit. bit == 1) (map num bits) ≡ bits
 bits_back [] = refl

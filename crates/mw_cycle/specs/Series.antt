@@ -1,5 +1,5 @@
 -- The lists of an environment: what texts call them, how wide their values are, and the variables that stand for these.
-use Rattle.std.specs.Prelude.{ℕ, List, [], ◌∷◌, codes, Option, Some, None}
+use Rattle.std.specs.Prelude.{ℕ, List, [], ◌∷◌, Bool, true, false, codes, Option, Some, None}
 use Rattle.std.specs.List.{find}
 use Rattle.std.specs.Str.{bytes_eq}
 use Rattle.mw_term.specs.declared.kinds.WordKind.{WordKind}
@@ -7,13 +7,14 @@ use Rattle.mw_term.specs.declared.kinds.WordKind.TheVariants as kinds
 use Rattle.mw_cycle.specs.declared.series.Series.{Series}
 use Rattle.mw_cycle.specs.declared.series.Series.TheVariants.{Inputs, Line, Noise}
 
--- those that go by cycle: the interrupt line and the undefined bits
-abbrev pub by_cycle : List Series
-by_cycle = Line ∷ Noise ∷ []
-
--- all, in the order of texts: the input words, which go by their number, stand before them
+-- all, in the order of texts: the input words, the interrupt line and the undefined bits
 abbrev pub all_series : List Series
-all_series = Inputs ∷ by_cycle
+all_series = Inputs ∷ Line ∷ Noise ∷ []
+
+-- whether a list goes by cycle: all but the input words, which go by their number
+abbrev pub goes_by_cycle : Series → Bool
+goes_by_cycle Inputs = false
+goes_by_cycle other = true
 
 -- what texts call a list
 abbrev pub keyword_of : Series → List ℕ

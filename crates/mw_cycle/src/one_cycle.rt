@@ -1,5 +1,5 @@
 // One cycle.
-ghost use Rattle.std.specs.Prelude.{◌≡◌, ◌<◌, ◌≤◌, ◌^◌, ◌%◌, length};
+ghost use Rattle.std.specs.Prelude.{◌≡◌, ◌<◌, ◌≤◌, ◌^◌, ◌%◌, if◌then◌else◌, length};
 ghost use Rattle.mw_seq.specs.Sequencer.{IsSequencer};
 ghost use Rattle.mw_board.specs.Depth.{depth_of};
 ghost use Rattle.mw_board.specs.Valid.{IsFrom, IsMask};
@@ -200,6 +200,13 @@ fn writes<A: Datapath>(
     )
 }
 
+/// What a register has after the edge.
+fn written(write: bool, new: u32, old: u32) -> u32
+    ensures { result ≡ (if write then new else old) }
+{
+    if write { new } else { old }
+}
+
 /// The edge: all that is written is written from what was there before it. Answers the next address.
 #[tactic(auto, unfolding(crate::specs::Cycle::edge, crate::specs::Cycle::next_address))]
 fn take_edge(
@@ -239,15 +246,10 @@ fn take_edge(
     if writes.write_b {
         state.regs[usize::from(microword.b_address)] = writes.b;
     }
-    if writes.write_q {
-        state.q = writes.q;
-    }
-    if microword.mar_load {
-        state.mar = low_bits(u128::from(answer.y), board.parts().address);
-    }
-    if microword.ir_load {
-        state.ir = answer.y;
-    }
+    let mar = low_bits(u128::from(answer.y), board.parts().address);
+    state.q = written(writes.write_q, writes.q, state.q);
+    state.mar = written(microword.mar_load, mar, state.mar);
+    state.ir = written(microword.ir_load, answer.y, state.ir);
     state.flips = *flips;
     state.at = next;
     next

@@ -1,6 +1,6 @@
 // The lists of an environment: what texts call them, how wide their values are, and the variables that stand for these.
 ghost use Rattle.std.specs.Prelude.{◌≡◌, ◌≤◌};
-ghost use Rattle.mw_cycle.specs.Series.{all_series, by_cycle, keyword_of, kind_of, series_named, value_named, width_of};
+ghost use Rattle.mw_cycle.specs.Series.{all_series, keyword_of, kind_of, series_named, value_named, width_of};
 
 use mw_term::WordKind;
 
@@ -15,7 +15,7 @@ pub enum Series {
     Noise,
 }
 
-/// All lists, in the order of texts: the input words, and behind them those that go by cycle.
+/// All lists, in the order of texts.
 const ALL: [Series; 3] = [Series::Inputs, Series::Line, Series::Noise];
 
 impl Series {
@@ -24,13 +24,6 @@ impl Series {
         ensures { result.now ≡ all_series }
     {
         &ALL
-    }
-
-    /// Those that go by cycle, in the order of texts.
-    pub fn by_cycle() -> &'static [Series]
-        ensures { result.now ≡ by_cycle }
-    {
-        &ALL[1..]
     }
 
     /// What texts call it.
