@@ -1,18 +1,18 @@
 -- A board on terms is, under every assignment, a run of the board: cycle after cycle it asks for the run's own decided
 -- bits, and its terms have the values of the state that the run reaches and of its events.
-use Rattle.std.specs.Prelude.{◌≡◌, ℕ, ◌+◌, ◌<◌, List, [], ◌∷◌, ◌++◌, length, map, Bool, false, ◌==◌, Some, slice_get}
-use Rattle.std.specs.Prelude.{slice_index, slice_index_or}
-use Rattle.mw_base.specs.Words.{num}
+use Rattle.std.specs.Prelude.{◌≡◌, ℕ, ◌+◌, ◌<◌, List, [], ◌∷◌, ◌++◌, length, map, Bool, ◌==◌, Some, slice_get}
+use Rattle.std.specs.Prelude.{slice_index}
 use Rattle.mw_board.specs.declared.parts.BoardParts.{BoardParts}
 use Rattle.mw_board.specs.Elements.{element_count}
 use Rattle.mw_term.specs.declared.decided.Decided.{Decided}
 use Rattle.mw_cycle.specs.Decided.{decided, bits_of_cycle, bits_of_cycles}
 use Rattle.mw_cycle.specs.Elements.{bits_of, element, element_of}
-use Rattle.mw_cycle.specs.Environment.{Environment, IsEnvironment}
+use Rattle.mw_cycle.specs.Environment.{Environment, IsEnvironment, values_of}
 use Rattle.mw_cycle.specs.Run.{BoardRun, run_of}
 use Rattle.mw_cycle.specs.State.{BoardState, Fits}
 use Rattle.mw_term.specs.declared.decided.DecidedKind.{DecidedKind}
-use Rattle.mw_term.specs.declared.kinds.WordKind.TheVariants.{Line, Noise, Input}
+use Rattle.mw_cycle.specs.declared.series.Series.{Series}
+use Rattle.mw_cycle.specs.Series.{kind_of}
 use Rattle.mw_term.specs.declared.word.Word.{Word}
 use Rattle.mw_term.specs.Assigned.{Given}
 use Rattle.mw_term.specs.Table.{Table}
@@ -44,16 +44,12 @@ run_in board store x n = run_of board store x.env x.start n
 abbrev pub bits_in : BoardParts → List ℕ → Course → ℕ → List Decided
 bits_in board store x n = bits_of_cycles board store x.env x.start n
 
--- an environment has, under an assignment, the values of the variables of lines, noise and inputs that are in the list
+-- an environment has, under an assignment, the values of the variables of its lists that are among the words
 pub record IsEnvironmentOf (board : BoardParts) (t : Table) (words : List Word) (given : Given) (env : Environment)
     : Type 0 where
   pub within : IsEnvironment board env
-  pub line : (n place term : ℕ) → IsVariable words place term (Line n)
-      → num (slice_index_or env.line n false) ≡ term_value t given term
-  pub noise : (n place term : ℕ) → IsVariable words place term (Noise n)
-      → slice_index env.noise n ≡ term_value t given term
-  pub input : (n place term : ℕ) → IsVariable words place term (Input n)
-      → slice_index env.inputs n ≡ term_value t given term
+  pub values : (series : Series) (n place term : ℕ) → IsVariable words place term (kind_of series n)
+      → slice_index (values_of env series) n ≡ term_value t given term
 
 -- Under an assignment, a run fits what was read so far: its image is one that the base reads fit, and its environment
 -- has the values of the variables.

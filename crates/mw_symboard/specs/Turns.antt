@@ -13,7 +13,8 @@ use Rattle.mw_cycle.specs.Cycle.{nets_of}
 use Rattle.mw_cycle.specs.Decided.{decided, decided_of}
 use Rattle.mw_cycle.specs.Run.{clock_after}
 use Rattle.mw_term.specs.declared.decided.DecidedKind.{DecidedKind}
-use Rattle.mw_term.specs.declared.kinds.WordKind.TheVariants.{Line, Noise}
+use Rattle.mw_cycle.specs.declared.series.Series.{Series}
+use Rattle.mw_cycle.specs.Series.{goes_by_cycle, kind_of}
 use Rattle.mw_term.specs.Assigned.{Given}
 use Rattle.mw_term.specs.MemoryRead.{Held, held}
 use Rattle.mw_term.specs.Table.{Table}
@@ -29,7 +30,7 @@ use Rattle.mw_term.specs.WordList.{term_of}
 use Rattle.mw_symboard.specs.declared.reading.Reading.{Reading}
 use Rattle.mw_symboard.specs.declared.leaving.Leaving.{Leaving}
 use Rattle.mw_symboard.specs.Cycle.{IsReading, IsLeaving, bits_before}
-use Rattle.mw_symboard.specs.Kinds.{AreInputs}
+use Rattle.mw_symboard.specs.Kinds.{HaveWidths}
 use Rattle.mw_symboard.specs.Parts.{AreParts}
 use Rattle.mw_symboard.specs.Seen.{Progress, Scene, IsSeen, IsStateOf, microword_of, after_net}
 
@@ -67,10 +68,10 @@ abbrev pub written_if : (write : Bool) → Memory → (address value : ℕ) → 
 written_if true m address value = with_write m side.Board (held address value)
 written_if false m address value = m
 
--- no line and no noise of this cycle, or of a later one, is among some words
+-- of the lists that go by cycle no variable of this cycle, or of a later one, is among some words
 abbrev pub AreNoLater : (cycle : ℕ) → List Word → Type 0
 AreNoLater cycle words =
-    (n : ℕ) → cycle ≤ n → (term_of words (Line n) ≡ None) × (term_of words (Noise n) ≡ None)
+    (series : Series) → goes_by_cycle series ≡ true → (n : ℕ) → cycle ≤ n → term_of words (kind_of series n) ≡ None
 
 -- the term of an event
 abbrev pub event_term : SymEvent → ℕ
@@ -101,7 +102,7 @@ pub record IsSymbolic (board : BoardParts) (store : List ℕ) (t : Table) (words
   pub at : o.place.at < 2 ^ 12
   pub sp : o.place.sp ≤ depth_of board
   pub parts : AreParts board t o.place.parts
-  pub inputs : AreInputs board t words
+  pub widths : HaveWidths board t words
   pub events : AreEvents board t o.events
   pub reading : HasRead board store t words m o.place o.reading
   pub leaving : Leaves board store t o.place o.reading o.leaving

@@ -13,46 +13,45 @@ use Rattle.mw_symmem.specs.Memory.{Memory, IsOfWidth}
 use Rattle.mw_symmem.specs.Words.{AreOf, HaveOwnKinds, IsVariable}
 use Rattle.mw_symmem.specs.Workspace.{HaveKinds, IsLater}
 use Rattle.mw_symboard.specs.declared.reading.Reading.{Reading}
-use Rattle.mw_symboard.specs.Kinds.{AreInputs}
+use Rattle.mw_cycle.specs.declared.series.Series.{Series}
+use Rattle.mw_cycle.specs.Series.{kind_of}
+use Rattle.mw_symboard.specs.Kinds.{HaveWidths}
 use Rattle.mw_symboard.specs.Laws.{IsEnvironmentOf}
 use Rattle.mw_symboard.specs.Turns.{Symbolic, AreNoLater, IsSymbolic}
 
--- the variables of a cycle are there: its line, of one bit, and its noise, of 14
-pub record HasVariables (t : Table) (words : List Word) (cycle : ℕ) : Type 0 where
+-- the variables of a cycle are there: its line and its noise
+pub record HasVariables (words : List Word) (cycle : ℕ) : Type 0 where
   pub line : ℕ
   pub noise : ℕ
   pub is_line : term_of words (Line cycle) ≡ Some line
   pub is_noise : term_of words (Noise cycle) ≡ Some noise
-  pub line_wide : IsOfWidth t 1 line
-  pub noise_wide : IsOfWidth t 14 noise
 
--- The variables of the first so many cycles are there, and those of no later one; and the variables of inputs that
--- there are have the board's width.
+-- The variables of the first so many cycles are there, and those of no later one; and the variables of an environment
+-- that there are have the widths of its lists.
 pub record HaveVariables (board : BoardParts) (t : Table) (words : List Word) (cycles : ℕ) : Type 0 where
-  pub each : (n : ℕ) → n < cycles → HasVariables t words n
+  pub each : (n : ℕ) → n < cycles → HasVariables words n
   pub none : AreNoLater cycles words
-  pub inputs : AreInputs board t words
+  pub widths : HaveWidths board t words
 
 -- The variables of a cycle stay, with all words that come behind.
 abbrev pub VariablesStay : Type 0
 VariablesStay =
-    (told tnew : Table) (wold wnew more : List Word) (cycle : ℕ) → IsLater told tnew → wnew ≡ wold ++ more
-    → HasVariables told wold cycle → HasVariables tnew wnew cycle
+    (wold wnew more : List Word) (cycle : ℕ) → wnew ≡ wold ++ more → HasVariables wold cycle → HasVariables wnew cycle
 
 -- The variables of its cycle are there where the cycle has begun, and where a bit of it is decided.
 abbrev pub BegunHasVariables : Type 0
 BegunHasVariables =
     (board : BoardParts) (store : List ℕ) (t : Table) (words : List Word) (m : Memory) (o : Symbolic)
     → IsSymbolic board store t words m o
-    → ((reading : Reading) → o.reading ≡ Some reading → HasVariables t words o.place.cycle)
-    × (0 < length o.place.decided → HasVariables t words o.place.cycle)
+    → ((reading : Reading) → o.reading ≡ Some reading → HasVariables words o.place.cycle)
+    × (0 < length o.place.decided → HasVariables words o.place.cycle)
 
 -- Where the variables of the finished cycles are there, there is a number of cycles whose variables are there, and
 -- those of no later one.
 abbrev pub CyclesAreThere : Type 0
 CyclesAreThere =
     (board : BoardParts) (store : List ℕ) (t : Table) (words : List Word) (m : Memory) (o : Symbolic)
-    → IsSymbolic board store t words m o → ((n : ℕ) → n < o.place.cycle → HasVariables t words n)
+    → IsSymbolic board store t words m o → ((n : ℕ) → n < o.place.cycle → HasVariables words n)
     → (cycles : ℕ) × HaveVariables board t words cycles
 
 -- variables of base reads and of inputs, which other parts may make between two cycles
@@ -63,7 +62,7 @@ IsReadKind kind = ((n : ℕ) × (kind ≡ Base n)) ⊎ ((n : ℕ) × (kind ≡ I
 abbrev pub CyclesStay : Type 0
 CyclesStay =
     (board : BoardParts) (told tnew : Table) (wold wnew more : List Word) (cycles : ℕ) → IsLater told tnew
-    → wnew ≡ wold ++ more → HaveKinds IsReadKind more → AreInputs board tnew wnew → HaveVariables board told wold cycles
+    → wnew ≡ wold ++ more → HaveKinds IsReadKind more → HaveWidths board tnew wnew → HaveVariables board told wold cycles
     → HaveVariables board tnew wnew cycles
 
 -- A variable has the value that the assignment gives its number, cut to its width.
@@ -73,17 +72,17 @@ VariablesHaveValues =
     → AreOf t words → IsVariable words place term kind → IsOfWidth t width term
     → term_value t given term ≡ given (place + 1) % 2 ^ width
 
--- For every assignment there is an environment that has the values of all variables of lines, noise and inputs.
+-- For every assignment there is an environment that has the values of all variables of its lists.
 abbrev pub EnvironmentsAreThere : Type 0
 EnvironmentsAreThere =
     (board : BoardParts) (t : Table) (words : List Word) (cycles : ℕ) (given : Given) → IsTable t → HaveOwnKinds words
     → HaveVariables board t words cycles → (env : Environment) × IsEnvironmentOf board t words given env
 
--- what the outside of a run gives: lines, noise and inputs
+-- a kind of an environment's variables: what the outside of a run gives
 abbrev pub IsOutsideKind : WordKind → Type 0
-IsOutsideKind kind = ((n : ℕ) × (kind ≡ Line n)) ⊎ (((n : ℕ) × (kind ≡ Noise n)) ⊎ ((n : ℕ) × (kind ≡ Input n)))
+IsOutsideKind kind = (series : Series) × (n : ℕ) × (kind ≡ kind_of series n)
 
--- a number of a list is that of a variable of a line, noise or input
+-- a number of a list is that of a variable of an environment
 pub record IsOutsideNumber (words : List Word) (n : ℕ) : Type 0 where
   pub place : ℕ
   pub term : ℕ
@@ -93,7 +92,7 @@ pub record IsOutsideNumber (words : List Word) (n : ℕ) : Type 0 where
   pub outside : IsOutsideKind kind
 
 -- For every assignment and every environment there is a second assignment of which it is an environment, and which
--- differs from the first in the variables of lines, noise and inputs alone.
+-- differs from the first in the variables of environments alone.
 abbrev pub EnvironmentsAreReached : Type 0
 EnvironmentsAreReached =
     (board : BoardParts) (t : Table) (words : List Word) (cycles : ℕ) (given : Given) (env : Environment) → IsTable t
