@@ -230,7 +230,7 @@ module _ (board : BoardParts) (t : Table) (words : List Word) (given : Given) (t
   lists_are : (series : Series) → values_of (with_lists list_of) series ≡ list_of series
   lists_are series = lists_back list_of board.width series (list_below series)
 
-  pub environment_there : IsEnvironmentOf board t words given (with_lists list_of)
+  environment_there : IsEnvironmentOf board t words given (with_lists list_of)
   unfolding list_of value_of
   environment_there = record {
     within = widths_are_all board (with_lists list_of)
@@ -244,9 +244,10 @@ module _ (board : BoardParts) (t : Table) (words : List Word) (given : Given) (t
   }
 
 pub environments_are_there : EnvironmentsAreThere
-environments_are_there board t words cycles given table own has =
-    (with_lists (list_of board t words given table own has.widths),
-    environment_there board t words given table own has.widths)
+environments_are_there board t words cycles given table own has = (
+  with_lists (list_of board t words given table own has.widths),
+  environment_there board t words given table own has.widths,
+)
 
 -- ---- the assignment of an environment
 

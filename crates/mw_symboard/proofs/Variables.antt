@@ -94,8 +94,8 @@ source_none_later cycle taken old new more words kinds none series by n from =
 -- ---- line and noise
 
 not_so : (b : Bool) → (b ≡ true → ⊥) → b ≡ false
-not_so true no = absurd (no refl)
-not_so false no = refl
+not_so true other = absurd (other refl)
+not_so false other = refl
 
 -- a variable of a cycle is none of a later one
 apart : (own series : Series) (cycle n : ℕ) → cycle + 1 ≤ n

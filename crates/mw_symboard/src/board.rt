@@ -484,7 +484,7 @@ impl SymBoard {
         ensures at { OnOk result (self.new.place.at < 2 ^ 12) }
         ensures sp { OnOk result (self.new.place.sp ≤ depth_of board.now) }
         ensures cycle { self.new.place.cycle ≡ self.old.place.cycle }
-        ensures widths { self.new.place.taken ≡ self.old.place.taken }
+        ensures inputs { self.new.place.taken ≡ self.old.place.taken }
         ensures source { reading.new.source ≡ reading.old.source }
         ensures y { reading.new.y ≡ reading.old.y }
         ensures events { self.new.events ≡ self.old.events }
@@ -530,7 +530,7 @@ impl SymBoard {
         requires address { memory.old.address ≡ board.now.address }
         requires word { memory.old.word ≡ board.now.width }
         requires cycles { self.old.place.cycle + 1 < 2 ^ 32 }
-        requires widths { self.old.place.taken + 1 < 2 ^ 32 }
+        requires inputs { self.old.place.taken + 1 < 2 ^ 32 }
         requires workspace { IsWorkspace terms.old words.old memory.old }
         requires symbolic { IsSymbolic board.now store.now.words terms.old words.old memory.old self.old }
         requires begun { (reading : Reading) × (self.old.reading ≡ Some reading) }
@@ -543,7 +543,7 @@ impl SymBoard {
         ensures asked { OnOk result (self.new.asked ≡ None) }
         ensures decided { OnOk result (self.new.place.decided ≡ []) }
         ensures cycle { OnOk result (self.new.place.cycle ≡ self.old.place.cycle + 1) }
-        ensures widths { OnOk result (self.new.place.taken ≤ self.old.place.taken + 1) }
+        ensures inputs { OnOk result (self.new.place.taken ≤ self.old.place.taken + 1) }
         ensures reads { OnOk result (memory.new.reads ≡ memory.old.reads) }
         ensures machine { OnOk result (memory.new.machine ≡ memory.old.machine) }
         ensures more { OnOk result (ReadsMore memory.old memory.new) }
@@ -617,7 +617,7 @@ impl SymBoard {
         requires word { memory.old.word ≡ board.now.width }
         requires few { length memory.old.reads < 2 ^ 32 }
         requires cycles { self.old.place.cycle + 1 < 2 ^ 32 }
-        requires widths { self.old.place.taken + 1 < 2 ^ 32 }
+        requires inputs { self.old.place.taken + 1 < 2 ^ 32 }
         requires workspace { IsWorkspace terms.old words.old memory.old }
         requires symbolic { IsSymbolic board.now store.now.words terms.old words.old memory.old self.old }
         ensures turn { IfOk result

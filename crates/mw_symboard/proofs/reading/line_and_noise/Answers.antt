@@ -1,10 +1,14 @@
-use Rattle.std.proofs.Common.{◌+◌, length, ap, sym, ◌∙◌}
+use Rattle.std.proofs.Common.{◌+◌, length, refl, ap, sym, ◌∙◌, arith}
+use Rattle.mw_cycle.specs.declared.series.Series.TheVariants.{Line}
 use Rattle.mw_symmem.proofs.Growth.{width_stays}
 use Rattle.mw_symboard.proofs.Inputs.{wide_variable}
 use Rattle.mw_symboard.proofs.Variables.{absent_noise, goes_by_both, line_there, noise_there, none_after, widths_after}
 use Rattle.mw_term.specs.WordList.{Ended, with_variable}
 use Rattle.mw_term.specs.declared.kinds.WordKind.TheVariants.{Noise}
 use Rattle.mw_symboard.proofs.reading.line_and_noise.Goals as goal
+
+pub fresh-requires-clause-own : goal.fresh-requires-clause-own
+fresh-requires-clause-own c = c.requires.none Line refl c.args.cycle (omega arith)
 
 pub noise_word-requires : goal.noise_word-requires
 noise_word-requires c =
