@@ -257,7 +257,6 @@ fn take_edge(
 
 /// One cycle of a board whose state fits it: the state after it, and the values that it read and made. It
 /// takes no memory.
-#[tactic(auto, unfolding(crate::specs::Cycle::state_after, crate::specs::Cycle::nets_of, crate::specs::Cycle::answer_of))]
 pub fn cycle<A: Datapath>(
     part: &A,
     board: &Board,

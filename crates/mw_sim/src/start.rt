@@ -192,7 +192,7 @@ fn set_pointer(board: &Board, state: &mut State, values: &[u32])
 }
 
 /// The state at a control address that has what is given.
-#[tactic(auto, unfolding(crate::specs::Start::state_with), using(crate::proofs::Starts::value_in, crate::proofs::Starts::pointer_in, crate::proofs::Starts::settable_count))]
+#[tactic(auto, unfolding(crate::specs::Start::state_with))]
 fn state_with(board: &Board, address: u16, given: Settings) -> State
     requires low { address < 4096 }
     requires given { AreSettings board.now (settables_of board.now) (given_seen given) }

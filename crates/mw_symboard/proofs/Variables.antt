@@ -149,7 +149,8 @@ module _ (cycle : ℕ) (t0 t1 t2 : Table) (w0 w1 w2 : List Word) (line noise : �
   pub none_after : AreNoLater (cycle + 1) w2
   none_after series by n from =
       let own = kind_of series n in
-      with_noise own ∙ ap (λ (b : Bool). if b then Some noise else term_of w1 own) (apart lists.Noise series cycle n from)
+      with_noise own
+      ∙ ap (λ (b : Bool). if b then Some noise else term_of w1 own) (apart lists.Noise series cycle n from)
       ∙ before_noise own ∙ ap (λ (b : Bool). if b then Some line else term_of w0 own)
       (apart lists.Line series cycle n from)
       ∙ none series by n (omega (arith, from))
@@ -159,8 +160,8 @@ module _ (cycle : ℕ) (t0 t1 t2 : Table) (w0 w1 w2 : List Word) (line noise : �
   widths_after board extends keeps later_extends later_keeps line_wide noise_wide are =
       let one : HaveWidths board t1 w1 =
       subst (λ (ws : List Word). HaveWidths board t1 ws) (sym words)
-      (widths_with board t0 t1 w0 line lists.Line cycle extends keeps (none lists.Line refl cycle (omega arith)) line_wide
-      are) in
+      (widths_with board t0 t1 w0 line lists.Line cycle extends keeps (none lists.Line refl cycle (omega arith))
+      line_wide are) in
       subst (λ (ws : List Word). HaveWidths board t2 ws) (sym more)
       (widths_with board t1 t2 w1 noise lists.Noise cycle later_extends later_keeps
       (absent_noise cycle w0 w1 line none words) noise_wide one)

@@ -62,8 +62,8 @@ IsReadKind kind = ((n : ℕ) × (kind ≡ Base n)) ⊎ ((n : ℕ) × (kind ≡ I
 abbrev pub CyclesStay : Type 0
 CyclesStay =
     (board : BoardParts) (told tnew : Table) (wold wnew more : List Word) (cycles : ℕ) → IsLater told tnew
-    → wnew ≡ wold ++ more → HaveKinds IsReadKind more → HaveWidths board tnew wnew → HaveVariables board told wold cycles
-    → HaveVariables board tnew wnew cycles
+    → wnew ≡ wold ++ more → HaveKinds IsReadKind more → HaveWidths board tnew wnew
+    → HaveVariables board told wold cycles → HaveVariables board tnew wnew cycles
 
 -- A variable has the value that the assignment gives its number, cut to its width.
 abbrev pub VariablesHaveValues : Type 0

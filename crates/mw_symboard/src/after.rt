@@ -219,7 +219,6 @@ fn decided_move(board: &Board, microword: &Microword, place: &Progress) -> Stack
 }
 
 /// The move of the stack that was decided.
-#[tactic(auto, using(crate::proofs::AtEdge::depth_some, crate::proofs::AtEdge::sp_within, crate::proofs::AtEdge::pushed_within))]
 fn moved(board: &Board, microword: &Microword, place: &Progress) -> Moved
     requires microword { IsMicroword board.now microword.now }
     requires known { bits_before microword.now ≤ length place.now.decided }

@@ -1,5 +1,15 @@
+use Rattle.std.proofs.Common.{rules}
+use Rattle.mw_cycle.specs.Cycle.{answer_of, nets_of, state_after}
 use Rattle.mw_cycle.proofs.Edge.{edge_fits}
 use Rattle.mw_cycle.proofs.one_cycle.cycle.Goals as goal
+
+pub returns-clause-nets : goal.returns-clause-nets
+unfolding answer_of nets_of
+returns-clause-nets g c = search rules
+
+pub returns-clause-exact : goal.returns-clause-exact
+unfolding answer_of state_after
+returns-clause-exact g c = search rules
 
 pub returns-clause-fits : goal.returns-clause-fits
 returns-clause-fits g c =
