@@ -147,28 +147,28 @@ fn are_plain(lines: &[Line], shape: &Shape) -> bool
     true
 }
 
-/// Whether a boundary has few such lines, an address of 12 bits, and a stack pointer of at most 5.
-fn is_formed(boundary: &Boundary, shape: &Shape) -> bool
+/// Whether a boundary has few such lines, an address of 12 bits, and a stack pointer within a stack of this depth.
+fn is_formed(boundary: &Boundary, depth: u8, shape: &Shape) -> bool
     ensures formed { IsTrue result → IsFormedBoundary shape.now (boundary_of boundary.now) }
-    ensures pointer { IsTrue result → boundary.now.sp ≤ 5 }
+    ensures pointer { IsTrue result → boundary.now.sp ≤ depth }
 {
     let lines = boundary.lines.as_slice();
-    if boundary.address >= 4096 || boundary.sp > 5 || lines.len() > 64 {
+    if boundary.address >= 4096 || boundary.sp > depth || lines.len() > 64 {
         return false;
     }
     are_plain(lines, shape)
 }
 
 /// Whether there are few boundaries, each of which is such a one.
-fn are_formed(boundaries: &[Boundary], shape: &Shape) -> bool
+fn are_formed(boundaries: &[Boundary], depth: u8, shape: &Shape) -> bool
     ensures formed { IsTrue result → IsFormed (related (boundaries_of boundaries.now) shape.now) }
-    ensures pointers { IsTrue result → All (λ boundary. boundary.sp ≤ 5) (boundaries_of boundaries.now) }
+    ensures pointers { IsTrue result → All (λ boundary. boundary.sp ≤ depth) (boundaries_of boundaries.now) }
 {
     if boundaries.len() > 64 {
         return false;
     }
     for boundary in boundaries {
-        if !is_formed(boundary, shape) {
+        if !is_formed(boundary, depth, shape) {
             return false;
         }
     }
@@ -183,7 +183,7 @@ fn refusal(
     boundaries: Vec<Boundary>,
 ) -> Result<Option<Cause>, Fault> {
     let shape = shape_of(alloc, &board, &machine)?;
-    if !are_formed(&boundaries, &shape) {
+    if !are_formed(&boundaries, board.depth(), &shape) {
         return Err(wrong("boundaries that no relation has"));
     }
     let store = Store {

@@ -14,10 +14,10 @@ loop-boundary-preserved c =
     let first : drop i boundaries ≡ boundary ∷ rest =
     next boundaries i boundary c.loop-boundary-test.true c.boundary-item.is in
     let formed : IsFormedBoundary c.args.shape.now (boundary_of boundary) = search rules in
-    let pointer : boundary.sp ≤ 5 = search rules in
+    let pointer : boundary.sp ≤ c.args.depth = search rules in
     record {
       formed = λ all. c.loop-boundary.invariant.formed (rw first (All-cons (IsFormedBoundary c.args.shape.now)
           (boundary_of boundary) (boundaries_of rest) formed all));
-      pointers = λ all. c.loop-boundary.invariant.pointers (rw first (All-cons (λ (b : Boundary). b.sp ≤ 5)
+      pointers = λ all. c.loop-boundary.invariant.pointers (rw first (All-cons (λ (b : Boundary). b.sp ≤ c.args.depth)
           (boundary_of boundary) (boundaries_of rest) pointer all));
     }

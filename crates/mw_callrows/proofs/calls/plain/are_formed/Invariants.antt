@@ -7,6 +7,6 @@ abbrev pub invariant-loop-boundary : goal.invariant-loop-boundary
 invariant-loop-boundary l = record {
   formed : All (IsFormedBoundary l.shape) (boundaries_of (drop l.boundary-index l.boundaries))
       → All (IsFormedBoundary l.shape) (boundaries_of l.boundaries);
-  pointers : All (λ boundary. boundary.sp ≤ 5) (boundaries_of (drop l.boundary-index l.boundaries))
-      → All (λ boundary. boundary.sp ≤ 5) (boundaries_of l.boundaries);
+  pointers : All (λ boundary. boundary.sp ≤ l.depth) (boundaries_of (drop l.boundary-index l.boundaries))
+      → All (λ boundary. boundary.sp ≤ l.depth) (boundaries_of l.boundaries);
 }
