@@ -1,18 +1,20 @@
 -- Environments list by list.
 use Rattle.std.proofs.Common.{◌≡◌, ◌≢◌, ℕ, zero, suc, ◌+◌, ◌-◌, ◌^◌, ◌<◌, ◌≤◌, Bool, true, false, cond, ◌==◌, lit<}
-use Rattle.std.proofs.Common.{List, [], ◌∷◌, ◌++◌, length, map, take, slice_index, append_assoc, append-nil}
-use Rattle.std.proofs.Common.{length-append, refl, sym, ap, ◌∙◌, subst, arith}
-use Rattle.std.specs.Prelude.{slice_index_or}
+use Rattle.std.proofs.Common.{lit≤, List, [], ◌∷◌, ◌++◌, length, map, take, drop, slice_index, append_assoc}
+use Rattle.std.proofs.Common.{append-nil, length-append, refl, sym, ap, ◌∙◌, subst, arith}
+use Rattle.std.specs.Prelude.{slice_index_or, slice_set}
 use Rattle.std.proofs.lemmas.Bool.Decides.{nat_tests}
-use Rattle.std.proofs.lemmas.List.{drop-map, length-map, map-append, take-map}
+use Rattle.std.proofs.lemmas.List.{drop-map, get_or-drop, length-map, map-append, map-set, take-map}
 use Rattle.std.proofs.lemmas.Nat.{pow_pos}
 use Rattle.mw_base.specs.Words.{num}
 use Rattle.mw_board.specs.declared.parts.BoardParts.{BoardParts}
+use Rattle.mw_cycle.specs.declared.environment.Clock.{Clock}
 use Rattle.mw_cycle.specs.declared.series.Series.{Series}
 use Rattle.mw_cycle.specs.declared.series.Series.TheVariants.{Inputs, Line, Noise}
+use Rattle.mw_cycle.specs.Run.{further}
 use Rattle.mw_cycle.specs.Series.{width_of}
-use Rattle.mw_cycle.specs.Environment.{Environment, IsEnvironment, before_trimmed, no_values, shortened}
-use Rattle.mw_cycle.specs.Environment.{trimmed, values_of, with_lists, with_values}
+use Rattle.mw_cycle.specs.Environment.{Environment, IsEnvironment, before_trimmed, no_values, place_in, rest_at}
+use Rattle.mw_cycle.specs.Environment.{shortened, trimmed, values_of, with_lists, with_value, with_values}
 use Rattle.mw_cycle.specs.Environment.{ListsAreAll, RestsAreOfLists, ShortenedAreEnvironments, ValuesHaveWidths}
 
 -- ---- bits as numbers
@@ -138,6 +140,18 @@ pub widths_are_all : (board : BoardParts) (env : Environment)
     → IsEnvironment board env
 widths_are_all board env each = record { noise = each Noise; inputs = each Inputs }
 
+-- a value of a list has at most the bits that it has where an input word has 32
+pub widths_within : (width : ℕ) (series : Series) → width ≤ 32 → width_of width series ≤ width_of 32 series
+widths_within width Inputs most = most
+widths_within width Line most = lit≤ tt
+widths_within width Noise most = lit≤ tt
+
+-- which are 32 at most
+pub widths_most : (series : Series) → width_of 32 series ≤ 32
+widths_most Inputs = lit≤ tt
+widths_most Line = lit≤ tt
+widths_most Noise = lit≤ tt
+
 pub lists_are_all : ListsAreAll
 lists_are_all env = rw (bits_back env.line) refl
 
@@ -153,6 +167,37 @@ pub rests_are_of_lists : RestsAreOfLists
 rests_are_of_lists env place Inputs = refl
 rests_are_of_lists env place Line = sym (drop-map num place.cycle env.line)
 rests_are_of_lists env place Noise = refl
+
+drop_nothing : {A : Type 0} (n : ℕ) → drop {A = A} n [] ≡ []
+drop_nothing zero = refl
+drop_nothing (suc n) = refl
+
+drop_further : {A : Type 0} (n m : ℕ) (xs : List A) → drop m (drop n xs) ≡ drop (n + m) xs
+drop_further {A} zero m xs = let e : m ≡ 0 + m = omega arith in ap (λ k. drop {A = A} k xs) e
+drop_further {A} (suc n) m [] = drop_nothing m ∙ sym (drop_nothing {A = A} (suc n + m))
+drop_further {A} (suc n) m (x ∷ xs) =
+    let e : suc n + m ≡ suc (n + m) = omega arith in
+    drop_further n m xs ∙ sym (ap (λ k. drop {A = A} k (x ∷ xs)) e)
+
+-- what is left of what is left
+pub rest_further : (env : Environment) (place by : Clock)
+    → rest_at (rest_at env place) by ≡ rest_at env (further place by)
+rest_further env place by = rw (
+  drop_further place.cycle by.cycle env.line,
+  drop_further place.cycle by.cycle env.noise,
+  drop_further place.taken by.taken env.inputs,
+) refl
+
+-- what is left of an environment is one
+pub rest_is_environment : (board : BoardParts) (env : Environment) (place : Clock)
+    → IsEnvironment board env → IsEnvironment board (rest_at env place)
+rest_is_environment board env place is =
+    widths_are_all board (rest_at env place)
+    (λ series i.
+    subst (λ (v : ℕ). v < 2 ^ width_of board.width series)
+    (sym (ap (λ xs. slice_index xs i) (rests_are_of_lists env place series)
+    ∙ get_or-drop (place_in series place) (values_of env series) i 0))
+    (values_have_widths board env series (place_in series place + i) is))
 
 pub shortened_are_environments : ShortenedAreEnvironments
 shortened_are_environments board env is = record {
@@ -204,6 +249,40 @@ pub none_behind : (series : Series) (env : Environment) → with_values series [
 none_behind Inputs env = rw (append-nil env.inputs) refl
 none_behind Line env = rw (append-nil env.line) refl
 none_behind Noise env = rw (append-nil env.noise) refl
+
+-- a value behind those of a list
+pub own_behind : (series : Series) (value : ℕ) (env : Environment) → value < 2 ^ width_of 32 series
+    → values_of (with_values series (value ∷ []) env) series ≡ values_of env series ++ value ∷ []
+own_behind Inputs value env small = refl
+own_behind Line value env small =
+    map-append num env.line ((value == 1) ∷ []) ∙ ap (λ v. map num env.line ++ v ∷ []) (number_back value small)
+own_behind Noise value env small = refl
+
+-- the other lists stay
+pub other_behind : (series other : Series) (values : List ℕ) (env : Environment) → other ≢ series
+    → values_of (with_values series values env) other ≡ values_of env other
+other_behind Inputs Inputs values env differs = absurd (differs refl)
+other_behind Line Line values env differs = absurd (differs refl)
+other_behind Noise Noise values env differs = absurd (differs refl)
+other_behind series other values env differs = refl
+
+-- ---- another value in a list
+
+pub own_set : (series : Series) (number value : ℕ) (env : Environment) → value < 2 ^ width_of 32 series
+    → values_of (with_value series number value env) series ≡ slice_set (values_of env series) number value
+own_set Inputs number value env small = refl
+own_set Line number value env small =
+    map-set num env.line number (value == 1) ∙ ap (slice_set (map num env.line) number) (number_back value small)
+own_set Noise number value env small = refl
+
+pub other_set : (series other : Series) (number value : ℕ) (env : Environment) → other ≢ series
+    → values_of (with_value series number value env) other ≡ values_of env other
+other_set Inputs Inputs number value env differs = absurd (differs refl)
+other_set Line Line number value env differs = absurd (differs refl)
+other_set Noise Noise number value env differs = absurd (differs refl)
+other_set series other number value env differs = refl
+
+-- ---- environments stay such
 
 -- a number behind those of a list
 push_below : (bound : ℕ) (xs : List ℕ) (v : ℕ) → ((i : ℕ) → slice_index xs i < bound) → v < bound → (i : ℕ)

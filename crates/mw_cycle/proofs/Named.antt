@@ -1,5 +1,5 @@
 -- The variables that stand for the values of an environment.
-use Rattle.std.proofs.Common.{◌≡◌, ◌≢◌, ℕ, refl, sym, ap, ◌∙◌}
+use Rattle.std.proofs.Common.{◌≡◌, ◌≢◌, ◌⊎◌, inl, inr, ℕ, refl, sym, ap, ◌∙◌}
 use Rattle.std.specs.Prelude.{Some, None}
 use Rattle.std.proofs.lemmas.Option.{same_Some}
 use Rattle.mw_term.specs.declared.kinds.WordKind.{WordKind}
@@ -24,6 +24,13 @@ kind_named (kinds.Input m) series n is = ap kind_at (same_Some (Inputs, m) (seri
 kind_named (kinds.Line m) series n is = ap kind_at (same_Some (Line, m) (series, n) is)
 kind_named (kinds.Noise m) series n is = ap kind_at (same_Some (Noise, m) (series, n) is)
 kind_named kind series n is = absurd cc
+
+-- a list is this one, or another
+pub same_or_other : (one other : Series) → (one ≡ other) ⊎ (one ≢ other)
+same_or_other Inputs Inputs = inl refl
+same_or_other Line Line = inl refl
+same_or_other Noise Noise = inl refl
+same_or_other one other = inr (λ is. absurd cc)
 
 -- no list has the variables of another
 pub own_series : (one other : Series) (m n : ℕ) → kind_of one m ≡ kind_of other n → one ≡ other

@@ -11,17 +11,9 @@ use Rattle.mw_cycle.specs.declared.environment.Clock.{Clock}
 use Rattle.mw_cycle.specs.declared.state.CycleIn.{CycleIn}
 use Rattle.mw_cycle.specs.State.{BoardState}
 use Rattle.mw_cycle.specs.Cycle.{state_after, nets_of}
-use Rattle.mw_cycle.specs.Environment.{Environment, IsEnvironment, at_start, given_at, rest_at}
+use Rattle.mw_cycle.specs.Environment.{Environment, at_start, given_at, rest_at}
 use Rattle.mw_cycle.specs.Run.{BoardRun, clock_after, longer_run, run_of, further, then_run}
 use Rattle.mw_cycle.specs.Boundary.{is_named, IsNextBoundary, IsBoundary}
-
--- what is left of an environment is one
-pub rest_is_environment : (board : BoardParts) (env : Environment) (place : Clock)
-    → IsEnvironment board env → IsEnvironment board (rest_at env place)
-rest_is_environment board env place is = record {
-  noise = λ i. rw (get_or-drop place.cycle env.noise i 0) (is.noise (place.cycle + i));
-  inputs = λ i. rw (get_or-drop place.taken env.inputs i 0) (is.inputs (place.taken + i));
-}
 
 -- what is given at a place of the rest is what the whole gives further on
 pub given_further : (env : Environment) (place by : Clock)

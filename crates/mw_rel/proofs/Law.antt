@@ -5,7 +5,8 @@ use Rattle.std.proofs.lemmas.Bool.{cases_lt}
 use Rattle.mw_cycle.specs.Boundary.{IsBoundary}
 use Rattle.mw_cycle.specs.Environment.{rest_at}
 use Rattle.mw_cycle.specs.Run.{BoardRun, run_of, then_run}
-use Rattle.mw_cycle.proofs.Suffix.{run_further, rest_is_environment}
+use Rattle.mw_cycle.proofs.Lists.{rest_is_environment}
+use Rattle.mw_cycle.proofs.Suffix.{run_further}
 use Rattle.mw_macro.specs.DescribedStep.{Stepped, step_of}
 use Rattle.mw_macro.specs.Laws.{inputs_in}
 use Rattle.mw_macro.proofs.Steps.{steps_take_from_first}

@@ -1,4 +1,4 @@
-use Rattle.mw_cycle.proofs.Suffix.{rest_is_environment}
+use Rattle.mw_cycle.proofs.Lists.{rest_is_environment}
 use Rattle.mw_cycle.proofs.laws.rests_are_environments.Goals as goal
 
 pub returns : goal.returns
