@@ -1,8 +1,8 @@
 pub mod Cycles
 pub mod Edge
 pub mod Fitting
-pub mod Kinds
 pub mod Lists
+pub mod Named
 pub mod OnLiterals
 pub mod Ranges
 pub mod Segments

@@ -39,4 +39,4 @@ own_number one other m n is =
 -- what stands for no value of an environment isn't a list's variable
 pub no_variable : (kind : WordKind) (series : Series) (n : ℕ) → value_named kind ≡ None → kind ≢ kind_of series n
 no_variable kind series n none is =
-    let named : None ≡ Some (series, n) = sym none ∙ ap value_named is ∙ value_named_back series n in absurd cc
+    let named : value_named kind ≡ Some (series, n) = ap value_named is ∙ value_named_back series n in absurd cc
