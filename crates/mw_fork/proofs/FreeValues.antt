@@ -7,7 +7,7 @@ use Rattle.std.proofs.lemmas.List.{get_or-map, length-map}
 use Rattle.std.proofs.lemmas.Option.{same_Some}
 use Rattle.mw_cycle.specs.Boundary.{numbers}
 use Rattle.mw_cycle.specs.Environment.{Environment}
-use Rattle.mw_cycle.proofs.Kinds.{no_variable}
+use Rattle.mw_cycle.proofs.Named.{no_variable}
 use Rattle.mw_expr.specs.Values.{IsImage}
 use Rattle.mw_term.specs.declared.kinds.WordKind.{WordKind}
 use Rattle.mw_term.specs.declared.kinds.WordKind.TheVariants.{Base, Element}

@@ -14,7 +14,7 @@ use Rattle.mw_cycle.specs.declared.series.Series.{Series}
 use Rattle.mw_cycle.specs.declared.series.Series.TheVariants as lists
 use Rattle.mw_cycle.specs.Decided.{decided}
 use Rattle.mw_cycle.specs.Series.{goes_by_cycle, kind_of, width_of}
-use Rattle.mw_cycle.proofs.Kinds.{no_variable, own_series}
+use Rattle.mw_cycle.proofs.Named.{no_variable, own_series}
 use Rattle.mw_cycle.proofs.Lists.{bit_at}
 use Rattle.mw_term.specs.Assigned.{Given}
 use Rattle.mw_term.specs.declared.decided.DecidedKind.{DecidedKind}

@@ -8,10 +8,10 @@ use Rattle.std.proofs.lemmas.List.{length-set, map-append, map-set}
 use Rattle.mw_base.specs.Words.{num}
 use Rattle.mw_cycle.specs.declared.series.Series.{Series}
 use Rattle.mw_cycle.specs.declared.series.Series.TheVariants.{Inputs, Line, Noise}
-use Rattle.mw_cycle.specs.Environment.{Environment, no_values, values_of, with_value, with_values}
+use Rattle.mw_cycle.specs.Environment.{Environment, values_of, with_value, with_values}
 use Rattle.mw_cycle.specs.Series.{kind_of, value_named, width_of}
 use Rattle.mw_cycle.specs.Trimmed.{EndsWell, IsTrimmed}
-use Rattle.mw_cycle.proofs.Named.{kind_named, no_variable, own_series, value_named_back}
+use Rattle.mw_cycle.proofs.Named.{kind_named, own_series, value_named_back}
 use Rattle.mw_cycle.proofs.Lists.{behind_length}
 use Rattle.mw_term.specs.declared.kinds.WordKind.{WordKind}
 use Rattle.mw_term.specs.WordList.{same_kind}
@@ -27,18 +27,6 @@ entry_of env series n = ap (value_at env) (value_named_back series n)
 
 pub outside_of : (series : Series) (n : ℕ) → is_outside (kind_of series n) ≡ true
 outside_of series n = ap (λ named. is_some named) (value_named_back series n)
-
-pub no_entries : (kind : WordKind) → entry no_values kind ≡ 0
-no_entries kind = none_at (value_named kind)
-  where
-    none_in : (series : Series) (n : ℕ) → slice_index (values_of no_values series) n ≡ 0
-    none_in Inputs n = refl
-    none_in Line n = refl
-    none_in Noise n = refl
-
-    none_at : (o : Option (Series × ℕ)) → value_at no_values o ≡ 0
-    none_at (Some named) = none_in named.0 named.1
-    none_at None = refl
 
 -- the kinds that are those of variables of an environment
 outside_named : (kind : WordKind) (o : Option (Series × ℕ)) → value_named kind ≡ o → is_some o ≡ true
@@ -77,26 +65,6 @@ taken_by old new kind value each other outside =
     subst (λ (k : WordKind). entry new k ≡ (if same_kind kind k then value else entry old k)) (sym named.2)
     (entry_of new series n ∙ each series n
     ∙ ap (λ v. if same_kind kind (kind_of series n) then value else v) (sym (entry_of old series n)))
-
--- what is no variable of an environment takes nothing
-pub none_taken : (env : Environment) (kind : WordKind) (value : ℕ) → value_named kind ≡ None
-    → HasTaken env env kind value
-none_taken env kind value none =
-    taken_by env env kind value
-    (λ series n.
-    ap (λ (b : Bool). if b then value else slice_index (values_of env series) n)
-    (sym (kinds_apart kind (kind_of series n) (no_variable kind series n none))))
-
-zero_by : (env : Environment) (kind other : WordKind) (value : ℕ) (b : Bool) → same_kind kind other ≡ b → value ≡ 0
-    → entry env kind ≡ 0 → entry env other ≡ (if b then value else entry env other)
-zero_by env kind other value true same none fresh = ap (entry env) (sym (kind_is kind other same)) ∙ fresh ∙ sym none
-zero_by env kind other value false same none fresh = refl
-
--- a 0 is there already
-pub zero_taken : (env : Environment) (kind : WordKind) (value : ℕ) → value ≡ 0 → entry env kind ≡ 0
-    → HasTaken env env kind value
-zero_taken env kind value none fresh other outside =
-    zero_by env kind other value (same_kind kind other) refl none fresh
 
 -- ---- lists
 
@@ -185,10 +153,6 @@ trimmed_each env Noise is = is.noise
 
 each_trimmed : (env : Environment) → ((series : Series) → EndsWell 0 (values_of env series)) → IsTrimmed env
 each_trimmed env each = record { line = each Line; noise = each Noise; inputs = each Inputs }
-
-pub none_trimmed : IsTrimmed no_values
-none_trimmed =
-    record { line = λ some. absurd (omega arith); noise = λ some. absurd (omega arith); inputs = λ some. absurd (omega arith) }
 
 -- ---- zeros up to a place
 

@@ -8,7 +8,7 @@ use Rattle.mw_board.specs.declared.parts.BoardParts.{BoardParts}
 use Rattle.mw_cycle.specs.declared.series.Series.{Series}
 use Rattle.mw_cycle.specs.declared.series.Series.TheVariants.{Inputs, Line, Noise}
 use Rattle.mw_cycle.specs.Series.{kind_of, width_of}
-use Rattle.mw_cycle.proofs.Kinds.{no_variable}
+use Rattle.mw_cycle.proofs.Named.{no_variable}
 use Rattle.mw_term.specs.declared.kinds.WordKind.TheVariants.{Base, Element, Probe}
 use Rattle.mw_term.specs.declared.word.Word.{Word}
 use Rattle.mw_term.specs.Assigned.{Given}

@@ -7,7 +7,7 @@ use Rattle.std.proofs.lemmas.List.{get_or-take}
 use Rattle.mw_cycle.specs.declared.series.Series.{Series}
 use Rattle.mw_cycle.specs.declared.series.Series.TheVariants as lists
 use Rattle.mw_cycle.specs.Series.{kind_of}
-use Rattle.mw_cycle.proofs.Kinds.{no_variable}
+use Rattle.mw_cycle.proofs.Named.{no_variable}
 use Rattle.mw_term.specs.declared.decided.DecidedKind.{DecidedKind}
 use Rattle.mw_term.specs.declared.kinds.WordKind.{WordKind}
 use Rattle.mw_term.specs.declared.kinds.WordKind.TheVariants.{Base, Line, Probe}
