@@ -1,5 +1,5 @@
--- The variables of inputs, and how a source of D goes on.
-use Rattle.std.proofs.Common.{◌≡◌, inl, inr, ℕ, ◌⊎◌, List, [], ◌∷◌, ◌++◌, Bool, true, false, refl, ap, sym, ◌∙◌, Option}
+-- The widths of an environment's variables, and how a source of D goes on.
+use Rattle.std.proofs.Common.{◌≡◌, inl, inr, ℕ, ◌⊎◌, List, [], ◌∷◌, ◌++◌, Bool, true, false, refl, ap, sym, subst, ◌∙◌, Option}
 use Rattle.std.proofs.Common.{Some, None}
 use Rattle.std.specs.Prelude.{Result, Ok, Err, OnOk, if◌then◌else◌}
 use Rattle.mw_board.specs.declared.parts.BoardParts.{BoardParts}
@@ -12,7 +12,11 @@ use Rattle.mw_term.specs.Values.{IsTermOf, Keeps}
 use Rattle.mw_symmem.specs.declared.side.Side.{Side}
 use Rattle.mw_term.specs.declared.word.Word.{Word}
 use Rattle.mw_term.specs.WordList.{same_kind, variable, is_of, term_of}
-use Rattle.mw_symmem.specs.Kinds.{kind_own}
+use Rattle.mw_cycle.specs.declared.series.Series.{Series}
+use Rattle.mw_cycle.specs.declared.series.Series.TheVariants.{Inputs}
+use Rattle.mw_cycle.specs.Series.{kind_of, width_of}
+use Rattle.mw_cycle.proofs.Named.{no_variable, own_series}
+use Rattle.mw_symmem.specs.Kinds.{kind_is, kind_own}
 use Rattle.mw_symmem.specs.Memory.{Memory, AddsRead, IsMemory, IsOfWidth, with_read}
 use Rattle.mw_symmem.specs.Words.{AreOf}
 use Rattle.mw_symmem.specs.Workspace.{GoesOn, IsWorkspace}
@@ -20,7 +24,7 @@ use Rattle.mw_symmem.proofs.Growth.{width_stays}
 use Rattle.mw_symmem.proofs.Later.{goes_as, goes_by_growth, goes_by_read, goes_by_variable}
 use Rattle.mw_symmem.proofs.Lists.{absent, plain_behind, term_variable}
 use Rattle.mw_symboard.specs.Growth.{Grew}
-use Rattle.mw_symboard.specs.Kinds.{AreInputs, IsSourceKind}
+use Rattle.mw_symboard.specs.Kinds.{HaveWidths, IsSourceKind}
 
 -- ---- a variable
 
@@ -36,24 +40,31 @@ variable_found words term kind none =
     term_variable words term kind kind none
     ∙ ap (λ (b : Bool). if b then Some term else term_of words kind) (kind_own kind)
 
-one_of : (b : Bool) (x y : ℕ) (o : Option ℕ) → (if b then Some x else o) ≡ Some y → (x ≡ y) ⊎ (o ≡ Some y)
-one_of true x y o is = inl cc
+one_of : (b : Bool) (x y : ℕ) (o : Option ℕ) → (if b then Some x else o) ≡ Some y
+    → ((b ≡ true) × (x ≡ y)) ⊎ (o ≡ Some y)
+one_of true x y o is = inl (refl, cc)
 one_of false x y o is = inr is
 
-no_base : (n k : ℕ) → Input n ≡ Base k → ⊥
-no_base n k is = absurd cc
+no_base : (series : Series) (n k : ℕ) → kind_of series n ≡ Base k → ⊥
+no_base series n k is = no_variable (Base k) series n refl (sym is)
 
 pub source_kind : (taken : ℕ) → IsSourceKind taken (Input taken)
 source_kind taken = inr refl
 
-pub inputs_with : (board : BoardParts) (told tnew : Table) (words : List Word) (term number : ℕ)
-    → Extends told tnew → Keeps told tnew → term_of words (Input number) ≡ None → IsOfWidth tnew board.width term
-    → AreInputs board told words → AreInputs board tnew (words ++ variable term (Input number) ∷ [])
-inputs_with board told tnew words term number extends keeps none wide inputs n a at =
-    elim (one_of (same_kind (Input number) (Input n)) term a (term_of words (Input n))
-    (sym (term_variable words term (Input number) (Input n) none) ∙ at)) [
-      | inl same ↦ rw (← same) wide
-      | inr old ↦ width_stays told tnew board.width a extends keeps (inputs n a old)
+-- widths with a variable of a list more
+pub widths_with : (board : BoardParts) (told tnew : Table) (words : List Word) (term : ℕ) (own : Series) (number : ℕ)
+    → Extends told tnew → Keeps told tnew → term_of words (kind_of own number) ≡ None
+    → IsOfWidth tnew (width_of board.width own) term → HaveWidths board told words
+    → HaveWidths board tnew (words ++ variable term (kind_of own number) ∷ [])
+widths_with board told tnew words term own number extends keeps none wide widths series n a at =
+    elim (one_of (same_kind (kind_of own number) (kind_of series n)) term a (term_of words (kind_of series n))
+    (sym (term_variable words term (kind_of own number) (kind_of series n) none) ∙ at)) [
+      | inl same ↦
+          let one : own ≡ series =
+          own_series own series number n (kind_is (kind_of own number) (kind_of series n) same.0) in
+          subst (λ (x : ℕ). IsOfWidth tnew (width_of board.width series) x) same.1
+          (subst (λ (s : Series). IsOfWidth tnew (width_of board.width s) term) one wide)
+      | inr old ↦ width_stays told tnew (width_of board.width series) a extends keeps (widths series n a old)
     ]
 
 pub goes_by_input : (taken : ℕ) (told tnew : Table) (wold wnew : List Word) (m : Memory) (term : ℕ)
@@ -62,9 +73,9 @@ pub goes_by_input : (taken : ℕ) (told tnew : Table) (wold wnew : List Word) (m
     → GoesOn (IsSourceKind taken) told tnew wold wnew m m
 goes_by_input taken told tnew wold wnew m term words extends keeps table of workspace =
     goes_by_variable (IsSourceKind taken) told tnew wold wnew m term (Input taken) words extends keeps table of
-    (source_kind taken) (λ k is. no_base taken k is) workspace
+    (source_kind taken) (λ k is. no_base Inputs taken k is) workspace
 
--- ---- words that are no inputs
+-- ---- words that are no variables of an environment
 
 not_behind : (words more : List Word) (kind : WordKind) → term_of more kind ≡ None
     → term_of (words ++ more) kind ≡ term_of words kind
@@ -75,16 +86,17 @@ not_behind (w ∷ words) more kind none =
 abbrev IsBase : WordKind → Type 0
 IsBase kind = (k : ℕ) × (kind ≡ Base k)
 
--- a read makes no input
-pub inputs_by_read : (board : BoardParts) (told tnew : Table) (wold wnew : List Word) (mold mnew : Memory)
-    → GoesOn IsBase told tnew wold wnew mold mnew → AreInputs board told wold → AreInputs board tnew wnew
-inputs_by_read board told tnew wold wnew mold mnew goes inputs n a at =
-    let none : term_of goes.more (Input n) ≡ None =
-    absent goes.more (Input n)
-    (λ place term is. (let kind = goes.kinds place term (Input n) is in no_base n kind.0 kind.1)) in
-    let old : term_of wold (Input n) ≡ Some a =
-    sym (not_behind wold goes.more (Input n) none) ∙ ap (λ ws. term_of ws (Input n)) (sym goes.words) ∙ at in
-    width_stays told tnew board.width a goes.later.extends goes.later.keeps (inputs n a old)
+-- a read makes no variable of an environment
+pub widths_by_read : (board : BoardParts) (told tnew : Table) (wold wnew : List Word) (mold mnew : Memory)
+    → GoesOn IsBase told tnew wold wnew mold mnew → HaveWidths board told wold → HaveWidths board tnew wnew
+widths_by_read board told tnew wold wnew mold mnew goes widths series n a at =
+    let own = kind_of series n in
+    let none : term_of goes.more own ≡ None =
+    absent goes.more own (λ place term is. (let kind = goes.kinds place term own is in no_base series n kind.0 kind.1))
+    in
+    let old : term_of wold own ≡ Some a =
+    sym (not_behind wold goes.more own none) ∙ ap (λ ws. term_of ws own) (sym goes.words) ∙ at in
+    width_stays told tnew (width_of board.width series) a goes.later.extends goes.later.keeps (widths series n a old)
 
 pub goes_by_base : (told tnew : Table) (wold wnew : List Word) (mold mnew : Memory) (side : Side)
     (address base term : ℕ) → AddsRead wold wnew mold
@@ -101,18 +113,19 @@ goes_as_source taken told tnew wold wnew mold mnew goes =
 
 -- ---- words that are no variables
 
-inputs_grew : (board : BoardParts) (told tnew : Table) (wold wnew : List Word) → AreInputs board told wold
-    → Grew told tnew wold wnew → AreInputs board tnew wnew
-inputs_grew board told tnew wold wnew inputs grew n a at =
+pub widths_grew : (board : BoardParts) (told tnew : Table) (wold wnew : List Word) → HaveWidths board told wold
+    → Grew told tnew wold wnew → HaveWidths board tnew wnew
+widths_grew board told tnew wold wnew widths grew series n a at =
     let grows = grew.1 in
-    let old : term_of wold (Input n) ≡ Some a =
-    sym (plain_behind wold grew.0 (Input n)) ∙ ap (λ ws. term_of ws (Input n)) (sym grows.words) ∙ at in
-    width_stays told tnew board.width a grows.extends grows.keeps (inputs n a old)
+    let own = kind_of series n in
+    let old : term_of wold own ≡ Some a =
+    sym (plain_behind wold grew.0 own) ∙ ap (λ ws. term_of ws own) (sym grows.words) ∙ at in
+    width_stays told tnew (width_of board.width series) a grows.extends grows.keeps (widths series n a old)
 
-pub inputs_ok : {X Y : Type 0} (r : Result X Y) (board : BoardParts) (told tnew : Table) (wold wnew : List Word)
-    → AreInputs board told wold → OnOk r (Grew told tnew wold wnew) → OnOk r (AreInputs board tnew wnew)
-inputs_ok (Ok x) board told tnew wold wnew inputs grew = inputs_grew board told tnew wold wnew inputs grew
-inputs_ok (Err x) board told tnew wold wnew inputs grew = tt
+pub widths_ok : {X Y : Type 0} (r : Result X Y) (board : BoardParts) (told tnew : Table) (wold wnew : List Word)
+    → HaveWidths board told wold → OnOk r (Grew told tnew wold wnew) → OnOk r (HaveWidths board tnew wnew)
+widths_ok (Ok x) board told tnew wold wnew widths grew = widths_grew board told tnew wold wnew widths grew
+widths_ok (Err x) board told tnew wold wnew widths grew = tt
 
 pub goes_ok : {X Y : Type 0} (r : Result X Y) (taken : ℕ) (told tnew : Table) (wold wnew : List Word) (m : Memory)
     → IsWorkspace told wold m → OnOk r (Grew told tnew wold wnew)

@@ -21,6 +21,9 @@ use Rattle.mw_term.specs.declared.event.SymEvent.TheVariants.{Out, Taken}
 use Rattle.mw_term.specs.declared.decided.DecidedKind.{DecidedKind}
 use Rattle.mw_term.specs.declared.kinds.WordKind.{WordKind}
 use Rattle.mw_term.specs.declared.kinds.WordKind.TheVariants.{Line, Noise, Input}
+use Rattle.mw_cycle.specs.declared.series.Series.TheVariants as lists
+use Rattle.mw_cycle.specs.Series.{kind_of}
+use Rattle.mw_cycle.proofs.Lists.{bit_at}
 use Rattle.mw_term.specs.declared.word.Word.{Word}
 use Rattle.mw_term.specs.Assigned.{Given}
 use Rattle.mw_term.specs.MemoryRead.{Held}
@@ -176,11 +179,14 @@ outside_of board t words given env p k same is =
     subst (λ (c : Clock). IsOutside board t given words p (given_at env c)) (sym same)
     (record {
       line = λ term found.
-          let v = variable_of words (Line p.cycle) term found in sym (is.line p.cycle v.0 term v.1);
+          let v = variable_of words (Line p.cycle) term found in
+          sym (is.values lists.Line p.cycle v.0 term v.1) ∙ bit_at env.line p.cycle;
       noise = λ term found.
-          let v = variable_of words (Noise p.cycle) term found in sym (is.noise p.cycle v.0 term v.1);
+          let v = variable_of words (Noise p.cycle) term found in
+          sym (is.values lists.Noise p.cycle v.0 term v.1);
       input = λ term found.
-          let v = variable_of words (Input p.taken) term found in sym (is.input p.taken v.0 term v.1);
+          let v = variable_of words (Input p.taken) term found in
+          sym (is.values lists.Inputs p.taken v.0 term v.1);
       noise_below = is.within.noise p.cycle;
       input_below = is.within.inputs p.taken;
     })
@@ -352,12 +358,9 @@ runs_fit_before board told tnew wold wnew more mold mnew given x workspace later
         fit = images_fit_before told tnew wold mold mnew given x.image later workspace.memory reads fits.fit;
         outside = record {
           within = fits.outside.within;
-          line = λ n place term is.
-              fits.outside.line n place term (there (Line n) place term is) ∙ value (Line n) place term is;
-          noise = λ n place term is.
-              fits.outside.noise n place term (there (Noise n) place term is) ∙ value (Noise n) place term is;
-          input = λ n place term is.
-              fits.outside.input n place term (there (Input n) place term is) ∙ value (Input n) place term is;
+          values = λ series n place term is.
+              fits.outside.values series n place term (there (kind_of series n) place term is)
+              ∙ value (kind_of series n) place term is;
         };
       },
       λ terms at sp are begins. record {

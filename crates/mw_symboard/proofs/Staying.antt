@@ -9,7 +9,8 @@ use Rattle.mw_seq.specs.declared.instruction.CounterMove.{CounterMove}
 use Rattle.mw_seq.specs.declared.instruction.CounterMove.TheVariants as counters
 use Rattle.mw_seq.specs.Instruction.{instruction_of}
 use Rattle.mw_term.specs.declared.kinds.WordKind.{WordKind}
-use Rattle.mw_term.specs.declared.kinds.WordKind.TheVariants.{Line, Noise, Input}
+use Rattle.mw_term.specs.declared.kinds.WordKind.TheVariants.{Line, Noise}
+use Rattle.mw_cycle.specs.Series.{kind_of, width_of}
 use Rattle.mw_term.specs.declared.op.Op.TheVariants.{Not}
 use Rattle.mw_term.specs.Table.{Table, Extends}
 use Rattle.mw_term.specs.declared.event.SymEvent.{SymEvent}
@@ -23,7 +24,7 @@ use Rattle.mw_symboard.specs.declared.reading.Reading.{Reading}
 use Rattle.mw_symboard.specs.declared.leaving.Leaving.{Leaving}
 use Rattle.mw_symboard.specs.Cycle.{IsCounter, IsLeaving, IsReading, IsTurned, effect_by}
 use Rattle.mw_symboard.specs.Growth.{Grew}
-use Rattle.mw_symboard.specs.Kinds.{AreInputs}
+use Rattle.mw_symboard.specs.Kinds.{HaveWidths}
 use Rattle.mw_symboard.specs.Seen.{Progress, microword_of}
 use Rattle.mw_symboard.specs.Turns.{Symbolic, AreEvents, AreNoLater, HasRead, IsSymbolic, Leaves, event_term}
 use Rattle.mw_symboard.proofs.Standing.{addend_r_stays, addend_s_stays, bit_term_stays, bits_stay, direct_stays}
@@ -42,18 +43,18 @@ plain_same [] made kind = plain_none made kind
 plain_same (w ∷ words) made kind =
     ap (λ (found : Option ℕ). if is_of w.kind kind then Some w.term else found) (plain_same words made kind)
 
--- no line and no noise is there still
+-- there are no later variables still
 pub none_stay : (cycle : ℕ) (words : List Word) (made : List ℕ) → AreNoLater cycle words
     → AreNoLater cycle (words ++ map plain made)
-none_stay cycle words made none n later =
-    (plain_same words made (Line n) ∙ (none n later).0, plain_same words made (Noise n) ∙ (none n later).1)
+none_stay cycle words made none series by n later =
+    plain_same words made (kind_of series n) ∙ none series by n later
 
--- inputs keep their width
-pub inputs_stay : (board : BoardParts) (told tnew : Table) (words : List Word) (made : List ℕ) → IsLater told tnew
-    → AreInputs board told words → AreInputs board tnew (words ++ map plain made)
-inputs_stay board told tnew words made later inputs n term is =
-    width_stays told tnew board.width term later.extends later.keeps
-    (inputs n term (sym (plain_same words made (Input n)) ∙ is))
+-- the variables of an environment keep their widths
+pub widths_stay : (board : BoardParts) (told tnew : Table) (words : List Word) (made : List ℕ) → IsLater told tnew
+    → HaveWidths board told words → HaveWidths board tnew (words ++ map plain made)
+widths_stay board told tnew words made later widths series n term is =
+    width_stays told tnew (width_of board.width series) term later.extends later.keeps
+    (widths series n term (sym (plain_same words made (kind_of series n)) ∙ is))
 
 -- so do events
 pub events_stay : (board : BoardParts) (told tnew : Table) (es : List SymEvent) → IsLater told tnew
@@ -162,7 +163,7 @@ symbolic_stays board store told tnew old new m o workspace grew is =
       at = is.at;
       sp = is.sp;
       parts = parts_stay board told tnew o.place.parts later.extends later.keeps is.parts;
-      inputs = inputs_stay board told tnew old made later is.inputs;
+      widths = widths_stay board told tnew old made later is.widths;
       events = events_stay board told tnew o.events later is.events;
       reading = has_read_stays board store told tnew old made m o.place o.reading workspace later mar is.reading;
       leaving = leaves_stays board store told tnew o.place o.reading o.leaving later is.leaving;

@@ -1,25 +1,28 @@
 -- The variables of a cycle among words that are added.
-use Rattle.std.proofs.Common.{◌≡◌, inl, inr, ℕ, suc, ◌+◌, ◌≤◌, ◌==◌, List, [], ◌∷◌, ◌++◌, map, Bool, true, false}
+use Rattle.std.proofs.Common.{◌≡◌, inl, inr, ℕ, suc, ◌+◌, ◌≤◌, List, [], ◌∷◌, ◌++◌, Bool, true, false}
 use Rattle.std.proofs.Common.{Option, Some, None, if◌then◌else◌, refl, sym, subst, ◌∙◌, ap, arith}
-use Rattle.std.proofs.lemmas.Bool.Decides.{nat_tests}
 use Rattle.mw_board.specs.declared.parts.BoardParts.{BoardParts}
 use Rattle.mw_term.specs.declared.kinds.WordKind.{WordKind}
-use Rattle.mw_term.specs.declared.kinds.WordKind.TheVariants.{Base, Input, Line, Noise}
-use Rattle.mw_term.specs.declared.op.Op.TheVariants.{Var}
-use Rattle.mw_term.specs.Table.{Table, Extends, IsTable, op_width}
-use Rattle.mw_term.specs.Values.{IsTermOf, Keeps}
+use Rattle.mw_term.specs.declared.kinds.WordKind.TheVariants.{Base, Line, Noise}
+use Rattle.mw_term.specs.Table.{Table, Extends, IsTable}
+use Rattle.mw_term.specs.Values.{Keeps}
 use Rattle.mw_term.specs.declared.word.Word.{Word}
-use Rattle.mw_term.specs.WordList.{same_kind, plain, variable, is_of, term_of}
+use Rattle.mw_term.specs.WordList.{same_kind, variable, is_of, term_of}
 use Rattle.mw_symmem.specs.Kinds.{kind_is, kind_own}
 use Rattle.mw_symmem.specs.Memory.{Memory, IsOfWidth}
 use Rattle.mw_symmem.specs.Words.{AreOf}
 use Rattle.mw_symmem.specs.Workspace.{GoesOn, HaveKinds, IsWorkspace}
-use Rattle.mw_symmem.proofs.Growth.{width_stays}
 use Rattle.mw_symmem.proofs.Later.{goes_by_variable, goes_then}
 use Rattle.mw_symmem.proofs.Lists.{term_variable}
 use Rattle.mw_symboard.specs.Growth.{Grew}
-use Rattle.mw_symboard.specs.Kinds.{AreInputs, IsCycleKind, IsSourceKind}
+use Rattle.mw_cycle.specs.declared.series.Series.{Series}
+use Rattle.mw_cycle.specs.declared.series.Series.TheVariants as lists
+use Rattle.mw_cycle.specs.Series.{goes_by_cycle, kind_of}
+use Rattle.mw_cycle.proofs.Named.{no_variable, own_number, own_series}
+use Rattle.mw_symboard.specs.Kinds.{HaveWidths, IsCycleKind, IsSourceKind}
 use Rattle.mw_symboard.specs.Turns.{AreNoLater}
+use Rattle.mw_symboard.proofs.Inputs.{widths_with}
+use Rattle.mw_symboard.proofs.Staying.{plain_same}
 
 -- ---- a kind that isn't there
 
@@ -59,69 +62,49 @@ none_kind K (w ∷ words) kind kinds other =
 
 -- ---- with words that are no variables
 
-plain_none : (made : List ℕ) (kind : WordKind) → term_of (map plain made) kind ≡ None
-plain_none [] kind = refl
-plain_none (x ∷ made) kind = plain_none made kind
-
-plain_stays : (words : List Word) (made : List ℕ) (kind : WordKind)
-    → term_of (words ++ map plain made) kind ≡ term_of words kind
-plain_stays [] made kind = plain_none made kind
-plain_stays (w ∷ words) made kind =
-    ap (λ (found : Option ℕ). if is_of w.kind kind then Some w.term else found) (plain_stays words made kind)
-
 -- a kind has the variable that it had
 pub grew_term : (told tnew : Table) (old new : List Word) (kind : WordKind) → Grew told tnew old new
     → term_of new kind ≡ term_of old kind
 grew_term told tnew old new kind grew =
-    ap (λ (ws : List Word). term_of ws kind) grew.1.words ∙ plain_stays old grew.0 kind
-
-pub grew_inputs : (board : BoardParts) (told tnew : Table) (old new : List Word) → Grew told tnew old new
-    → AreInputs board told old → AreInputs board tnew new
-grew_inputs board told tnew old new grew are n term is =
-    width_stays told tnew board.width term grew.1.extends grew.1.keeps
-    (are n term (sym (grew_term told tnew old new (Input n) grew) ∙ is))
+    ap (λ (ws : List Word). term_of ws kind) grew.1.words ∙ plain_same old grew.0 kind
 
 pub grew_none_later : (cycle : ℕ) (told tnew : Table) (old new : List Word) → Grew told tnew old new
     → AreNoLater cycle old → AreNoLater cycle new
-grew_none_later cycle told tnew old new grew none n from = (
-  grew_term told tnew old new (Line n) grew ∙ (none n from).0,
-  grew_term told tnew old new (Noise n) grew ∙ (none n from).1,
-)
+grew_none_later cycle told tnew old new grew none series by n from =
+    grew_term told tnew old new (kind_of series n) grew ∙ none series by n from
 
 -- ---- with what a source of D makes
 
-no_line : (taken n : ℕ) → IsSourceKind taken (Line n) → ⊥
-no_line taken n is = elim is [
-  | inl h ↦ let e : Line n ≡ Base h.0 = h.1 in cc
-  | inr h ↦ cc
-]
-
-no_noise : (taken n : ℕ) → IsSourceKind taken (Noise n) → ⊥
-no_noise taken n is = elim is [
-  | inl h ↦ let e : Noise n ≡ Base h.0 = h.1 in cc
-  | inr h ↦ cc
+no_source : (taken n : ℕ) (series : Series) → goes_by_cycle series ≡ true → IsSourceKind taken (kind_of series n) → ⊥
+no_source taken n series by is = elim is [
+  | inl h ↦ no_variable (Base h.0) series n refl (sym h.1)
+  | inr h ↦
+      let no : false ≡ true =
+      subst (λ (s : Series). goes_by_cycle s ≡ true) (own_series series lists.Inputs n taken h) by in absurd cc
 ]
 
 pub source_none_later : (cycle taken : ℕ) (old new more : List Word) → new ≡ old ++ more
     → HaveKinds (IsSourceKind taken) more → AreNoLater cycle old → AreNoLater cycle new
-source_none_later cycle taken old new more words kinds none n from = (
-  ap (λ (ws : List Word). term_of ws (Line n)) words
-      ∙ none_both old more (Line n) (none n from).0
-      (none_kind (IsSourceKind taken) more (Line n) kinds (no_line taken n)),
-  ap (λ (ws : List Word). term_of ws (Noise n)) words
-      ∙ none_both old more (Noise n) (none n from).1
-      (none_kind (IsSourceKind taken) more (Noise n) kinds (no_noise taken n)),
-)
+source_none_later cycle taken old new more words kinds none series by n from =
+    let own = kind_of series n in
+    ap (λ (ws : List Word). term_of ws own) words
+    ∙ none_both old more own (none series by n from)
+    (none_kind (IsSourceKind taken) more own kinds (no_source taken n series by))
 
 -- ---- line and noise
 
-unequal : (m n : ℕ) → m + 1 ≤ n → (m == n) ≡ false
-unequal m n less = grind (arith, nat_tests)
+not_so : (b : Bool) → (b ≡ true → ⊥) → b ≡ false
+not_so true other = absurd (other refl)
+not_so false other = refl
 
--- a variable has the bits of its op
-pub wide_variable : (told tnew : Table) (n w term : ℕ) → IsTermOf told tnew (Var n w) term → IsOfWidth tnew w term
-unfolding op_width
-wide_variable told tnew n w term made = record { there = made.there; width_is = made.width }
+-- a variable of a cycle is none of a later one
+apart : (own series : Series) (cycle n : ℕ) → cycle + 1 ≤ n
+    → same_kind (kind_of own cycle) (kind_of series n) ≡ false
+apart own series cycle n later =
+    not_so (same_kind (kind_of own cycle) (kind_of series n))
+    (λ same.
+    let one : cycle ≡ n =
+    own_number own series cycle n (kind_is (kind_of own cycle) (kind_of series n) same) in omega (arith, one, later))
 
 no_base_line : (cycle k : ℕ) → Line cycle ≡ Base k → ⊥
 no_base_line cycle k is = cc
@@ -134,12 +117,12 @@ with_line : (cycle : ℕ) (w0 w1 : List Word) (line : ℕ) (kind : WordKind) →
     → term_of w1 kind ≡ (if same_kind (Line cycle) kind then Some line else term_of w0 kind)
 with_line cycle w0 w1 line kind none words =
     ap (λ (ws : List Word). term_of ws kind) words
-    ∙ term_variable w0 line (Line cycle) kind (none cycle (omega arith)).0
+    ∙ term_variable w0 line (Line cycle) kind (none lists.Line refl cycle (omega arith))
 
 pub absent_noise : (cycle : ℕ) (w0 w1 : List Word) (line : ℕ) → AreNoLater cycle w0
     → w1 ≡ w0 ++ variable line (Line cycle) ∷ [] → term_of w1 (Noise cycle) ≡ None
 absent_noise cycle w0 w1 line none words =
-    with_line cycle w0 w1 line (Noise cycle) none words ∙ (none cycle (omega arith)).1
+    with_line cycle w0 w1 line (Noise cycle) none words ∙ none lists.Noise refl cycle (omega arith)
 
 module _ (cycle : ℕ) (t0 t1 t2 : Table) (w0 w1 w2 : List Word) (line noise : ℕ) (none : AreNoLater cycle w0)
     (words : w1 ≡ w0 ++ variable line (Line cycle) ∷ []) (more : w2 ≡ w1 ++ variable noise (Noise cycle) ∷ []) where
@@ -164,28 +147,30 @@ module _ (cycle : ℕ) (t0 t1 t2 : Table) (w0 w1 w2 : List Word) (line noise : �
       ∙ ap (λ (b : Bool). if b then Some noise else term_of w1 (Noise cycle)) (kind_own (Noise cycle))
 
   pub none_after : AreNoLater (cycle + 1) w2
-  none_after n from =
-      let before = none n (omega arith) in (
-        with_noise (Line n) ∙ before_noise (Line n)
-            ∙ ap (λ (b : Bool). if b then Some line else term_of w0 (Line n)) (unequal cycle n from) ∙ before.0,
-        with_noise (Noise n)
-            ∙ ap (λ (b : Bool). if b then Some noise else term_of w1 (Noise n)) (unequal cycle n from)
-            ∙ before_noise (Noise n) ∙ before.1,
-      )
+  none_after series by n from =
+      let own = kind_of series n in
+      with_noise own ∙ ap (λ (b : Bool). if b then Some noise else term_of w1 own) (apart lists.Noise series cycle n from)
+      ∙ before_noise own ∙ ap (λ (b : Bool). if b then Some line else term_of w0 own)
+      (apart lists.Line series cycle n from)
+      ∙ none series by n (omega (arith, from))
 
-  pub inputs_after : (board : BoardParts) → Extends t0 t1 → Keeps t0 t1 → Extends t1 t2 → Keeps t1 t2
-      → AreInputs board t0 w0 → AreInputs board t2 w2
-  inputs_after board extends keeps later_extends later_keeps are n term is =
-      width_stays t1 t2 board.width term later_extends later_keeps
-      (width_stays t0 t1 board.width term extends keeps
-      (are n term (sym (with_noise (Input n) ∙ before_noise (Input n)) ∙ is)))
+  pub widths_after : (board : BoardParts) → Extends t0 t1 → Keeps t0 t1 → Extends t1 t2 → Keeps t1 t2
+      → IsOfWidth t1 1 line → IsOfWidth t2 14 noise → HaveWidths board t0 w0 → HaveWidths board t2 w2
+  widths_after board extends keeps later_extends later_keeps line_wide noise_wide are =
+      let one : HaveWidths board t1 w1 =
+      subst (λ (ws : List Word). HaveWidths board t1 ws) (sym words)
+      (widths_with board t0 t1 w0 line lists.Line cycle extends keeps (none lists.Line refl cycle (omega arith)) line_wide
+      are) in
+      subst (λ (ws : List Word). HaveWidths board t2 ws) (sym more)
+      (widths_with board t1 t2 w1 noise lists.Noise cycle later_extends later_keeps
+      (absent_noise cycle w0 w1 line none words) noise_wide one)
 
   pub goes_by_both : (taken : ℕ) (m : Memory) → Extends t0 t1 → Keeps t0 t1 → IsTable t1
       → (AreOf t0 w0 → AreOf t1 w1) → Extends t1 t2 → Keeps t1 t2 → IsTable t2 → (AreOf t1 w1 → AreOf t2 w2)
       → IsWorkspace t0 w0 m → GoesOn (IsCycleKind cycle taken) t0 t2 w0 w2 m m
   goes_by_both taken m extends keeps table of later_extends later_keeps later_table later_of workspace =
       let first = goes_by_variable (IsCycleKind cycle taken) t0 t1 w0 w1 m line
-      (Line cycle) words extends keeps table of (inr (inl refl)) (no_base_line cycle) workspace in
+      (Line cycle) words extends keeps table of (inr (lists.Line, refl, refl)) (no_base_line cycle) workspace in
       goes_then (IsCycleKind cycle taken) t0 t1 t2 w0 w1 w2 m m m first
       (goes_by_variable (IsCycleKind cycle taken) t1 t2 w1 w2 m noise (Noise cycle) more later_extends later_keeps
-      later_table later_of (inr (inr refl)) (no_base_noise cycle) first.workspace)
+      later_table later_of (inr (lists.Noise, refl, refl)) (no_base_noise cycle) first.workspace)

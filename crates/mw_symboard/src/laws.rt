@@ -51,10 +51,10 @@ pub fn paths_are_of_the_run()
     ensures passed { PassedGoOn }
 {}
 
-/// The law of variables: a cycle that has begun has its line and its noise, of 1 and 14 bits, and they stay. Where
-/// those of the finished cycles are there, there is a number of cycles whose variables are there, and no later ones; so
-/// it stays while only variables of base reads and inputs come. A variable has the value that the assignment
-/// gives its number.
+/// The law of variables: a cycle that has begun has its line and its noise, and they stay. Where those of the finished
+/// cycles are there, there is a number of cycles whose variables are there, and no later ones, and the variables of an
+/// environment have the widths of its lists; so it stays while only variables of base reads and inputs come. A variable
+/// has the value that the assignment gives its number.
 pub fn variables_are_there()
     ensures begun { BegunHasVariables }
     ensures stay { VariablesStay }
@@ -63,9 +63,9 @@ pub fn variables_are_there()
     ensures cycles_stay { CyclesStay }
 {}
 
-/// The law of environments: for every assignment there is an environment that has the values of the variables of lines,
-/// noise and inputs; for every environment there is an assignment under which it has them, which differs from a given
-/// one in these variables alone; and it has them under each assignment that differs in others alone.
+/// The law of environments: for every assignment there is an environment that has the values of the variables of its
+/// lists; for every environment there is an assignment under which it has them, which differs from a given one in these
+/// variables alone; and it has them under each assignment that differs in others alone.
 pub fn environments_are_there()
     ensures there { EnvironmentsAreThere }
     ensures reached { EnvironmentsAreReached }

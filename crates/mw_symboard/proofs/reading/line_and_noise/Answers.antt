@@ -1,10 +1,14 @@
-use Rattle.std.proofs.Common.{◌+◌, length, ap, sym, ◌∙◌}
+use Rattle.std.proofs.Common.{◌+◌, length, refl, ap, sym, ◌∙◌, arith}
+use Rattle.mw_cycle.specs.declared.series.Series.TheVariants.{Line}
 use Rattle.mw_symmem.proofs.Growth.{width_stays}
-use Rattle.mw_symboard.proofs.Variables.{absent_noise, goes_by_both, inputs_after, line_there, noise_there, none_after}
-use Rattle.mw_symboard.proofs.Variables.{wide_variable}
+use Rattle.mw_symboard.proofs.Inputs.{wide_variable}
+use Rattle.mw_symboard.proofs.Variables.{absent_noise, goes_by_both, line_there, noise_there, none_after, widths_after}
 use Rattle.mw_term.specs.WordList.{Ended, with_variable}
 use Rattle.mw_term.specs.declared.kinds.WordKind.TheVariants.{Noise}
 use Rattle.mw_symboard.proofs.reading.line_and_noise.Goals as goal
+
+pub fresh-requires-clause-own : goal.fresh-requires-clause-own
+fresh-requires-clause-own c = c.requires.none Line refl c.args.cycle (omega arith)
 
 pub noise_word-requires : goal.noise_word-requires
 noise_word-requires c =
@@ -45,15 +49,18 @@ returns-clause-goes c = λ taken m workspace.
     c.in_ok-noise.ensures.words
     taken m one.extends one.keeps one.table one.of two.extends two.keeps two.table two.of workspace)
 
-pub returns-clause-inputs : goal.returns-clause-inputs
-returns-clause-inputs c = λ board are n term is.
+pub returns-clause-widths : goal.returns-clause-widths
+returns-clause-widths c = λ board are.
     (let one = c.in_ok-line.ensures in
     let two = c.in_ok-noise.ensures in
-    inputs_after c.args.cycle c.args.terms.now c.fresh.new.terms c.noise_word.new.terms c.args.words.now
+    widths_after c.args.cycle c.args.terms.now c.fresh.new.terms c.noise_word.new.terms c.args.words.now
     c.fresh.new.self
     c.noise_word.new.words c.in_ok-line.line c.in_ok-noise.noise c.requires.none c.in_ok-line.ensures.words
     c.in_ok-noise.ensures.words
-    board one.extends one.keeps two.extends two.keeps are n term is)
+    board one.extends one.keeps two.extends two.keeps
+    (wide_variable c.args.terms.now c.fresh.new.terms (length c.args.words.now + 1) 1 c.in_ok-line.line one.made)
+    (wide_variable c.fresh.new.terms c.noise_word.new.terms (length c.fresh.new.self + 1) 14 c.in_ok-noise.noise
+    two.made) are)
 
 pub returns-clause-none : goal.returns-clause-none
 returns-clause-none c =

@@ -1,6 +1,7 @@
 use Rattle.std.proofs.Common.{◌≡◌, ◌∙◌, ◌+◌, length, ap, sym}
 use Rattle.mw_term.specs.declared.kinds.WordKind.TheVariants.{Input}
-use Rattle.mw_symboard.proofs.Inputs.{goes_by_input, inputs_with, variable_found, wide_variable}
+use Rattle.mw_cycle.specs.declared.series.Series.TheVariants.{Inputs}
+use Rattle.mw_symboard.proofs.Inputs.{goes_by_input, variable_found, wide_variable, widths_with}
 use Rattle.mw_term.specs.WordList.{list_of, variable_or, with_variable}
 use Rattle.mw_symboard.proofs.source.fresh_input.Goals as goal
 
@@ -22,15 +23,15 @@ returns-clause-goes c =
     goes_by_input c.args.number c.args.terms.now c.fresh.new.terms c.args.words.now c.fresh.new.self c.args.memory.now
     c.in_ok-term.term e.words e.extends e.keeps e.table e.of c.requires.workspace
 
-pub returns-clause-inputs : goal.returns-clause-inputs
-returns-clause-inputs c =
+pub returns-clause-widths : goal.returns-clause-widths
+returns-clause-widths c =
     let e = c.in_ok-term.ensures in
     let width : c.bits.result ≡ c.args.board.now.width = c.bits.ensures.exact ∙ c.width.ensures.exact in
     let wide = wide_variable c.args.terms.now c.fresh.new.terms (length c.args.words.now + 1) c.bits.result
     c.in_ok-term.term e.made in
     rw e.words
-    (inputs_with c.args.board.now c.args.terms.now c.fresh.new.terms c.args.words.now c.in_ok-term.term c.args.number
-    e.extends e.keeps c.requires.absent (rw width at wide) c.requires.inputs)
+    (widths_with c.args.board.now c.args.terms.now c.fresh.new.terms c.args.words.now c.in_ok-term.term Inputs
+    c.args.number e.extends e.keeps c.requires.absent (rw width at wide) c.requires.widths)
 
 pub returns-clause-listed : goal.returns-clause-listed
 returns-clause-listed c = λ reads.
