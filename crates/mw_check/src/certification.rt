@@ -70,7 +70,9 @@ fn stop_of(fault: ForkFault) -> SearchStop
 fn are_short(env: &Env) -> bool
     ensures { IsTrue result → AreShort env.now }
 {
-    Series::all().iter().all(|series| env.length(*series) <= MOST_ENTRIES)
+    Series::all()
+        .iter()
+        .all(|series| env.length(*series) <= MOST_ENTRIES)
 }
 
 /// The counter of a start that an assignment gives.
