@@ -1,5 +1,5 @@
 // Whether a job is certified.
-ghost use Rattle.std.specs.Prelude.{◌≡◌, ◌≢◌, ◌<◌, ℕ, List, length, IfOk, IfErr, IfSome, OnOk, None};
+ghost use Rattle.std.specs.Prelude.{◌≡◌, ◌≢◌, ◌<◌, ℕ, List, length, IfOk, IfErr, IfSome, IsTrue, OnOk, None};
 ghost use Rattle.mw_term.specs.declared.decided.Decided.{Decided};
 ghost use Rattle.mw_rel.specs.Certified.{Certified};
 ghost use Rattle.mw_rel.specs.Views.{job_of};
@@ -19,7 +19,7 @@ ghost use Rattle.mw_check.specs.Verdict.{NoneDiffersBefore};
 
 use crate::verdict::{Summary, Verdict};
 use mw_base::{Items, NoMemory};
-use mw_cycle::Env;
+use mw_cycle::{Env, Series};
 use mw_fork::{Budget, Fork, ForkFault, Over};
 use mw_rel::{Begin, Job};
 use mw_replay::Counter;
@@ -66,17 +66,21 @@ fn stop_of(fault: ForkFault) -> SearchStop
     }
 }
 
+/// Whether no list of an environment has more entries than a counter's may have in a file.
+fn are_short(env: &Env) -> bool
+    ensures { IsTrue result → AreShort env.now }
+{
+    Series::all()
+        .iter()
+        .all(|series| env.length(*series) <= MOST_ENTRIES)
+}
+
 /// The counter of a start that an assignment gives.
 fn counter_at(boundary: usize, begin: Begin) -> Result<Counter, NoMemory>
     ensures is { IfOk result (λ counter. counter ≡ record { boundary = boundary; begin = begin }) }
     ensures short { IfOk result (λ counter. AreShort counter.begin.env) }
 {
-    let Env {
-        line,
-        noise,
-        inputs,
-    } = &begin.env;
-    if line.len() > MOST_ENTRIES || noise.len() > MOST_ENTRIES || inputs.len() > MOST_ENTRIES {
+    if !are_short(&begin.env) {
         // There are never so many: a segment has at most 500 cycles, and a step at most 4,096 statements.
         return Err(NoMemory);
     }

@@ -1,7 +1,8 @@
 -- At each boundary there is a start, and so there is a case.
-use Rattle.std.proofs.Common.{ℕ, ◌<◌, ◌^◌, [], length, replicate, slice_index, refl, lit<}
+use Rattle.std.proofs.Common.{ℕ, ◌<◌, ◌^◌, length, replicate, slice_index, refl}
 use Rattle.std.proofs.lemmas.List.{length-replicate}
-use Rattle.std.proofs.lemmas.Nat.{pow_pos}
+use Rattle.mw_cycle.specs.Environment.{no_values}
+use Rattle.mw_cycle.proofs.Lists.{none_is}
 use Rattle.mw_macro.proofs.Words.{zero_below}
 use Rattle.mw_rel.specs.Begin.{Begin, IsBegin, free_elements}
 use Rattle.mw_rel.specs.Case.{IsStartAt, case_of}
@@ -17,7 +18,7 @@ abbrev nothing_at : (job : Job) (number : ℕ) → Begin
 nothing_at job number = record {
   values = replicate (length (free_elements job (numbered job number))) 0;
   memory = replicate (2 ^ job.relation.shape.address) 0;
-  env = record { line = []; noise = []; inputs = [] };
+  env = no_values;
 }
 
 nothing_begins : (job : Job) (number : ℕ) → IsBegin job (numbered job number) (nothing_at job number)
@@ -41,13 +42,13 @@ some_start job number is there =
       record {
         boundary = numbered job number;
         pair = pair.0;
-        env = record { line = []; noise = []; inputs = [] };
+        env = no_values;
       },
       record {
         begins = record {
           boundary = (number, at);
           related = pair.1.related;
-          env = record { noise = λ i. lit< tt; inputs = λ i. pow_pos job.board.width };
+          env = none_is job.board;
         };
         there = at;
       },

@@ -4,10 +4,13 @@ use Rattle.std.proofs.Common.{◌≡◌, ℕ, ◌<◌, ◌^◌, List, length, ma
 use Rattle.std.specs.Prelude.{true, Option, Some, None}
 use Rattle.std.proofs.lemmas.Nat.{pow_pos}
 use Rattle.mw_board.specs.declared.parts.BoardParts.{BoardParts}
-use Rattle.mw_cycle.specs.Environment.{Environment}
+use Rattle.mw_cycle.specs.declared.series.Series.{Series}
+use Rattle.mw_cycle.specs.Environment.{Environment, values_of}
+use Rattle.mw_cycle.specs.Series.{kind_of, width_of}
 use Rattle.mw_cycle.specs.Trimmed.{IsTrimmed}
+use Rattle.mw_cycle.proofs.Lists.{widths_are_all}
 use Rattle.mw_term.specs.declared.kinds.WordKind.{WordKind}
-use Rattle.mw_term.specs.declared.kinds.WordKind.TheVariants.{Element, Input, Line, Noise}
+use Rattle.mw_term.specs.declared.kinds.WordKind.TheVariants.{Element}
 use Rattle.mw_term.specs.declared.word.Word.{Word}
 use Rattle.mw_term.specs.Assigned.{Given}
 use Rattle.mw_term.specs.Table.{Table, IsTable, table_of}
@@ -30,7 +33,8 @@ use Rattle.mw_fork.specs.OnWay.{ground_in}
 use Rattle.mw_fork.specs.Starts.{Ground, IsGround, StandsForStart}
 use Rattle.mw_fork.proofs.FreeValues.{term_at}
 use Rattle.mw_fork.proofs.Grounds.{start_with}
-use Rattle.mw_fork.proofs.Taking.{free_same, noise_wide, own_found}
+use Rattle.mw_fork.proofs.Placing.{entry_of, outside_of}
+use Rattle.mw_fork.proofs.Taking.{free_same, own_found}
 
 -- an environment has the values of the variables that an assignment gives
 abbrev pub HasEntries : Table → List Word → Given → Environment → Type 0
@@ -46,26 +50,25 @@ value_below : (t : Table) (given : Given) (o : Option ℕ) (width : ℕ) → IsT
 value_below t given None width table wide = pow_pos width
 value_below t given (Some term) width table wide = value_within t given width term table (wide term refl)
 
+-- each value of its lists is that of its variable
+listed : (t : Table) (words : List Word) (given : Given) (env : Environment) (series : Series) (n : ℕ)
+    → HasEntries t words given env
+    → slice_index (values_of env series) n ≡ value_or_zero t given (term_of words (kind_of series n))
+listed t words given env series n entries =
+    sym (entry_of env series n) ∙ entries (kind_of series n) (outside_of series n)
+
 -- it is one of the assignment
 environment_of : (board : BoardParts) (t : Table) (words : List Word) (cycles : ℕ) (given : Given) (env : Environment)
     → IsTable t → HaveOwnKinds words → HaveVariables board t words cycles → HasEntries t words given env
     → IsEnvironmentOf board t words given env
 environment_of board t words cycles given env table own have entries = record {
-  within = record {
-    noise = λ i.
-        subst (λ v. v < 2 ^ 14) (sym (entries (Noise i) refl))
-        (value_below t given (term_of words (Noise i)) 14 table
-        (λ term is. noise_wide board t words cycles i term have is));
-    inputs = λ i.
-        subst (λ v. v < 2 ^ board.width) (sym (entries (Input i) refl))
-        (value_below t given (term_of words (Input i)) board.width table (have.inputs i));
-  };
-  line = λ n place term is.
-      entries (Line n) refl ∙ ap (value_or_zero t given) (own_found words place term (Line n) own is);
-  noise = λ n place term is.
-      entries (Noise n) refl ∙ ap (value_or_zero t given) (own_found words place term (Noise n) own is);
-  input = λ n place term is.
-      entries (Input n) refl ∙ ap (value_or_zero t given) (own_found words place term (Input n) own is);
+  within = widths_are_all board env (λ series i.
+      let bits = width_of board.width series in
+      subst (λ v. v < 2 ^ bits) (sym (listed t words given env series i entries))
+      (value_below t given (term_of words (kind_of series i)) bits table (have.widths series i)));
+  values = λ series n place term is.
+      listed t words given env series n entries
+      ∙ ap (value_or_zero t given) (own_found words place term (kind_of series n) own is);
 }
 
 -- the variables of the free elements have the values of their terms
@@ -120,8 +123,8 @@ assigned_by job number space given begin is values memory entries trimmed =
     record {
       values = values ∙ ap (λ (t : Table). map (λ e. kind_value t l given (Element e)) free) table;
       memory = λ address. memory address ∙ ap (λ (t : Table). base_word t given l.reads address) table;
-      line = λ n. entries (Line n) refl ∙ ap (λ (t : Table). kind_value t l given (Line n)) table;
-      noise = λ n. entries (Noise n) refl ∙ ap (λ (t : Table). kind_value t l given (Noise n)) table;
-      inputs = λ n. entries (Input n) refl ∙ ap (λ (t : Table). kind_value t l given (Input n)) table;
+      lists = λ series n.
+          listed space.terms space.words given begin.env series n entries
+          ∙ ap (λ (t : Table). kind_value t l given (kind_of series n)) table;
       trimmed = trimmed;
     }

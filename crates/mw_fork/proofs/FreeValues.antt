@@ -1,5 +1,5 @@
 -- Values of the free elements: as the terms of a run have them, and as an assignment gives them.
-use Rattle.std.proofs.Common.{◌≡◌, inl, inr, ℕ, zero, suc, ◌+◌, ◌%◌, ◌<◌, ◌^◌, List, length, map, add-one, ap, sym, ◌∙◌}
+use Rattle.std.proofs.Common.{◌≡◌, ℕ, zero, suc, ◌+◌, ◌%◌, ◌<◌, ◌^◌, List, length, map, add-one, refl, ap, sym, ◌∙◌}
 use Rattle.std.proofs.Common.{subst, arith}
 use Rattle.std.specs.Prelude.{Bool, true, filter, Option, Some, None, slice_get, slice_index}
 use Rattle.std.proofs.Math.Nat.{mod-eq_of_lt}
@@ -7,9 +7,10 @@ use Rattle.std.proofs.lemmas.List.{get_or-map, length-map}
 use Rattle.std.proofs.lemmas.Option.{same_Some}
 use Rattle.mw_cycle.specs.Boundary.{numbers}
 use Rattle.mw_cycle.specs.Environment.{Environment}
+use Rattle.mw_cycle.proofs.Named.{no_variable}
 use Rattle.mw_expr.specs.Values.{IsImage}
 use Rattle.mw_term.specs.declared.kinds.WordKind.{WordKind}
-use Rattle.mw_term.specs.declared.kinds.WordKind.TheVariants.{Base, Element, Input, Line, Noise}
+use Rattle.mw_term.specs.declared.kinds.WordKind.TheVariants.{Base, Element}
 use Rattle.mw_term.specs.declared.word.Word.{Word}
 use Rattle.mw_term.specs.Assigned.{Given}
 use Rattle.mw_term.specs.Table.{Table, IsTable}
@@ -113,22 +114,10 @@ same_kind words i j a b one two same first second =
     kind_of (same_Some (variable a one) (variable b two) (sym first ∙ ap (slice_get words) place ∙ second))
 
 no_outside : (n : ℕ) → ¬ IsOutsideKind (Element n)
-no_outside n is = elim is [
-  | inl h ↦ (let e : Element n ≡ Line h.0 = h.1 in cc)
-  | inr h ↦ elim h [
-    | inl h ↦ (let e : Element n ≡ Noise h.0 = h.1 in cc)
-    | inr h ↦ (let e : Element n ≡ Input h.0 = h.1 in cc)
-  ]
-]
+no_outside n is = no_variable (Element n) is.0 is.1 refl is.2
 
 base_inside : (k : ℕ) → ¬ IsOutsideKind (Base k)
-base_inside k is = elim is [
-  | inl h ↦ (let e : Base k ≡ Line h.0 = h.1 in cc)
-  | inr h ↦ elim h [
-    | inl h ↦ (let e : Base k ≡ Noise h.0 = h.1 in cc)
-    | inr h ↦ (let e : Base k ≡ Input h.0 = h.1 in cc)
-  ]
-]
+base_inside k is = no_variable (Base k) is.0 is.1 refl is.2
 
 -- the number of an element's variable is no other's
 pub element_inside : (words : List Word) (place term n : ℕ) → IsVariable words place term (Element n)
@@ -144,7 +133,7 @@ element_no_base words place term n is other =
     let e : Element n ≡ Base other.k =
     same_kind words place other.place term other.term (Element n) (Base other.k) other.number is other.is in cc
 
--- nor is that of a line, noise or input a base read's
+-- nor is that of a variable of an environment a base read's
 pub outside_no_base : (words : List Word) (n : ℕ) → IsOutsideNumber words n → ¬ IsBaseNumber words n
 outside_no_base words n one other =
     let e : one.kind ≡ Base other.k =

@@ -176,8 +176,8 @@ abbrev pub HasElements : Job → Ground → Given → Start → Type 0
 HasElements job g given start = (place term n : ℕ) → IsVariable g.words place term (Element n)
     → given (place + 1) ≡ with_values g.words (values_of job.board start.pair) (place + 1)
 
--- From such an assignment comes one of the start, which differs from it in the variables of base reads, lines, noise
--- and inputs alone.
+-- From such an assignment comes one of the start, which differs from it in the variables of base reads and of the
+-- environment alone.
 pub reached_from : (job : Job) (number : ℕ) (g : Ground) → IsJob job → IsGround job number g → (start : Start)
     → IsStartAt job number start → (first : Given) → HasElements job g first start
     → (given : Given) × StandsForStart job number g given start

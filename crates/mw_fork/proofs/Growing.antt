@@ -1,23 +1,28 @@
 -- What is known of starts stays as a run goes on.
-use Rattle.std.proofs.Common.{◌≡◌, ℕ, ◌+◌, ◌<◌, List, length, length-drop, slice_index, ap, sym, subst, ◌∙◌, arith}
-use Rattle.std.proofs.Common.{refl}
-use Rattle.std.specs.Prelude.{true}
+use Rattle.std.proofs.Common.{◌≡◌, ◌⊎◌, inl, inr, ℕ, ◌+◌, ◌<◌, List, ◌++◌, length, length-drop, slice_index, ap, sym}
+use Rattle.std.proofs.Common.{subst, ◌∙◌, arith, refl}
+use Rattle.std.specs.Prelude.{true, Option, Some, None}
+use Rattle.std.proofs.lemmas.Option.{same_Some}
 use Rattle.mw_board.specs.Elements.{element_count}
 use Rattle.mw_term.specs.declared.decided.Decided.{Decided}
 use Rattle.mw_term.specs.Assigned.{Given}
 use Rattle.mw_term.specs.declared.kinds.WordKind.{WordKind}
 use Rattle.mw_term.specs.declared.kinds.WordKind.TheVariants.{Element}
+use Rattle.mw_term.specs.declared.word.Word.{Word}
 use Rattle.mw_term.specs.Functions.{Function}
 use Rattle.mw_term.specs.Table.{Table}
 use Rattle.mw_term.specs.Values.{term_value}
-use Rattle.mw_term.specs.WordList.{variable}
+use Rattle.mw_term.specs.WordList.{term_of, variable}
+use Rattle.mw_symmem.specs.Memory.{IsOfWidth}
 use Rattle.mw_symmem.specs.Words.{HaveOwnKinds, IsVariable}
-use Rattle.mw_symmem.specs.Workspace.{GoesOn, IsLater}
+use Rattle.mw_symmem.specs.Workspace.{GoesOn, HaveKinds, IsLater}
 use Rattle.mw_symmem.proofs.Later.{image_before, images_fit_before, width_later}
 use Rattle.mw_symmem.proofs.Lists.{behind}
 use Rattle.mw_symboard.specs.Paths.{IsOneOf}
 use Rattle.mw_symboard.specs.Variables.{HaveVariables}
 use Rattle.mw_symboard.proofs.Runs.{runs_fit_before}
+use Rattle.mw_symboard.proofs.Standing.{found_stays}
+use Rattle.mw_symboard.proofs.Variables.{none_both, none_kind}
 use Rattle.mw_symmach.specs.Expressions.{AreTerms, values_at}
 use Rattle.mw_symmach.proofs.Making.{values_same}
 use Rattle.mw_rel.specs.Job.{Job, IsJob}
@@ -132,6 +137,34 @@ ground_later job number old new cycles is ground goes have = record {
   variables = have;
   own = goes.own;
 }
+
+-- ---- variables among words that are added
+
+-- a kind that isn't there, and that no word more has, isn't there still
+pub none_later : (K : WordKind → Type 0) (wold wnew more : List Word) (kind : WordKind) → wnew ≡ wold ++ more
+    → HaveKinds K more → ¬ K kind → term_of wold kind ≡ None → term_of wnew kind ≡ None
+none_later K wold wnew more kind words kinds other none =
+    ap (λ (ws : List Word). term_of ws kind) words ∙ none_both wold more kind none (none_kind K more kind kinds other)
+
+found_or_none : (o : Option ℕ) → (o ≡ None) ⊎ ((term : ℕ) × (o ≡ Some term))
+found_or_none None = inl refl
+found_or_none (Some term) = inr (term, refl)
+
+-- the variable of a kind that no word more has is the one that there was, and has its width
+pub width_kept : (K : WordKind → Type 0) (told tnew : Table) (wold wnew more : List Word) (kind : WordKind)
+    (width term : ℕ) → IsLater told tnew → wnew ≡ wold ++ more → HaveKinds K more → ¬ K kind
+    → ((own : ℕ) → term_of wold kind ≡ Some own → IsOfWidth told width own) → term_of wnew kind ≡ Some term
+    → IsOfWidth tnew width term
+width_kept K told tnew wold wnew more kind width term later words kinds other wide is =
+    elim (found_or_none (term_of wold kind)) [
+      | inl none ↦
+          let no : None ≡ Some term = sym (none_later K wold wnew more kind words kinds other none) ∙ is in absurd cc
+      | inr some ↦
+          let there : term_of wnew kind ≡ Some some.0 =
+          ap (λ (ws : List Word). term_of ws kind) words ∙ found_stays wold more kind some.0 some.1 in
+          subst (IsOfWidth tnew width) (same_Some some.0 term (sym there ∙ is))
+          (width_later told tnew width some.0 later (wide some.0 some.1))
+    ]
 
 -- ---- what holds on a path
 

@@ -35,6 +35,7 @@ pub mod Ordering
 pub mod OverCompared
 pub mod OverWords
 pub mod OwnTerms
+pub mod Placing
 pub mod Probes
 pub mod Related
 pub mod Runs

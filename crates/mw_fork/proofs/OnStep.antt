@@ -1,5 +1,6 @@
 -- A run is on its way through the described step.
-use Rattle.std.proofs.Common.{◌≡◌, ℕ, List, [], ◌∷◌, ◌++◌, append-nil, append_assoc, length, ap, sym, subst, ◌∙◌, refl}
+use Rattle.std.proofs.Common.{◌≡◌, ◌⊎◌, inl, inr, ℕ, List, [], ◌∷◌, ◌++◌, append-nil, append_assoc, length, ap, sym}
+use Rattle.std.proofs.Common.{subst, ◌∙◌, refl}
 use Rattle.std.specs.Prelude.{Bool, true, false, Option, Some, None, map, option_map, slice_get, slice_index_or, ◌==◌}
 use Rattle.std.proofs.lemmas.List.{length-map, map-append}
 use Rattle.std.proofs.lemmas.Option.{slice_get-map}
@@ -9,11 +10,16 @@ use Rattle.mw_macro.specs.State.{MachineState}
 use Rattle.mw_macro.specs.Statements.{nothing}
 use Rattle.mw_macro.specs.StepWords.{begun_words}
 use Rattle.mw_term.specs.declared.decided.Decided.{Decided}
+use Rattle.mw_cycle.specs.declared.series.Series.{Series}
+use Rattle.mw_cycle.specs.declared.series.Series.TheVariants as lists
 use Rattle.mw_cycle.specs.Decided.{decided}
+use Rattle.mw_cycle.specs.Series.{goes_by_cycle, kind_of, width_of}
+use Rattle.mw_cycle.proofs.Named.{no_variable, own_series}
+use Rattle.mw_cycle.proofs.Lists.{bit_at}
 use Rattle.mw_term.specs.Assigned.{Given}
 use Rattle.mw_term.specs.declared.decided.DecidedKind.{DecidedKind}
 use Rattle.mw_term.specs.declared.decided.DecidedKind.TheVariants.{Branch}
-use Rattle.mw_term.specs.declared.kinds.WordKind.TheVariants.{Input, Line}
+use Rattle.mw_term.specs.declared.kinds.WordKind.TheVariants.{Base, Input, Line}
 use Rattle.mw_term.specs.declared.word.Word.{Word}
 use Rattle.mw_term.specs.Functions.{Function}
 use Rattle.mw_term.specs.MemoryRead.{Held}
@@ -24,9 +30,9 @@ use Rattle.mw_symmem.specs.declared.turn.Turn.{Turn}
 use Rattle.mw_symmem.specs.declared.turn.Turn.TheVariants.{Ask, Finished}
 use Rattle.mw_symmem.specs.Memory.{Memory, IsOfWidth, after, valued}
 use Rattle.mw_symmem.specs.Words.{HaveOwnKinds}
-use Rattle.mw_symmem.specs.Workspace.{GoesOn}
+use Rattle.mw_symmem.specs.Workspace.{GoesOn, HaveKinds, IsLater}
 use Rattle.mw_symboard.specs.Along.{standing_in}
-use Rattle.mw_symboard.specs.Kinds.{AreInputs}
+use Rattle.mw_symboard.specs.Kinds.{HaveWidths}
 use Rattle.mw_symboard.specs.Turns.{Symbolic}
 use Rattle.mw_symboard.proofs.Environments.{cycles_stay}
 use Rattle.mw_symboard.proofs.RunBits.{get_behind}
@@ -56,7 +62,7 @@ use Rattle.mw_fork.specs.Starts.{GoesTo, Ground, IsGround, StandsForStart, cours
 use Rattle.mw_fork.specs.Steps.{said_from}
 use Rattle.mw_fork.specs.Ways.{Way, met_of}
 use Rattle.mw_fork.proofs.AlongStep.{along_none, along_turn, asks_for, ends_listed, left_at_start}
-use Rattle.mw_fork.proofs.Growing.{goes_to, on_path_later, on_path_narrower, start_before, way_later}
+use Rattle.mw_fork.proofs.Growing.{goes_to, on_path_later, on_path_narrower, start_before, way_later, width_kept}
 
 -- ---- the bits of a case
 
@@ -93,7 +99,7 @@ seen_in : (job : Job) (number : ℕ) (g : Ground) (given : Given) (start : Start
 seen_in job number g given start one = record {
   image = one.board.fits.image;
   fit = one.board.fits.fit;
-  inputs = one.board.fits.outside.input;
+  inputs = one.board.fits.outside.values lists.Inputs;
 }
 
 -- a start begins its step with the values of the registers' terms, the memory and the line of the first cycle
@@ -108,7 +114,7 @@ starts_so job number g given start registers request one unwritten same line =
       values = one.registers ∙ ap (λ terms. values_at g.table given terms) (sym same);
       memory = sym one.starts.begins.related.memory
           ∙ ap (λ writes. after start.pair.board.memory (map (valued g.table given) writes)) (sym unwritten);
-      line = sym (one.board.fits.outside.line 0 there.0 request there.1);
+      line = sym (one.board.fits.outside.values lists.Line 0 there.0 request there.1) ∙ bit_at start.env.line 0;
     }
 
 -- ---- a step that begins
@@ -150,14 +156,45 @@ begun_behind job number cycles elements from way run request o step left begun l
 -- ---- a turn
 
 -- the variables of inputs that a step has have the board's width
-inputs_of : (job : Job) (t : Table) (words : List Word) (m : Memory) (p : Parts) (request : Option ℕ) → IsJob job
-    → HasTerms job.machine t words m p request → AreInputs job.board t words
-inputs_of job t words m p None is has k term at =
+input_wide : (job : Job) (t : Table) (words : List Word) (m : Memory) (p : Parts) (request : Option ℕ) (k term : ℕ)
+    → IsJob job → HasTerms job.machine t words m p request → term_of words (Input k) ≡ Some term
+    → IsOfWidth t job.board.width term
+input_wide job t words m p None k term is has at =
     let there = found words (Input k) term at in
     subst (λ w. IsOfWidth t w term) is.matched.word (has.input k there.0 term there.1)
-inputs_of job t words m p (Some request) is has k term at =
+input_wide job t words m p (Some request) k term is has at =
     let there = found words (Input k) term at in
     subst (λ w. IsOfWidth t w term) is.matched.word (has.0.input k there.0 term there.1)
+
+-- a step makes no variable of a list that goes by cycle
+not_of_step : (series : Series) (n : ℕ) → goes_by_cycle series ≡ true → ¬ IsOfStep (kind_of series n)
+not_of_step series n by_cycle is = elim is [
+  | inl h ↦ no_variable (Base h.0) series n refl (sym h.1)
+  | inr h ↦
+      let same : series ≡ lists.Inputs = own_series series lists.Inputs n h.0 h.1 in
+      let no : false ≡ true = sym (ap goes_by_cycle same) ∙ by_cycle in absurd cc
+]
+
+-- whether a list goes by cycle or not
+by_cycle_or_inputs : (series : Series) → (goes_by_cycle series ≡ true) ⊎ (series ≡ lists.Inputs)
+by_cycle_or_inputs lists.Inputs = inr refl
+by_cycle_or_inputs series = inl refl
+
+-- all variables of an environment that there are after a turn have the widths of its lists
+widths_turned : (job : Job) (told tnew : Table) (wold wnew more : List Word) (m : Memory) (p : Parts)
+    (request : Option ℕ) → IsJob job → IsLater told tnew → wnew ≡ wold ++ more → HaveKinds IsOfStep more
+    → HasTerms job.machine tnew wnew m p request → HaveWidths job.board told wold → HaveWidths job.board tnew wnew
+widths_turned job told tnew wold wnew more m p request is later words kinds has wide series n term at =
+    elim (by_cycle_or_inputs series) [
+      | inl by_cycle ↦
+          width_kept IsOfStep told tnew wold wnew more (kind_of series n) (width_of job.board.width series) term later
+          words kinds (not_of_step series n by_cycle) (wide series n) at
+      | inr same ↦
+          let there : term_of wnew (Input n) ≡ Some term =
+          subst (λ (s : Series). term_of wnew (kind_of s n) ≡ Some term) same at in
+          subst (λ (s : Series). IsOfWidth tnew (width_of job.board.width s) term) (sym same)
+          (input_wide job tnew wnew m p request n term is has there)
+    ]
 
 -- what a turn says of the step of a start, of which these bits were given
 record Says (job : Job) (space : Space) (given : Given) (start : Start) (o : Stepping) (bits : List Bool) (turn : Turn)
@@ -256,8 +293,9 @@ turns job number cycles elements from segment board way sold snew paths old new 
     let to = goes_to IsOfStep sold snew elements goes own in
     let ground = on.on.stands in
     let variables = cycles_stay job.board sold.terms snew.terms sold.words snew.words goes.more ground.cycles goes.later
-    goes.words goes.kinds (inputs_of job snew.terms snew.words snew.memory new.parts new.request is stepping.terms)
-    ground.variables in
+    goes.words goes.kinds
+    (widths_turned job sold.terms snew.terms sold.words snew.words goes.more snew.memory new.parts new.request is
+    goes.later goes.words goes.kinds stepping.terms ground.variables.widths) ground.variables in
     let says = λ (given : Given) (start : Start) (one : StandsForStart job number now given start)
     (at : path_in paths given ≡ true).
     turns_are_of_the_step job.machine sold.terms snew.terms snew.words sold.memory snew.memory old new turn given

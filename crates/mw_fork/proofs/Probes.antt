@@ -1,26 +1,24 @@
 -- For each start and each address there is an assignment whose probe is that address; and the ground of a run stays
 -- while both sides are compared.
-use Rattle.std.proofs.Common.{◌≡◌, ◌⊎◌, inl, inr, ℕ, ◌+◌, ◌<◌, ◌%◌, ◌^◌, List, ◌++◌, ap, sym, subst, ◌∙◌, arith, refl}
-use Rattle.std.specs.Prelude.{◌==◌, if◌then◌else◌, Option, None, Some}
+use Rattle.std.proofs.Common.{◌≡◌, ℕ, ◌+◌, ◌<◌, ◌%◌, ◌^◌, List, ◌++◌, ap, sym, subst, ◌∙◌, arith, refl}
+use Rattle.std.specs.Prelude.{◌==◌, if◌then◌else◌}
 use Rattle.std.proofs.Math.Nat.{mod-eq_of_lt}
 use Rattle.std.proofs.lemmas.Bool.Decides.{nat_tests}
-use Rattle.std.proofs.lemmas.Option.{same_Some}
 use Rattle.mw_board.specs.declared.parts.BoardParts.{BoardParts}
-use Rattle.mw_term.specs.declared.kinds.WordKind.TheVariants.{Base, Element, Input, Line, Noise, Probe}
+use Rattle.mw_cycle.specs.declared.series.Series.{Series}
+use Rattle.mw_cycle.specs.declared.series.Series.TheVariants.{Inputs, Line, Noise}
+use Rattle.mw_cycle.specs.Series.{kind_of, width_of}
+use Rattle.mw_cycle.proofs.Named.{no_variable}
+use Rattle.mw_term.specs.declared.kinds.WordKind.TheVariants.{Base, Element, Probe}
 use Rattle.mw_term.specs.declared.word.Word.{Word}
 use Rattle.mw_term.specs.Assigned.{Given}
 use Rattle.mw_term.specs.Table.{Table}
 use Rattle.mw_term.specs.Values.{term_value}
-use Rattle.mw_term.specs.WordList.{term_of}
 use Rattle.mw_symmem.specs.Memory.{IsBaseNumber, IsOfWidth}
 use Rattle.mw_symmem.specs.Words.{HaveOwnKinds, IsVariable}
 use Rattle.mw_symmem.specs.Workspace.{HaveKinds, IsLater}
-use Rattle.mw_symmem.proofs.Later.{width_later}
-use Rattle.mw_symboard.specs.Kinds.{AreInputs}
 use Rattle.mw_symboard.specs.Variables.{HaveVariables, IsOutsideKind, IsOutsideNumber}
 use Rattle.mw_symboard.proofs.Environments.{variables_have_values, variables_stay}
-use Rattle.mw_symboard.proofs.Standing.{found_stays}
-use Rattle.mw_symboard.proofs.Variables.{none_both, none_kind}
 use Rattle.mw_rel.specs.Case.{IsStartAt}
 use Rattle.mw_rel.specs.InRelation.{values_of}
 use Rattle.mw_rel.specs.Job.{Job, IsJob}
@@ -31,18 +29,12 @@ use Rattle.mw_fork.specs.OnWay.{ground_in}
 use Rattle.mw_fork.specs.Starts.{GoesTo, Ground, IsGround, StandsForStart}
 use Rattle.mw_fork.proofs.FreeValues.{same_kind, with_values}
 use Rattle.mw_fork.proofs.Grounds.{reached_from}
-use Rattle.mw_fork.proofs.Growing.{goes_to, ground_later, start_before}
+use Rattle.mw_fork.proofs.Growing.{goes_to, ground_later, none_later, start_before, width_kept}
 
 -- ---- the probe's number is no other variable's
 
 probe_outside : ¬ IsOutsideKind Probe
-probe_outside is = elim is [
-  | inl h ↦ (let e : Probe ≡ Line h.0 = h.1 in cc)
-  | inr h ↦ elim h [
-    | inl h ↦ (let e : Probe ≡ Noise h.0 = h.1 in cc)
-    | inr h ↦ (let e : Probe ≡ Input h.0 = h.1 in cc)
-  ]
-]
+probe_outside is = no_variable Probe is.0 is.1 refl is.2
 
 probe_inside : (words : List Word) (place term : ℕ) → IsVariable words place term Probe
     → ¬ IsOutsideNumber words (place + 1)
@@ -99,51 +91,23 @@ reached_at job number g place probe address is ground at wide less start starts 
 
 -- ---- the ground while both sides are compared
 
-line_not_compared : (n : ℕ) → IsComparedKind (Line n) → ⊥
-line_not_compared n is = is
-
-noise_not_compared : (n : ℕ) → IsComparedKind (Noise n) → ⊥
-noise_not_compared n is = is
-
-input_not_compared : (n : ℕ) → IsComparedKind (Input n) → ⊥
-input_not_compared n is = is
-
-found_or_none : (o : Option ℕ) → (o ≡ None) ⊎ ((term : ℕ) × (o ≡ Some term))
-found_or_none None = inl refl
-found_or_none (Some term) = inr (term, refl)
-
--- the inputs' variables are those that there were
-inputs_compared : (board : BoardParts) (told tnew : Table) (wold wnew more : List Word) → IsLater told tnew
-    → wnew ≡ wold ++ more → HaveKinds IsComparedKind more → AreInputs board told wold → AreInputs board tnew wnew
-inputs_compared board told tnew wold wnew more later words kinds inputs n term is =
-    let there : term_of (wold ++ more) (Input n) ≡ Some term =
-    ap (λ (ws : List Word). term_of ws (Input n)) (sym words) ∙ is in
-    elim (found_or_none (term_of wold (Input n))) [
-      | inl none ↦
-          let no : term_of (wold ++ more) (Input n) ≡ None =
-          none_both wold more (Input n) none (none_kind IsComparedKind more (Input n) kinds (input_not_compared n)) in
-          absurd cc
-      | inr some ↦
-          let old : term_of (wold ++ more) (Input n) ≡ Some some.0 = found_stays wold more (Input n) some.0 some.1 in
-          subst (IsOfWidth tnew board.width) (same_Some some.0 term (sym old ∙ there))
-          (width_later told tnew board.width some.0 later (inputs n some.0 some.1))
-    ]
+not_compared : (series : Series) (n : ℕ) → ¬ IsComparedKind (kind_of series n)
+not_compared Inputs n is = is
+not_compared Line n is = is
+not_compared Noise n is = is
 
 -- the variables of the cycles stay all that there are
 cycles_compared : (board : BoardParts) (told tnew : Table) (wold wnew more : List Word) (cycles : ℕ) → IsLater told tnew
     → wnew ≡ wold ++ more → HaveKinds IsComparedKind more → HaveVariables board told wold cycles
     → HaveVariables board tnew wnew cycles
 cycles_compared board told tnew wold wnew more cycles later words kinds has = record {
-  each = λ n less. variables_stay told tnew wold wnew more n later words (has.each n less);
-  none = λ n past. (
-    ap (λ (ws : List Word). term_of ws (Line n)) words
-        ∙ none_both wold more (Line n) (has.none n past).0
-        (none_kind IsComparedKind more (Line n) kinds (line_not_compared n)),
-    ap (λ (ws : List Word). term_of ws (Noise n)) words
-        ∙ none_both wold more (Noise n) (has.none n past).1
-        (none_kind IsComparedKind more (Noise n) kinds (noise_not_compared n)),
-  );
-  inputs = inputs_compared board told tnew wold wnew more later words kinds has.inputs;
+  each = λ n less. variables_stay wold wnew more n words (has.each n less);
+  none = λ series by_cycle n past.
+      none_later IsComparedKind wold wnew more (kind_of series n) words kinds (not_compared series n)
+      (has.none series by_cycle n past);
+  widths = λ series n term is.
+      width_kept IsComparedKind told tnew wold wnew more (kind_of series n) (width_of board.width series) term later
+      words kinds (not_compared series n) (has.widths series n) is;
 }
 
 -- what a comparison works on went on

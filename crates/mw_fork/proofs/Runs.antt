@@ -4,9 +4,13 @@ use Rattle.std.proofs.Common.{length-drop, slice_index, ap, sym, subst, ◌∙�
 use Rattle.std.specs.Prelude.{Bool, if◌then◌else◌, Option, Some, None}
 use Rattle.std.proofs.lemmas.Bool.{cases_lt}
 use Rattle.std.proofs.lemmas.List.{get_or-take}
+use Rattle.mw_cycle.specs.declared.series.Series.{Series}
+use Rattle.mw_cycle.specs.declared.series.Series.TheVariants as lists
+use Rattle.mw_cycle.specs.Series.{kind_of}
+use Rattle.mw_cycle.proofs.Named.{no_variable}
 use Rattle.mw_term.specs.declared.decided.DecidedKind.{DecidedKind}
 use Rattle.mw_term.specs.declared.kinds.WordKind.{WordKind}
-use Rattle.mw_term.specs.declared.kinds.WordKind.TheVariants.{Base, Input, Line, Noise, Probe}
+use Rattle.mw_term.specs.declared.kinds.WordKind.TheVariants.{Base, Line, Probe}
 use Rattle.mw_term.specs.declared.word.Word.{Word}
 use Rattle.mw_term.specs.Table.{Table}
 use Rattle.mw_term.specs.WordList.{is_of, term_of}
@@ -17,7 +21,7 @@ use Rattle.mw_symmem.specs.Workspace.{GoesOn, HaveKinds}
 use Rattle.mw_symmem.proofs.Later.{width_later}
 use Rattle.mw_symboard.specs.declared.reading.Reading.{Reading}
 use Rattle.mw_symboard.specs.Cycle.{bits_before}
-use Rattle.mw_symboard.specs.Kinds.{AreInputs, IsCycleKind}
+use Rattle.mw_symboard.specs.Kinds.{HaveWidths, IsCycleKind}
 use Rattle.mw_symboard.specs.Seen.{Progress, microword_of}
 use Rattle.mw_symboard.specs.Turns.{AreNoLater, Asks, HasRead, IsSymbolic, IsTurn, Symbolic, decided_so, reads_by}
 use Rattle.mw_symboard.specs.Turns.{reads_to_come}
@@ -99,10 +103,7 @@ no_probe_in cycle taken kind = elim kind [
     | inl k ↦ let is : Probe ≡ Base k.0 = k.1 in absurd cc
     | inr is ↦ absurd cc
   ]
-  | inr h ↦ elim h [
-    | inl is ↦ absurd cc
-    | inr is ↦ absurd cc
-  ]
+  | inr h ↦ no_variable Probe h.0 cycle refl h.2
 ]
 
 -- ---- turns
@@ -202,18 +203,24 @@ pub registers_count : (job : Job) (t : Table) (terms : List ℕ) → IsJob job �
 registers_count job t terms is wide =
     omega (arith, length-drop (element_count job.board) terms, wide.count, widths_count job is)
 
-pub start_inputs : (parts : BoardParts) (t : Table) (words : List Word) → HaveKinds IsStartKind words
-    → AreInputs parts t words
-start_inputs parts t words kinds n term is =
-    let none : term_of words (Input n) ≡ None =
-    absent words (Input n) (λ place other at. kinds place other (Input n) at) in
-    absurd cc
+-- no variable of an environment is there
+not_started : (series : Series) (n : ℕ) → ¬ IsStartKind (kind_of series n)
+not_started lists.Inputs n is = is
+not_started lists.Line n is = is
+not_started lists.Noise n is = is
+
+start_without : (words : List Word) (series : Series) (n : ℕ) → HaveKinds IsStartKind words
+    → term_of words (kind_of series n) ≡ None
+start_without words series n kinds =
+    absent words (kind_of series n) (λ place other at. not_started series n (kinds place other (kind_of series n) at))
+
+pub start_widths : (parts : BoardParts) (t : Table) (words : List Word) → HaveKinds IsStartKind words
+    → HaveWidths parts t words
+start_widths parts t words kinds series n term is =
+    let no : None ≡ Some term = sym (start_without words series n kinds) ∙ is in absurd cc
 
 pub start_no_later : (words : List Word) → HaveKinds IsStartKind words → AreNoLater 0 words
-start_no_later words kinds n from = (
-  absent words (Line n) (λ place other at. kinds place other (Line n) at),
-  absent words (Noise n) (λ place other at. kinds place other (Noise n) at),
-)
+start_no_later words kinds series by_cycle n from = start_without words series n kinds
 
 pub address_at : (job : Job) (n : ℕ) → IsJob job → n < length job.relation.boundaries
     → (numbered job n).address < 2 ^ 12

@@ -1,29 +1,32 @@
 -- An assignment's values of the variables of a list.
-use Rattle.std.proofs.Common.{◌≡◌, inl, inr, ℕ, zero, suc, ◌+◌, ◌<◌, List, [], ◌∷◌, ◌++◌, drop, length, length-take-le}
+use Rattle.std.proofs.Common.{◌≡◌, ℕ, zero, suc, ◌+◌, ◌^◌, ◌<◌, ◌≤◌, List, [], ◌∷◌, ◌++◌, drop, length, length-take-le}
 use Rattle.std.proofs.Common.{map, take, take-append-drop, refl, ap, sym, subst, ◌∙◌, arith}
 use Rattle.std.specs.Prelude.{if◌then◌else◌, Bool, true, false, filter, Option, Some, None, slice_get, slice_index_or}
-use Rattle.std.proofs.lemmas.Bool.{cases_lt}
+use Rattle.std.proofs.Math.Pow.{pow_mono}
 use Rattle.std.proofs.lemmas.List.{map-append, take_more}
 use Rattle.std.proofs.lemmas.List.Elements.{filter-append}
 use Rattle.std.proofs.lemmas.Option.{get_or_from_slice_get, same_Some, slice_get_read, slice_get_within}
 use Rattle.mw_board.specs.declared.parts.BoardParts.{BoardParts}
 use Rattle.mw_cycle.specs.Boundary.{numbers}
+use Rattle.mw_cycle.specs.declared.series.Series.{Series}
+use Rattle.mw_cycle.specs.declared.series.Series.TheVariants.{Inputs, Line, Noise}
 use Rattle.mw_cycle.specs.Environment.{Environment}
+use Rattle.mw_cycle.specs.Series.{kind_of, width_of}
 use Rattle.mw_term.specs.declared.kinds.WordKind.{WordKind}
-use Rattle.mw_term.specs.declared.kinds.WordKind.TheVariants.{Input, Line, Noise}
 use Rattle.mw_term.specs.declared.word.Word.{Word}
 use Rattle.mw_term.specs.Assigned.{Given}
-use Rattle.mw_term.specs.Table.{Table}
+use Rattle.mw_term.specs.Table.{IsTable, Table}
 use Rattle.mw_term.specs.Values.{term_value}
 use Rattle.mw_term.specs.WordList.{is_of, term_of, variable}
-use Rattle.mw_symmem.specs.Memory.{IsOfWidth}
 use Rattle.mw_symmem.specs.Words.{AreOf, HaveOwnKinds, IsVariable}
+use Rattle.mw_symmem.proofs.Images.{value_within}
 use Rattle.mw_symmem.proofs.Lists.{absent, behind, missing, term_plain, term_variable}
 use Rattle.mw_symboard.specs.Variables.{HaveVariables}
 use Rattle.mw_symboard.proofs.Runs.{variable_of}
 use Rattle.mw_rel.proofs.Completed.{numbers_more}
 use Rattle.mw_fork.specs.Begins.{value_or_zero}
 use Rattle.mw_fork.specs.Entries.{entry, is_outside}
+use Rattle.mw_fork.proofs.Placing.{entry_none}
 
 -- a variable's term is one of the table
 pub found_there : (t : Table) (words : List Word) (kind : WordKind) (term : ℕ) → AreOf t words
@@ -141,29 +144,26 @@ taken_next words place w at =
 
 -- ---- the widths of the variables
 
-pub line_wide : (board : BoardParts) (t : Table) (words : List Word) (cycles n term : ℕ)
-    → HaveVariables board t words cycles → term_of words (Line n) ≡ Some term → IsOfWidth t 1 term
-line_wide board t words cycles n term have is = elim (cases_lt n cycles) [
-  | inl before ↦
-      let own = have.each n before in
-      subst (IsOfWidth t 1) (same_Some own.line term (sym own.is_line ∙ is)) own.line_wide
-  | inr past ↦ (let no : None ≡ Some term = sym (have.none n past).0 ∙ is in absurd cc)
-]
+-- no value of a list has more bits than one of a list whose values have more
+width_most : (width : ℕ) (series : Series) → width ≤ 32 → width_of width series ≤ width_of 32 series
+width_most width Inputs narrow = narrow
+width_most width Line narrow = omega arith
+width_most width Noise narrow = omega arith
 
-pub noise_wide : (board : BoardParts) (t : Table) (words : List Word) (cycles n term : ℕ)
-    → HaveVariables board t words cycles → term_of words (Noise n) ≡ Some term → IsOfWidth t 14 term
-noise_wide board t words cycles n term have is = elim (cases_lt n cycles) [
-  | inl before ↦
-      let own = have.each n before in
-      subst (IsOfWidth t 14) (same_Some own.noise term (sym own.is_noise ∙ is)) own.noise_wide
-  | inr past ↦ (let no : None ≡ Some term = sym (have.none n past).1 ∙ is in absurd cc)
-]
+-- the value of a variable of an environment is a value of its list
+pub value_fits : (board : BoardParts) (t : Table) (words : List Word) (cycles term : ℕ) (given : Given)
+    (series : Series) (n : ℕ) → board.width ≤ 32 → IsTable t → HaveVariables board t words cycles
+    → term_of words (kind_of series n) ≡ Some term → term_value t given term < 2 ^ width_of 32 series
+value_fits board t words cycles term given series n narrow table have is =
+    let bits = width_of board.width series in
+    let below : term_value t given term < 2 ^ bits =
+    value_within t given bits term table (have.widths series n term is) in
+    let most : 2 ^ bits ≤ 2 ^ width_of 32 series = pow_mono (width_most board.width series narrow) in
+    omega (arith, below, most)
 
 -- a kind whose variable isn't there has no value yet
 pub entry_fresh : (env : Environment) (t : Table) (given : Given) (words : List Word) (kind : WordKind)
     → ((k : WordKind) → is_outside k ≡ true → entry env k ≡ value_or_zero t given (term_of words k))
     → term_of words kind ≡ None → entry env kind ≡ 0
-entry_fresh env t given words (Line n) entries none = entries (Line n) refl ∙ ap (value_or_zero t given) none
-entry_fresh env t given words (Noise n) entries none = entries (Noise n) refl ∙ ap (value_or_zero t given) none
-entry_fresh env t given words (Input n) entries none = entries (Input n) refl ∙ ap (value_or_zero t given) none
-entry_fresh env t given words kind entries none = refl
+entry_fresh env t given words kind entries none =
+    entry_none env kind (λ outside. entries kind outside ∙ ap (value_or_zero t given) none)

@@ -1,8 +1,9 @@
 -- The start that an assignment gives, and starts that differ.
-use Rattle.std.specs.Prelude.{◌≡◌, ◌≢◌, ℕ, List, map, false, Option, Some, None, slice_index}
-use Rattle.std.specs.Prelude.{slice_index_or}
-use Rattle.mw_base.specs.Words.{num}
+use Rattle.std.specs.Prelude.{◌≡◌, ◌≢◌, ℕ, List, map, Option, Some, None, slice_index}
 use Rattle.mw_term.specs.declared.decided.Decided.{Decided}
+use Rattle.mw_cycle.specs.declared.series.Series.{Series}
+use Rattle.mw_cycle.specs.Environment.{values_of}
+use Rattle.mw_cycle.specs.Series.{kind_of}
 use Rattle.mw_cycle.specs.Trimmed.{IsTrimmed}
 use Rattle.mw_rel.specs.Begin.{Begin, IsCompleted, free_elements}
 use Rattle.mw_rel.specs.Case.{IsStartAt, case_of}
@@ -12,7 +13,7 @@ use Rattle.mw_rel.specs.Job.{Job}
 use Rattle.mw_rel.specs.Sought.{IsSought}
 use Rattle.mw_rel.specs.Start.{Start}
 use Rattle.mw_term.specs.declared.kinds.WordKind.{WordKind}
-use Rattle.mw_term.specs.declared.kinds.WordKind.TheVariants.{Element, Input, Line, Noise}
+use Rattle.mw_term.specs.declared.kinds.WordKind.TheVariants.{Element}
 use Rattle.mw_term.specs.Assigned.{Given, Numbers, given_by}
 use Rattle.mw_term.specs.Functions.{Function}
 use Rattle.mw_term.specs.Table.{Table}
@@ -30,19 +31,17 @@ value_or_zero t given None = 0
 abbrev pub kind_value : Table → WordList → Given → WordKind → ℕ
 kind_value t l given kind = value_or_zero t given (term_of l.words kind)
 
--- What an assignment gives by a list: the free elements, lines, noise and inputs have the values of their variables,
--- and the memory that of the oldest base read at an address, and 0 elsewhere.
+-- What an assignment gives by a list: the free elements and the lists of the environment have the values of their
+-- variables, and the memory that of the oldest base read at an address, and 0 elsewhere.
 pub record IsAssigned (job : Job) (number : ℕ) (l : WordList) (given : Given) (begin : Begin) : Type 0 where
   pub values : begin.values
       ≡ map (λ e. kind_value (table_in job.board.map_entries l) l given (Element e))
       (free_elements job (numbered job number))
   pub memory : (address : ℕ)
       → slice_index begin.memory address ≡ base_word (table_in job.board.map_entries l) given l.reads address
-  pub line : (n : ℕ)
-      → num (slice_index_or begin.env.line n false) ≡ kind_value (table_in job.board.map_entries l) l given (Line n)
-  pub noise : (n : ℕ) → slice_index begin.env.noise n ≡ kind_value (table_in job.board.map_entries l) l given (Noise n)
-  pub inputs : (n : ℕ)
-      → slice_index begin.env.inputs n ≡ kind_value (table_in job.board.map_entries l) l given (Input n)
+  pub lists : (series : Series) (n : ℕ)
+      → slice_index (values_of begin.env series) n
+      ≡ kind_value (table_in job.board.map_entries l) l given (kind_of series n)
   pub trimmed : IsTrimmed begin.env
 
 -- a start of the boundary that a choice gives

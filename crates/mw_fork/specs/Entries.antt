@@ -1,24 +1,23 @@
--- What an environment has for its lines, noise and inputs.
-use Rattle.std.specs.Prelude.{◌≡◌, ℕ, Bool, true, false, if◌then◌else◌, slice_index, slice_index_or}
-use Rattle.mw_base.specs.Words.{num}
-use Rattle.mw_cycle.specs.Environment.{Environment}
+-- What an environment has for its variables.
+use Rattle.std.specs.Prelude.{◌≡◌, ℕ, Bool, true, if◌then◌else◌, Option, Some, None, is_some, slice_index}
+use Rattle.mw_cycle.specs.declared.series.Series.{Series}
+use Rattle.mw_cycle.specs.Environment.{Environment, values_of}
+use Rattle.mw_cycle.specs.Series.{value_named}
 use Rattle.mw_term.specs.declared.kinds.WordKind.{WordKind}
-use Rattle.mw_term.specs.declared.kinds.WordKind.TheVariants.{Input, Line, Noise}
 use Rattle.mw_term.specs.WordList.{same_kind}
 
--- the entry of a line, noise or input
-abbrev pub entry : Environment → WordKind → ℕ
-entry env (Line n) = num (slice_index_or env.line n false)
-entry env (Noise n) = slice_index env.noise n
-entry env (Input n) = slice_index env.inputs n
-entry env other = 0
+-- the value of a list with a number, and 0 where none is named
+abbrev pub value_at : Environment → Option (Series × ℕ) → ℕ
+value_at env (Some named) = slice_index (values_of env named.0) named.1
+value_at env None = 0
 
--- whether a kind is that of a line, of noise or of an input
+-- the value that a variable of this kind stands for, and 0 where that is none of an environment
+abbrev pub entry : Environment → WordKind → ℕ
+entry env kind = value_at env (value_named kind)
+
+-- whether a kind is that of a variable of an environment
 abbrev pub is_outside : WordKind → Bool
-is_outside (Line n) = true
-is_outside (Noise n) = true
-is_outside (Input n) = true
-is_outside other = false
+is_outside kind = is_some (value_named kind)
 
 -- one entry has another value now
 abbrev pub HasTaken : (old new : Environment) → WordKind → (value : ℕ) → Type 0

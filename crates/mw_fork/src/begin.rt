@@ -1,13 +1,14 @@
 // The start that an assignment gives.
-ghost use Rattle.std.specs.Prelude.{◌≡◌, ◌≢◌, ℕ, ◌<◌, ◌^◌, ◌==◌, if◌then◌else◌, List, [], ◌∷◌, ◌++◌, filter, length};
-ghost use Rattle.std.specs.Prelude.{map, true, Some, IfOk, OnOk, slice_index_or};
-ghost use Rattle.mw_cycle.specs.Trimmed.{EndsWell, IsTrimmed};
+ghost use Rattle.std.specs.Prelude.{◌≡◌, ◌≢◌, ℕ, ◌<◌, ◌^◌, if◌then◌else◌, List, [], ◌∷◌, ◌++◌, filter, length, map};
+ghost use Rattle.std.specs.Prelude.{true, Some, IfOk, OnOk};
+ghost use Rattle.mw_cycle.specs.declared.series.Series.{Series};
+ghost use Rattle.mw_cycle.specs.Series.{kind_of, width_of};
+ghost use Rattle.mw_cycle.specs.Trimmed.{IsTrimmed};
 ghost use Rattle.mw_term.specs.declared.kinds.WordKind.{WordKind};
-ghost use Rattle.mw_term.specs.declared.kinds.WordKind.TheVariants.{Element, Line, Noise};
+ghost use Rattle.mw_term.specs.declared.kinds.WordKind.TheVariants.{Element};
 ghost use Rattle.mw_term.specs.Assigned.{given_by};
 ghost use Rattle.mw_term.specs.Values.{term_value};
 ghost use Rattle.mw_term.specs.WordList.{is_of, term_of};
-ghost use Rattle.mw_symmem.specs.Memory.{IsOfWidth};
 ghost use Rattle.mw_symmem.specs.Words.{AreOf};
 ghost use Rattle.mw_rel.specs.Begin.{free_elements};
 ghost use Rattle.mw_rel.specs.Free.{is_free, numbered};
@@ -22,7 +23,7 @@ ghost use Rattle.mw_fork.specs.Starts.{IsGround, StandsForStart};
 
 use crate::elements::Space;
 use mw_base::NoMemory;
-use mw_cycle::Env;
+use mw_cycle::{Env, Series};
 use mw_rel::{Begin, Job, free};
 use mw_term::{Assignment, Term, Word, WordKind};
 use std::alloc::Global;
@@ -91,37 +92,34 @@ fn free_values(
     Ok(values)
 }
 
-/// The entry of a number gets a value. It is appended with those before it where it isn't there yet; `other` is what
-/// entries have which aren't there.
-fn place<T: Copy>(items: &mut Vec<T>, number: u32, other: T, value: T) -> Result<(), NoMemory>
-    ensures entries { OnOk result ((n : ℕ) → slice_index_or items.new.items n other
-        ≡ (if number == n then value else slice_index_or items.old.items n other)) }
-    ensures end { OnOk result (value ≢ other → EndsWell other items.old.items → EndsWell other items.new.items) }
+/// A value of a list gets a number that isn't 0. It is appended with those before it where it isn't there yet.
+fn place(env: &mut Env, series: Series, number: u32, value: u32) -> Result<(), NoMemory>
+    requires some { value ≢ 0 }
+    requires width { value < 2 ^ width_of 32 series }
+    ensures took { OnOk result (HasTaken env.old env.new (kind_of series number) value) }
+    ensures trimmed { OnOk result (IsTrimmed env.old → IsTrimmed env.new) }
 {
     let at = number as usize;
-    while items.len() <= at {
-        items.push(other)?;
+    while env.length(series) <= at {
+        env.push(series, 0)?;
     }
-    items[at] = value;
+    env.set(series, at, value);
     Ok(())
 }
 
-/// The environment takes the value of a variable of a line, of noise or of an input. A 0 is left out.
+/// The environment takes the value of a variable, where that is one of its own. A 0 is left out.
 fn take(env: &mut Env, kind: WordKind, value: u32) -> Result<(), NoMemory>
     requires fresh { entry env.old kind ≡ 0 }
-    requires line { (n : ℕ) → kind ≡ Line n → value < 2 }
-    requires noise { (n : ℕ) → kind ≡ Noise n → value < 2 ^ 14 }
+    requires width { (series : Series) (n : ℕ) → kind ≡ kind_of series n → value < 2 ^ width_of 32 series }
     ensures took { OnOk result (HasTaken env.old env.new kind value) }
     ensures trimmed { OnOk result (IsTrimmed env.old → IsTrimmed env.new) }
 {
     if value == 0 {
         return Ok(());
     }
-    match kind {
-        WordKind::Line(number) => place(&mut env.line, number, false, true),
-        WordKind::Noise(number) => place(&mut env.noise, number, 0, value as u16),
-        WordKind::Input(number) => place(&mut env.inputs, number, 0, value),
-        _ => Ok(()),
+    match Series::of_kind(kind) {
+        Some((series, number)) => place(env, series, number, value),
+        None => Ok(()),
     }
 }
 
@@ -135,8 +133,8 @@ fn take_word(
 ) -> Result<(), NoMemory>
     requires there { word.term < length space.now.terms.ops }
     requires fresh { (kind : WordKind) → word.kind ≡ Some kind → entry env.old kind ≡ 0 }
-    requires line { (n : ℕ) → word.kind ≡ Some (Line n) → IsOfWidth space.now.terms 1 word.term }
-    requires noise { (n : ℕ) → word.kind ≡ Some (Noise n) → IsOfWidth space.now.terms 14 word.term }
+    requires width { (series : Series) (n : ℕ) → word.kind ≡ Some (kind_of series n)
+        → term_value space.now.terms (given_by given.now) word.term < 2 ^ width_of 32 series }
     ensures took { OnOk result ((other : WordKind) → is_outside other ≡ true → entry env.new other
         ≡ (if is_of word.kind other then term_value space.now.terms (given_by given.now) word.term
         else entry env.old other)) }
@@ -159,11 +157,7 @@ fn environment(alloc: Global, space: &Space, given: &Assignment) -> Result<Env, 
         ≡ value_or_zero space.now.terms (given_by given.now) (term_of space.now.words kind)) }
     ensures trimmed { IfOk result (λ env. IsTrimmed env) }
 {
-    let mut env = Env {
-        line: Vec::new(alloc),
-        noise: Vec::new(alloc),
-        inputs: Vec::new(alloc),
-    };
+    let mut env = Env::nothing(alloc);
     for word in space.words.as_slice() {
         take_word(alloc, space, *word, given, &mut env)?;
     }

@@ -2,6 +2,7 @@
 use Rattle.std.specs.Prelude.{ℕ, ◌+◌, ◌-◌, List, [], ◌∷◌, ◌++◌, codes, length, map, replicate, Option}
 use Rattle.mw_board.specs.Examples.{small_board}
 use Rattle.mw_cycle.specs.Boundary.{numbers}
+use Rattle.mw_cycle.specs.Environment.{no_values}
 use Rattle.mw_expr.specs.declared.expr.Pair2.TheVariants.{Add}
 use Rattle.mw_expr.specs.Tree.{element, constant, pair}
 use Rattle.mw_macro.specs.Machine.{Description}
@@ -97,7 +98,7 @@ abbrev pub start_with : Job → List ℕ → Start
 start_with job registers = record {
   boundary = numbered job 0;
   pair = pair_with registers;
-  env = record { line = []; noise = []; inputs = [] };
+  env = no_values;
 }
 
 -- what it shows

@@ -93,10 +93,11 @@ list_below board env series is =
 -- and it isn't too long
 list_short : (env : Environment) (series : Series) → AreShort (shortened env)
     → length (trimmed (values_of env series)) ≤ 65536
-list_short env Inputs short = short.inputs
+list_short env Inputs short = short Inputs
 list_short env Line short =
-    omega (arith, short.line, length-map (trimmed (map num env.line)) (λ (bit : ℕ). bit == 1))
-list_short env Noise short = short.noise
+    let kept = trimmed (map num env.line) in
+    omega (arith, short Line, length-map (map (λ bit. bit == 1) kept) num, length-map kept (λ (bit : ℕ). bit == 1))
+list_short env Noise short = short Noise
 
 -- the lines of all lists
 pub lists_go : (P : Settings → Type 0) (board : BoardParts) (elements : List Settable) (text : List ℕ)

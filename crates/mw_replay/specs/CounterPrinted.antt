@@ -97,10 +97,8 @@ in_short counter = record {
 }
 
 -- each list of an environment has at most 65,536 entries
-pub record AreShort (env : Environment) : Type 0 where
-  pub line : length env.line ≤ 65536
-  pub noise : length env.noise ≤ 65536
-  pub inputs : length env.inputs ≤ 65536
+abbrev pub AreShort : Environment → Type 0
+AreShort env = (series : Series) → length (values_of env series) ≤ 65536
 
 -- bytes that may stand behind the word of a line `difference ..`: they have tokens wherever they stand, end no line,
 -- and the line isn't too long

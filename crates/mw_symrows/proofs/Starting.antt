@@ -7,10 +7,13 @@ use Rattle.mw_base.specs.Words.{num}
 use Rattle.mw_board.specs.declared.parts.BoardParts.{BoardParts}
 use Rattle.mw_board.specs.Valid as valid
 use Rattle.mw_cycle.specs.declared.microword.Microword.{Microword}
+use Rattle.mw_cycle.specs.declared.series.Series.{Series}
+use Rattle.mw_cycle.specs.declared.series.Series.TheVariants.{Inputs, Line, Noise}
 use Rattle.mw_cycle.specs.Decided.{decides_counter, decides_pass}
+use Rattle.mw_cycle.specs.Series.{kind_of as series_kind}
 use Rattle.mw_term.specs.declared.decided.DecidedKind.{DecidedKind}
 use Rattle.mw_term.specs.declared.kinds.WordKind.{WordKind}
-use Rattle.mw_term.specs.declared.kinds.WordKind.TheVariants.{Base, Input, Line, Noise}
+use Rattle.mw_term.specs.declared.kinds.WordKind.TheVariants.{Base}
 use Rattle.mw_term.specs.MemoryRead.{held}
 use Rattle.mw_term.specs.Table.{IsTable, Table}
 use Rattle.mw_symmem.specs.declared.turn.Turn.{Turn}
@@ -22,7 +25,7 @@ use Rattle.mw_symmem.specs.Words.{AreOf, IsVariable}
 use Rattle.mw_symmem.specs.Workspace.{GoesOn}
 use Rattle.mw_symmem.proofs.Lists.{absent, kind_of, missing, pushed}
 use Rattle.mw_symboard.specs.Cycle.{bits_before}
-use Rattle.mw_symboard.specs.Kinds.{AreInputs, IsCycleKind}
+use Rattle.mw_symboard.specs.Kinds.{HaveWidths, IsCycleKind}
 use Rattle.mw_symboard.specs.Turns.{AreNoLater, IsSymbolic, IsTurn, Symbolic, decided_so}
 use Rattle.mw_symrows.specs.Runs.{AreFree, IsFreeKind, IsTurned, IsUnder}
 
@@ -37,19 +40,25 @@ free_push words term own free is place other kind at =
       | inr h ↦ subst IsFreeKind (kind_of h.1) is
     ]
 
--- they are no line and no noise
-pub free_no_later : (words : List Word) → AreFree words → AreNoLater 0 words
-free_no_later words free n from = (
-  absent words (Line n) (λ place term is. free place term (Line n) is),
-  absent words (Noise n) (λ place term is. free place term (Noise n) is),
-)
+-- no variable of an environment is free
+not_free : (series : Series) (n : ℕ) → ¬ IsFreeKind (series_kind series n)
+not_free Inputs n is = is
+not_free Line n is = is
+not_free Noise n is = is
 
--- nor inputs
-pub free_inputs : (board : BoardParts) (t : Table) (words : List Word) → AreFree words → AreInputs board t words
-free_inputs board t words free n term is =
-    let none : term_of words (Input n) ≡ None =
-    absent words (Input n) (λ place other is. free place other (Input n) is) in
-    absurd cc
+free_without : (words : List Word) (series : Series) (n : ℕ) → AreFree words
+    → term_of words (series_kind series n) ≡ None
+free_without words series n free =
+    absent words (series_kind series n)
+    (λ place term is. not_free series n (free place term (series_kind series n) is))
+
+-- so none is there
+pub free_no_later : (words : List Word) → AreFree words → AreNoLater 0 words
+free_no_later words free series by_cycle n from = free_without words series n free
+
+pub free_widths : (board : BoardParts) (t : Table) (words : List Word) → AreFree words → HaveWidths board t words
+free_widths board t words free series n term is =
+    let none : term_of words (series_kind series n) ≡ None = free_without words series n free in absurd cc
 
 -- nor base reads
 pub free_no_base : (words : List Word) → AreFree words → (place term k : ℕ) → ¬ IsVariable words place term (Base k)

@@ -124,11 +124,7 @@ fn no_choice(alloc: Global, given: &[String]) -> Result<Begin, Fault> {
     Ok(Begin {
         values: zeros(alloc, given, "values")?,
         memory: zeros(alloc, given, "memory")?,
-        env: Env {
-            line: Vec::new(alloc),
-            noise: Vec::new(alloc),
-            inputs: Vec::new(alloc),
-        },
+        env: Env::nothing(alloc),
     })
 }
 

@@ -1,12 +1,10 @@
-use Rattle.std.proofs.Common.{◌≡◌, ◌⊎◌, ℕ, ◌+◌, ◌-◌, ◌≤◌, length}
-use Rattle.std.specs.Prelude.{slice_index_or}
+use Rattle.std.proofs.Common.{◌+◌, ◌-◌, length}
+use Rattle.mw_cycle.specs.Environment.{values_of}
+use Rattle.mw_fork.proofs.Placing.{HasFilled}
 use Rattle.mw_fork.proofs.begin.place.Given as goal
 
-abbrev pub invariant-loop-other : goal.invariant-loop-other
-invariant-loop-other g l = record {
-  entries : (n : ℕ) → slice_index_or l.items.items n l.other ≡ slice_index_or l.fn.items.items n l.other;
-  grown : (l.items.items ≡ l.fn.items.items) ⊎ (length l.items.items ≤ l.at + 1);
-}
+abbrev pub invariant-loop-env : goal.invariant-loop-env
+invariant-loop-env l = record { filled : HasFilled l.series l.at l.fn.env l.env }
 
-abbrev pub decreases-loop-other : goal.decreases-loop-other
-decreases-loop-other g l = l.at + 1 - length l.items.items
+abbrev pub decreases-loop-env : goal.decreases-loop-env
+decreases-loop-env l = l.at + 1 - length (values_of l.env l.series)
