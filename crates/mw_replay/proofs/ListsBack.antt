@@ -14,7 +14,8 @@ use Rattle.mw_cycle.specs.declared.series.Series.TheVariants.{Inputs, Line, Nois
 use Rattle.mw_cycle.specs.Environment.{Environment, IsEnvironment, no_values, shortened, trimmed, values_of}
 use Rattle.mw_cycle.specs.Environment.{with_values}
 use Rattle.mw_cycle.specs.Series.{keyword_of, width_of}
-use Rattle.mw_cycle.proofs.Lists.{behind_again, behind_length, none_behind, values_have_widths}
+use Rattle.mw_cycle.proofs.Lists.{behind_again, behind_length, none_behind, values_have_widths, widths_most}
+use Rattle.mw_cycle.proofs.Lists.{widths_within}
 use Rattle.mw_sim.specs.declared.settings.Settable.{Settable}
 use Rattle.mw_sim.specs.Settings.{Settings, with_line}
 use Rattle.mw_replay.specs.CounterPrinted.{AreShort, environment_lines, line_count, values_at, values_lines}
@@ -37,9 +38,7 @@ wider bound most xs less all =
 
 -- no value of a list has over 32 bits
 narrow_list : (width : ℕ) (series : Series) → width ≤ 32 → width_of width series ≤ 32
-narrow_list width Inputs narrow = narrow
-narrow_list width Line narrow = lit≤ tt
-narrow_list width Noise narrow = lit≤ tt
+narrow_list width series narrow = omega (arith, widths_within width series narrow, widths_most series)
 
 keyword_plain : (series : Series) → list_all is_plain (keyword_of series) ≡ true
 keyword_plain Inputs = refl

@@ -9,8 +9,9 @@ use Rattle.mw_board.specs.declared.parts.BoardParts.{BoardParts}
 use Rattle.mw_cycle.specs.declared.environment.Clock.{Clock}
 use Rattle.mw_cycle.specs.Cycle.{nets_of}
 use Rattle.mw_cycle.specs.Environment.{Environment, given_at, rest_at}
-use Rattle.mw_cycle.specs.Run.{BoardRun, further, longer_run, run_of, then_run}
+use Rattle.mw_cycle.specs.Run.{BoardRun, longer_run, run_of, then_run}
 use Rattle.mw_cycle.specs.State.{BoardState}
+use Rattle.mw_cycle.proofs.Lists.{rest_further}
 use Rattle.mw_macro.specs.DescribedStep.{Stepped, step_of}
 use Rattle.mw_macro.specs.Laws.{inputs_in}
 use Rattle.mw_macro.specs.State.{MachineState}
@@ -136,25 +137,6 @@ shown_there job start run n segment there =
     ∙ ap (shown_at job start run) (boundary_by_number job run.state.at ∙ ap (option_map (numbered job)) there)
 
 -- ---- the next start
-
-drop_nothing : {A : Type 0} (n : ℕ) → drop {A = A} n [] ≡ []
-drop_nothing zero = refl
-drop_nothing (suc n) = refl
-
-drop_further : {A : Type 0} (n m : ℕ) (xs : List A) → drop m (drop n xs) ≡ drop (n + m) xs
-drop_further {A} zero m xs = let e : m ≡ 0 + m = omega arith in ap (λ k. drop {A = A} k xs) e
-drop_further {A} (suc n) m [] = drop_nothing m ∙ sym (drop_nothing {A = A} (suc n + m))
-drop_further {A} (suc n) m (x ∷ xs) =
-    let e : suc n + m ≡ suc (n + m) = omega arith in
-    drop_further n m xs ∙ sym (ap (λ k. drop {A = A} k (x ∷ xs)) e)
-
--- what is left of what is left
-rest_further : (env : Environment) (place by : Clock) → rest_at (rest_at env place) by ≡ rest_at env (further place by)
-rest_further env place by = rw (
-  drop_further place.cycle by.cycle env.line,
-  drop_further place.cycle by.cycle env.noise,
-  drop_further place.taken by.taken env.inputs,
-) refl
 
 start_with : Boundary → Pair → Environment → Start
 start_with boundary pair env = record { boundary = boundary; pair = pair; env = env }

@@ -9,6 +9,7 @@ use Rattle.mw_base.specs.Words.{num}
 use Rattle.mw_cycle.specs.declared.state.CycleIn.{CycleIn}
 use Rattle.mw_cycle.specs.Environment.{Environment, before_trimmed, shortened, trimmed}
 use Rattle.mw_cycle.specs.Trimmed.{EndsWell}
+use Rattle.mw_cycle.specs.declared.series.Series.TheVariants.{Inputs, Line, Noise}
 use Rattle.mw_cycle.proofs.Lists.{bits_back, kept_front, trimmed_below}
 use Rattle.mw_replay.specs.Laws.{NothingIsCut, ZerosGiveNothing}
 
@@ -111,8 +112,8 @@ trimmed_stays xs ends =
 pub nothing_is_cut : NothingIsCut
 nothing_is_cut env is =
     rw (
-      trimmed_stays (map num env.line) is.line,
+      trimmed_stays (map num env.line) (is Line),
       bits_back env.line,
-      trimmed_stays env.noise is.noise,
-      trimmed_stays env.inputs is.inputs,
+      trimmed_stays env.noise (is Noise),
+      trimmed_stays env.inputs (is Inputs),
     ) refl

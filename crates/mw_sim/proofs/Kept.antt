@@ -1,7 +1,7 @@
 -- What each line keeps: what is given is in range.
 use Rattle.std.proofs.Common.{◌≡◌, ℕ, zero, suc, ◌+◌, ◌^◌, ◌<◌, ◌≤◌, List, [], ◌∷◌, length, length-set, replicate}
 use Rattle.std.proofs.Common.{slice_get, slice_index, slice_set, Bool, true, false, cond, nat_lt, ◌⊎◌, inl, inr, Option}
-use Rattle.std.proofs.Common.{Some, None, Result, Ok, Err, IfSome, ok_or, ◌&&◌, lit≤, refl, ◌∙◌, subst, arith}
+use Rattle.std.proofs.Common.{Some, None, Result, Ok, Err, IfSome, ok_or, ◌&&◌, refl, ◌∙◌, subst, arith}
 use Rattle.std.proofs.Common.{get_or-set_same, get_or-set_other}
 use Rattle.std.specs.List.{position, position_from}
 use Rattle.std.specs.Prelude.{slice_index_or}
@@ -31,10 +31,9 @@ use Rattle.mw_base.proofs.Steps.{steps_keep}
 use Rattle.mw_board.specs.declared.parts.BoardParts.{BoardParts}
 use Rattle.mw_sim.specs.declared.settings.Settable.{Settable}
 use Rattle.mw_cycle.specs.declared.series.Series.{Series}
-use Rattle.mw_cycle.specs.declared.series.Series.TheVariants.{Inputs, Line, Noise}
 use Rattle.mw_cycle.specs.Series.{width_of}
 use Rattle.mw_cycle.specs.Environment.{values_of, with_values}
-use Rattle.mw_cycle.proofs.Lists.{behind_is, none_is}
+use Rattle.mw_cycle.proofs.Lists.{behind_is, none_is, widths_within}
 use Rattle.mw_sim.specs.declared.lines.Statement.{Statement}
 use Rattle.mw_sim.specs.declared.lines.Statement.TheVariants as statements
 use Rattle.mw_sim.specs.Lines.{statement_of}
@@ -290,17 +289,11 @@ last_is board elements series value given small is = record {
   env = behind_is board series value given.env small is.env;
 }
 
--- a value of a list has at most the bits that it has where an input word has 32
-wide : (width : ℕ) (series : Series) → width ≤ 32 → width_of width series ≤ width_of 32 series
-wide width Inputs most = most
-wide width Line most = lit≤ tt
-wide width Noise most = lit≤ tt
-
 pub entry_small : (width : ℕ) (series : Series) (numeral : Numeral) (value : ℕ) → width ≤ 32
     → value_below (series_bound width series) numeral ≡ Ok value → value < 2 ^ width_of 32 series
 entry_small width series numeral value most is =
     let small : value < 2 ^ width_of width series = (below_then (series_bound width series) numeral).so value is in
-    let more : 2 ^ width_of width series ≤ 2 ^ width_of 32 series = pow_mono (wide width series most) in
+    let more : 2 ^ width_of width series ≤ 2 ^ width_of 32 series = pow_mono (widths_within width series most) in
     omega (arith, small, more)
 
 entry_then : (board : BoardParts) (elements : List Settable) (series : Series) (given : Settings) (numeral : Numeral)
