@@ -19,22 +19,22 @@ pub(crate) fn build(alloc: Global, tree: &Placed) -> Result<Expr, NoMemory>
         Placed::Element(_, number) => Ok(Expr::Element(number.unwrap_or(0) as u32)),
         Placed::Con(number, _, width) => Ok(Expr::Con(number.value as u32, *width as u8)),
         Placed::Not(_, e) => {
-            let e = Box::new(alloc, build(alloc, e)?)?;
+            let e = boxed(alloc, e)?;
             Ok(Expr::Not(e))
         }
         Placed::Two(op, _, a, b) => {
-            let a = Box::new(alloc, build(alloc, a)?)?;
-            let b = Box::new(alloc, build(alloc, b)?)?;
+            let a = boxed(alloc, a)?;
+            let b = boxed(alloc, b)?;
             Ok(Expr::Two(*op, a, b))
         }
         Placed::Choose(_, condition, a, b) => {
-            let condition = Box::new(alloc, build(alloc, condition)?)?;
-            let a = Box::new(alloc, build(alloc, a)?)?;
-            let b = Box::new(alloc, build(alloc, b)?)?;
+            let condition = boxed(alloc, condition)?;
+            let a = boxed(alloc, a)?;
+            let b = boxed(alloc, b)?;
             Ok(Expr::Choose(condition, a, b))
         }
         Placed::Part(_, high, low, e) => {
-            let e = Box::new(alloc, build(alloc, e)?)?;
+            let e = boxed(alloc, e)?;
             Ok(Expr::Part(e, *high as u8, *low as u8))
         }
         Placed::Join(_, parts) => {
@@ -42,15 +42,25 @@ pub(crate) fn build(alloc: Global, tree: &Placed) -> Result<Expr, NoMemory>
             Ok(Expr::Join(parts))
         }
         Placed::Widen(_, width, e) => {
-            let e = Box::new(alloc, build(alloc, e)?)?;
+            let e = boxed(alloc, e)?;
             Ok(Expr::Widen(e, *width as u8))
         }
         Placed::Memory(_, e) => {
-            let e = Box::new(alloc, build(alloc, e)?)?;
+            let e = boxed(alloc, e)?;
             Ok(Expr::Memory(e))
         }
         Placed::Group(_, e) => build(alloc, e),
     }
+}
+
+/// The expression that a part of a tree is, in a box.
+#[cycle(build)]
+fn boxed(alloc: Global, tree: &Placed) -> Result<Box<Expr>, NoMemory>
+    requires small { is_small (placed tree.now) ≡ true }
+    ensures { IfOk result (λ expr. view expr.value ≡ plain (placed tree.now)) }
+{
+    let expr = build(alloc, tree)?;
+    Ok(Box::new(alloc, expr)?)
 }
 
 /// The expressions that the parts of a join are.

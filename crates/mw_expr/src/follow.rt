@@ -1,8 +1,9 @@
 // What a token leaves to follow.
-ghost use Rattle.std.specs.Prelude.{◌≡◌, ℕ, List, ◌∷◌, ◌++◌, Option, option_map, IfOk};
+ghost use Rattle.std.specs.Prelude.{◌≡◌, ℕ, List, ◌∷◌, ◌++◌, Option, Some, option_map, IfOk};
 ghost use Rattle.mw_base.specs.Symbols.{spelled};
-ghost use Rattle.mw_expr.specs.Placed.{placed, opened, awaited, known};
-ghost use Rattle.mw_expr.specs.Grammar.{number_by_name, pair_of, name_begins, sign_begins, begins, colon_ends};
+ghost use Rattle.mw_base.specs.declared.sign.Sign.TheVariants as signs;
+ghost use Rattle.mw_expr.specs.Placed.{placed, opened, awaited, known, part, pairing, an_operand, a_sign};
+ghost use Rattle.mw_expr.specs.Grammar.{state, number_by_name, pair_of, name_begins, sign_begins, begins, colon_ends};
 ghost use Rattle.mw_expr.specs.Grammar.{parenthesis_ends, bracket_ends, comma_ends, brace_ends, pair_follows};
 ghost use Rattle.mw_expr.specs.Grammar.{choice_follows, sign_follows, number_in, name_follows, this_follows};
 ghost use Rattle.mw_expr.specs.Grammar.{operand_follows, follows, whole, ended, reduced};
@@ -232,6 +233,21 @@ fn brace_ends(ended: Reduced) -> Result<Option<State>, NoMemory>
     }
 }
 
+/// What a sign leaves to follow after its left operand.
+fn right_follows(
+    alloc: Global,
+    op: Pair2,
+    token: Token,
+    left: Reduced,
+) -> Result<Option<State>, NoMemory>
+    ensures { IfOk result (λ next. option_map known next
+        ≡ Some (state an_operand (pairing op token (placed left.tree) (opened left.below)))) }
+{
+    let tree = Box::new(alloc, left.tree)?;
+    let below = Box::new(alloc, left.below)?;
+    Ok(awaiting(Awaits::Operand, Open::Two(op, token, tree, below)))
+}
+
 /// What a sign between two operands leaves to follow.
 fn pair_follows(
     alloc: Global,
@@ -244,12 +260,7 @@ fn pair_follows(
 {
     match op {
         None => Ok(None),
-        Some(op) => {
-            let left = reduce(alloc, op.strength(), below, tree)?;
-            let tree = Box::new(alloc, left.tree)?;
-            let below = Box::new(alloc, left.below)?;
-            Ok(awaiting(Awaits::Operand, Open::Two(op, token, tree, below)))
-        }
+        Some(op) => right_follows(alloc, op, token, reduce(alloc, op.strength(), below, tree)?),
     }
 }
 
@@ -329,6 +340,25 @@ fn member_follows(
     }
 }
 
+/// What a token leaves to follow after the last number of a part.
+fn part_ends(
+    alloc: Global,
+    symbol: Symbol,
+    from: Token,
+    most: u128,
+    least: u128,
+    tree: Placed,
+    pending: Open,
+) -> Result<Option<State>, NoMemory>
+    ensures { IfOk result (λ next. option_map known next
+        ≡ this_follows signs.CloseBracket symbol
+        (state (a_sign (part from most least (placed tree))) (opened pending))) }
+{
+    let part = Placed::Part(from, most, least, Box::new(alloc, tree)?);
+    let awaits = Awaits::Sign(part);
+    Ok(this_follows(Sign::CloseBracket, symbol, State { awaits, pending }))
+}
+
 /// What a token leaves to follow a number of a part and what came before it.
 fn part_follows(
     alloc: Global,
@@ -345,11 +375,8 @@ fn part_follows(
 {
     if symbol.is_sign(Sign::Colon) {
         Ok(awaiting(Awaits::Low(from, tree, most), pending))
-    } else if symbol.is_sign(Sign::CloseBracket) {
-        let part = Placed::Part(from, most, most, Box::new(alloc, tree)?);
-        Ok(awaiting(Awaits::Sign(part), pending))
     } else {
-        Ok(None)
+        part_ends(alloc, symbol, from, most, most, tree, pending)
     }
 }
 
@@ -402,9 +429,7 @@ pub(crate) fn follows(
             None => Ok(None),
         },
         Awaits::Close(from, tree, most, least) => {
-            let part = Placed::Part(from, most, least, Box::new(alloc, tree)?);
-            let awaits = Awaits::Sign(part);
-            Ok(this_follows(Sign::CloseBracket, symbol, State { awaits, pending }))
+            part_ends(alloc, symbol, from, most, least, tree, pending)
         }
         Awaits::NewWidth(word, tree) => match number_in(symbol) {
             Some(bits) => Ok(awaiting(Awaits::WidenEnd(word, tree, bits), pending)),

@@ -1,4 +1,5 @@
-use Rattle.std.proofs.Common.{◌≡◌, true, ◌++◌, map, drop}
+use Rattle.std.proofs.Common.{◌≡◌, ◌+◌, ◌*◌, true, ◌++◌, map, drop}
+use Rattle.mw_expr.specs.declared.placed.Placed.{size-Placed}
 use Rattle.mw_expr.specs.Tree.{view, trees_of}
 use Rattle.mw_expr.specs.Placed.{placed, parts_of}
 use Rattle.mw_expr.specs.Plain.{plain, plain_parts, are_small}
@@ -12,3 +13,12 @@ invariant-build_all-loop-part l =
       told : trees_of (map view l.made.items ++ map (λ part. plain (placed part)) rest) ≡ plain_parts
           (parts_of (map placed l.parts));
     }
+
+abbrev pub decreases-build : goal.decreases-build
+decreases-build l = 2 * size-Placed l.tree.now
+
+abbrev pub decreases-boxed : goal.decreases-boxed
+decreases-boxed l = 2 * size-Placed l.tree.now + 1
+
+abbrev pub decreases-build_all : goal.decreases-build_all
+decreases-build_all l = 2 * goal.size-build_all l + 1
