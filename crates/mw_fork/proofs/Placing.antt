@@ -1,21 +1,21 @@
 -- A value that is put into a list of an environment, and what an environment has for its variables.
 use Rattle.std.proofs.Common.{◌≡◌, ◌≢◌, inl, inr, ◌⊎◌, ℕ, zero, suc, ◌+◌, ◌-◌, ◌^◌, ◌<◌, ◌≤◌, Bool, true, false, ◌==◌}
-use Rattle.std.proofs.Common.{List, [], ◌∷◌, ◌++◌, length, map, slice_index, refl, sym, ap, subst, ◌∙◌, arith}
+use Rattle.std.proofs.Common.{List, [], ◌∷◌, ◌++◌, length, slice_index, refl, sym, ap, subst, ◌∙◌, arith}
 use Rattle.std.specs.Prelude.{if◌then◌else◌, is_some, Option, Some, None, slice_set}
-use Rattle.std.proofs.lemmas.Bool.{eq-eqb}
+use Rattle.std.specs.Cmp.{both_ways}
+use Rattle.std.proofs.lemmas.Bool.{eqb-true, eq-eqb}
 use Rattle.std.proofs.lemmas.Bool.Decides.{nat_tests}
-use Rattle.std.proofs.lemmas.List.{length-set, map-append, map-set}
-use Rattle.mw_base.specs.Words.{num}
+use Rattle.std.proofs.lemmas.List.{length-set}
+use Rattle.std.proofs.lemmas.Nat.{pow_pos}
 use Rattle.mw_cycle.specs.declared.series.Series.{Series}
-use Rattle.mw_cycle.specs.declared.series.Series.TheVariants.{Inputs, Line, Noise}
 use Rattle.mw_cycle.specs.Environment.{Environment, values_of, with_value, with_values}
 use Rattle.mw_cycle.specs.Series.{kind_of, value_named, width_of}
 use Rattle.mw_cycle.specs.Trimmed.{EndsWell, IsTrimmed}
-use Rattle.mw_cycle.proofs.Named.{kind_named, own_series, value_named_back}
-use Rattle.mw_cycle.proofs.Lists.{behind_length}
+use Rattle.mw_cycle.proofs.Named.{kind_named, own_number, own_series, same_or_other, value_named_back}
+use Rattle.mw_cycle.proofs.Lists.{behind_length, other_behind, other_set, own_behind, own_set}
 use Rattle.mw_term.specs.declared.kinds.WordKind.{WordKind}
 use Rattle.mw_term.specs.WordList.{same_kind}
-use Rattle.mw_symmem.specs.Kinds.{kind_is}
+use Rattle.mw_symmem.specs.Kinds.{kind_is, kind_own}
 use Rattle.mw_symmem.proofs.Meaning.{set_at}
 use Rattle.mw_fork.specs.Entries.{HasTaken, entry, is_outside, value_at}
 
@@ -105,55 +105,6 @@ set_ends xs number value some inside ends = λ any none.
     ∙ set_value xs number value (length xs - 1) inside in
     last_by xs number value (number == length xs - 1) refl some inside ends (sym last ∙ none))
 
--- ---- the lists of an environment
-
--- a list is another, or it isn't
-one_or_not : (one other : Series) → (one ≡ other) ⊎ (one ≢ other)
-one_or_not Inputs Inputs = inl refl
-one_or_not Line Line = inl refl
-one_or_not Noise Noise = inl refl
-one_or_not one other = inr (λ is. absurd cc)
-
-own_behind : (series : Series) (env : Environment)
-    → values_of (with_values series (0 ∷ []) env) series ≡ values_of env series ++ 0 ∷ []
-own_behind Inputs env = refl
-own_behind Line env = map-append num env.line (false ∷ [])
-own_behind Noise env = refl
-
-other_behind : (series other : Series) (values : List ℕ) (env : Environment) → other ≢ series
-    → values_of (with_values series values env) other ≡ values_of env other
-other_behind Inputs Inputs values env differs = absurd (differs refl)
-other_behind Line Line values env differs = absurd (differs refl)
-other_behind Noise Noise values env differs = absurd (differs refl)
-other_behind series other values env differs = refl
-
-bit_back : (value : ℕ) → value < 2 → num (value == 1) ≡ value
-bit_back zero small = refl
-bit_back (suc zero) small = refl
-bit_back (suc (suc value)) small = absurd (omega arith)
-
-own_set : (series : Series) (number value : ℕ) (env : Environment) → value < 2 ^ width_of 32 series
-    → values_of (with_value series number value env) series ≡ slice_set (values_of env series) number value
-own_set Inputs number value env small = refl
-own_set Line number value env small =
-    map-set num env.line number (value == 1) ∙ ap (slice_set (map num env.line) number) (bit_back value small)
-own_set Noise number value env small = refl
-
-other_set : (series other : Series) (number value : ℕ) (env : Environment) → other ≢ series
-    → values_of (with_value series number value env) other ≡ values_of env other
-other_set Inputs Inputs number value env differs = absurd (differs refl)
-other_set Line Line number value env differs = absurd (differs refl)
-other_set Noise Noise number value env differs = absurd (differs refl)
-other_set series other number value env differs = refl
-
-trimmed_each : (env : Environment) (series : Series) → IsTrimmed env → EndsWell 0 (values_of env series)
-trimmed_each env Inputs is = is.inputs
-trimmed_each env Line is = is.line
-trimmed_each env Noise is = is.noise
-
-each_trimmed : (env : Environment) → ((series : Series) → EndsWell 0 (values_of env series)) → IsTrimmed env
-each_trimmed env each = record { line = each Line; noise = each Noise; inputs = each Inputs }
-
 -- ---- zeros up to a place
 
 -- A list was filled with zeros up to a place: no value is another, and a list that ended well does so still, but for
@@ -168,11 +119,11 @@ none_filled series at env = record { values = λ other n. refl; ends = λ other 
 
 one_behind : (series other : Series) (env : Environment) (n : ℕ)
     → slice_index (values_of (with_values series (0 ∷ []) env) other) n ≡ slice_index (values_of env other) n
-one_behind series other env n = elim (one_or_not other series) [
+one_behind series other env n = elim (same_or_other other series) [
   | inl is ↦
       let new = with_values series (0 ∷ []) env in
       subst (λ (s : Series). slice_index (values_of new s) n ≡ slice_index (values_of env s) n) (sym is)
-      (ap (λ xs. slice_index xs n) (own_behind series env) ∙ zero_behind (values_of env series) n)
+      (ap (λ xs. slice_index xs n) (own_behind series 0 env (pow_pos (width_of 32 series))) ∙ zero_behind (values_of env series) n)
   | inr differs ↦ ap (λ xs. slice_index xs n) (other_behind series other (0 ∷ []) env differs)
 ]
 
@@ -182,7 +133,7 @@ pub one_filled : (series : Series) (at : ℕ) (old env new : Environment) → le
 one_filled series at old env new before is filled =
     subst (HasFilled series at old) (sym is) (record {
       values = λ other n. one_behind series other env n ∙ filled.values other n;
-      ends = λ other well. elim (one_or_not other series) [
+      ends = λ other well. elim (same_or_other other series) [
         | inl own ↦ inr (own, omega (arith, before, behind_length series (0 ∷ []) env))
         | inr differs ↦ elim (filled.ends other well) [
           | inl still ↦ inl (subst (EndsWell 0) (sym (other_behind series other (0 ∷ []) env differs)) still)
@@ -194,9 +145,12 @@ one_filled series at old env new before is filled =
 -- ---- a value at the place
 
 same_of : (series : Series) (m n : ℕ) → same_kind (kind_of series m) (kind_of series n) ≡ (m == n)
-same_of Inputs m n = refl
-same_of Line m n = refl
-same_of Noise m n = refl
+same_of series m n =
+    both_ways (same_kind (kind_of series m) (kind_of series n)) (m == n)
+    (λ same. eq-eqb m n (own_number series series m n (kind_is (kind_of series m) (kind_of series n) same)))
+    (λ equal.
+    subst (λ (k : ℕ). same_kind (kind_of series m) (kind_of series k) ≡ true) (eqb-true m n equal)
+    (kind_own (kind_of series m)))
 
 own_put : (series : Series) (number value : ℕ) (env : Environment) (n : ℕ) → value < 2 ^ width_of 32 series
     → number < length (values_of env series)
@@ -220,7 +174,7 @@ put_value : (series other : Series) (number value : ℕ) (env : Environment) (n 
     → number < length (values_of env series)
     → slice_index (values_of (with_value series number value env) other) n
     ≡ (if same_kind (kind_of series number) (kind_of other n) then value else slice_index (values_of env other) n)
-put_value series other number value env n small inside = elim (one_or_not other series) [
+put_value series other number value env n small inside = elim (same_or_other other series) [
   | inl is ↦
       let new = with_value series number value env in
       subst (λ (s : Series). slice_index (values_of new s) n
@@ -244,7 +198,7 @@ put_ends : (series other : Series) (number value : ℕ) (old env : Environment) 
     → value < 2 ^ width_of 32 series → number < length (values_of env series) → HasFilled series number old env
     → EndsWell 0 (values_of old other) → EndsWell 0 (values_of (with_value series number value env) other)
 put_ends series other number value old env some small inside filled well = elim (filled.ends other well) [
-  | inl still ↦ elim (one_or_not other series) [
+  | inl still ↦ elim (same_or_other other series) [
     | inl is ↦
         let new = with_value series number value env in
         subst (λ (s : Series). EndsWell 0 (values_of new s)) (sym is)
@@ -266,5 +220,4 @@ pub put_trimmed : (series : Series) (number value : ℕ) (old env new : Environm
     → new ≡ with_value series number value env → IsTrimmed old → IsTrimmed new
 put_trimmed series number value old env new some small inside filled is trimmed =
     subst IsTrimmed (sym is)
-    (each_trimmed (with_value series number value env)
-    (λ other. put_ends series other number value old env some small inside filled (trimmed_each old other trimmed)))
+    (λ other. put_ends series other number value old env some small inside filled (trimmed other))

@@ -7,9 +7,7 @@ use Rattle.mw_macro.specs.Machine.{Description, IsFormed}
 use Rattle.mw_macro.specs.Right.{IsRight}
 use Rattle.mw_term.specs.declared.kinds.WordKind.{WordKind}
 use Rattle.mw_term.specs.declared.kinds.WordKind.TheVariants.{Base, Input}
-use Rattle.mw_term.specs.declared.op.Op.TheVariants.{Var}
-use Rattle.mw_term.specs.Table.{Table, op_width}
-use Rattle.mw_term.specs.Values.{IsTermOf}
+use Rattle.mw_term.specs.Table.{Table}
 use Rattle.mw_symmem.specs.declared.turn.Turn.{Turn}
 use Rattle.mw_symmem.specs.declared.turn.Turn.TheVariants.{Ask, Finished}
 use Rattle.mw_term.specs.declared.word.Word.{Word}
@@ -33,11 +31,6 @@ first_push words term own first is place other kind at =
       | inl h ↦ first place other kind h.1
       | inr h ↦ subst IsFirstKind (kind_of h.1) is
     ]
-
--- a variable has the bits of its op
-pub wide_variable : (told tnew : Table) (n w term : ℕ) → IsTermOf told tnew (Var n w) term → IsOfWidth tnew w term
-unfolding op_width
-wide_variable told tnew n w term made = record { there = made.there; width_is = made.width }
 
 -- they are no base reads
 first_no_base : (words : List Word) → AreFirst words → (place term k : ℕ) → ¬ IsVariable words place term (Base k)
