@@ -1,21 +1,23 @@
 -- Environments list by list.
-use Rattle.std.proofs.Common.{◌≡◌, ◌≢◌, ℕ, zero, suc, ◌+◌, ◌-◌, ◌^◌, ◌<◌, ◌≤◌, Bool, true, false, cond, ◌==◌, lit<}
-use Rattle.std.proofs.Common.{lit≤, List, [], ◌∷◌, ◌++◌, length, map, take, drop, slice_index, append_assoc}
+use Rattle.std.proofs.Common.{◌≡◌, ◌≢◌, inl, inr, ℕ, zero, suc, ◌+◌, ◌-◌, ◌^◌, ◌<◌, ◌≤◌, Bool, true, false, cond}
+use Rattle.std.proofs.Common.{◌==◌, lit<, lit≤, List, [], ◌∷◌, ◌++◌, length, map, take, slice_index, append_assoc}
 use Rattle.std.proofs.Common.{append-nil, length-append, refl, sym, ap, ◌∙◌, subst, arith}
 use Rattle.std.specs.Prelude.{slice_index_or, slice_set}
 use Rattle.std.proofs.lemmas.Bool.Decides.{nat_tests}
-use Rattle.std.proofs.lemmas.List.{drop-map, get_or-drop, length-map, map-append, map-set, take-map}
+use Rattle.std.proofs.lemmas.List.{drop-drop, drop-map, get_or-drop, length-map, map-append, map-set, take-map}
 use Rattle.std.proofs.lemmas.Nat.{pow_pos}
 use Rattle.mw_base.specs.Words.{num}
+use Rattle.mw_base.proofs.Carries.{num_below}
 use Rattle.mw_board.specs.declared.parts.BoardParts.{BoardParts}
 use Rattle.mw_cycle.specs.declared.environment.Clock.{Clock}
 use Rattle.mw_cycle.specs.declared.series.Series.{Series}
 use Rattle.mw_cycle.specs.declared.series.Series.TheVariants.{Inputs, Line, Noise}
 use Rattle.mw_cycle.specs.Run.{further}
 use Rattle.mw_cycle.specs.Series.{width_of}
-use Rattle.mw_cycle.specs.Environment.{Environment, IsEnvironment, before_trimmed, no_values, place_in, rest_at}
-use Rattle.mw_cycle.specs.Environment.{shortened, trimmed, values_of, with_lists, with_value, with_values}
-use Rattle.mw_cycle.specs.Environment.{ListsAreAll, RestsAreOfLists, ShortenedAreEnvironments, ValuesHaveWidths}
+use Rattle.mw_cycle.specs.Environment.{Environment, IsEnvironment, ListsAreAll, RestsAreEnvironments, RestsAreOfLists}
+use Rattle.mw_cycle.specs.Environment.{no_values, place_in, rest_at, values_of, with_lists, with_value, with_values}
+use Rattle.mw_cycle.specs.Trimmed.{ShortenedAreEnvironments, before_trimmed, shortened, trimmed}
+use Rattle.mw_cycle.proofs.Named.{same_or_other}
 
 -- ---- bits as numbers
 
@@ -35,16 +37,11 @@ bits_back [] = refl
 bits_back (true ∷ rest) = ap (λ bits. true ∷ bits) (bits_back rest)
 bits_back (false ∷ rest) = ap (λ bits. false ∷ bits) (bits_back rest)
 
-number_back : (x : ℕ) → x < 2 → num (x == 1) ≡ x
-number_back zero small = refl
-number_back (suc zero) small = refl
-number_back (suc (suc x)) small = absurd (omega arith)
-
 pub numbers_back : (values : List ℕ) → ((n : ℕ) → slice_index values n < 2)
     → map num (map (λ value. value == 1) values) ≡ values
 numbers_back [] small = refl
 numbers_back (x ∷ rest) small =
-    rw (number_back x (small zero)) (ap (λ xs. x ∷ xs) (numbers_back rest (λ n. small (suc n))))
+    rw (num_below x (small zero)) (ap (λ xs. x ∷ xs) (numbers_back rest (λ n. small (suc n))))
 
 -- ---- lists without the zeros at their end
 
@@ -129,17 +126,6 @@ trimmed_below bound (x ∷ xs) some each n = before_below bound x (trimmed xs) s
 
 -- ---- lists of environments
 
-pub values_have_widths : ValuesHaveWidths
-values_have_widths board env Inputs i is = is.inputs i
-values_have_widths board env Line i is = bits_below env.line i
-values_have_widths board env Noise i is = is.noise i
-
--- an environment whose values have the widths of their lists is one
-pub widths_are_all : (board : BoardParts) (env : Environment)
-    → ((series : Series) (i : ℕ) → slice_index (values_of env series) i < 2 ^ width_of board.width series)
-    → IsEnvironment board env
-widths_are_all board env each = record { noise = each Noise; inputs = each Inputs }
-
 -- a value of a list has at most the bits that it has where an input word has 32
 pub widths_within : (width : ℕ) (series : Series) → width ≤ 32 → width_of width series ≤ width_of 32 series
 widths_within width Inputs most = most
@@ -168,42 +154,37 @@ rests_are_of_lists env place Inputs = refl
 rests_are_of_lists env place Line = sym (drop-map num place.cycle env.line)
 rests_are_of_lists env place Noise = refl
 
-drop_nothing : {A : Type 0} (n : ℕ) → drop {A = A} n [] ≡ []
-drop_nothing zero = refl
-drop_nothing (suc n) = refl
-
-drop_further : {A : Type 0} (n m : ℕ) (xs : List A) → drop m (drop n xs) ≡ drop (n + m) xs
-drop_further {A} zero m xs = let e : m ≡ 0 + m = omega arith in ap (λ k. drop {A = A} k xs) e
-drop_further {A} (suc n) m [] = drop_nothing m ∙ sym (drop_nothing {A = A} (suc n + m))
-drop_further {A} (suc n) m (x ∷ xs) =
-    let e : suc n + m ≡ suc (n + m) = omega arith in
-    drop_further n m xs ∙ sym (ap (λ k. drop {A = A} k (x ∷ xs)) e)
-
 -- what is left of what is left
 pub rest_further : (env : Environment) (place by : Clock)
     → rest_at (rest_at env place) by ≡ rest_at env (further place by)
 rest_further env place by = rw (
-  drop_further place.cycle by.cycle env.line,
-  drop_further place.cycle by.cycle env.noise,
-  drop_further place.taken by.taken env.inputs,
+  drop-drop by.cycle place.cycle env.line,
+  drop-drop by.cycle place.cycle env.noise,
+  drop-drop by.taken place.taken env.inputs,
 ) refl
 
 -- what is left of an environment is one
-pub rest_is_environment : (board : BoardParts) (env : Environment) (place : Clock)
-    → IsEnvironment board env → IsEnvironment board (rest_at env place)
-rest_is_environment board env place is =
-    widths_are_all board (rest_at env place)
-    (λ series i.
+pub rests_are_environments : RestsAreEnvironments
+rests_are_environments board env place is series i =
     subst (λ (v : ℕ). v < 2 ^ width_of board.width series)
     (sym (ap (λ xs. slice_index xs i) (rests_are_of_lists env place series)
     ∙ get_or-drop (place_in series place) (values_of env series) i 0))
-    (values_have_widths board env series (place_in series place + i) is))
+    (is series (place_in series place + i))
+
+-- what has lists of their widths is one
+pub lists_are_environment : (board : BoardParts) (values : Series → List ℕ)
+    → ((series : Series) (i : ℕ) → slice_index (values series) i < 2 ^ width_of board.width series)
+    → IsEnvironment board (with_lists values)
+lists_are_environment board values each series i =
+    subst (λ (xs : List ℕ). slice_index xs i < 2 ^ width_of board.width series)
+    (sym (lists_back values board.width series (each series))) (each series i)
 
 pub shortened_are_environments : ShortenedAreEnvironments
-shortened_are_environments board env is = record {
-  noise = trimmed_below (2 ^ 14) env.noise (lit< tt) is.noise;
-  inputs = trimmed_below (2 ^ board.width) env.inputs (pow_pos board.width) is.inputs;
-}
+shortened_are_environments board env is =
+    lists_are_environment board (λ series. trimmed (values_of env series))
+    (λ series.
+    trimmed_below (2 ^ width_of board.width series) (values_of env series) (pow_pos (width_of board.width series))
+    (is series))
 
 -- bits of the front that has their numbers but the zeros at the end
 bits_kept : (bits : List Bool) (kept : ℕ) → take kept (map num bits) ≡ trimmed (map num bits)
@@ -211,15 +192,15 @@ bits_kept : (bits : List Bool) (kept : ℕ) → take kept (map num bits) ≡ tri
 bits_kept bits kept is =
     sym (bits_back (take kept bits)) ∙ ap (map (λ bit. bit == 1)) (sym (take-map num kept bits) ∙ is)
 
-abbrev pub lists_are : List Bool → (noise inputs : List ℕ) → Environment
-lists_are line noise inputs = record { line = line; noise = noise; inputs = inputs }
+abbrev pub environment_with : List Bool → (noise inputs : List ℕ) → Environment
+environment_with line noise inputs = record { line = line; noise = noise; inputs = inputs }
 
 -- the fronts of lists that have all but the zeros at the ends
 pub fronts_are : (env : Environment) (line noise inputs : ℕ)
     → take line (values_of env Line) ≡ trimmed (values_of env Line)
     → take noise (values_of env Noise) ≡ trimmed (values_of env Noise)
     → take inputs (values_of env Inputs) ≡ trimmed (values_of env Inputs)
-    → lists_are (take line env.line) (take noise env.noise) (take inputs env.inputs) ≡ shortened env
+    → environment_with (take line env.line) (take noise env.noise) (take inputs env.inputs) ≡ shortened env
 fronts_are env line noise inputs one two three = rw (bits_kept env.line line one, two, three) refl
 
 -- ---- values behind those of a list
@@ -251,12 +232,12 @@ none_behind Line env = rw (append-nil env.line) refl
 none_behind Noise env = rw (append-nil env.noise) refl
 
 -- a value behind those of a list
-pub own_behind : (series : Series) (value : ℕ) (env : Environment) → value < 2 ^ width_of 32 series
+pub own_behind : (series : Series) (width value : ℕ) (env : Environment) → value < 2 ^ width_of width series
     → values_of (with_values series (value ∷ []) env) series ≡ values_of env series ++ value ∷ []
-own_behind Inputs value env small = refl
-own_behind Line value env small =
-    map-append num env.line ((value == 1) ∷ []) ∙ ap (λ v. map num env.line ++ v ∷ []) (number_back value small)
-own_behind Noise value env small = refl
+own_behind Inputs width value env small = refl
+own_behind Line width value env small =
+    map-append num env.line ((value == 1) ∷ []) ∙ ap (λ v. map num env.line ++ v ∷ []) (num_below value small)
+own_behind Noise width value env small = refl
 
 -- the other lists stay
 pub other_behind : (series other : Series) (values : List ℕ) (env : Environment) → other ≢ series
@@ -268,12 +249,12 @@ other_behind series other values env differs = refl
 
 -- ---- another value in a list
 
-pub own_set : (series : Series) (number value : ℕ) (env : Environment) → value < 2 ^ width_of 32 series
+pub own_set : (series : Series) (width number value : ℕ) (env : Environment) → value < 2 ^ width_of width series
     → values_of (with_value series number value env) series ≡ slice_set (values_of env series) number value
-own_set Inputs number value env small = refl
-own_set Line number value env small =
-    map-set num env.line number (value == 1) ∙ ap (slice_set (map num env.line) number) (number_back value small)
-own_set Noise number value env small = refl
+own_set Inputs width number value env small = refl
+own_set Line width number value env small =
+    map-set num env.line number (value == 1) ∙ ap (slice_set (map num env.line) number) (num_below value small)
+own_set Noise width number value env small = refl
 
 pub other_set : (series other : Series) (number value : ℕ) (env : Environment) → other ≢ series
     → values_of (with_value series number value env) other ≡ values_of env other
@@ -292,18 +273,21 @@ push_below bound [] v each here (suc i) = each zero
 push_below bound (x ∷ xs) v each here zero = each zero
 push_below bound (x ∷ xs) v each here (suc i) = push_below bound xs v (λ j. each (suc j)) here i
 
+-- with a value behind those of a list an environment is one still
 pub behind_is : (board : BoardParts) (series : Series) (value : ℕ) (env : Environment)
     → value < 2 ^ width_of board.width series → IsEnvironment board env
     → IsEnvironment board (with_values series (value ∷ []) env)
-behind_is board Inputs value env small is = record {
-  noise = is.noise;
-  inputs = push_below (2 ^ board.width) env.inputs value is.inputs small;
-}
-behind_is board Line value env small is = record { noise = is.noise; inputs = is.inputs }
-behind_is board Noise value env small is = record {
-  noise = push_below (2 ^ 14) env.noise value is.noise small;
-  inputs = is.inputs;
-}
+behind_is board series value env small is other i = elim (same_or_other other series) [
+  | inl own ↦
+      subst (λ (s : Series). slice_index (values_of (with_values series (value ∷ []) env) s) i
+      < 2 ^ width_of board.width s) (sym own)
+      (subst (λ (xs : List ℕ). slice_index xs i < 2 ^ width_of board.width series)
+      (sym (own_behind series board.width value env small))
+      (push_below (2 ^ width_of board.width series) (values_of env series) value (is series) small i))
+  | inr differs ↦
+      subst (λ (xs : List ℕ). slice_index xs i < 2 ^ width_of board.width other)
+      (sym (other_behind series other (value ∷ []) env differs)) (is other i)
+]
 
 pub none_is : (board : BoardParts) → IsEnvironment board no_values
-none_is board = record { noise = λ i. lit< tt; inputs = λ i. pow_pos board.width }
+none_is board = lists_are_environment board (λ series. []) (λ series i. pow_pos (width_of board.width series))

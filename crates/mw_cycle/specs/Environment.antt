@@ -16,11 +16,6 @@ pub record Environment : Type 0 where
   pub noise : List ℕ
   pub inputs : List ℕ
 
--- noise words have 14 bits, and input words the board's width
-pub record IsEnvironment (board : BoardParts) (env : Environment) : Type 0 where
-  pub noise : (i : ℕ) → slice_index env.noise i < 2 ^ 14
-  pub inputs : (i : ℕ) → slice_index env.inputs i < 2 ^ board.width
-
 -- a run's place before its first cycle
 abbrev pub at_start : Clock
 at_start = record { cycle = 0; taken = 0 }
@@ -41,11 +36,6 @@ rest_at env place = record {
   inputs = drop place.taken env.inputs;
 }
 
--- what is left of an environment is again one
-abbrev pub RestsAreEnvironments : Type 0
-RestsAreEnvironments = (board : BoardParts) (env : Environment) (place : Clock)
-    → IsEnvironment board env → IsEnvironment board (rest_at env place)
-
 -- ---- list by list
 
 -- the values of a list, as numbers
@@ -53,6 +43,16 @@ abbrev pub values_of : Environment → Series → List ℕ
 values_of env Inputs = env.inputs
 values_of env Line = map num env.line
 values_of env Noise = env.noise
+
+-- each value of a list has at most the list's bits
+abbrev pub IsEnvironment : BoardParts → Environment → Type 0
+IsEnvironment board env =
+    (series : Series) (i : ℕ) → slice_index (values_of env series) i < 2 ^ width_of board.width series
+
+-- what is left of an environment is again one
+abbrev pub RestsAreEnvironments : Type 0
+RestsAreEnvironments = (board : BoardParts) (env : Environment) (place : Clock)
+    → IsEnvironment board env → IsEnvironment board (rest_at env place)
 
 -- the environment whose lists have these values
 abbrev pub with_lists : (Series → List ℕ) → Environment
@@ -83,25 +83,6 @@ abbrev pub place_in : Series → Clock → ℕ
 place_in Inputs clock = clock.taken
 place_in other clock = clock.cycle
 
--- an item before those that are left without the zeros at their end
-abbrev pub before_trimmed : ℕ → List ℕ → List ℕ
-before_trimmed x [] = if x == 0 then [] else x ∷ []
-before_trimmed x (y ∷ rest) = x ∷ y ∷ rest
-
--- a list without the zeros at its end
-unfoldable pub trimmed : List ℕ → List ℕ
-trimmed [] = []
-trimmed (x ∷ rest) = before_trimmed x (trimmed rest)
-
--- an environment without the zeros at its lists' ends
-abbrev pub shortened : Environment → Environment
-shortened env = with_lists (λ series. trimmed (values_of env series))
-
--- each value of an environment has the width of its list
-abbrev pub ValuesHaveWidths : Type 0
-ValuesHaveWidths = (board : BoardParts) (env : Environment) (series : Series) (i : ℕ) → IsEnvironment board env
-    → slice_index (values_of env series) i < 2 ^ width_of board.width series
-
 -- an environment is what its lists make
 abbrev pub ListsAreAll : Type 0
 ListsAreAll = (env : Environment) → with_lists (values_of env) ≡ env
@@ -110,8 +91,3 @@ ListsAreAll = (env : Environment) → with_lists (values_of env) ≡ env
 abbrev pub RestsAreOfLists : Type 0
 RestsAreOfLists = (env : Environment) (place : Clock) (series : Series)
     → values_of (rest_at env place) series ≡ drop (place_in series place) (values_of env series)
-
--- an environment without the zeros at its lists' ends is again one
-abbrev pub ShortenedAreEnvironments : Type 0
-ShortenedAreEnvironments = (board : BoardParts) (env : Environment) → IsEnvironment board env
-    → IsEnvironment board (shortened env)

@@ -39,8 +39,8 @@ kind_of Line n = kinds.Line n
 kind_of Noise n = kinds.Noise n
 
 -- the list and the number of the value that a variable stands for, where it is one of an environment
-abbrev pub value_named : WordKind → Option (Series × ℕ)
-value_named (kinds.Input n) = Some (Inputs, n)
-value_named (kinds.Line n) = Some (Line, n)
-value_named (kinds.Noise n) = Some (Noise, n)
-value_named other = None
+abbrev pub series_of_kind : WordKind → Option (Series × ℕ)
+series_of_kind (kinds.Input n) = Some (Inputs, n)
+series_of_kind (kinds.Line n) = Some (Line, n)
+series_of_kind (kinds.Noise n) = Some (Noise, n)
+series_of_kind other = None

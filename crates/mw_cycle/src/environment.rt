@@ -1,7 +1,8 @@
 // The outside of a run: the interrupt line, the undefined bits and the input words.
 ghost use Rattle.std.specs.Prelude.{◌≡◌, ◌∷◌, [], ◌<◌, ◌≤◌, ◌^◌, IfOk, OnOk, length};
 ghost use Rattle.std.specs.Prelude.{slice_index, slice_index_or, take};
-ghost use Rattle.mw_cycle.specs.Environment.{Environment, given_at, no_values, shortened, trimmed, values_of};
+ghost use Rattle.mw_cycle.specs.Environment.{Environment, given_at, no_values, values_of};
+ghost use Rattle.mw_cycle.specs.Trimmed.{shortened, trimmed};
 ghost use Rattle.mw_cycle.specs.Environment.{with_value, with_values};
 ghost use Rattle.mw_cycle.specs.Series.{width_of};
 

@@ -1,8 +1,8 @@
 // Laws of runs, of their decided bits, of their boundaries and of their environments.
 ghost use Rattle.mw_cycle.specs.Decided.{BitsGoOn};
 ghost use Rattle.mw_cycle.specs.Environment.{ListsAreAll, RestsAreEnvironments, RestsAreOfLists};
-ghost use Rattle.mw_cycle.specs.Environment.{ShortenedAreEnvironments, ValuesHaveWidths};
 ghost use Rattle.mw_cycle.specs.Run.{RunsGoOn};
+ghost use Rattle.mw_cycle.specs.Trimmed.{ShortenedAreEnvironments};
 ghost use Rattle.mw_cycle.specs.Boundary.{BoundariesGoOn, SegmentsEndAtBoundaries};
 
 /// The law of segments: the first boundary within a limit is the run's next boundary, and where there is none within it
@@ -31,11 +31,6 @@ pub fn boundaries_go_on()
 /// The law of what is left: at each place, what is left of an environment is again one.
 pub fn rests_are_environments()
     ensures { RestsAreEnvironments }
-{}
-
-/// The law of widths: each value of an environment has the width of its list.
-pub fn values_have_widths()
-    ensures { ValuesHaveWidths }
 {}
 
 /// The law of what is left of lists: what is left of an environment at a place is what is left of each list.

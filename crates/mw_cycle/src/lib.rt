@@ -19,7 +19,7 @@ pub use elements::{Element, element_of};
 pub use environment::{Clock, Env};
 pub use laws::{
     bits_go_on, boundaries_go_on, lists_are_all, rests_are_environments, rests_are_of_lists,
-    runs_go_on, segments_end_at_boundaries, shortened_are_environments, values_have_widths,
+    runs_go_on, segments_end_at_boundaries, shortened_are_environments,
 };
 pub use microword::Microword;
 pub use one_cycle::cycle;

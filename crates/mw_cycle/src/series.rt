@@ -1,6 +1,6 @@
 // The lists of an environment: what texts call them, how wide their values are, and the variables that stand for these.
 ghost use Rattle.std.specs.Prelude.{◌≡◌, ◌≤◌};
-ghost use Rattle.mw_cycle.specs.Series.{all_series, keyword_of, kind_of, series_named, value_named, width_of};
+ghost use Rattle.mw_cycle.specs.Series.{all_series, keyword_of, series_named, series_of_kind, width_of};
 
 use mw_term::WordKind;
 
@@ -58,20 +58,9 @@ impl Series {
         ALL.iter().copied().find(|series| name == series.keyword())
     }
 
-    /// The variable of its value with a number.
-    pub fn kind(self, number: u32) -> WordKind
-        ensures { result ≡ kind_of self number }
-    {
-        match self {
-            Series::Inputs => WordKind::Input(number),
-            Series::Line => WordKind::Line(number),
-            Series::Noise => WordKind::Noise(number),
-        }
-    }
-
     /// The list and the number of the value that a variable stands for, where it is one of an environment.
     pub fn of_kind(kind: WordKind) -> Option<(Series, u32)>
-        ensures { result ≡ value_named kind }
+        ensures { result ≡ series_of_kind kind }
     {
         match kind {
             WordKind::Input(number) => Some((Series::Inputs, number)),

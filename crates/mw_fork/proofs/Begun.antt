@@ -8,7 +8,6 @@ use Rattle.mw_cycle.specs.declared.series.Series.{Series}
 use Rattle.mw_cycle.specs.Environment.{Environment, values_of}
 use Rattle.mw_cycle.specs.Series.{kind_of, width_of}
 use Rattle.mw_cycle.specs.Trimmed.{IsTrimmed}
-use Rattle.mw_cycle.proofs.Lists.{widths_are_all}
 use Rattle.mw_term.specs.declared.kinds.WordKind.{WordKind}
 use Rattle.mw_term.specs.declared.kinds.WordKind.TheVariants.{Element}
 use Rattle.mw_term.specs.declared.word.Word.{Word}
@@ -62,8 +61,8 @@ environment_of : (board : BoardParts) (t : Table) (words : List Word) (cycles : 
     → IsTable t → HaveOwnKinds words → HaveVariables board t words cycles → HasEntries t words given env
     → IsEnvironmentOf board t words given env
 environment_of board t words cycles given env table own have entries = record {
-  within = widths_are_all board env (λ series i.
-      let bits = width_of board.width series in
+  within = λ series i.
+      (let bits = width_of board.width series in
       subst (λ v. v < 2 ^ bits) (sym (listed t words given env series i entries))
       (value_below t given (term_of words (kind_of series i)) bits table (have.widths series i)));
   values = λ series n place term is.

@@ -6,6 +6,7 @@ use Rattle.std.specs.Option.{unwrap_or}
 use Rattle.std.proofs.lemmas.Grind.{same_number_lists}
 use Rattle.std.proofs.lemmas.List.{take_all}
 use Rattle.std.proofs.lemmas.Option.{get_or_from_slice_get, slice_get_within}
+use Rattle.mw_cycle.specs.declared.series.Series.TheVariants.{Inputs}
 use Rattle.mw_cycle.specs.BoardTerms.{Standing}
 use Rattle.mw_term.specs.declared.decided.Decided.{Decided}
 use Rattle.mw_macro.specs.DescribedStep.{AreInputs}
@@ -188,7 +189,7 @@ none_differs job number elements bits cycles old new path board step reached val
     let wide = wide_compared job.relation.shape.widths (terms_at_end job board step) old new goes
     (wide_at_end job number (ground_in old elements) bits cycles old path board step valid is.ended) in
     let begins = starts.begins in
-    let inputs : AreInputs job.machine start.env.inputs = λ i. rw valid.matched.word (begins.env.inputs i) in
+    let inputs : AreInputs job.machine start.env.inputs = λ i. rw valid.matched.word (begins.env Inputs i) in
     let fits =
     step_fits job.machine start.pair.machine (slice_index_or start.env.line 0 false) start.env.inputs 0 valid.machine
     begins.related.machine_fits inputs in

@@ -8,6 +8,7 @@ use Rattle.std.proofs.lemmas.Option.{get_or_from_slice_get, slice_get-get_or, sl
 use Rattle.mw_base.specs.declared.event.Event.{Event}
 use Rattle.mw_base.specs.declared.event.Event.TheVariants as events
 use Rattle.mw_board.specs.Elements.{element_count}
+use Rattle.mw_cycle.specs.declared.series.Series.TheVariants.{Inputs}
 use Rattle.mw_cycle.specs.Boundary.{numbers}
 use Rattle.mw_cycle.specs.BoardTerms.{term_of_part}
 use Rattle.mw_term.specs.declared.decided.Decided.{Decided}
@@ -201,7 +202,7 @@ nothing_shown job number space given start cycles board step reached valid start
     let run = board_run job start cycles in
     let pair = pair_of run.state (first_step job start).state in
     let begins = starts.begins in
-    let inputs : AreInputs job.machine start.env.inputs = λ i. rw valid.matched.word (begins.env.inputs i) in
+    let inputs : AreInputs job.machine start.env.inputs = λ i. rw valid.matched.word (begins.env Inputs i) in
     none_where_same job start (record {
       run = run;
       reached = reached;

@@ -9,9 +9,9 @@ use Rattle.std.proofs.lemmas.List.{length-set}
 use Rattle.std.proofs.lemmas.Nat.{pow_pos}
 use Rattle.mw_cycle.specs.declared.series.Series.{Series}
 use Rattle.mw_cycle.specs.Environment.{Environment, values_of, with_value, with_values}
-use Rattle.mw_cycle.specs.Series.{kind_of, value_named, width_of}
+use Rattle.mw_cycle.specs.Series.{kind_of, series_of_kind, width_of}
 use Rattle.mw_cycle.specs.Trimmed.{EndsWell, IsTrimmed}
-use Rattle.mw_cycle.proofs.Named.{kind_named, own_number, own_series, same_or_other, value_named_back}
+use Rattle.mw_cycle.proofs.Named.{kind_named, own_number, own_series, same_or_other, series_of_kind_back}
 use Rattle.mw_cycle.proofs.Lists.{behind_length, other_behind, other_set, own_behind, own_set}
 use Rattle.mw_term.specs.declared.kinds.WordKind.{WordKind}
 use Rattle.mw_term.specs.WordList.{same_kind}
@@ -23,13 +23,13 @@ use Rattle.mw_fork.specs.Entries.{HasTaken, entry, is_outside, value_at}
 
 pub entry_of : (env : Environment) (series : Series) (n : ℕ)
     → entry env (kind_of series n) ≡ slice_index (values_of env series) n
-entry_of env series n = ap (value_at env) (value_named_back series n)
+entry_of env series n = ap (value_at env) (series_of_kind_back series n)
 
 pub outside_of : (series : Series) (n : ℕ) → is_outside (kind_of series n) ≡ true
-outside_of series n = ap (λ named. is_some named) (value_named_back series n)
+outside_of series n = ap (λ named. is_some named) (series_of_kind_back series n)
 
 -- the kinds that are those of variables of an environment
-outside_named : (kind : WordKind) (o : Option (Series × ℕ)) → value_named kind ≡ o → is_some o ≡ true
+outside_named : (kind : WordKind) (o : Option (Series × ℕ)) → series_of_kind kind ≡ o → is_some o ≡ true
     → (series : Series) × (n : ℕ) × (kind ≡ kind_of series n)
 outside_named kind (Some named) is some = (named.0, named.1, kind_named kind named.0 named.1 is)
 outside_named kind None is some = absurd cc
@@ -41,7 +41,7 @@ entry_by env None each = refl
 
 pub entry_none : (env : Environment) (kind : WordKind) → (is_outside kind ≡ true → entry env kind ≡ 0)
     → entry env kind ≡ 0
-entry_none env kind each = entry_by env (value_named kind) each
+entry_none env kind each = entry_by env (series_of_kind kind) each
 
 -- ---- one entry is another
 
@@ -59,7 +59,7 @@ taken_by : (old new : Environment) (kind : WordKind) (value : ℕ)
     ≡ (if same_kind kind (kind_of series n) then value else slice_index (values_of old series) n))
     → HasTaken old new kind value
 taken_by old new kind value each other outside =
-    let named = outside_named other (value_named other) refl outside in
+    let named = outside_named other (series_of_kind other) refl outside in
     let series = named.0 in
     let n = named.1 in
     subst (λ (k : WordKind). entry new k ≡ (if same_kind kind k then value else entry old k)) (sym named.2)
@@ -85,7 +85,7 @@ set_value xs number value n inside =
     ∙ ap (λ (b : Bool). if b then value else slice_index xs n) (turned n number)
 
 last_by : (xs : List ℕ) (number value : ℕ) (b : Bool) → (number == length xs - 1) ≡ b → value ≢ 0
-    → number < length xs → EndsWell 0 xs ⊎ (length xs ≤ number + 1)
+    → number < length xs → EndsWell xs ⊎ (length xs ≤ number + 1)
     → (if b then value else slice_index xs (length xs - 1)) ≢ 0
 last_by xs number value true at some inside ends = some
 last_by xs number value false at some inside ends = elim ends [
@@ -97,7 +97,7 @@ last_by xs number value false at some inside ends = elim ends [
 
 -- a list ends well where its last number is one that was put there, or where it ended well before
 set_ends : (xs : List ℕ) (number value : ℕ) → value ≢ 0 → number < length xs
-    → EndsWell 0 xs ⊎ (length xs ≤ number + 1) → EndsWell 0 (slice_set xs number value)
+    → EndsWell xs ⊎ (length xs ≤ number + 1) → EndsWell (slice_set xs number value)
 set_ends xs number value some inside ends = λ any none.
     (let last : slice_index (slice_set xs number value) (length (slice_set xs number value) - 1)
     ≡ (if number == length xs - 1 then value else slice_index xs (length xs - 1)) =
@@ -111,8 +111,8 @@ set_ends xs number value some inside ends = λ any none.
 -- that one, which then ends at the place.
 pub record HasFilled (series : Series) (at : ℕ) (old new : Environment) : Type 0 where
   pub values : (other : Series) (n : ℕ) → slice_index (values_of new other) n ≡ slice_index (values_of old other) n
-  pub ends : (other : Series) → EndsWell 0 (values_of old other)
-      → EndsWell 0 (values_of new other) ⊎ ((other ≡ series) × (length (values_of new series) ≤ at + 1))
+  pub ends : (other : Series) → EndsWell (values_of old other)
+      → EndsWell (values_of new other) ⊎ ((other ≡ series) × (length (values_of new series) ≤ at + 1))
 
 pub none_filled : (series : Series) (at : ℕ) (env : Environment) → HasFilled series at env env
 none_filled series at env = record { values = λ other n. refl; ends = λ other well. inl well }
@@ -123,7 +123,7 @@ one_behind series other env n = elim (same_or_other other series) [
   | inl is ↦
       let new = with_values series (0 ∷ []) env in
       subst (λ (s : Series). slice_index (values_of new s) n ≡ slice_index (values_of env s) n) (sym is)
-      (ap (λ xs. slice_index xs n) (own_behind series 0 env (pow_pos (width_of 32 series))) ∙ zero_behind (values_of env series) n)
+      (ap (λ xs. slice_index xs n) (own_behind series 32 0 env (pow_pos (width_of 32 series))) ∙ zero_behind (values_of env series) n)
   | inr differs ↦ ap (λ xs. slice_index xs n) (other_behind series other (0 ∷ []) env differs)
 ]
 
@@ -136,7 +136,7 @@ one_filled series at old env new before is filled =
       ends = λ other well. elim (same_or_other other series) [
         | inl own ↦ inr (own, omega (arith, before, behind_length series (0 ∷ []) env))
         | inr differs ↦ elim (filled.ends other well) [
-          | inl still ↦ inl (subst (EndsWell 0) (sym (other_behind series other (0 ∷ []) env differs)) still)
+          | inl still ↦ inl (subst (EndsWell) (sym (other_behind series other (0 ∷ []) env differs)) still)
           | inr own ↦ absurd (differs own.0)
         ]
       ];
@@ -157,7 +157,7 @@ own_put : (series : Series) (number value : ℕ) (env : Environment) (n : ℕ) �
     → slice_index (values_of (with_value series number value env) series) n
     ≡ (if same_kind (kind_of series number) (kind_of series n) then value else slice_index (values_of env series) n)
 own_put series number value env n small inside =
-    ap (λ xs. slice_index xs n) (own_set series number value env small)
+    ap (λ xs. slice_index xs n) (own_set series 32 number value env small)
     ∙ set_value (values_of env series) number value n inside
     ∙ ap (λ (b : Bool). if b then value else slice_index (values_of env series) n) (sym (same_of series number n))
 
@@ -196,21 +196,21 @@ put_taken series number value old env new small inside filled is =
 
 put_ends : (series other : Series) (number value : ℕ) (old env : Environment) → value ≢ 0
     → value < 2 ^ width_of 32 series → number < length (values_of env series) → HasFilled series number old env
-    → EndsWell 0 (values_of old other) → EndsWell 0 (values_of (with_value series number value env) other)
+    → EndsWell (values_of old other) → EndsWell (values_of (with_value series number value env) other)
 put_ends series other number value old env some small inside filled well = elim (filled.ends other well) [
   | inl still ↦ elim (same_or_other other series) [
     | inl is ↦
         let new = with_value series number value env in
-        subst (λ (s : Series). EndsWell 0 (values_of new s)) (sym is)
-        (subst (EndsWell 0) (sym (own_set series number value env small))
+        subst (λ (s : Series). EndsWell (values_of new s)) (sym is)
+        (subst (EndsWell) (sym (own_set series 32 number value env small))
         (set_ends (values_of env series) number value some inside
-        (inl (subst (λ (s : Series). EndsWell 0 (values_of env s)) is still))))
-    | inr differs ↦ subst (EndsWell 0) (sym (other_set series other number value env differs)) still
+        (inl (subst (λ (s : Series). EndsWell (values_of env s)) is still))))
+    | inr differs ↦ subst (EndsWell) (sym (other_set series other number value env differs)) still
   ]
   | inr own ↦
       let new = with_value series number value env in
-      subst (λ (s : Series). EndsWell 0 (values_of new s)) (sym own.0)
-      (subst (EndsWell 0) (sym (own_set series number value env small))
+      subst (λ (s : Series). EndsWell (values_of new s)) (sym own.0)
+      (subst (EndsWell) (sym (own_set series 32 number value env small))
       (set_ends (values_of env series) number value some inside (inr own.1)))
 ]
 

@@ -2,7 +2,7 @@
 use Rattle.std.specs.Prelude.{◌≡◌, ℕ, Bool, true, if◌then◌else◌, Option, Some, None, is_some, slice_index}
 use Rattle.mw_cycle.specs.declared.series.Series.{Series}
 use Rattle.mw_cycle.specs.Environment.{Environment, values_of}
-use Rattle.mw_cycle.specs.Series.{value_named}
+use Rattle.mw_cycle.specs.Series.{series_of_kind}
 use Rattle.mw_term.specs.declared.kinds.WordKind.{WordKind}
 use Rattle.mw_term.specs.WordList.{same_kind}
 
@@ -13,11 +13,11 @@ value_at env None = 0
 
 -- the value that a variable of this kind stands for, and 0 where that is none of an environment
 abbrev pub entry : Environment → WordKind → ℕ
-entry env kind = value_at env (value_named kind)
+entry env kind = value_at env (series_of_kind kind)
 
 -- whether a kind is that of a variable of an environment
 abbrev pub is_outside : WordKind → Bool
-is_outside kind = is_some (value_named kind)
+is_outside kind = is_some (series_of_kind kind)
 
 -- one entry has another value now
 abbrev pub HasTaken : (old new : Environment) → WordKind → (value : ℕ) → Type 0

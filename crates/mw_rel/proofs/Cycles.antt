@@ -39,6 +39,7 @@ use Rattle.mw_board.specs.Depth.{depth_of}
 use Rattle.mw_board.specs.Rules.{width_of}
 use Rattle.mw_board.specs.Valid.{IsBoard, IsPoint}
 use Rattle.mw_alu.specs.declared.answer.AluOut.{AluOut}
+use Rattle.mw_cycle.specs.declared.series.Series.TheVariants.{Inputs}
 use Rattle.mw_cycle.specs.declared.microword.Microword.{Microword}
 use Rattle.mw_cycle.specs.declared.state.CycleIn.{CycleIn}
 use Rattle.mw_cycle.specs.Control.{in_field, value_at}
@@ -330,4 +331,4 @@ run_fits board store env start zero is outside fits = fits
 run_fits board store env start (suc n) is outside fits =
     let run = run_of board store env start n in
     after_fits board store run.state (given_at env run.clock) is (run_fits board store env start n is outside fits)
-    (outside.inputs run.clock.taken)
+    (outside Inputs run.clock.taken)

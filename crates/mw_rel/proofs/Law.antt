@@ -5,7 +5,7 @@ use Rattle.std.proofs.lemmas.Bool.{cases_lt}
 use Rattle.mw_cycle.specs.Boundary.{IsBoundary}
 use Rattle.mw_cycle.specs.Environment.{rest_at}
 use Rattle.mw_cycle.specs.Run.{BoardRun, run_of, then_run}
-use Rattle.mw_cycle.proofs.Lists.{rest_is_environment}
+use Rattle.mw_cycle.proofs.Lists.{rests_are_environments}
 use Rattle.mw_cycle.proofs.Suffix.{run_further}
 use Rattle.mw_macro.specs.DescribedStep.{Stepped, step_of}
 use Rattle.mw_macro.specs.Laws.{inputs_in}
@@ -39,7 +39,7 @@ begins_there : (job : Job) (start : Start) (k : ℕ) (kept : IsKept job start k)
 begins_there job start k kept begins = record {
   boundary = is_there job _ kept.reached kept.there;
   related = kept.related;
-  env = rest_is_environment job.board start.env (board_run job start kept.cycle).clock begins.env;
+  env = rests_are_environments job.board start.env (board_run job start kept.cycle).clock begins.env;
 }
 
 -- boundary 0
@@ -206,5 +206,5 @@ starts_follow job start run reached is begins none ends there =
     record {
       boundary = is_there job run.state.at reached there;
       related = subst (λ (b : Boundary). InRelation job b (pair_of run.state step.state)) boundaries related;
-      env = rest_is_environment job.board start.env run.clock begins.env;
+      env = rests_are_environments job.board start.env run.clock begins.env;
     }

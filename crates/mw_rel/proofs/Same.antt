@@ -2,6 +2,7 @@
 use Rattle.std.proofs.Common.{◌≡◌, ℕ, ◌≤◌, false, ◌==◌, Option, Some, None, option_map, refl, ap, ◌∙◌}
 use Rattle.std.specs.Prelude.{All, slice_index, slice_index_or}
 use Rattle.std.proofs.lemmas.Bool.{eqb-true, eq-eqb}
+use Rattle.mw_cycle.specs.declared.series.Series.TheVariants.{Inputs}
 use Rattle.mw_cycle.specs.Boundary.{first_boundary, first_segment, IsNextBoundary}
 use Rattle.mw_cycle.specs.Run.{BoardRun}
 use Rattle.mw_cycle.specs.State as boards
@@ -119,7 +120,7 @@ shown_boundary job start run None none = cc
 
 -- what is taken are words of the machine's memory
 inputs_fit : (job : Job) (start : Start) → IsJob job → IsStart job start → AreInputs job.machine start.env.inputs
-inputs_fit job start is begins i = rw is.matched.word (begins.env.inputs i)
+inputs_fit job start is begins i = rw is.matched.word (begins.env Inputs i)
 
 -- the board where its segment ended fits
 reached_fits : (job : Job) (start : Start) (run : BoardRun) → IsJob job → IsStart job start → Segment job start run

@@ -11,11 +11,11 @@ use Rattle.mw_base.specs.Words.{num}
 use Rattle.mw_board.specs.declared.parts.BoardParts.{BoardParts}
 use Rattle.mw_cycle.specs.declared.series.Series.{Series}
 use Rattle.mw_cycle.specs.declared.series.Series.TheVariants.{Inputs, Line, Noise}
-use Rattle.mw_cycle.specs.Environment.{Environment, IsEnvironment, no_values, shortened, trimmed, values_of}
+use Rattle.mw_cycle.specs.Environment.{Environment, IsEnvironment, no_values, values_of}
+use Rattle.mw_cycle.specs.Trimmed.{shortened, trimmed}
 use Rattle.mw_cycle.specs.Environment.{with_values}
 use Rattle.mw_cycle.specs.Series.{keyword_of, width_of}
-use Rattle.mw_cycle.proofs.Lists.{behind_again, behind_length, none_behind, values_have_widths, widths_most}
-use Rattle.mw_cycle.proofs.Lists.{widths_within}
+use Rattle.mw_cycle.proofs.Lists.{behind_again, behind_length, none_behind, widths_most, widths_within}
 use Rattle.mw_sim.specs.declared.settings.Settable.{Settable}
 use Rattle.mw_sim.specs.Settings.{Settings, with_line}
 use Rattle.mw_replay.specs.CounterPrinted.{AreShort, environment_lines, line_count, values_at, values_lines}
@@ -87,7 +87,7 @@ list_below : (board : BoardParts) (env : Environment) (series : Series) → IsEn
     → All (λ v. v < 2 ^ width_of board.width series) (trimmed (values_of env series))
 list_below board env series is =
     trimmed_within (2 ^ width_of board.width series) (values_of env series) (pow_pos (width_of board.width series))
-    (λ i. values_have_widths board env series i is)
+    (is series)
 
 -- and it isn't too long
 list_short : (env : Environment) (series : Series) → AreShort (shortened env)

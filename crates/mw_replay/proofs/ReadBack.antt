@@ -15,7 +15,8 @@ use Rattle.mw_base.specs.Symbols.{spelled}
 use Rattle.mw_base.specs.TokenLines.{lines_from}
 use Rattle.mw_board.specs.Check.{check_of}
 use Rattle.mw_asm.specs.declared.assembled.Label.{Label}
-use Rattle.mw_cycle.specs.Environment.{Environment, no_values, shortened}
+use Rattle.mw_cycle.specs.Environment.{Environment, no_values}
+use Rattle.mw_cycle.specs.Trimmed.{shortened}
 use Rattle.mw_expr.specs.Values.{IsImage}
 use Rattle.mw_rel.specs.Begin.{Begin, IsBegin, free_elements}
 use Rattle.mw_rel.specs.Completed.{free_before, free_value}

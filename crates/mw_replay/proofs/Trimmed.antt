@@ -7,8 +7,8 @@ use Rattle.std.proofs.lemmas.Bool.{eqb-true}
 use Rattle.std.proofs.lemmas.Grind.{get_or_default_zero}
 use Rattle.mw_base.specs.Words.{num}
 use Rattle.mw_cycle.specs.declared.state.CycleIn.{CycleIn}
-use Rattle.mw_cycle.specs.Environment.{Environment, before_trimmed, shortened, trimmed}
-use Rattle.mw_cycle.specs.Trimmed.{EndsWell}
+use Rattle.mw_cycle.specs.Environment.{Environment}
+use Rattle.mw_cycle.specs.Trimmed.{before_trimmed, shortened, trimmed, EndsWell}
 use Rattle.mw_cycle.specs.declared.series.Series.TheVariants.{Inputs, Line, Noise}
 use Rattle.mw_cycle.proofs.Lists.{bits_back, kept_front, trimmed_below}
 use Rattle.mw_replay.specs.Laws.{NothingIsCut, ZerosGiveNothing}
@@ -105,7 +105,7 @@ zeros_give_nothing env place =
 
 -- ---- with no 0 at its end a list stays
 
-trimmed_stays : (xs : List ℕ) → EndsWell 0 xs → trimmed xs ≡ xs
+trimmed_stays : (xs : List ℕ) → EndsWell xs → trimmed xs ≡ xs
 trimmed_stays xs ends =
     sym (kept_front xs (length xs) (omega arith) (λ i after before. omega arith) ends) ∙ take-length xs
 

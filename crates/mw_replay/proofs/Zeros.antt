@@ -8,7 +8,8 @@ use Rattle.mw_cycle.specs.declared.environment.Clock.{Clock}
 use Rattle.mw_cycle.specs.declared.state.CycleIn.{CycleIn}
 use Rattle.mw_cycle.specs.Boundary.{first_segment, is_named, numbers}
 use Rattle.mw_cycle.specs.Cycle.{nets_of, state_after}
-use Rattle.mw_cycle.specs.Environment.{Environment, at_start, given_at, shortened}
+use Rattle.mw_cycle.specs.Environment.{Environment, at_start, given_at}
+use Rattle.mw_cycle.specs.Trimmed.{shortened}
 use Rattle.mw_cycle.specs.Run.{BoardRun, clock_after, longer_run, run_of}
 use Rattle.mw_cycle.specs.State.{BoardState}
 use Rattle.mw_expr.specs.declared.shape.Shape.{Shape}

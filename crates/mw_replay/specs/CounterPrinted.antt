@@ -5,7 +5,8 @@ use Rattle.std.specs.List.{flat_map, list_all, range_with_len}
 use Rattle.mw_base.specs.declared.token.Token.{Token}
 use Rattle.mw_base.specs.Numbers.{hex}
 use Rattle.mw_base.specs.Tokens.{tokens_from}
-use Rattle.mw_cycle.specs.Environment.{Environment, shortened, trimmed, values_of}
+use Rattle.mw_cycle.specs.Environment.{Environment, values_of}
+use Rattle.mw_cycle.specs.Trimmed.{shortened, trimmed}
 use Rattle.mw_cycle.specs.declared.series.Series.{Series}
 use Rattle.mw_cycle.specs.Series.{all_series, keyword_of}
 use Rattle.mw_rel.specs.Completed.{free_value}

@@ -1,8 +1,8 @@
 -- Laws of counters and replays.
 use Rattle.std.specs.Prelude.{◌≡◌, ◌↔◌, ℕ, ◌+◌, ◌≤◌, ◌<◌, length, Some}
 use Rattle.mw_cycle.specs.declared.environment.Clock.{Clock}
-use Rattle.mw_cycle.specs.Environment.{Environment, given_at, shortened}
-use Rattle.mw_cycle.specs.Trimmed.{IsTrimmed}
+use Rattle.mw_cycle.specs.Environment.{Environment, given_at}
+use Rattle.mw_cycle.specs.Trimmed.{shortened, IsTrimmed}
 use Rattle.mw_rel.specs.declared.difference.Difference.{Difference}
 use Rattle.mw_rel.specs.Differs.{difference_of, DiffersAt}
 use Rattle.mw_rel.specs.Job.{Job, IsJob}

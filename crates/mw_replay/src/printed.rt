@@ -2,7 +2,8 @@
 ghost use Rattle.std.specs.Prelude.{◌≡◌, ℕ, ◌+◌, ◌*◌, ◌<◌, ◌≤◌, ◌++◌, List, IfOk, OnOk, Ok, codes, length};
 ghost use Rattle.std.specs.Prelude.{slice_index, true};
 ghost use Rattle.std.specs.List.{flat_map};
-ghost use Rattle.mw_cycle.specs.Environment.{shortened, trimmed, values_of};
+ghost use Rattle.mw_cycle.specs.Environment.{values_of};
+ghost use Rattle.mw_cycle.specs.Trimmed.{shortened, trimmed};
 ghost use Rattle.mw_cycle.specs.Series.{keyword_of};
 ghost use Rattle.mw_rel.specs.Begin.{free_elements};
 ghost use Rattle.mw_rel.specs.Completed.{free_before, free_value};

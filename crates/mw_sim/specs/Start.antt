@@ -15,7 +15,8 @@ use Rattle.mw_board.specs.Depth.{depth_of}
 use Rattle.mw_board.specs.Elements.{Element, elements_of, element_count, stack_pointer_name}
 use Rattle.mw_cycle.specs.State.{BoardState, cleared}
 use Rattle.mw_cycle.specs.Elements.{with_element}
-use Rattle.mw_cycle.specs.Environment.{Environment, shortened}
+use Rattle.mw_cycle.specs.Environment.{Environment}
+use Rattle.mw_cycle.specs.Trimmed.{shortened}
 use Rattle.mw_asm.specs.declared.assembled.Label.{Label}
 use Rattle.mw_asm.specs.Labels.{label_named}
 use Rattle.mw_sim.specs.declared.settings.Owner.TheVariants.{Board}

@@ -1,7 +1,7 @@
 -- The variables of the cycles of a run, and an environment that has their values.
 use Rattle.std.proofs.Common.{◌≡◌, ◌⊎◌, inl, inr, ℕ, zero, suc, ◌+◌, ◌<◌, ◌%◌, ◌^◌, List, [], ◌∷◌, length, add-one}
 use Rattle.std.proofs.Common.{refl, ap, arith, sym, subst, ◌∙◌}
-use Rattle.std.specs.Prelude.{true, false, Option, Some, None, slice_get, slice_index}
+use Rattle.std.specs.Prelude.{true, Option, Some, None, slice_get, slice_index}
 use Rattle.std.proofs.Math.Nat.{mod-eq_of_lt}
 use Rattle.std.proofs.lemmas.Bool.{cases_lt}
 use Rattle.std.proofs.lemmas.Nat.{pow_pos}
@@ -18,11 +18,10 @@ use Rattle.mw_term.specs.Values.{op_value, term_value}
 use Rattle.mw_term.proofs.Tables.{terms_have_ops}
 use Rattle.mw_term.specs.WordList.{term_of, variable}
 use Rattle.mw_cycle.specs.declared.series.Series.{Series}
-use Rattle.mw_cycle.specs.declared.series.Series.TheVariants as lists
-use Rattle.mw_cycle.specs.Series.{goes_by_cycle, kind_of, value_named, width_of}
+use Rattle.mw_cycle.specs.Series.{goes_by_cycle, kind_of, series_of_kind, width_of}
 use Rattle.mw_cycle.specs.Environment.{Environment, values_of, with_lists}
-use Rattle.mw_cycle.proofs.Named.{kind_named, no_variable, own_series, value_named_back}
-use Rattle.mw_cycle.proofs.Lists.{lists_back, values_have_widths, widths_are_all}
+use Rattle.mw_cycle.proofs.Named.{kind_named, no_input, no_variable, series_of_kind_back}
+use Rattle.mw_cycle.proofs.Lists.{lists_are_environment, lists_back}
 use Rattle.mw_symmem.specs.Memory.{Memory, IsOfWidth}
 use Rattle.mw_symmem.specs.Words.{AreOf, HaveOwnKinds, IsVariable}
 use Rattle.mw_symmem.proofs.Images.{value_within}
@@ -99,9 +98,7 @@ cycles_are_there board store t words m o symbolic each =
 no_read : (series : Series) (n : ℕ) → goes_by_cycle series ≡ true → IsReadKind (kind_of series n) → ⊥
 no_read series n by is = elim is [
   | inl h ↦ no_variable (Base h.0) series n refl (sym h.1)
-  | inr h ↦
-      let no : false ≡ true =
-      subst (λ (s : Series). goes_by_cycle s ≡ true) (own_series series lists.Inputs n h.0 h.1) by in absurd cc
+  | inr h ↦ no_input series n h.0 by h.1
 ]
 
 pub cycles_stay : CyclesStay
@@ -173,7 +170,7 @@ beyond_value (Some value) = value.1 + 1
 beyond_value None = 0
 
 beyond_kind : Option WordKind → ℕ
-beyond_kind (Some kind) = beyond_value (value_named kind)
+beyond_kind (Some kind) = beyond_value (series_of_kind kind)
 beyond_kind None = 0
 
 beyond : List Word → ℕ
@@ -182,7 +179,7 @@ beyond (w ∷ words) = beyond_kind w.kind + beyond words
 
 kind_before : (series : Series) (n : ℕ) → beyond_kind (Some (kind_of series n)) ≡ n + 1
 unfolding beyond_kind beyond_value
-kind_before series n = ap beyond_value (value_named_back series n)
+kind_before series n = ap beyond_value (series_of_kind_back series n)
 
 within_beyond : (words : List Word) (place term n : ℕ) (series : Series)
     → IsVariable words place term (kind_of series n) → n < beyond words
@@ -227,18 +224,12 @@ module _ (board : BoardParts) (t : Table) (words : List Word) (given : Given) (t
       (pow_pos (width_of board.width series))
       (λ j less. value_below board t words given series j table widths)
 
-  lists_are : (series : Series) → values_of (with_lists list_of) series ≡ list_of series
-  lists_are series = lists_back list_of board.width series (list_below series)
-
   environment_there : IsEnvironmentOf board t words given (with_lists list_of)
   unfolding list_of value_of
   environment_there = record {
-    within = widths_are_all board (with_lists list_of)
-        (λ series i.
-        subst (λ (xs : List ℕ). slice_index xs i < 2 ^ width_of board.width series) (sym (lists_are series))
-        (list_below series i));
+    within = lists_are_environment board list_of list_below;
     values = λ series n place term is.
-        ap (λ (xs : List ℕ). slice_index xs n) (lists_are series)
+        ap (λ (xs : List ℕ). slice_index xs n) (lists_back list_of board.width series (list_below series))
         ∙ first_at (value_of series) (beyond words) n (within_beyond words place term n series is)
         ∙ value_is t given (term_of words (kind_of series n)) term (found words place term (kind_of series n) own is);
   }
@@ -256,7 +247,7 @@ of_value env otherwise (Some value) = slice_index (values_of env value.0) value.
 of_value env otherwise None = otherwise
 
 of_kind : Environment → (otherwise : ℕ) → Option WordKind → ℕ
-of_kind env otherwise (Some kind) = of_value env otherwise (value_named kind)
+of_kind env otherwise (Some kind) = of_value env otherwise (series_of_kind kind)
 of_kind env otherwise None = otherwise
 
 of_word : Environment → (otherwise : ℕ) → Option Word → ℕ
@@ -287,7 +278,7 @@ outside_is words place w kind is own outside = record {
 }
 
 value_kept : (words : List Word) (env : Environment) (x place : ℕ) (w : Word) (kind : WordKind)
-    (value : Option (Series × ℕ)) → slice_get words place ≡ Some w → w.kind ≡ Some kind → value_named kind ≡ value
+    (value : Option (Series × ℕ)) → slice_get words place ≡ Some w → w.kind ≡ Some kind → series_of_kind kind ≡ value
     → ¬ IsOutsideNumber words (suc place) → of_value env x value ≡ x
 unfolding of_value
 value_kept words env x place w kind (Some value) is own named none =
@@ -299,7 +290,7 @@ kind_kept : (words : List Word) (env : Environment) (x place : ℕ) (w : Word) (
     → slice_get words place ≡ Some w → w.kind ≡ kind → ¬ IsOutsideNumber words (suc place) → of_kind env x kind ≡ x
 unfolding of_kind
 kind_kept words env x place w (Some kind) is own none =
-    value_kept words env x place w kind (value_named kind) is own refl none
+    value_kept words env x place w kind (series_of_kind kind) is own refl none
 kind_kept words env x place w None is own none = refl
 
 word_kept : (words : List Word) (env : Environment) (x place : ℕ) (o : Option Word) → slice_get words place ≡ o
@@ -359,8 +350,8 @@ environments_are_reached board t words cycles given env table of own has within 
     values = λ series n place term is.
         reached t words env given place term (width_of board.width series) (slice_index (values_of env series) n)
         (kind_of series n) table of is (has.widths series n term (found words place term (kind_of series n) own is))
-        (ap (of_value env (given (suc place))) (value_named_back series n))
-        (values_have_widths board env series n within);
+        (ap (of_value env (given (suc place))) (series_of_kind_back series n))
+        (within series n);
   },
   λ n none. with_env_keeps words env given n none,
 )

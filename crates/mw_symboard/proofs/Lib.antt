@@ -9,7 +9,8 @@ pub mod Finishing
 pub mod Fitting
 pub mod Going
 pub mod Growing
-pub mod Inputs
+pub mod Sources
+pub mod VariableWidths
 pub mod Listing
 pub mod Loads
 pub mod MadeBits

@@ -8,7 +8,6 @@ use Rattle.mw_alu.specs.Instruction.{source_of}
 use Rattle.mw_seq.specs.declared.instruction.CounterMove.{CounterMove}
 use Rattle.mw_seq.specs.declared.instruction.CounterMove.TheVariants as counters
 use Rattle.mw_seq.specs.Instruction.{instruction_of}
-use Rattle.mw_term.specs.declared.kinds.WordKind.{WordKind}
 use Rattle.mw_term.specs.declared.kinds.WordKind.TheVariants.{Line, Noise}
 use Rattle.mw_cycle.specs.Series.{kind_of, width_of}
 use Rattle.mw_term.specs.declared.op.Op.TheVariants.{Not}
@@ -16,10 +15,11 @@ use Rattle.mw_term.specs.Table.{Table, Extends}
 use Rattle.mw_term.specs.declared.event.SymEvent.{SymEvent}
 use Rattle.mw_term.specs.declared.word.Word.{Word}
 use Rattle.mw_symmem.specs.Memory.{Memory}
-use Rattle.mw_term.specs.WordList.{plain, is_of, term_of}
+use Rattle.mw_term.specs.WordList.{plain}
 use Rattle.mw_symmem.specs.Workspace.{IsLater, IsWorkspace}
 use Rattle.mw_symmem.proofs.Growth.{width_stays, op_stays}
 use Rattle.mw_symmem.proofs.Later.{reads_itself, writes_itself, goes_by_growth}
+use Rattle.mw_symmem.proofs.Lists.{plain_behind}
 use Rattle.mw_symboard.specs.declared.reading.Reading.{Reading}
 use Rattle.mw_symboard.specs.declared.leaving.Leaving.{Leaving}
 use Rattle.mw_symboard.specs.Cycle.{IsCounter, IsLeaving, IsReading, IsTurned, effect_by}
@@ -31,30 +31,18 @@ use Rattle.mw_symboard.proofs.Standing.{addend_r_stays, addend_s_stays, bit_term
 use Rattle.mw_symboard.proofs.Standing.{early_bit_stays, f_stays, found_stays, from_stays, less_one_stays, masked_stays}
 use Rattle.mw_symboard.proofs.Standing.{next_stays, parts_stay, r_stays, s_stays, sources_stay}
 
--- words that are no variables answer for no kind
-plain_none : (made : List ℕ) (kind : WordKind) → term_of (map plain made) kind ≡ None
-plain_none [] kind = refl
-plain_none (term ∷ made) kind = plain_none made kind
-
--- and change no answer
-pub plain_same : (words : List Word) (made : List ℕ) (kind : WordKind)
-    → term_of (words ++ map plain made) kind ≡ term_of words kind
-plain_same [] made kind = plain_none made kind
-plain_same (w ∷ words) made kind =
-    ap (λ (found : Option ℕ). if is_of w.kind kind then Some w.term else found) (plain_same words made kind)
-
 -- there are no later variables still
 pub none_stay : (cycle : ℕ) (words : List Word) (made : List ℕ) → AreNoLater cycle words
     → AreNoLater cycle (words ++ map plain made)
 none_stay cycle words made none series by n later =
-    plain_same words made (kind_of series n) ∙ none series by n later
+    plain_behind words made (kind_of series n) ∙ none series by n later
 
 -- the variables of an environment keep their widths
 pub widths_stay : (board : BoardParts) (told tnew : Table) (words : List Word) (made : List ℕ) → IsLater told tnew
     → HaveWidths board told words → HaveWidths board tnew (words ++ map plain made)
 widths_stay board told tnew words made later widths series n term is =
     width_stays told tnew (width_of board.width series) term later.extends later.keeps
-    (widths series n term (sym (plain_same words made (kind_of series n)) ∙ is))
+    (widths series n term (sym (plain_behind words made (kind_of series n)) ∙ is))
 
 -- so do events
 pub events_stay : (board : BoardParts) (told tnew : Table) (es : List SymEvent) → IsLater told tnew

@@ -13,16 +13,15 @@ use Rattle.mw_symmem.specs.Memory.{Memory, IsOfWidth}
 use Rattle.mw_symmem.specs.Words.{AreOf}
 use Rattle.mw_symmem.specs.Workspace.{GoesOn, HaveKinds, IsWorkspace}
 use Rattle.mw_symmem.proofs.Later.{goes_by_variable, goes_then}
-use Rattle.mw_symmem.proofs.Lists.{term_variable}
+use Rattle.mw_symmem.proofs.Lists.{plain_behind, term_variable}
 use Rattle.mw_symboard.specs.Growth.{Grew}
 use Rattle.mw_cycle.specs.declared.series.Series.{Series}
 use Rattle.mw_cycle.specs.declared.series.Series.TheVariants as lists
 use Rattle.mw_cycle.specs.Series.{goes_by_cycle, kind_of}
-use Rattle.mw_cycle.proofs.Named.{no_variable, own_number, own_series}
+use Rattle.mw_cycle.proofs.Named.{no_input, no_variable, own_number}
 use Rattle.mw_symboard.specs.Kinds.{HaveWidths, IsCycleKind, IsSourceKind}
 use Rattle.mw_symboard.specs.Turns.{AreNoLater}
-use Rattle.mw_symboard.proofs.Inputs.{widths_with}
-use Rattle.mw_symboard.proofs.Staying.{plain_same}
+use Rattle.mw_symboard.proofs.VariableWidths.{no_base, widths_with}
 
 -- ---- a kind that isn't there
 
@@ -66,7 +65,7 @@ none_kind K (w ∷ words) kind kinds other =
 pub grew_term : (told tnew : Table) (old new : List Word) (kind : WordKind) → Grew told tnew old new
     → term_of new kind ≡ term_of old kind
 grew_term told tnew old new kind grew =
-    ap (λ (ws : List Word). term_of ws kind) grew.1.words ∙ plain_same old grew.0 kind
+    ap (λ (ws : List Word). term_of ws kind) grew.1.words ∙ plain_behind old grew.0 kind
 
 pub grew_none_later : (cycle : ℕ) (told tnew : Table) (old new : List Word) → Grew told tnew old new
     → AreNoLater cycle old → AreNoLater cycle new
@@ -78,9 +77,7 @@ grew_none_later cycle told tnew old new grew none series by n from =
 no_source : (taken n : ℕ) (series : Series) → goes_by_cycle series ≡ true → IsSourceKind taken (kind_of series n) → ⊥
 no_source taken n series by is = elim is [
   | inl h ↦ no_variable (Base h.0) series n refl (sym h.1)
-  | inr h ↦
-      let no : false ≡ true =
-      subst (λ (s : Series). goes_by_cycle s ≡ true) (own_series series lists.Inputs n taken h) by in absurd cc
+  | inr h ↦ no_input series n taken by h
 ]
 
 pub source_none_later : (cycle taken : ℕ) (old new more : List Word) → new ≡ old ++ more
@@ -106,35 +103,28 @@ apart own series cycle n later =
     let one : cycle ≡ n =
     own_number own series cycle n (kind_is (kind_of own cycle) (kind_of series n) same) in omega (arith, one, later))
 
-no_base_line : (cycle k : ℕ) → Line cycle ≡ Base k → ⊥
-no_base_line cycle k is = cc
-
-no_base_noise : (cycle k : ℕ) → Noise cycle ≡ Base k → ⊥
-no_base_noise cycle k is = cc
-
-with_line : (cycle : ℕ) (w0 w1 : List Word) (line : ℕ) (kind : WordKind) → AreNoLater cycle w0
-    → w1 ≡ w0 ++ variable line (Line cycle) ∷ []
-    → term_of w1 kind ≡ (if same_kind (Line cycle) kind then Some line else term_of w0 kind)
-with_line cycle w0 w1 line kind none words =
-    ap (λ (ws : List Word). term_of ws kind) words
-    ∙ term_variable w0 line (Line cycle) kind (none lists.Line refl cycle (omega arith))
+-- what kinds have with a variable of a list more
+with_own : (own : Series) (cycle term : ℕ) (old new : List Word) (kind : WordKind)
+    → term_of old (kind_of own cycle) ≡ None → new ≡ old ++ variable term (kind_of own cycle) ∷ []
+    → term_of new kind ≡ (if same_kind (kind_of own cycle) kind then Some term else term_of old kind)
+with_own own cycle term old new kind none words =
+    ap (λ (ws : List Word). term_of ws kind) words ∙ term_variable old term (kind_of own cycle) kind none
 
 pub absent_noise : (cycle : ℕ) (w0 w1 : List Word) (line : ℕ) → AreNoLater cycle w0
     → w1 ≡ w0 ++ variable line (Line cycle) ∷ [] → term_of w1 (Noise cycle) ≡ None
 absent_noise cycle w0 w1 line none words =
-    with_line cycle w0 w1 line (Noise cycle) none words ∙ none lists.Noise refl cycle (omega arith)
+    with_own lists.Line cycle line w0 w1 (Noise cycle) (none lists.Line refl cycle (omega arith)) words
+    ∙ none lists.Noise refl cycle (omega arith)
 
 module _ (cycle : ℕ) (t0 t1 t2 : Table) (w0 w1 w2 : List Word) (line noise : ℕ) (none : AreNoLater cycle w0)
     (words : w1 ≡ w0 ++ variable line (Line cycle) ∷ []) (more : w2 ≡ w1 ++ variable noise (Noise cycle) ∷ []) where
   before_noise : (kind : WordKind)
       → term_of w1 kind ≡ (if same_kind (Line cycle) kind then Some line else term_of w0 kind)
-  before_noise kind = with_line cycle w0 w1 line kind none words
+  before_noise kind = with_own lists.Line cycle line w0 w1 kind (none lists.Line refl cycle (omega arith)) words
 
   with_noise : (kind : WordKind)
       → term_of w2 kind ≡ (if same_kind (Noise cycle) kind then Some noise else term_of w1 kind)
-  with_noise kind =
-      ap (λ (ws : List Word). term_of ws kind) more
-      ∙ term_variable w1 noise (Noise cycle) kind (absent_noise cycle w0 w1 line none words)
+  with_noise kind = with_own lists.Noise cycle noise w1 w2 kind (absent_noise cycle w0 w1 line none words) more
 
   pub line_there : term_of w2 (Line cycle) ≡ Some line
   line_there =
@@ -171,7 +161,7 @@ module _ (cycle : ℕ) (t0 t1 t2 : Table) (w0 w1 w2 : List Word) (line noise : �
       → IsWorkspace t0 w0 m → GoesOn (IsCycleKind cycle taken) t0 t2 w0 w2 m m
   goes_by_both taken m extends keeps table of later_extends later_keeps later_table later_of workspace =
       let first = goes_by_variable (IsCycleKind cycle taken) t0 t1 w0 w1 m line
-      (Line cycle) words extends keeps table of (inr (lists.Line, refl, refl)) (no_base_line cycle) workspace in
+      (Line cycle) words extends keeps table of (inr (lists.Line, refl, refl)) (no_base lists.Line cycle) workspace in
       goes_then (IsCycleKind cycle taken) t0 t1 t2 w0 w1 w2 m m m first
       (goes_by_variable (IsCycleKind cycle taken) t1 t2 w1 w2 m noise (Noise cycle) more later_extends later_keeps
-      later_table later_of (inr (lists.Noise, refl, refl)) (no_base_noise cycle) first.workspace)
+      later_table later_of (inr (lists.Noise, refl, refl)) (no_base lists.Noise cycle) first.workspace)

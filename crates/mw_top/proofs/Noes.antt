@@ -4,7 +4,8 @@ use Rattle.std.proofs.lemmas.Option.{get_or_from_slice_get, slice_get_within}
 use Rattle.mw_asm.specs.declared.assembled.Label.{Label}
 use Rattle.mw_board.specs.Check.{check_of}
 use Rattle.mw_check.specs.Verdict.{IsNo, IsUnknown}
-use Rattle.mw_cycle.specs.Environment.{Environment, shortened}
+use Rattle.mw_cycle.specs.Environment.{Environment}
+use Rattle.mw_cycle.specs.Trimmed.{shortened}
 use Rattle.mw_fork.specs.declared.budget.Budget.{Budget}
 use Rattle.mw_fork.specs.declared.fault.Over.{Over}
 use Rattle.mw_fork.specs.declared.fault.Over.TheVariants as overs

@@ -1,5 +1,5 @@
-use Rattle.mw_cycle.proofs.Lists.{rest_is_environment}
+use Rattle.mw_cycle.proofs.Lists.{rests_are_environments}
 use Rattle.mw_cycle.proofs.laws.rests_are_environments.Goals as goal
 
 pub returns : goal.returns
-returns c = rest_is_environment
+returns c = rests_are_environments

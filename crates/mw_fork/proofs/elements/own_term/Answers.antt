@@ -2,7 +2,7 @@ use Rattle.std.proofs.lemmas.Nat.{pow_pos}
 use Rattle.std.proofs.Common.{subst, sym}
 use Rattle.mw_symboard.proofs.Fitting.{wide_constant}
 use Rattle.mw_symboard.proofs.Growing.{grows_constant}
-use Rattle.mw_symboard.proofs.Inputs.{wide_variable}
+use Rattle.mw_symboard.proofs.VariableWidths.{wide_variable}
 use Rattle.mw_fork.specs.OwnTerms.{IsOwn}
 use Rattle.mw_fork.proofs.Boundaries.{below_absent, below_more, below_push}
 use Rattle.mw_fork.proofs.OwnTerms.{own_variable, own_zero}

@@ -2,7 +2,8 @@ use Rattle.std.proofs.Common.{◌≡◌, ◌<◌, length, slice_index, subst, ar
 use Rattle.std.proofs.lemmas.List.{get_or_read}
 use Rattle.mw_board.specs.declared.bit.DFrom.{DFrom}
 use Rattle.mw_board.specs.Valid.{IsFrom}
-use Rattle.mw_symboard.proofs.Inputs.{constant_ok, goes_ok, widths_ok}
+use Rattle.mw_symboard.proofs.Sources.{constant_ok, goes_ok}
+use Rattle.mw_symboard.proofs.VariableWidths.{widths_ok}
 use Rattle.mw_symboard.proofs.Widths.{flip_wide, ir_wide, mar_wide}
 use Rattle.mw_term.specs.WordList.{with_constant}
 use Rattle.mw_cycle.specs.ReadingWords.{source_words}

@@ -1,4 +1,4 @@
-use Rattle.mw_symboard.proofs.Inputs.{wide_variable}
+use Rattle.mw_symboard.proofs.VariableWidths.{wide_variable}
 use Rattle.mw_symrows.proofs.Starting.{free_push}
 use Rattle.mw_symrows.proofs.workspace.variable.Goals as goal
 

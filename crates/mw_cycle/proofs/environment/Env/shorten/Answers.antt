@@ -1,6 +1,6 @@
 use Rattle.std.proofs.Common.{◌∙◌, ap, take}
 use Rattle.mw_cycle.specs.Environment.{Environment}
-use Rattle.mw_cycle.proofs.Lists.{fronts_are, lists_are}
+use Rattle.mw_cycle.proofs.Lists.{fronts_are, environment_with}
 use Rattle.mw_cycle.proofs.environment.Env.shorten.Goals as goal
 
 pub returns : goal.returns
@@ -9,7 +9,7 @@ returns c =
     let noise = c.kept-noise.result in
     let inputs = c.kept-inputs.result in
     let fronts =
-    λ (env : Environment). lists_are (take line env.line) (take noise env.noise) (take inputs env.inputs) in
+    λ (env : Environment). environment_with (take line env.line) (take noise env.noise) (take inputs env.inputs) in
     rw (c.truncate.ensures.items, c.truncate-2.ensures.items, c.truncate-3.ensures.items)
     (ap fronts c.self.view_is ∙ fronts_are c.args.self.now line noise inputs c.kept-line.ensures.exact
     c.kept-noise.ensures.exact c.kept-inputs.ensures.exact)

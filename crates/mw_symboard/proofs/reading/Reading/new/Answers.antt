@@ -12,7 +12,7 @@ use Rattle.mw_symboard.specs.Turns.{AreNoLater}
 use Rattle.mw_symboard.proofs.Read.{goes_on, grew_four, parts_grew, parts_later, reading_is, y_wide}
 use Rattle.mw_symboard.proofs.Growing.{grew_then, wide_later}
 use Rattle.mw_symboard.proofs.Standing.{parts_stay}
-use Rattle.mw_symboard.proofs.Inputs.{widths_grew}
+use Rattle.mw_symboard.proofs.VariableWidths.{widths_grew}
 use Rattle.mw_symboard.proofs.Variables.{grew_none_later, source_none_later}
 use Rattle.mw_symboard.proofs.Widths.{register_wide}
 use Rattle.mw_term.specs.declared.word.Word.{Word}

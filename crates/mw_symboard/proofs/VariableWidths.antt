@@ -1,30 +1,25 @@
--- The widths of an environment's variables, and how a source of D goes on.
+-- The widths of the variables of an environment.
 use Rattle.std.proofs.Common.{◌≡◌, inl, inr, ℕ, ◌⊎◌, List, [], ◌∷◌, ◌++◌, Bool, true, false, refl, ap, sym, subst, ◌∙◌}
 use Rattle.std.proofs.Common.{Option, Some, None}
 use Rattle.std.specs.Prelude.{Result, Ok, Err, OnOk, if◌then◌else◌}
 use Rattle.mw_board.specs.declared.parts.BoardParts.{BoardParts}
 use Rattle.mw_term.specs.declared.kinds.WordKind.{WordKind}
-use Rattle.mw_term.specs.declared.kinds.WordKind.TheVariants.{Base, Input}
+use Rattle.mw_term.specs.declared.kinds.WordKind.TheVariants.{Base}
 use Rattle.mw_term.specs.declared.op.Op.TheVariants.{Var}
-use Rattle.mw_term.specs.MemoryRead.{held}
-use Rattle.mw_term.specs.Table.{Table, Extends, IsTable, op_width}
+use Rattle.mw_term.specs.Table.{Table, Extends, op_width}
 use Rattle.mw_term.specs.Values.{IsTermOf, Keeps}
-use Rattle.mw_symmem.specs.declared.side.Side.{Side}
 use Rattle.mw_term.specs.declared.word.Word.{Word}
 use Rattle.mw_term.specs.WordList.{same_kind, variable, is_of, term_of}
 use Rattle.mw_cycle.specs.declared.series.Series.{Series}
-use Rattle.mw_cycle.specs.declared.series.Series.TheVariants.{Inputs}
 use Rattle.mw_cycle.specs.Series.{kind_of, width_of}
 use Rattle.mw_cycle.proofs.Named.{no_variable, own_series}
 use Rattle.mw_symmem.specs.Kinds.{kind_is, kind_own}
-use Rattle.mw_symmem.specs.Memory.{Memory, AddsRead, IsMemory, IsOfWidth, with_read}
-use Rattle.mw_symmem.specs.Words.{AreOf}
-use Rattle.mw_symmem.specs.Workspace.{GoesOn, IsWorkspace}
+use Rattle.mw_symmem.specs.Memory.{Memory, IsOfWidth}
+use Rattle.mw_symmem.specs.Workspace.{GoesOn}
 use Rattle.mw_symmem.proofs.Growth.{width_stays}
-use Rattle.mw_symmem.proofs.Later.{goes_as, goes_by_growth, goes_by_read, goes_by_variable}
 use Rattle.mw_symmem.proofs.Lists.{absent, plain_behind, term_variable}
 use Rattle.mw_symboard.specs.Growth.{Grew}
-use Rattle.mw_symboard.specs.Kinds.{HaveWidths, IsSourceKind}
+use Rattle.mw_symboard.specs.Kinds.{HaveWidths}
 
 -- ---- a variable
 
@@ -45,11 +40,8 @@ one_of : (b : Bool) (x y : ℕ) (o : Option ℕ) → (if b then Some x else o) �
 one_of true x y o is = inl (refl, cc)
 one_of false x y o is = inr is
 
-no_base : (series : Series) (n k : ℕ) → kind_of series n ≡ Base k → ⊥
+pub no_base : (series : Series) (n k : ℕ) → kind_of series n ≡ Base k → ⊥
 no_base series n k is = no_variable (Base k) series n refl (sym is)
-
-pub source_kind : (taken : ℕ) → IsSourceKind taken (Input taken)
-source_kind taken = inr refl
 
 -- widths with a variable of a list more
 pub widths_with : (board : BoardParts) (told tnew : Table) (words : List Word) (term : ℕ) (own : Series) (number : ℕ)
@@ -67,14 +59,6 @@ widths_with board told tnew words term own number extends keeps none wide widths
       | inr old ↦ width_stays told tnew (width_of board.width series) a extends keeps (widths series n a old)
     ]
 
-pub goes_by_input : (taken : ℕ) (told tnew : Table) (wold wnew : List Word) (m : Memory) (term : ℕ)
-    → wnew ≡ wold ++ variable term (Input taken) ∷ [] → Extends told tnew → Keeps told tnew → IsTable tnew
-    → (AreOf told wold → AreOf tnew wnew) → IsWorkspace told wold m
-    → GoesOn (IsSourceKind taken) told tnew wold wnew m m
-goes_by_input taken told tnew wold wnew m term words extends keeps table of workspace =
-    goes_by_variable (IsSourceKind taken) told tnew wold wnew m term (Input taken) words extends keeps table of
-    (source_kind taken) (λ k is. no_base Inputs taken k is) workspace
-
 -- ---- words that are no variables of an environment
 
 not_behind : (words more : List Word) (kind : WordKind) → term_of more kind ≡ None
@@ -83,7 +67,8 @@ not_behind [] more kind none = none
 not_behind (w ∷ words) more kind none =
     ap (λ found. if is_of w.kind kind then Some w.term else found) (not_behind words more kind none)
 
-abbrev IsBase : WordKind → Type 0
+-- the kinds of base reads
+abbrev pub IsBase : WordKind → Type 0
 IsBase kind = (k : ℕ) × (kind ≡ Base k)
 
 -- a read makes no variable of an environment
@@ -97,19 +82,6 @@ widths_by_read board told tnew wold wnew mold mnew goes widths series n a at =
     let old : term_of wold own ≡ Some a =
     sym (not_behind wold goes.more own none) ∙ ap (λ ws. term_of ws own) (sym goes.words) ∙ at in
     width_stays told tnew (width_of board.width series) a goes.later.extends goes.later.keeps (widths series n a old)
-
-pub goes_by_base : (told tnew : Table) (wold wnew : List Word) (mold mnew : Memory) (side : Side)
-    (address base term : ℕ) → AddsRead wold wnew mold
-    → mnew ≡ with_read mold (held address base) → IsMemory tnew wnew mnew → AreOf tnew wnew → Extends told tnew
-    → Keeps told tnew → IsTable tnew → GoesOn IsBase told tnew wold wnew mold mnew
-goes_by_base told tnew wold wnew mold mnew side address base term adds read memory of extends keeps table =
-    goes_by_read IsBase told tnew wold wnew mold mnew side address base term (λ n. (n, refl)) adds read memory of
-    extends keeps table
-
-pub goes_as_source : (taken : ℕ) (told tnew : Table) (wold wnew : List Word) (mold mnew : Memory)
-    → GoesOn IsBase told tnew wold wnew mold mnew → GoesOn (IsSourceKind taken) told tnew wold wnew mold mnew
-goes_as_source taken told tnew wold wnew mold mnew goes =
-    goes_as IsBase (IsSourceKind taken) told tnew wold wnew mold mnew (λ kind is. inl is) goes
 
 -- ---- words that are no variables
 
@@ -126,16 +98,3 @@ pub widths_ok : {X Y : Type 0} (r : Result X Y) (board : BoardParts) (told tnew 
     → HaveWidths board told wold → OnOk r (Grew told tnew wold wnew) → OnOk r (HaveWidths board tnew wnew)
 widths_ok (Ok x) board told tnew wold wnew widths grew = widths_grew board told tnew wold wnew widths grew
 widths_ok (Err x) board told tnew wold wnew widths grew = tt
-
-pub goes_ok : {X Y : Type 0} (r : Result X Y) (taken : ℕ) (told tnew : Table) (wold wnew : List Word) (m : Memory)
-    → IsWorkspace told wold m → OnOk r (Grew told tnew wold wnew)
-    → OnOk r (GoesOn (IsSourceKind taken) told tnew wold wnew m m)
-goes_ok (Ok x) taken told tnew wold wnew m workspace grew =
-    goes_by_growth (IsSourceKind taken) told tnew wold wnew m grew.0 grew.1 workspace
-goes_ok (Err x) taken told tnew wold wnew m workspace grew = tt
-
--- what a constant adds
-pub constant_ok : {X Y : Type 0} (r : Result X Y) (told tnew : Table) (words : List Word)
-    → OnOk r ((ws : List Word) → Grew told tnew ws ws) → OnOk r (Grew told tnew words words)
-constant_ok (Ok x) told tnew words grew = grew words
-constant_ok (Err x) told tnew words grew = tt
