@@ -53,3 +53,8 @@ pub no_input : (series : Series) (n m : ℕ) → goes_by_cycle series ≡ true �
 no_input series n m by is =
     let no : false ≡ true =
     subst (λ (s : Series). goes_by_cycle s ≡ true) (own_series series Inputs n m is) by in absurd cc
+
+-- what no kind of an environment's variables is, isn't a list's variable
+pub no_kind : (K : WordKind → Type 0) → ((kind : WordKind) → K kind → series_of_kind kind ≡ None) → (series : Series)
+    (n : ℕ) → ¬ K (kind_of series n)
+no_kind K outside series n is = no_variable (kind_of series n) series n (outside (kind_of series n) is) refl

@@ -23,6 +23,7 @@ use Rattle.mw_rel.specs.Begin.{Begin, free_elements}
 use Rattle.mw_rel.specs.Free.{is_free, numbered}
 use Rattle.mw_rel.specs.Job.{Job, IsJob}
 use Rattle.mw_rel.specs.Start.{Start}
+use Rattle.mw_symboard.proofs.Environments.{own_found}
 use Rattle.mw_fork.specs.declared.elements.Space.{Space}
 use Rattle.mw_fork.specs.Begins.{IsAssigned, IsChosen, kind_value, value_or_zero}
 use Rattle.mw_fork.specs.Boundaries.{IsSpace}
@@ -33,7 +34,7 @@ use Rattle.mw_fork.specs.Starts.{Ground, IsGround, StandsForStart}
 use Rattle.mw_fork.proofs.FreeValues.{term_at}
 use Rattle.mw_fork.proofs.Grounds.{start_with}
 use Rattle.mw_fork.proofs.Placing.{entry_of, outside_of}
-use Rattle.mw_fork.proofs.Taking.{free_same, own_found}
+use Rattle.mw_fork.proofs.Taking.{free_same}
 
 -- an environment has the values of the variables that an assignment gives
 abbrev pub HasEntries : Table → List Word → Given → Environment → Type 0

@@ -1,7 +1,7 @@
 -- What is known of starts stays as a run goes on.
-use Rattle.std.proofs.Common.{◌≡◌, ◌⊎◌, inl, inr, ℕ, ◌+◌, ◌<◌, List, ◌++◌, length, length-drop, slice_index, ap, sym}
+use Rattle.std.proofs.Common.{◌≡◌, inl, inr, ℕ, ◌+◌, ◌<◌, List, ◌++◌, length, length-drop, slice_index, ap, sym}
 use Rattle.std.proofs.Common.{subst, ◌∙◌, arith, refl}
-use Rattle.std.specs.Prelude.{true, Option, Some, None}
+use Rattle.std.specs.Prelude.{true, Some, None}
 use Rattle.std.proofs.lemmas.Option.{same_Some}
 use Rattle.mw_board.specs.Elements.{element_count}
 use Rattle.mw_term.specs.declared.decided.Decided.{Decided}
@@ -28,6 +28,7 @@ use Rattle.mw_symmach.proofs.Making.{values_same}
 use Rattle.mw_rel.specs.Job.{Job, IsJob}
 use Rattle.mw_rel.specs.Start.{Start}
 use Rattle.mw_rel.proofs.Standing.{dropped_at}
+use Rattle.mw_symboard.proofs.Environments.{either}
 use Rattle.mw_fork.specs.Boundaries.{AreWide}
 use Rattle.mw_fork.specs.CasePaths.{IsCasePath, OnPath}
 use Rattle.mw_fork.specs.declared.elements.Space.{Space}
@@ -146,17 +147,13 @@ pub none_later : (K : WordKind → Type 0) (wold wnew more : List Word) (kind : 
 none_later K wold wnew more kind words kinds other none =
     ap (λ (ws : List Word). term_of ws kind) words ∙ none_both wold more kind none (none_kind K more kind kinds other)
 
-found_or_none : (o : Option ℕ) → (o ≡ None) ⊎ ((term : ℕ) × (o ≡ Some term))
-found_or_none None = inl refl
-found_or_none (Some term) = inr (term, refl)
-
 -- the variable of a kind that no word more has is the one that there was, and has its width
 pub width_kept : (K : WordKind → Type 0) (told tnew : Table) (wold wnew more : List Word) (kind : WordKind)
     (width term : ℕ) → IsLater told tnew → wnew ≡ wold ++ more → HaveKinds K more → ¬ K kind
     → ((own : ℕ) → term_of wold kind ≡ Some own → IsOfWidth told width own) → term_of wnew kind ≡ Some term
     → IsOfWidth tnew width term
 width_kept K told tnew wold wnew more kind width term later words kinds other wide is =
-    elim (found_or_none (term_of wold kind)) [
+    elim (either (term_of wold kind)) [
       | inl none ↦
           let no : None ≡ Some term = sym (none_later K wold wnew more kind words kinds other none) ∙ is in absurd cc
       | inr some ↦

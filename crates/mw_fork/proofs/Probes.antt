@@ -6,9 +6,8 @@ use Rattle.std.proofs.Math.Nat.{mod-eq_of_lt}
 use Rattle.std.proofs.lemmas.Bool.Decides.{nat_tests}
 use Rattle.mw_board.specs.declared.parts.BoardParts.{BoardParts}
 use Rattle.mw_cycle.specs.declared.series.Series.{Series}
-use Rattle.mw_cycle.specs.declared.series.Series.TheVariants.{Inputs, Line, Noise}
-use Rattle.mw_cycle.specs.Series.{kind_of, width_of}
-use Rattle.mw_cycle.proofs.Named.{no_variable}
+use Rattle.mw_cycle.specs.Series.{kind_of, series_of_kind, width_of}
+use Rattle.mw_cycle.proofs.Named.{no_kind, no_variable}
 use Rattle.mw_term.specs.declared.kinds.WordKind.TheVariants.{Base, Element, Probe}
 use Rattle.mw_term.specs.declared.word.Word.{Word}
 use Rattle.mw_term.specs.Assigned.{Given}
@@ -91,10 +90,13 @@ reached_at job number g place probe address is ground at wide less start starts 
 
 -- ---- the ground while both sides are compared
 
+compared_named : (kind : WordKind) → IsComparedKind kind → series_of_kind kind ≡ None
+compared_named Probe is = refl
+compared_named (Base n) is = refl
+compared_named other is = absurd is
+
 not_compared : (series : Series) (n : ℕ) → ¬ IsComparedKind (kind_of series n)
-not_compared Inputs n is = is
-not_compared Line n is = is
-not_compared Noise n is = is
+not_compared = no_kind IsComparedKind compared_named
 
 -- the variables of the cycles stay all that there are
 cycles_compared : (board : BoardParts) (told tnew : Table) (wold wnew more : List Word) (cycles : ℕ) → IsLater told tnew

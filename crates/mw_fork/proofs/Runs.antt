@@ -1,19 +1,18 @@
 -- A run from a boundary, on terms.
-use Rattle.std.proofs.Common.{◌≡◌, inl, inr, ℕ, ◌+◌, ◌<◌, ◌≤◌, ◌^◌, List, [], ◌∷◌, ◌++◌, drop, take, length}
+use Rattle.std.proofs.Common.{◌≡◌, inl, inr, ℕ, ◌+◌, ◌<◌, ◌≤◌, ◌^◌, List, [], drop, take, length}
 use Rattle.std.proofs.Common.{length-drop, slice_index, ap, sym, subst, ◌∙◌, arith, refl}
-use Rattle.std.specs.Prelude.{Bool, if◌then◌else◌, Option, Some, None}
+use Rattle.std.specs.Prelude.{Bool, Option, Some, None}
 use Rattle.std.proofs.lemmas.Bool.{cases_lt}
 use Rattle.std.proofs.lemmas.List.{get_or-take}
 use Rattle.mw_cycle.specs.declared.series.Series.{Series}
-use Rattle.mw_cycle.specs.declared.series.Series.TheVariants as lists
-use Rattle.mw_cycle.specs.Series.{kind_of}
-use Rattle.mw_cycle.proofs.Named.{no_variable}
+use Rattle.mw_cycle.specs.Series.{kind_of, series_of_kind}
+use Rattle.mw_cycle.proofs.Named.{no_kind, no_variable}
 use Rattle.mw_term.specs.declared.decided.DecidedKind.{DecidedKind}
 use Rattle.mw_term.specs.declared.kinds.WordKind.{WordKind}
-use Rattle.mw_term.specs.declared.kinds.WordKind.TheVariants.{Base, Line, Probe}
+use Rattle.mw_term.specs.declared.kinds.WordKind.TheVariants.{Base, Element, Line, Probe}
 use Rattle.mw_term.specs.declared.word.Word.{Word}
 use Rattle.mw_term.specs.Table.{Table}
-use Rattle.mw_term.specs.WordList.{is_of, term_of}
+use Rattle.mw_term.specs.WordList.{term_of}
 use Rattle.mw_symmem.specs.declared.turn.Turn.{Turn}
 use Rattle.mw_symmem.specs.declared.turn.Turn.TheVariants.{Ask, Finished}
 use Rattle.mw_symmem.specs.Memory.{Memory, IsOfWidth}
@@ -35,6 +34,7 @@ use Rattle.mw_rel.specs.Free.{no_boundary, numbered}
 use Rattle.mw_rel.specs.Job.{Job, IsJob}
 use Rattle.mw_rel.proofs.Elements.{register_width, widths_count}
 use Rattle.mw_rel.proofs.Standing.{dropped_at}
+use Rattle.mw_symboard.proofs.VariableWidths.{not_behind}
 use Rattle.mw_fork.specs.Boundaries.{AreElements, AreWide, AreWideSoFar, IsStartKind}
 use Rattle.mw_fork.proofs.Boundaries.{board_wide, space_later}
 use Rattle.mw_fork.specs.Runs.{HasLine, IsTurned, IsUnder}
@@ -76,18 +76,12 @@ line_asked job t words m o registers kind term under asks =
 -- ---- the probe
 
 -- a kind that no word behind a list has is found as before
-none_behind : (xs ys : List Word) (kind : WordKind) → term_of ys kind ≡ None
-    → term_of (xs ++ ys) kind ≡ term_of xs kind
-none_behind [] ys kind none = none
-none_behind (w ∷ xs) ys kind none =
-    ap (λ found. if is_of w.kind kind then Some w.term else found) (none_behind xs ys kind none)
-
 -- where a run makes none, it is found as before
 pub probe_kept : (K : WordKind → Type 0) (told tnew : Table) (wold wnew : List Word) (mold mnew : Memory)
     → GoesOn K told tnew wold wnew mold mnew → (K Probe → ⊥) → term_of wnew Probe ≡ term_of wold Probe
 probe_kept K told tnew wold wnew mold mnew goes never =
     ap (λ (ws : List Word). term_of ws Probe) goes.words
-    ∙ none_behind wold goes.more Probe
+    ∙ not_behind wold goes.more Probe
     (absent goes.more Probe (λ place term is. never (goes.kinds place term Probe is)))
 
 -- and there is none later, where there was none
@@ -204,10 +198,13 @@ registers_count job t terms is wide =
     omega (arith, length-drop (element_count job.board) terms, wide.count, widths_count job is)
 
 -- no variable of an environment is there
+started_named : (kind : WordKind) → IsStartKind kind → series_of_kind kind ≡ None
+started_named (Element n) is = refl
+started_named (Base n) is = refl
+started_named other is = absurd is
+
 not_started : (series : Series) (n : ℕ) → ¬ IsStartKind (kind_of series n)
-not_started lists.Inputs n is = is
-not_started lists.Line n is = is
-not_started lists.Noise n is = is
+not_started = no_kind IsStartKind started_named
 
 start_without : (words : List Word) (series : Series) (n : ℕ) → HaveKinds IsStartKind words
     → term_of words (kind_of series n) ≡ None

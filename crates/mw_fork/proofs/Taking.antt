@@ -5,49 +5,27 @@ use Rattle.std.specs.Prelude.{if◌then◌else◌, Bool, true, false, filter, Op
 use Rattle.std.proofs.Math.Pow.{pow_mono}
 use Rattle.std.proofs.lemmas.List.{map-append, take_more}
 use Rattle.std.proofs.lemmas.List.Elements.{filter-append}
-use Rattle.std.proofs.lemmas.Option.{get_or_from_slice_get, same_Some, slice_get_read, slice_get_within}
+use Rattle.std.proofs.lemmas.Option.{get_or_from_slice_get, slice_get_read, slice_get_within}
 use Rattle.mw_board.specs.declared.parts.BoardParts.{BoardParts}
 use Rattle.mw_cycle.specs.Boundary.{numbers}
 use Rattle.mw_cycle.specs.declared.series.Series.{Series}
-use Rattle.mw_cycle.specs.declared.series.Series.TheVariants.{Inputs, Line, Noise}
 use Rattle.mw_cycle.specs.Environment.{Environment}
 use Rattle.mw_cycle.specs.Series.{kind_of, width_of}
+use Rattle.mw_cycle.proofs.Lists.{widths_within}
 use Rattle.mw_term.specs.declared.kinds.WordKind.{WordKind}
 use Rattle.mw_term.specs.declared.word.Word.{Word}
 use Rattle.mw_term.specs.Assigned.{Given}
 use Rattle.mw_term.specs.Table.{IsTable, Table}
 use Rattle.mw_term.specs.Values.{term_value}
 use Rattle.mw_term.specs.WordList.{is_of, term_of, variable}
-use Rattle.mw_symmem.specs.Words.{AreOf, HaveOwnKinds, IsVariable}
+use Rattle.mw_symmem.specs.Words.{HaveOwnKinds, IsVariable}
 use Rattle.mw_symmem.proofs.Images.{value_within}
-use Rattle.mw_symmem.proofs.Lists.{absent, behind, missing, term_plain, term_variable}
+use Rattle.mw_symmem.proofs.Lists.{absent, behind, term_plain, term_variable}
 use Rattle.mw_symboard.specs.Variables.{HaveVariables}
-use Rattle.mw_symboard.proofs.Runs.{variable_of}
 use Rattle.mw_rel.proofs.Completed.{numbers_more}
 use Rattle.mw_fork.specs.Begins.{value_or_zero}
 use Rattle.mw_fork.specs.Entries.{entry, is_outside}
 use Rattle.mw_fork.proofs.Placing.{entry_none}
-
--- a variable's term is one of the table
-pub found_there : (t : Table) (words : List Word) (kind : WordKind) (term : ℕ) → AreOf t words
-    → term_of words kind ≡ Some term → term < length t.ops
-found_there t words kind term of is =
-    let v = variable_of words kind term is in of.there v.0 (variable term kind) v.1
-
-found_by : (words : List Word) (place term : ℕ) (kind : WordKind) (o : Option ℕ) → HaveOwnKinds words
-    → IsVariable words place term kind → term_of words kind ≡ o → term_of words kind ≡ Some term
-found_by words place term kind None own is none = absurd (missing words kind place term none is)
-found_by words place term kind (Some other) own is some =
-    let v = variable_of words kind other some in
-    let same : place ≡ v.0 = own kind place v.0 term other is v.1 in
-    let one : variable term kind ≡ variable other kind =
-    same_Some (variable term kind) (variable other kind) (sym is ∙ ap (slice_get words) same ∙ v.1) in
-    some ∙ ap Some (sym (ap (λ (w : Word). w.term) one))
-
--- a variable of the list is that of its kind
-pub own_found : (words : List Word) (place term : ℕ) (kind : WordKind) → HaveOwnKinds words
-    → IsVariable words place term kind → term_of words kind ≡ Some term
-own_found words place term kind own is = found_by words place term kind (term_of words kind) own is refl
 
 -- ---- the values of free elements
 
@@ -144,12 +122,6 @@ taken_next words place w at =
 
 -- ---- the widths of the variables
 
--- no value of a list has more bits than one of a list whose values have more
-width_most : (width : ℕ) (series : Series) → width ≤ 32 → width_of width series ≤ width_of 32 series
-width_most width Inputs narrow = narrow
-width_most width Line narrow = omega arith
-width_most width Noise narrow = omega arith
-
 -- the value of a variable of an environment is a value of its list
 pub value_fits : (board : BoardParts) (t : Table) (words : List Word) (cycles term : ℕ) (given : Given)
     (series : Series) (n : ℕ) → board.width ≤ 32 → IsTable t → HaveVariables board t words cycles
@@ -158,7 +130,7 @@ value_fits board t words cycles term given series n narrow table have is =
     let bits = width_of board.width series in
     let below : term_value t given term < 2 ^ bits =
     value_within t given bits term table (have.widths series n term is) in
-    let most : 2 ^ bits ≤ 2 ^ width_of 32 series = pow_mono (width_most board.width series narrow) in
+    let most : 2 ^ bits ≤ 2 ^ width_of 32 series = pow_mono (widths_within board.width series narrow) in
     omega (arith, below, most)
 
 -- a kind whose variable isn't there has no value yet

@@ -19,7 +19,7 @@ entry env kind = value_at env (series_of_kind kind)
 abbrev pub is_outside : WordKind → Bool
 is_outside kind = is_some (series_of_kind kind)
 
--- one entry has another value now
+-- the value for this kind is this, and each other as it was
 abbrev pub HasTaken : (old new : Environment) → WordKind → (value : ℕ) → Type 0
 HasTaken old new kind value = (other : WordKind) → is_outside other ≡ true
     → entry new other ≡ (if same_kind kind other then value else entry old other)

@@ -93,7 +93,7 @@ fn free_values(
 }
 
 /// A value of a list gets a number that isn't 0. It is appended with those before it where it isn't there yet.
-fn place(env: &mut Env, series: Series, number: u32, value: u32) -> Result<(), NoMemory>
+fn put(env: &mut Env, series: Series, number: u32, value: u32) -> Result<(), NoMemory>
     requires some { value ≢ 0 }
     requires width { value < 2 ^ width_of 32 series }
     ensures took { OnOk result (HasTaken env.old env.new (kind_of series number) value) }
@@ -118,7 +118,7 @@ fn take(env: &mut Env, kind: WordKind, value: u32) -> Result<(), NoMemory>
         return Ok(());
     }
     match Series::of_kind(kind) {
-        Some((series, number)) => place(env, series, number, value),
+        Some((series, number)) => put(env, series, number, value),
         None => Ok(()),
     }
 }

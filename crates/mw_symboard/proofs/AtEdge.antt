@@ -1,20 +1,15 @@
 -- What the parts of a board are after an edge.
 use Rattle.std.proofs.Common.{◌≡◌, ℕ, ◌<◌, ◌≤◌, ◌==◌, List, length, slice_index, slice_set, Bool, true, false, Option}
-use Rattle.std.proofs.Common.{Some, None, IfSome, if◌then◌else◌, refl, sym, subst, ◌∙◌, ap, arith, rules, length-set}
-use Rattle.std.proofs.lemmas.Bool.Decides.{nat_tests}
+use Rattle.std.proofs.Common.{Some, None, IfSome, if◌then◌else◌, refl, sym, subst, ◌∙◌, ap, arith, length-set}
 use Rattle.mw_board.specs.declared.parts.BoardParts.{BoardParts}
-use Rattle.mw_board.specs.Depth.{depth_of}
-use Rattle.mw_board.proofs.Elements.{words_least}
 use Rattle.mw_cycle.specs.declared.elements.Element.{Element}
 use Rattle.mw_cycle.specs.declared.elements.Element.TheVariants.{Register, Q, Mar, Ir, FlipFlop, Pc, R, StackWord}
 use Rattle.mw_cycle.specs.Elements.{IsElement, bits_of}
-use Rattle.mw_seq.specs.declared.instruction.StackMove.{StackMove}
-use Rattle.mw_seq.specs.declared.instruction.StackMove.TheVariants as moves
 use Rattle.mw_term.specs.Table.{Table, Extends}
 use Rattle.mw_symmem.specs.Memory.{IsOfWidth}
 use Rattle.mw_symmem.proofs.Meaning.{set_at}
 use Rattle.mw_symboard.specs.Cycle.{IsMar}
-use Rattle.mw_cycle.specs.EdgeWords.{or_taken, with_pushed, with_taken, pushed_word, sp_after}
+use Rattle.mw_cycle.specs.EdgeWords.{or_taken, with_pushed, with_taken}
 use Rattle.mw_symboard.specs.Parts.{AreParts}
 use Rattle.mw_cycle.specs.BoardTerms.{Parts, term_of_part}
 use Rattle.mw_symboard.proofs.Standing.{part_stays}
@@ -65,24 +60,6 @@ some_later told tnew w (Some v) later is = later v is
 -- ---- the stack
 
 -- a stack has a word
-pub depth_some : (board : BoardParts) → 1 ≤ depth_of board
-depth_some board = omega (arith, words_least board)
-
--- the stack pointer stays within the stack
-pub sp_within : (move : StackMove) (depth sp : ℕ) → sp ≤ depth → sp_after move depth sp ≤ depth
-sp_within moves.Held depth sp within = within
-sp_within moves.Pushed depth sp within = grind (arith, nat_tests)
-sp_within moves.Popped depth sp within = omega arith
-sp_within moves.Cleared depth sp within = omega arith
-
--- the word that takes PC is one of the stack's
-pub pushed_within : (move : StackMove) (depth sp : ℕ) → 1 ≤ depth → sp ≤ depth
-    → IfSome (pushed_word move depth sp) (λ n. n < depth)
-pushed_within moves.Pushed depth sp some within = grind (arith, nat_tests)
-pushed_within moves.Held depth sp some within = search rules
-pushed_within moves.Popped depth sp some within = search rules
-pushed_within moves.Cleared depth sp some within = search rules
-
 -- ---- the parts
 
 -- the address register is what it was in a table with more terms

@@ -8,11 +8,9 @@ use Rattle.mw_base.specs.Words.{num}
 use Rattle.mw_board.specs.declared.parts.BoardParts.{BoardParts}
 use Rattle.mw_term.specs.declared.decided.Decided.{Decided}
 use Rattle.mw_cycle.specs.declared.microword.Microword.{Microword}
-use Rattle.mw_seq.specs.declared.instruction.CounterMove.{CounterMove}
-use Rattle.mw_seq.specs.declared.instruction.CounterMove.TheVariants as counters
 use Rattle.mw_seq.specs.declared.instruction.Effect.{Effect}
 use Rattle.mw_seq.specs.Instruction.{instruction_of}
-use Rattle.mw_term.specs.Table.{Table, Extends}
+use Rattle.mw_term.specs.Table.{Table}
 use Rattle.mw_term.specs.declared.word.Word.{Word}
 use Rattle.mw_symmem.specs.Memory.{IsOfWidth}
 use Rattle.mw_symboard.specs.Cycle.{IsCounter, IsLeaving, effect_by, number_in, value_in}
@@ -20,7 +18,8 @@ use Rattle.mw_symboard.specs.Growth.{Grew}
 use Rattle.mw_symboard.specs.Made.{IsDirect, IsNext}
 use Rattle.mw_symboard.specs.Seen.{Progress}
 use Rattle.mw_symboard.proofs.Growing.{grew_then, wide_later}
-use Rattle.mw_symboard.proofs.Standing.{direct_stays, less_one_stays}
+use Rattle.mw_symboard.proofs.Standing.{direct_stays}
+use Rattle.mw_symboard.proofs.Staying.{counter_stays}
 
 -- ---- decided bits
 
@@ -49,13 +48,6 @@ pub number_more : (decided : List Decided) (place count : ℕ)
 number_more decided place count = rw add-one refl
 
 -- ---- the end
-
-counter_stays : (rld : Bool) (move : CounterMove) (told tnew : Table) (old direct term : ℕ) → Extends told tnew
-    → IsCounter rld move told old direct term → IsCounter rld move tnew old direct term
-counter_stays true move told tnew old direct term extends is = is
-counter_stays false counters.Same told tnew old direct term extends is = is
-counter_stays false counters.Loaded told tnew old direct term extends is = is
-counter_stays false counters.Counted told tnew old direct term extends is = less_one_stays told tnew old term extends is
 
 -- what was made for the end, in the order in which it is made
 pub leaving_is : (board : BoardParts) (m : Microword) (t1 t2 t3 : Table) (w1 w2 w3 : List Word) (p : Progress)

@@ -134,7 +134,7 @@ firsts_below f (suc n) most (suc k) some below =
 
 -- ---- variables
 
-either : (o : Option ℕ) → (o ≡ None) ⊎ ((term : ℕ) × (o ≡ Some term))
+pub either : (o : Option ℕ) → (o ≡ None) ⊎ ((term : ℕ) × (o ≡ Some term))
 either None = inl refl
 either (Some term) = inr (term, refl)
 
@@ -142,9 +142,9 @@ term_is : {a b : ℕ} {kind other : WordKind} → variable a kind ≡ variable b
 term_is is = ap (λ (w : Word). w.term) is
 
 -- a variable of the list is that of its kind
-found : (words : List Word) (place term : ℕ) (kind : WordKind) → HaveOwnKinds words → IsVariable words place term kind
+pub own_found : (words : List Word) (place term : ℕ) (kind : WordKind) → HaveOwnKinds words → IsVariable words place term kind
     → term_of words kind ≡ Some term
-found words place term kind own is = elim (either (term_of words kind)) [
+own_found words place term kind own is = elim (either (term_of words kind)) [
   | inl none ↦ absurd (missing words kind place term none is)
   | inr some ↦
       let v = variable_of words kind some.0 some.1 in
@@ -231,7 +231,7 @@ module _ (board : BoardParts) (t : Table) (words : List Word) (given : Given) (t
     values = λ series n place term is.
         ap (λ (xs : List ℕ). slice_index xs n) (lists_back list_of board.width series (list_below series))
         ∙ first_at (value_of series) (beyond words) n (within_beyond words place term n series is)
-        ∙ value_is t given (term_of words (kind_of series n)) term (found words place term (kind_of series n) own is);
+        ∙ value_is t given (term_of words (kind_of series n)) term (own_found words place term (kind_of series n) own is);
   }
 
 pub environments_are_there : EnvironmentsAreThere
@@ -349,7 +349,7 @@ environments_are_reached board t words cycles given env table of own has within 
     within = within;
     values = λ series n place term is.
         reached t words env given place term (width_of board.width series) (slice_index (values_of env series) n)
-        (kind_of series n) table of is (has.widths series n term (found words place term (kind_of series n) own is))
+        (kind_of series n) table of is (has.widths series n term (own_found words place term (kind_of series n) own is))
         (ap (of_value env (given (suc place))) (series_of_kind_back series n))
         (within series n);
   },

@@ -18,13 +18,12 @@ use Rattle.mw_cycle.specs.EdgeWords.{Stands, edge_words, shown, taken_after, wit
 use Rattle.mw_cycle.specs.LeavingWords as ends
 use Rattle.mw_cycle.specs.LeavingWords.{leaving_words}
 use Rattle.mw_cycle.specs.ReadingWords.{HasRead, Reading, reading_words, zero_words}
-use Rattle.mw_seq.specs.Instruction.{effect_of, instruction_of}
 use Rattle.mw_term.specs.declared.event.SymEvent.{SymEvent}
 use Rattle.mw_term.specs.declared.decided.DecidedKind.{DecidedKind}
 use Rattle.mw_term.specs.declared.decided.DecidedKind.TheVariants.{Pass}
 use Rattle.mw_term.specs.declared.op.Op.TheVariants.{Part}
-use Rattle.mw_term.specs.MemoryRead.{Held, held}
-use Rattle.mw_term.specs.WordList.{WordList, Ended, ended, with_word}
+use Rattle.mw_term.specs.MemoryRead.{Held}
+use Rattle.mw_term.specs.WordList.{WordList, ended, with_word}
 use Rattle.mw_symmem.specs.Memory.{Memory}
 use Rattle.mw_term.specs.Table.{Table}
 use Rattle.mw_symmem.specs.declared.turn.Turn.{Turn}
@@ -37,8 +36,9 @@ use Rattle.mw_symboard.specs.Cycle.{bits_before, effect_by, number_in, pass_by, 
 use Rattle.mw_symboard.specs.Listed.{leaving_of, reading_of, standing_after, standing_of}
 use Rattle.mw_symboard.specs.Seen.{Progress, microword_of}
 use Rattle.mw_symboard.specs.Turns.{Leaves, Symbolic, cycle_left, decided_so, shown_by, written_if}
-use Rattle.mw_symboard.proofs.Deciding.{value_more, count_more, pass_same, zero_same}
+use Rattle.mw_symboard.proofs.Deciding.{value_more, count_more}
 use Rattle.mw_symboard.proofs.Ends.{number_more}
+use Rattle.mw_symboard.proofs.Turning.{effect_same}
 
 -- a place with one decided bit more
 abbrev pub with_bit : Progress → DecidedKind → Bool → Progress
@@ -162,13 +162,6 @@ number_next ds x before k many =
     number_more (ds ++ x ∷ []) before k
     ∙ ap₂ (λ n b. n * 2 + num b) (number_same ds x before k (omega (arith, many)))
     (ap (value_in (ds ++ x ∷ [])) many ∙ last_value ds x)
-
-effect_same : (m : Microword) (ds : List Decided) (x : Decided) → bits_before m ≤ length ds
-    → effect_by m (ds ++ x ∷ []) ≡ effect_by m ds
-effect_same m ds x within =
-    ap₂ (λ pass zero_is. effect_of (instruction_of m.sequencer) pass zero_is)
-    (pass_same (decides_pass m) ds x (omega (arith, within)))
-    (zero_same (decides_pass m) (decides_counter m) ds x within)
 
 -- and goes on behind it
 pub address_goes : (board : BoardParts) (m : Microword) (p : Progress) (s : Standing) (r : Reading) (leaving : Leaving)

@@ -17,6 +17,7 @@ use Rattle.mw_term.specs.Assigned.{Given}
 use Rattle.mw_term.specs.Table.{Table, IsTable, op_width, term_width, width_over, widths_of}
 use Rattle.mw_term.specs.Values.{op_value, term_value, value_over}
 use Rattle.mw_term.proofs.Tables.{terms_have_ops, widths_count, words_of}
+use Rattle.mw_symboard.proofs.Standing.{found_stays}
 use Rattle.mw_symmem.specs.declared.side.Side.TheVariants as side
 use Rattle.mw_term.specs.declared.word.Word.{Word}
 use Rattle.mw_term.specs.WordList.{is_of, term_of}
@@ -213,19 +214,6 @@ first_or : (b : Bool) (a term : ℕ) (rest : Option ℕ) → (if b then Some a e
 first_or true a term rest is = inl (same_Some a term is)
 first_or false a term rest is = inr is
 
-with_first : (b : Bool) (a term : ℕ) (old new : Option ℕ) → (old ≡ Some term → new ≡ Some term)
-    → (if b then Some a else old) ≡ Some term → (if b then Some a else new) ≡ Some term
-with_first true a term old new later is = is
-with_first false a term old new later is = later is
-
--- the term of a kind stays before further words
-pub term_of_more : (words more : List Word) (kind : WordKind) (term : ℕ) → term_of words kind ≡ Some term
-    → term_of (words ++ more) kind ≡ Some term
-term_of_more [] more kind term is = absurd cc
-term_of_more (w ∷ words) more kind term is =
-    with_first (is_of w.kind kind) w.term term (term_of words kind) (term_of (words ++ more) kind)
-    (term_of_more words more kind term) is
-
 -- a word with a term
 record HasWord (words : List Word) (term : ℕ) : Type 0 where
   pub place : ℕ
@@ -258,7 +246,7 @@ variable_before : {K : WordKind → Type 0} {told tnew : Table} {wold wnew : Lis
 variable_before {told = told} {wold = wold} {wnew = wnew} given kind value workspace goes later term is =
     let there = term_of_there told wold kind term workspace.of is in
     let now : term_of wnew kind ≡ Some term = subst (λ (ws : List Word). term_of ws kind ≡ Some term) (sym goes.words)
-    (term_of_more wold goes.more kind term is) in
+    (found_stays wold goes.more kind term is) in
     sym (goes.later.keeps.values given term there) ∙ later term now
 
 module _ {board : BoardParts} {store : List ℕ} {p : Progress} {K : WordKind → Type 0} {told tnew : Table}

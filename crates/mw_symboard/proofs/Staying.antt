@@ -94,7 +94,7 @@ reading_stays board m told tnew words made memory p r workspace later mar is =
       y_wide = width_stays told tnew board.width r.y ex ke is.y_wide;
     }
 
-counter_stays : (rld : Bool) (move : CounterMove) (told tnew : Table) (old direct term : ℕ) → Extends told tnew
+pub counter_stays : (rld : Bool) (move : CounterMove) (told tnew : Table) (old direct term : ℕ) → Extends told tnew
     → IsCounter rld move told old direct term → IsCounter rld move tnew old direct term
 counter_stays true move told tnew old direct term extends is = is
 counter_stays false counters.Same told tnew old direct term extends is = is

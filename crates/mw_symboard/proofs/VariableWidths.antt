@@ -61,7 +61,7 @@ widths_with board told tnew words term own number extends keeps none wide widths
 
 -- ---- words that are no variables of an environment
 
-not_behind : (words more : List Word) (kind : WordKind) → term_of more kind ≡ None
+pub not_behind : (words more : List Word) (kind : WordKind) → term_of more kind ≡ None
     → term_of (words ++ more) kind ≡ term_of words kind
 not_behind [] more kind none = none
 not_behind (w ∷ words) more kind none =

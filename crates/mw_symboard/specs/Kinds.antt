@@ -1,4 +1,4 @@
--- The variables that a cycle makes.
+-- The variables that a cycle makes, and the widths of an environment's.
 use Rattle.std.specs.Prelude.{◌≡◌, ℕ, ◌⊎◌, List, true, Some}
 use Rattle.mw_board.specs.declared.parts.BoardParts.{BoardParts}
 use Rattle.mw_term.specs.declared.kinds.WordKind.{WordKind}

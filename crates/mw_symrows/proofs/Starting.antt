@@ -8,12 +8,12 @@ use Rattle.mw_board.specs.declared.parts.BoardParts.{BoardParts}
 use Rattle.mw_board.specs.Valid as valid
 use Rattle.mw_cycle.specs.declared.microword.Microword.{Microword}
 use Rattle.mw_cycle.specs.declared.series.Series.{Series}
-use Rattle.mw_cycle.specs.declared.series.Series.TheVariants.{Inputs, Line, Noise}
 use Rattle.mw_cycle.specs.Decided.{decides_counter, decides_pass}
-use Rattle.mw_cycle.specs.Series.{kind_of as series_kind}
+use Rattle.mw_cycle.specs.Series.{kind_of as series_kind, series_of_kind}
+use Rattle.mw_cycle.proofs.Named.{no_kind}
 use Rattle.mw_term.specs.declared.decided.DecidedKind.{DecidedKind}
 use Rattle.mw_term.specs.declared.kinds.WordKind.{WordKind}
-use Rattle.mw_term.specs.declared.kinds.WordKind.TheVariants.{Base}
+use Rattle.mw_term.specs.declared.kinds.WordKind.TheVariants.{Base, Element}
 use Rattle.mw_term.specs.MemoryRead.{held}
 use Rattle.mw_term.specs.Table.{IsTable, Table}
 use Rattle.mw_symmem.specs.declared.turn.Turn.{Turn}
@@ -41,10 +41,12 @@ free_push words term own free is place other kind at =
     ]
 
 -- no variable of an environment is free
+free_named : (kind : WordKind) → IsFreeKind kind → series_of_kind kind ≡ None
+free_named (Element n) is = refl
+free_named other is = absurd is
+
 not_free : (series : Series) (n : ℕ) → ¬ IsFreeKind (series_kind series n)
-not_free Inputs n is = is
-not_free Line n is = is
-not_free Noise n is = is
+not_free = no_kind IsFreeKind free_named
 
 free_without : (words : List Word) (series : Series) (n : ℕ) → AreFree words
     → term_of words (series_kind series n) ≡ None

@@ -4,8 +4,9 @@ use Rattle.mw_cycle.specs.Series.{kind_of}
 use Rattle.mw_term.specs.Assigned.{given_by}
 use Rattle.mw_term.specs.Values.{term_value}
 use Rattle.mw_term.specs.WordList.{is_of, term_of}
+use Rattle.mw_symboard.proofs.Environments.{own_found}
 use Rattle.mw_fork.specs.Begins.{value_or_zero}
-use Rattle.mw_fork.proofs.Taking.{entry_fresh, new_at, own_found, taken_next, value_fits, value_next, word_named}
+use Rattle.mw_fork.proofs.Taking.{entry_fresh, new_at, taken_next, value_fits, value_next, word_named}
 use Rattle.mw_fork.proofs.Taking.{word_read}
 use Rattle.mw_fork.proofs.begin.environment.Goals as goal
 

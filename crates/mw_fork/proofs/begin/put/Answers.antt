@@ -1,6 +1,6 @@
 use Rattle.std.proofs.Common.{arith}
 use Rattle.mw_fork.proofs.Placing.{one_filled, put_taken, put_trimmed}
-use Rattle.mw_fork.proofs.begin.place.Goals as goal
+use Rattle.mw_fork.proofs.begin.put.Goals as goal
 
 pub loop-env-preserved : goal.loop-env-preserved
 loop-env-preserved c = record {
