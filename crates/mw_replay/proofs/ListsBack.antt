@@ -1,13 +1,12 @@
 -- The lines of an environment's lists are read back.
-use Rattle.std.proofs.Common.{◌≡◌, ℕ, ◌+◌, ◌*◌, ◌<◌, ◌≤◌, ◌^◌, List, [], ◌++◌, map, take, drop, length, Bool, true}
-use Rattle.std.proofs.Common.{lit≤, ◌==◌, refl, subst, arith}
+use Rattle.std.proofs.Common.{◌≡◌, ℕ, ◌+◌, ◌*◌, ◌<◌, ◌≤◌, ◌^◌, List, [], ◌++◌, take, drop, length, Bool, true}
+use Rattle.std.proofs.Common.{lit≤, refl, subst, arith}
 use Rattle.std.specs.Prelude.{All}
 use Rattle.std.specs.List.{list_all}
 use Rattle.std.proofs.Math.Pow.{pow_mono}
-use Rattle.std.proofs.lemmas.List.{length-drop, length-map, length-take}
+use Rattle.std.proofs.lemmas.List.{length-drop, length-take}
 use Rattle.std.proofs.lemmas.List.Elements.{All-weaker}
 use Rattle.std.proofs.lemmas.Nat.{pow_pos}
-use Rattle.mw_base.specs.Words.{num}
 use Rattle.mw_board.specs.declared.parts.BoardParts.{BoardParts}
 use Rattle.mw_cycle.specs.declared.series.Series.{Series}
 use Rattle.mw_cycle.specs.declared.series.Series.TheVariants.{Inputs, Line, Noise}
@@ -15,7 +14,8 @@ use Rattle.mw_cycle.specs.Environment.{Environment, IsEnvironment, no_values, va
 use Rattle.mw_cycle.specs.Trimmed.{shortened, trimmed}
 use Rattle.mw_cycle.specs.Environment.{with_values}
 use Rattle.mw_cycle.specs.Series.{keyword_of, width_of}
-use Rattle.mw_cycle.proofs.Lists.{behind_again, behind_length, none_behind, widths_most, widths_within}
+use Rattle.mw_cycle.proofs.Lists.{behind_again, behind_length, lists_back, none_behind, trimmed_below, widths_most}
+use Rattle.mw_cycle.proofs.Lists.{widths_within}
 use Rattle.mw_sim.specs.declared.settings.Settable.{Settable}
 use Rattle.mw_sim.specs.Settings.{Settings, with_line}
 use Rattle.mw_replay.specs.CounterPrinted.{AreShort, environment_lines, line_count, values_at, values_lines}
@@ -90,13 +90,14 @@ list_below board env series is =
     (is series)
 
 -- and it isn't too long
-list_short : (env : Environment) (series : Series) → AreShort (shortened env)
-    → length (trimmed (values_of env series)) ≤ 65536
-list_short env Inputs short = short Inputs
-list_short env Line short =
-    let kept = trimmed (map num env.line) in
-    omega (arith, short Line, length-map (map (λ bit. bit == 1) kept) num, length-map kept (λ (bit : ℕ). bit == 1))
-list_short env Noise short = short Noise
+list_short : (board : BoardParts) (env : Environment) (series : Series) → IsEnvironment board env
+    → AreShort (shortened env) → length (trimmed (values_of env series)) ≤ 65536
+list_short board env series is short =
+    subst (λ (xs : List ℕ). length xs ≤ 65536)
+    (lists_back (λ series. trimmed (values_of env series)) board.width series
+    (trimmed_below (2 ^ width_of board.width series) (values_of env series) (pow_pos (width_of board.width series))
+    (is series)))
+    (short series)
 
 -- the lines of all lists
 pub lists_go : (P : Settings → Type 0) (board : BoardParts) (elements : List Settable) (text : List ℕ)
@@ -112,7 +113,7 @@ lists_go P board elements text env memory written values set narrow is short so 
     let two = with_values Line (kept Line) one in
     let go = λ (series : Series) (rest : List ℕ) (before : Environment).
     list_go P board.width elements text rest memory written before values set series (kept series) narrow
-    (list_below board env series is) (list_short env series short) in
+    (list_below board env series is) (list_short board env series is short) in
     go Inputs _ no_values refl
     (go Line _ one refl
     (go Noise [] two refl (end_goes P step text (given_with memory written (shortened env) values set) so)))

@@ -1,6 +1,6 @@
 -- Lists without the zeros at their ends.
 use Rattle.std.proofs.Common.{◌≡◌, ℕ, zero, suc, ◌<◌, List, [], ◌∷◌, map, slice_index, slice_index_or, Bool, true}
-use Rattle.std.proofs.Common.{false, ◌==◌, refl, ap, ◌∙◌, subst, sym, arith}
+use Rattle.std.proofs.Common.{false, ◌==◌, lit<, refl, ap, ◌∙◌, subst, sym, arith}
 use Rattle.std.specs.Prelude.{All, length}
 use Rattle.std.proofs.Math.Seq.{take-length}
 use Rattle.std.proofs.lemmas.Bool.{eqb-true}
@@ -10,7 +10,7 @@ use Rattle.mw_cycle.specs.declared.state.CycleIn.{CycleIn}
 use Rattle.mw_cycle.specs.Environment.{Environment}
 use Rattle.mw_cycle.specs.Trimmed.{before_trimmed, shortened, trimmed, EndsWell}
 use Rattle.mw_cycle.specs.declared.series.Series.TheVariants.{Inputs, Line, Noise}
-use Rattle.mw_cycle.proofs.Lists.{bits_back, kept_front, trimmed_below}
+use Rattle.mw_cycle.proofs.Lists.{bits_back, bits_below, kept_front, numbers_back, trimmed_below}
 use Rattle.mw_replay.specs.Laws.{NothingIsCut, ZerosGiveNothing}
 
 put_once : (x : ℕ) (ys : List ℕ) (b : Bool) → (x == 0) ≡ b → trimmed ys ≡ ys
@@ -33,17 +33,9 @@ trimmed_within bound xs some each n d inside =
     subst (λ v. v < bound) (sym (get_or_default_zero (trimmed xs) n d inside)) (trimmed_below bound xs some each n)
 
 -- bits stay bits
-bits_before : (bit : Bool) (xs : List ℕ) → map num (map (λ x. x == 1) xs) ≡ xs
-    → map num (map (λ x. x == 1) (before_trimmed (num bit) xs)) ≡ before_trimmed (num bit) xs
-bits_before true [] same = refl
-bits_before false [] same = refl
-bits_before true (x ∷ xs) same = ap (λ (rest : List ℕ). 1 ∷ rest) same
-bits_before false (x ∷ xs) same = ap (λ (rest : List ℕ). 0 ∷ rest) same
-
 bits_trimmed : (bits : List Bool) → map num (map (λ x. x == 1) (trimmed (map num bits))) ≡ trimmed (map num bits)
-unfolding trimmed
-bits_trimmed [] = refl
-bits_trimmed (bit ∷ rest) = bits_before bit (trimmed (map num rest)) (bits_trimmed rest)
+bits_trimmed bits =
+    numbers_back (trimmed (map num bits)) (trimmed_below 2 (map num bits) (lit< tt) (bits_below bits))
 
 -- once is enough for an environment
 pub shortened_once : (env : Environment) → shortened (shortened env) ≡ shortened env
