@@ -14,7 +14,7 @@ use Rattle.mw_cycle.specs.declared.series.Series.{Series}
 use Rattle.mw_cycle.specs.declared.series.Series.TheVariants as lists
 use Rattle.mw_cycle.specs.Decided.{decided}
 use Rattle.mw_cycle.specs.Series.{goes_by_cycle, kind_of, width_of}
-use Rattle.mw_cycle.proofs.Named.{no_variable, own_series}
+use Rattle.mw_cycle.proofs.Named.{no_input, no_variable}
 use Rattle.mw_cycle.proofs.Lists.{bit_at}
 use Rattle.mw_term.specs.Assigned.{Given}
 use Rattle.mw_term.specs.declared.decided.DecidedKind.{DecidedKind}
@@ -170,9 +170,7 @@ input_wide job t words m p (Some request) k term is has at =
 not_of_step : (series : Series) (n : ℕ) → goes_by_cycle series ≡ true → ¬ IsOfStep (kind_of series n)
 not_of_step series n by_cycle is = elim is [
   | inl h ↦ no_variable (Base h.0) series n refl (sym h.1)
-  | inr h ↦
-      let same : series ≡ lists.Inputs = own_series series lists.Inputs n h.0 h.1 in
-      let no : false ≡ true = sym (ap goes_by_cycle same) ∙ by_cycle in absurd cc
+  | inr h ↦ no_input series n h.0 by_cycle h.1
 ]
 
 -- whether a list goes by cycle or not

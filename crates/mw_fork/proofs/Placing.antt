@@ -123,7 +123,8 @@ one_behind series other env n = elim (same_or_other other series) [
   | inl is ↦
       let new = with_values series (0 ∷ []) env in
       subst (λ (s : Series). slice_index (values_of new s) n ≡ slice_index (values_of env s) n) (sym is)
-      (ap (λ xs. slice_index xs n) (own_behind series 32 0 env (pow_pos (width_of 32 series))) ∙ zero_behind (values_of env series) n)
+      (ap (λ xs. slice_index xs n) (own_behind series 32 0 env (pow_pos (width_of 32 series)))
+      ∙ zero_behind (values_of env series) n)
   | inr differs ↦ ap (λ xs. slice_index xs n) (other_behind series other (0 ∷ []) env differs)
 ]
 

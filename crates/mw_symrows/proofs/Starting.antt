@@ -1,5 +1,5 @@
 -- A symbolic board from before its first cycle to the end of a cycle.
-use Rattle.std.proofs.Common.{◌≡◌, inl, inr, ℕ, ◌+◌, ◌≤◌, List, [], ◌∷◌, ◌++◌, length, ap, arith, sym, subst, ◌∙◌}
+use Rattle.std.proofs.Common.{◌≡◌, inl, inr, ℕ, ◌+◌, ◌≤◌, List, [], ◌∷◌, ◌++◌, length, refl, ap, arith, sym, subst, ◌∙◌}
 use Rattle.std.specs.Prelude.{Bool, true, false, None}
 use Rattle.std.proofs.lemmas.Bool.{cases_lt}
 use Rattle.std.proofs.lemmas.Option.{slice_get-get_or}
@@ -10,10 +10,10 @@ use Rattle.mw_cycle.specs.declared.microword.Microword.{Microword}
 use Rattle.mw_cycle.specs.declared.series.Series.{Series}
 use Rattle.mw_cycle.specs.Decided.{decides_counter, decides_pass}
 use Rattle.mw_cycle.specs.Series.{kind_of as series_kind, series_of_kind}
-use Rattle.mw_cycle.proofs.Named.{no_kind}
+use Rattle.mw_cycle.proofs.Named.{no_variable}
 use Rattle.mw_term.specs.declared.decided.DecidedKind.{DecidedKind}
 use Rattle.mw_term.specs.declared.kinds.WordKind.{WordKind}
-use Rattle.mw_term.specs.declared.kinds.WordKind.TheVariants.{Base, Element}
+use Rattle.mw_term.specs.declared.kinds.WordKind.TheVariants.{Base, Element, Probe}
 use Rattle.mw_term.specs.MemoryRead.{held}
 use Rattle.mw_term.specs.Table.{IsTable, Table}
 use Rattle.mw_symmem.specs.declared.turn.Turn.{Turn}
@@ -43,10 +43,12 @@ free_push words term own free is place other kind at =
 -- no variable of an environment is free
 free_named : (kind : WordKind) → IsFreeKind kind → series_of_kind kind ≡ None
 free_named (Element n) is = refl
-free_named other is = absurd is
+free_named Probe is = refl
+free_named kind is = absurd is
 
 not_free : (series : Series) (n : ℕ) → ¬ IsFreeKind (series_kind series n)
-not_free = no_kind IsFreeKind free_named
+not_free series n is =
+    no_variable (series_kind series n) series n (free_named (series_kind series n) is) refl
 
 free_without : (words : List Word) (series : Series) (n : ℕ) → AreFree words
     → term_of words (series_kind series n) ≡ None
