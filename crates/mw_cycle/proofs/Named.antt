@@ -33,20 +33,22 @@ same_or_other Noise Noise = inl refl
 same_or_other one other = inr (λ is. absurd cc)
 
 -- no list has the variables of another
+one_value : (one other : Series) (m n : ℕ) → kind_of one m ≡ kind_of other n → (one, m) ≡ (other, n)
+one_value one other m n is =
+    same_Some (one, m) (other, n)
+    (sym (series_of_kind_back one m) ∙ ap series_of_kind is ∙ series_of_kind_back other n)
+
 pub own_series : (one other : Series) (m n : ℕ) → kind_of one m ≡ kind_of other n → one ≡ other
-own_series one other m n is =
-    ap (λ (value : Series × ℕ). value.0)
-    (same_Some (one, m) (other, n) (sym (series_of_kind_back one m) ∙ ap series_of_kind is ∙ series_of_kind_back other n))
+own_series one other m n is = ap (λ (value : Series × ℕ). value.0) (one_value one other m n is)
 
 pub own_number : (one other : Series) (m n : ℕ) → kind_of one m ≡ kind_of other n → m ≡ n
-own_number one other m n is =
-    ap (λ (value : Series × ℕ). value.1)
-    (same_Some (one, m) (other, n) (sym (series_of_kind_back one m) ∙ ap series_of_kind is ∙ series_of_kind_back other n))
+own_number one other m n is = ap (λ (value : Series × ℕ). value.1) (one_value one other m n is)
 
 -- what stands for no value of an environment isn't a list's variable
 pub no_variable : (kind : WordKind) (series : Series) (n : ℕ) → series_of_kind kind ≡ None → kind ≢ kind_of series n
 no_variable kind series n none is =
-    let named : series_of_kind kind ≡ Some (series, n) = ap series_of_kind is ∙ series_of_kind_back series n in absurd cc
+    let named : series_of_kind kind ≡ Some (series, n) = ap series_of_kind is ∙ series_of_kind_back series n in
+    absurd cc
 
 -- a list that goes by cycle has no input's variable
 pub no_input : (series : Series) (n m : ℕ) → goes_by_cycle series ≡ true → kind_of series n ≢ kinds.Input m

@@ -142,8 +142,8 @@ term_is : {a b : ℕ} {kind other : WordKind} → variable a kind ≡ variable b
 term_is is = ap (λ (w : Word). w.term) is
 
 -- a variable of the list is that of its kind
-pub own_found : (words : List Word) (place term : ℕ) (kind : WordKind) → HaveOwnKinds words → IsVariable words place term kind
-    → term_of words kind ≡ Some term
+pub own_found : (words : List Word) (place term : ℕ) (kind : WordKind) → HaveOwnKinds words
+    → IsVariable words place term kind → term_of words kind ≡ Some term
 own_found words place term kind own is = elim (either (term_of words kind)) [
   | inl none ↦ absurd (missing words kind place term none is)
   | inr some ↦
@@ -231,7 +231,8 @@ module _ (board : BoardParts) (t : Table) (words : List Word) (given : Given) (t
     values = λ series n place term is.
         ap (λ (xs : List ℕ). slice_index xs n) (lists_back list_of board.width series (list_below series))
         ∙ first_at (value_of series) (beyond words) n (within_beyond words place term n series is)
-        ∙ value_is t given (term_of words (kind_of series n)) term (own_found words place term (kind_of series n) own is);
+        ∙ value_is t given (term_of words (kind_of series n)) term
+        (own_found words place term (kind_of series n) own is);
   }
 
 pub environments_are_there : EnvironmentsAreThere
