@@ -33,7 +33,8 @@ same_or_other Noise Noise = inl refl
 same_or_other one other = inr (λ is. absurd cc)
 
 -- no list has the variables of another
-one_value : (one other : Series) (m n : ℕ) → kind_of one m ≡ kind_of other n → (one, m) ≡ (other, n)
+one_value : (one other : Series) (m n : ℕ) → kind_of one m ≡ kind_of other n
+    → ◌≡◌ {A = Series × ℕ} (one, m) (other, n)
 one_value one other m n is =
     same_Some (one, m) (other, n)
     (sym (series_of_kind_back one m) ∙ ap series_of_kind is ∙ series_of_kind_back other n)
