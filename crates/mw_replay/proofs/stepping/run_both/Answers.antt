@@ -1,4 +1,5 @@
 use Rattle.std.proofs.Common.{sym, ap, ◌∙◌, arith}
+use Rattle.mw_cycle.specs.declared.series.Series.TheVariants.{Inputs}
 use Rattle.mw_rel.specs.InRelation.{Pair}
 use Rattle.mw_rel.specs.Relation.{Boundary}
 use Rattle.mw_rel.specs.Views.{job_of}
@@ -8,6 +9,9 @@ use Rattle.mw_replay.specs.Replay.{next_start}
 use Rattle.mw_replay.specs.Views.{replay_of}
 use Rattle.mw_replay.proofs.Segments.{ended_at, late_at, nowhere_at, short}
 use Rattle.mw_replay.proofs.stepping.run_both.Goals as goal
+
+pub run_step-requires-clause-inputs : goal.run_step-requires-clause-inputs
+run_step-requires-clause-inputs g c = λ i. rw c.shape.ensures.valid.matched.word (c.requires.stands.env Inputs i)
 
 pub run_segment-ended-requires-clause-room : goal.run_segment-ended-requires-clause-room
 run_segment-ended-requires-clause-room g c =
