@@ -4,7 +4,11 @@ use Rattle.mw_cycle.specs.Run.{longer_run}
 use Rattle.mw_debug.specs.Session.{with_cycle}
 use Rattle.mw_debug.specs.Views.{session_seen, undo_of}
 use Rattle.mw_debug.proofs.Moments.{cycle_undone, cycles_on, few_cycles, history_with, session_on, taken_on}
+use Rattle.mw_cycle.specs.declared.series.Series.TheVariants.{Inputs}
 use Rattle.mw_debug.proofs.session.Session.make_cycle.Goals as goal
+
+pub cycle-nets-requires-clause-input : goal.cycle-nets-requires-clause-input
+cycle-nets-requires-clause-input c = rw c.given-given.ensures (c.requires.env_in Inputs _)
 
 pub after-self-requires-clause-cycle : goal.after-self-requires-clause-cycle
 after-self-requires-clause-cycle c =
