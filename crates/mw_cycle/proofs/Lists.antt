@@ -165,26 +165,30 @@ rest_further env place by = rw (
 
 -- what is left of an environment is one
 pub rests_are_environments : RestsAreEnvironments
-rests_are_environments board env place is series i =
-    subst (λ (v : ℕ). v < 2 ^ width_of board.width series)
-    (sym (ap (λ xs. slice_index xs i) (rests_are_of_lists env place series)
-    ∙ get_or-drop (place_in series place) (values_of env series) i 0))
-    (is series (place_in series place + i))
+rests_are_environments board env place is = record {
+  values = λ series i.
+      subst (λ (v : ℕ). v < 2 ^ width_of board.width series)
+      (sym (ap (λ xs. slice_index xs i) (rests_are_of_lists env place series)
+      ∙ get_or-drop (place_in series place) (values_of env series) i 0))
+      (is.values series (place_in series place + i));
+}
 
 -- what has lists of their widths is one
 pub lists_are_environment : (board : BoardParts) (values : Series → List ℕ)
     → ((series : Series) (i : ℕ) → slice_index (values series) i < 2 ^ width_of board.width series)
     → IsEnvironment board (with_lists values)
-lists_are_environment board values each series i =
-    subst (λ (xs : List ℕ). slice_index xs i < 2 ^ width_of board.width series)
-    (sym (lists_back values board.width series (each series))) (each series i)
+lists_are_environment board values each = record {
+  values = λ series i.
+      subst (λ (xs : List ℕ). slice_index xs i < 2 ^ width_of board.width series)
+      (sym (lists_back values board.width series (each series))) (each series i);
+}
 
 pub shortened_are_environments : ShortenedAreEnvironments
 shortened_are_environments board env is =
     lists_are_environment board (λ series. trimmed (values_of env series))
     (λ series.
     trimmed_below (2 ^ width_of board.width series) (values_of env series) (pow_pos (width_of board.width series))
-    (is series))
+    (is.values series))
 
 -- bits of the front that has their numbers but the zeros at the end
 bits_kept : (bits : List Bool) (kept : ℕ) → take kept (map num bits) ≡ trimmed (map num bits)
@@ -277,17 +281,19 @@ push_below bound (x ∷ xs) v each here (suc i) = push_below bound xs v (λ j. e
 pub behind_is : (board : BoardParts) (series : Series) (value : ℕ) (env : Environment)
     → value < 2 ^ width_of board.width series → IsEnvironment board env
     → IsEnvironment board (with_values series (value ∷ []) env)
-behind_is board series value env small is other i = elim (same_or_other other series) [
-  | inl own ↦
-      subst (λ (s : Series). slice_index (values_of (with_values series (value ∷ []) env) s) i
-      < 2 ^ width_of board.width s) (sym own)
-      (subst (λ (xs : List ℕ). slice_index xs i < 2 ^ width_of board.width series)
-      (sym (own_behind series board.width value env small))
-      (push_below (2 ^ width_of board.width series) (values_of env series) value (is series) small i))
-  | inr differs ↦
-      subst (λ (xs : List ℕ). slice_index xs i < 2 ^ width_of board.width other)
-      (sym (other_behind series other (value ∷ []) env differs)) (is other i)
-]
+behind_is board series value env small is = record {
+  values = λ other i. elim (same_or_other other series) [
+    | inl own ↦
+        subst (λ (s : Series). slice_index (values_of (with_values series (value ∷ []) env) s) i
+        < 2 ^ width_of board.width s) (sym own)
+        (subst (λ (xs : List ℕ). slice_index xs i < 2 ^ width_of board.width series)
+        (sym (own_behind series board.width value env small))
+        (push_below (2 ^ width_of board.width series) (values_of env series) value (is.values series) small i))
+    | inr differs ↦
+        subst (λ (xs : List ℕ). slice_index xs i < 2 ^ width_of board.width other)
+        (sym (other_behind series other (value ∷ []) env differs)) (is.values other i)
+  ];
+}
 
 pub none_is : (board : BoardParts) → IsEnvironment board no_values
 none_is board = lists_are_environment board (λ series. []) (λ series i. pow_pos (width_of board.width series))

@@ -45,9 +45,8 @@ values_of env Line = map num env.line
 values_of env Noise = env.noise
 
 -- each value of a list has at most the list's bits
-abbrev pub IsEnvironment : BoardParts → Environment → Type 0
-IsEnvironment board env =
-    (series : Series) (i : ℕ) → slice_index (values_of env series) i < 2 ^ width_of board.width series
+pub record IsEnvironment (board : BoardParts) (env : Environment) : Type 0 where
+  pub values : (series : Series) (i : ℕ) → slice_index (values_of env series) i < 2 ^ width_of board.width series
 
 -- what is left of an environment is again one
 abbrev pub RestsAreEnvironments : Type 0

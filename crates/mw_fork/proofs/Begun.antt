@@ -23,7 +23,7 @@ use Rattle.mw_rel.specs.Begin.{Begin, free_elements}
 use Rattle.mw_rel.specs.Free.{is_free, numbered}
 use Rattle.mw_rel.specs.Job.{Job, IsJob}
 use Rattle.mw_rel.specs.Start.{Start}
-use Rattle.mw_symboard.proofs.Environments.{own_found}
+use Rattle.mw_symboard.proofs.Environments.{own_found, variables_have_widths}
 use Rattle.mw_fork.specs.declared.elements.Space.{Space}
 use Rattle.mw_fork.specs.Begins.{IsAssigned, IsChosen, kind_value, value_or_zero}
 use Rattle.mw_fork.specs.Boundaries.{IsSpace}
@@ -62,10 +62,13 @@ environment_of : (board : BoardParts) (t : Table) (words : List Word) (cycles : 
     → IsTable t → HaveOwnKinds words → HaveVariables board t words cycles → HasEntries t words given env
     → IsEnvironmentOf board t words given env
 environment_of board t words cycles given env table own have entries = record {
-  within = λ series i.
-      (let bits = width_of board.width series in
-      subst (λ v. v < 2 ^ bits) (sym (listed t words given env series i entries))
-      (value_below t given (term_of words (kind_of series i)) bits table (have.widths series i)));
+  within = record {
+    values = λ series i.
+        (let bits = width_of board.width series in
+        subst (λ v. v < 2 ^ bits) (sym (listed t words given env series i entries))
+        (value_below t given (term_of words (kind_of series i)) bits table
+        (variables_have_widths board t words cycles have series i)));
+  };
   values = λ series n place term is.
       listed t words given env series n entries
       ∙ ap (value_or_zero t given) (own_found words place term (kind_of series n) own is);

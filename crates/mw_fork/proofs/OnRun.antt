@@ -73,19 +73,20 @@ variables_after : (job : Job) (old new : Space) (before after : Symbolic) (turn 
     old.memory new.memory
     → IsTurn job.board job.store new.terms new.words old.memory new.memory before after turn
     → (turn ≡ Finished → length before.place.decided ≡ bits_before (microword_of job.board job.store before.place) + 12)
-    → ((n : ℕ) → n < before.place.cycle → HasVariables old.words n)
-    → (n : ℕ) → n < after.place.cycle → HasVariables new.words n
+    → ((n : ℕ) → n < before.place.cycle → HasVariables job.board old.terms old.words n)
+    → (n : ℕ) → n < after.place.cycle → HasVariables job.board new.terms new.words n
 variables_after job old new before after (Ask kind term) symbolic goes is all there n below =
     let cycle : after.place.cycle ≡ before.place.cycle = ap (λ (p : Progress). p.cycle) is.0 in
-    variables_stay old.words new.words goes.more n goes.words (there n (omega (arith, cycle, below)))
+    variables_stay job.board old.terms new.terms old.words new.words goes.more n goes.later goes.words
+    (there n (omega (arith, cycle, below)))
 variables_after job old new before after Finished symbolic goes is all there n below =
-    variables_stay old.words new.words goes.more n goes.words
+    variables_stay job.board old.terms new.terms old.words new.words goes.more n goes.later goes.words
     (elim (cases_lt n before.place.cycle) [
       | inl h ↦ there n h
       | inr h ↦
           let enough = all refl in
           let same : before.place.cycle ≡ n = omega (arith, is.2, below, h) in
-          subst (λ (k : ℕ). HasVariables old.words k) same
+          subst (λ (k : ℕ). HasVariables job.board old.terms old.words k) same
           ((begun_has_variables job.board job.store old.terms old.words old.memory before symbolic).1
           (omega (arith, enough)))
     ])

@@ -1,5 +1,5 @@
 -- A run is on its way through the described step.
-use Rattle.std.proofs.Common.{◌≡◌, ◌⊎◌, inl, inr, ℕ, List, [], ◌∷◌, ◌++◌, append-nil, append_assoc, length, ap, sym}
+use Rattle.std.proofs.Common.{◌≡◌, ℕ, List, [], ◌∷◌, ◌++◌, append-nil, append_assoc, length, ap, sym}
 use Rattle.std.proofs.Common.{subst, ◌∙◌, refl}
 use Rattle.std.specs.Prelude.{Bool, true, false, Option, Some, None, map, option_map, slice_get, slice_index_or, ◌==◌}
 use Rattle.std.proofs.lemmas.List.{length-map, map-append}
@@ -10,16 +10,13 @@ use Rattle.mw_macro.specs.State.{MachineState}
 use Rattle.mw_macro.specs.Statements.{nothing}
 use Rattle.mw_macro.specs.StepWords.{begun_words}
 use Rattle.mw_term.specs.declared.decided.Decided.{Decided}
-use Rattle.mw_cycle.specs.declared.series.Series.{Series}
 use Rattle.mw_cycle.specs.declared.series.Series.TheVariants as lists
 use Rattle.mw_cycle.specs.Decided.{decided}
-use Rattle.mw_cycle.specs.Series.{goes_by_cycle, kind_of, width_of}
-use Rattle.mw_cycle.proofs.Named.{no_input, no_variable}
 use Rattle.mw_cycle.proofs.Lists.{bit_at}
 use Rattle.mw_term.specs.Assigned.{Given}
 use Rattle.mw_term.specs.declared.decided.DecidedKind.{DecidedKind}
 use Rattle.mw_term.specs.declared.decided.DecidedKind.TheVariants.{Branch}
-use Rattle.mw_term.specs.declared.kinds.WordKind.TheVariants.{Base, Input, Line}
+use Rattle.mw_term.specs.declared.kinds.WordKind.TheVariants.{Input, Line}
 use Rattle.mw_term.specs.declared.word.Word.{Word}
 use Rattle.mw_term.specs.Functions.{Function}
 use Rattle.mw_term.specs.MemoryRead.{Held}
@@ -30,9 +27,8 @@ use Rattle.mw_symmem.specs.declared.turn.Turn.{Turn}
 use Rattle.mw_symmem.specs.declared.turn.Turn.TheVariants.{Ask, Finished}
 use Rattle.mw_symmem.specs.Memory.{Memory, IsOfWidth, after, valued}
 use Rattle.mw_symmem.specs.Words.{HaveOwnKinds}
-use Rattle.mw_symmem.specs.Workspace.{GoesOn, HaveKinds, IsLater}
+use Rattle.mw_symmem.specs.Workspace.{GoesOn}
 use Rattle.mw_symboard.specs.Along.{standing_in}
-use Rattle.mw_symboard.specs.Kinds.{HaveWidths}
 use Rattle.mw_symboard.specs.Turns.{Symbolic}
 use Rattle.mw_symboard.proofs.Environments.{cycles_stay}
 use Rattle.mw_symboard.proofs.RunBits.{get_behind}
@@ -62,7 +58,7 @@ use Rattle.mw_fork.specs.Starts.{GoesTo, Ground, IsGround, StandsForStart, cours
 use Rattle.mw_fork.specs.Steps.{said_from}
 use Rattle.mw_fork.specs.Ways.{Way, met_of}
 use Rattle.mw_fork.proofs.AlongStep.{along_none, along_turn, asks_for, ends_listed, left_at_start}
-use Rattle.mw_fork.proofs.Growing.{goes_to, on_path_later, on_path_narrower, start_before, way_later, width_kept}
+use Rattle.mw_fork.proofs.Growing.{goes_to, on_path_later, on_path_narrower, start_before, way_later}
 
 -- ---- the bits of a case
 
@@ -166,34 +162,6 @@ input_wide job t words m p (Some request) k term is has at =
     let there = found words (Input k) term at in
     subst (λ w. IsOfWidth t w term) is.matched.word (has.0.input k there.0 term there.1)
 
--- a step makes no variable of a list that goes by cycle
-not_of_step : (series : Series) (n : ℕ) → goes_by_cycle series ≡ true → ¬ IsOfStep (kind_of series n)
-not_of_step series n by_cycle is = elim is [
-  | inl h ↦ no_variable (Base h.0) series n refl (sym h.1)
-  | inr h ↦ no_input series n h.0 by_cycle h.1
-]
-
--- whether a list goes by cycle or not
-by_cycle_or_inputs : (series : Series) → (goes_by_cycle series ≡ true) ⊎ (series ≡ lists.Inputs)
-by_cycle_or_inputs lists.Inputs = inr refl
-by_cycle_or_inputs series = inl refl
-
--- all variables of an environment that there are after a turn have the widths of its lists
-widths_turned : (job : Job) (told tnew : Table) (wold wnew more : List Word) (m : Memory) (p : Parts)
-    (request : Option ℕ) → IsJob job → IsLater told tnew → wnew ≡ wold ++ more → HaveKinds IsOfStep more
-    → HasTerms job.machine tnew wnew m p request → HaveWidths job.board told wold → HaveWidths job.board tnew wnew
-widths_turned job told tnew wold wnew more m p request is later words kinds has wide series n term at =
-    elim (by_cycle_or_inputs series) [
-      | inl by_cycle ↦
-          width_kept IsOfStep told tnew wold wnew more (kind_of series n) (width_of job.board.width series) term later
-          words kinds (not_of_step series n by_cycle) (wide series n) at
-      | inr same ↦
-          let there : term_of wnew (Input n) ≡ Some term =
-          subst (λ (s : Series). term_of wnew (kind_of s n) ≡ Some term) same at in
-          subst (λ (s : Series). IsOfWidth tnew (width_of job.board.width s) term) (sym same)
-          (input_wide job tnew wnew m p request n term is has there)
-    ]
-
 -- what a turn says of the step of a start, of which these bits were given
 record Says (job : Job) (space : Space) (given : Given) (start : Start) (o : Stepping) (bits : List Bool) (turn : Turn)
     : Type 0 where
@@ -292,8 +260,9 @@ turns job number cycles elements from segment board way sold snew paths old new 
     let ground = on.on.stands in
     let variables = cycles_stay job.board sold.terms snew.terms sold.words snew.words goes.more ground.cycles goes.later
     goes.words goes.kinds
-    (widths_turned job sold.terms snew.terms sold.words snew.words goes.more snew.memory new.parts new.request is
-    goes.later goes.words goes.kinds stepping.terms ground.variables.widths) ground.variables in
+    (λ n term there.
+    input_wide job snew.terms snew.words snew.memory new.parts new.request n term is stepping.terms there)
+    ground.variables in
     let says = λ (given : Given) (start : Start) (one : StandsForStart job number now given start)
     (at : path_in paths given ≡ true).
     turns_are_of_the_step job.machine sold.terms snew.terms snew.words sold.memory snew.memory old new turn given

@@ -6,7 +6,8 @@ use Rattle.std.proofs.Math.Nat.{mod-eq_of_lt}
 use Rattle.std.proofs.lemmas.Bool.Decides.{nat_tests}
 use Rattle.mw_board.specs.declared.parts.BoardParts.{BoardParts}
 use Rattle.mw_cycle.specs.declared.series.Series.{Series}
-use Rattle.mw_cycle.specs.Series.{kind_of, series_of_kind, width_of}
+use Rattle.mw_cycle.specs.declared.series.Series.TheVariants.{Inputs}
+use Rattle.mw_cycle.specs.Series.{kind_of, series_of_kind}
 use Rattle.mw_cycle.proofs.Named.{no_kind, no_variable}
 use Rattle.mw_term.specs.declared.kinds.WordKind.{WordKind}
 use Rattle.mw_term.specs.declared.kinds.WordKind.TheVariants.{Base, Element, Probe}
@@ -104,13 +105,13 @@ cycles_compared : (board : BoardParts) (told tnew : Table) (wold wnew more : Lis
     → wnew ≡ wold ++ more → HaveKinds IsComparedKind more → HaveVariables board told wold cycles
     → HaveVariables board tnew wnew cycles
 cycles_compared board told tnew wold wnew more cycles later words kinds has = record {
-  each = λ n less. variables_stay wold wnew more n words (has.each n less);
+  each = λ n less. variables_stay board told tnew wold wnew more n later words (has.each n less);
   none = λ series by_cycle n past.
       none_later IsComparedKind wold wnew more (kind_of series n) words kinds (not_compared series n)
       (has.none series by_cycle n past);
-  widths = λ series n term is.
-      width_kept IsComparedKind told tnew wold wnew more (kind_of series n) (width_of board.width series) term later
-      words kinds (not_compared series n) (has.widths series n) is;
+  inputs = λ n term is.
+      width_kept IsComparedKind told tnew wold wnew more (kind_of Inputs n) board.width term later words kinds
+      (not_compared Inputs n) (has.inputs n) is;
 }
 
 -- what a comparison works on went on

@@ -5,6 +5,7 @@ use Rattle.std.specs.Prelude.{Bool, Option, Some, None}
 use Rattle.std.proofs.lemmas.Bool.{cases_lt}
 use Rattle.std.proofs.lemmas.List.{get_or-take}
 use Rattle.mw_cycle.specs.declared.series.Series.{Series}
+use Rattle.mw_cycle.specs.declared.series.Series.TheVariants.{Inputs}
 use Rattle.mw_cycle.specs.Series.{kind_of, series_of_kind}
 use Rattle.mw_cycle.proofs.Named.{no_kind, no_variable}
 use Rattle.mw_term.specs.declared.decided.DecidedKind.{DecidedKind}
@@ -20,7 +21,7 @@ use Rattle.mw_symmem.specs.Workspace.{GoesOn, HaveKinds}
 use Rattle.mw_symmem.proofs.Later.{width_later}
 use Rattle.mw_symboard.specs.declared.reading.Reading.{Reading}
 use Rattle.mw_symboard.specs.Cycle.{bits_before}
-use Rattle.mw_symboard.specs.Kinds.{HaveWidths, IsCycleKind}
+use Rattle.mw_symboard.specs.Kinds.{AreInputs, IsCycleKind}
 use Rattle.mw_symboard.specs.Seen.{Progress, microword_of}
 use Rattle.mw_symboard.specs.Turns.{AreNoLater, Asks, HasRead, IsSymbolic, IsTurn, Symbolic, decided_so, reads_by}
 use Rattle.mw_symboard.specs.Turns.{reads_to_come}
@@ -211,10 +212,10 @@ start_without : (words : List Word) (series : Series) (n : ℕ) → HaveKinds Is
 start_without words series n kinds =
     absent words (kind_of series n) (λ place other at. not_started series n (kinds place other (kind_of series n) at))
 
-pub start_widths : (parts : BoardParts) (t : Table) (words : List Word) → HaveKinds IsStartKind words
-    → HaveWidths parts t words
-start_widths parts t words kinds series n term is =
-    let no : None ≡ Some term = sym (start_without words series n kinds) ∙ is in absurd cc
+pub start_inputs : (parts : BoardParts) (t : Table) (words : List Word) → HaveKinds IsStartKind words
+    → AreInputs parts t words
+start_inputs parts t words kinds n term is =
+    let no : None ≡ Some term = sym (start_without words Inputs n kinds) ∙ is in absurd cc
 
 pub start_no_later : (words : List Word) → HaveKinds IsStartKind words → AreNoLater 0 words
 start_no_later words kinds series by_cycle n from = start_without words series n kinds

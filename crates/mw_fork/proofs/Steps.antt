@@ -10,7 +10,6 @@ use Rattle.mw_macro.specs.Machine.{Description}
 use Rattle.mw_macro.specs.Statements.{Act, assign, write, put, take_in, choose, Acts, nothing, next}
 use Rattle.mw_macro.specs.StepWords.{Come, Underway, act_words, acts_words, condition_words, going, then_behind}
 use Rattle.mw_macro.specs.StepWords.{then_by, with_list}
-use Rattle.mw_cycle.specs.declared.series.Series.TheVariants.{Inputs}
 use Rattle.mw_term.specs.declared.decided.DecidedKind.{DecidedKind}
 use Rattle.mw_term.specs.declared.kinds.WordKind.{WordKind}
 use Rattle.mw_term.specs.declared.kinds.WordKind.TheVariants.{Base, Input, Probe}
@@ -132,7 +131,7 @@ waits_behind job t words m o registers request is under own line = record {
   line = line;
   input = λ k place term at.
       subst (λ w. IsOfWidth t w term) (sym is.matched.word)
-      (under.symbolic.widths Inputs k term (only words (Input k) place term own at));
+      (under.symbolic.inputs k term (only words (Input k) place term own at));
 }
 
 -- it is a step of the run

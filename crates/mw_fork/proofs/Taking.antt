@@ -22,6 +22,7 @@ use Rattle.mw_symmem.specs.Words.{HaveOwnKinds, IsVariable}
 use Rattle.mw_symmem.proofs.Images.{value_within}
 use Rattle.mw_symmem.proofs.Lists.{absent, behind, term_plain, term_variable}
 use Rattle.mw_symboard.specs.Variables.{HaveVariables}
+use Rattle.mw_symboard.proofs.Environments.{variables_have_widths}
 use Rattle.mw_rel.proofs.Completed.{numbers_more}
 use Rattle.mw_fork.specs.Begins.{value_or_zero}
 use Rattle.mw_fork.specs.Entries.{entry, is_outside}
@@ -129,7 +130,7 @@ pub value_fits : (board : BoardParts) (t : Table) (words : List Word) (cycles te
 value_fits board t words cycles term given series n narrow table have is =
     let bits = width_of board.width series in
     let below : term_value t given term < 2 ^ bits =
-    value_within t given bits term table (have.widths series n term is) in
+    value_within t given bits term table (variables_have_widths board t words cycles have series n term is) in
     let most : 2 ^ bits ≤ 2 ^ width_of 32 series = pow_mono (widths_within board.width series narrow) in
     omega (arith, below, most)
 

@@ -32,7 +32,7 @@ use Rattle.mw_fork.specs.Starts.{HaveFree, HaveValues, IsGround, ground_of}
 use Rattle.mw_fork.proofs.Boundaries.{stands}
 use Rattle.mw_fork.proofs.OwnTerms.{own_behind}
 use Rattle.mw_fork.proofs.Related.{left_of}
-use Rattle.mw_fork.proofs.Runs.{start_no_later, start_widths}
+use Rattle.mw_fork.proofs.Runs.{start_inputs, start_no_later}
 
 -- ---- lists
 
@@ -165,7 +165,7 @@ ground_first job number count t0 t1 w0 w1 m0 m1 own terms is below are variables
       variables = record {
         each = λ n before. absurd (omega (arith, before));
         none = start_no_later w1 later.kinds;
-        widths = start_widths job.board t1 w1 later.kinds;
+        inputs = start_inputs job.board t1 w1 later.kinds;
       };
       own = kinds;
     }

@@ -84,7 +84,7 @@ pub record IsOnRun (job : Job) (number : ℕ) (elements : List ℕ) (from : List
   pub in_run : IsPath job.board job.store run.space.terms run.space.words run.space.memory
       (origin_of job number elements) run.board (met_of way) (path_in run.paths)
   pub passed : HasNoBoundary job number (ground_in run.space elements) (path_in run.paths) count
-  pub variables : (n : ℕ) → n < run.board.place.cycle → HasVariables run.space.words n
+  pub variables : (n : ℕ) → n < run.board.place.cycle → HasVariables job.board run.space.terms run.space.words n
   pub unwritten : run.space.memory.machine ≡ []
   pub registers : run.registers.items ≡ registers_of job elements
   pub listed : run.board.asked ≡ None → run.board.place.cycle ≡ count

@@ -331,4 +331,4 @@ run_fits board store env start zero is outside fits = fits
 run_fits board store env start (suc n) is outside fits =
     let run = run_of board store env start n in
     after_fits board store run.state (given_at env run.clock) is (run_fits board store env start n is outside fits)
-    (outside Inputs run.clock.taken)
+    (outside.values Inputs run.clock.taken)

@@ -5,7 +5,7 @@ pub mod Unlike
 pub mod Settables
 pub mod Numbers
 pub mod Segments
-pub mod Appended
+pub mod LeftOut
 pub mod Spelled
 pub mod Tokens
 pub mod Lines

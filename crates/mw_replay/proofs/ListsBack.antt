@@ -87,7 +87,7 @@ list_below : (board : BoardParts) (env : Environment) (series : Series) → IsEn
     → All (λ v. v < 2 ^ width_of board.width series) (trimmed (values_of env series))
 list_below board env series is =
     trimmed_within (2 ^ width_of board.width series) (values_of env series) (pow_pos (width_of board.width series))
-    (is series)
+    (is.values series)
 
 -- and it isn't too long
 list_short : (board : BoardParts) (env : Environment) (series : Series) → IsEnvironment board env
@@ -96,7 +96,7 @@ list_short board env series is short =
     subst (λ (xs : List ℕ). length xs ≤ 65536)
     (lists_back (λ series. trimmed (values_of env series)) board.width series
     (trimmed_below (2 ^ width_of board.width series) (values_of env series) (pow_pos (width_of board.width series))
-    (is series)))
+    (is.values series)))
     (short series)
 
 -- the lines of all lists

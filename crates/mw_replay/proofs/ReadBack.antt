@@ -28,10 +28,9 @@ use Rattle.mw_rel.proofs.Standing.{board_address}
 use Rattle.mw_sim.specs.Settings.{Settings, nothing_given, with_line}
 use Rattle.mw_sim.specs.Start.{environment_with}
 use Rattle.mw_replay.specs.Counter.{Counter, IsCounter}
-use Rattle.mw_replay.specs.CounterPrinted.{AreShort, MayFollow, counter_text, in_short, memory_lines}
-use Rattle.mw_replay.specs.CounterPrinted.{environment_lines}
+use Rattle.mw_sim.specs.Texts.{memory_lines, word_line}
+use Rattle.mw_replay.specs.CounterPrinted.{AreShort, MayFollow, counter_text, environment_lines, in_short}
 use Rattle.mw_replay.specs.CounterPrinted.{no_lines, set_line, set_lines}
-use Rattle.mw_replay.specs.CounterPrinted.{word_line}
 use Rattle.mw_replay.specs.CounterText.{counter_in, counter_of, counter_with, settables_of}
 use Rattle.mw_replay.proofs.Fillings.{filled, made_by_number}
 use Rattle.mw_replay.proofs.Heads.{behind_first, behind_second, difference_bytes, difference_has, difference_line}

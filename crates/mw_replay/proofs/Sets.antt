@@ -14,8 +14,8 @@ use Rattle.mw_sim.specs.declared.settings.Owner.{Owner}
 use Rattle.mw_sim.specs.declared.settings.Owner.TheVariants.{Board, Machine}
 use Rattle.mw_sim.specs.declared.settings.Settable.{Settable}
 use Rattle.mw_sim.specs.Settings.{Settings, bound_of, is_free, number_named, owner_text, with_line}
-use Rattle.mw_sim.specs.Texts.{line}
-use Rattle.mw_replay.specs.CounterPrinted.{set_line, word_line}
+use Rattle.mw_sim.specs.Texts.{line, word_line}
+use Rattle.mw_replay.specs.CounterPrinted.{set_line}
 use Rattle.mw_replay.specs.CounterText.{name_of, owner_of}
 use Rattle.mw_rel.specs.Job.{Job}
 use Rattle.mw_replay.proofs.Fillings.{Fills, get_seam, set_seam}

@@ -2,7 +2,7 @@
 use Rattle.std.proofs.Common.{◌≡◌, ℕ, zero, suc, ◌<◌, ◌≤◌, List, [], ◌∷◌, length, map, Some, slice_get, slice_index}
 use Rattle.std.proofs.Common.{slice_index_or, true, refl, sym, ap, ◌∙◌, subst, inl, inr, arith}
 use Rattle.std.proofs.lemmas.Bool.{cases_lt}
-use Rattle.mw_cycle.specs.Environment.{Environment, IsEnvironment, at_start, rest_at}
+use Rattle.mw_cycle.specs.Environment.{Environment, IsEnvironment}
 use Rattle.mw_rel.specs.Begin.{free_elements, free_values}
 use Rattle.mw_rel.specs.Completed.{free_before}
 use Rattle.mw_rel.specs.Free.{AreFreelyAlike, is_free, no_boundary, numbered}
@@ -14,9 +14,7 @@ use Rattle.mw_rel.proofs.Chosen.{place_is}
 use Rattle.mw_rel.proofs.Completed.{place_within}
 use Rattle.mw_rel.proofs.Decided.{pairs_are_one}
 use Rattle.mw_rel.proofs.Elements.{values_length, widths_count}
-use Rattle.mw_replay.specs.Counter.{Counter, IsCounter, IsStartOf}
 use Rattle.mw_replay.specs.Laws.{CountersGiveStarts, StartsAreOne}
-use Rattle.mw_replay.specs.Replay.{IsReplay, Replay, next_start}
 
 -- ---- lists
 
@@ -108,15 +106,3 @@ counters_give_starts job counter start is starts = record {
   related = subst (λ (b : Boundary). InRelation job b start.pair) (sym starts.boundary) starts.pair.related;
   env = subst (λ (env : Environment). IsEnvironment job.board env) (sym starts.env) is.env;
 }
-
--- a replay of a counter's start stands there before its first step
-pub replay_stands : (job : Job) (counter : Counter) (replay : Replay) → IsCounter job counter
-    → replay.boundary ≡ counter.boundary → replay.clock ≡ at_start → IsStartOf job counter (next_start job replay)
-    → IsReplay job replay
-replay_stands job counter replay is boundary clock starts =
-    let env : replay.env ≡ counter.begin.env = sym (ap (rest_at replay.env) clock) ∙ starts.env in
-    record {
-      there = subst (λ (n : ℕ). n < length job.relation.boundaries) (sym boundary) is.there;
-      start = counters_give_starts job counter (next_start job replay) is starts;
-      env = subst (λ (env : Environment). IsEnvironment job.board env) (sym env) is.env;
-    }

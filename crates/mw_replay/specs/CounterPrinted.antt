@@ -1,6 +1,6 @@
 -- The text of a counter, as reports print it, and what is left of a counter in it.
 use Rattle.std.specs.Prelude.{◌≡◌, ℕ, true, not, ◌&&◌, Ok, ◌+◌, ◌*◌, ◌/◌, ◌≤◌, List, [], ◌++◌, codes, length, take}
-use Rattle.std.specs.Prelude.{drop, slice_index, if◌then◌else◌, ◌==◌}
+use Rattle.std.specs.Prelude.{drop, if◌then◌else◌, ◌==◌}
 use Rattle.std.specs.List.{flat_map, list_all, range_with_len}
 use Rattle.mw_base.specs.declared.token.Token.{Token}
 use Rattle.mw_base.specs.Numbers.{hex}
@@ -14,7 +14,7 @@ use Rattle.mw_rel.specs.Free.{is_free, numbered}
 use Rattle.mw_rel.specs.Job.{Job}
 use Rattle.mw_rel.specs.Relation.{Boundary}
 use Rattle.mw_sim.specs.Settings.{owner_text}
-use Rattle.mw_sim.specs.Texts.{line}
+use Rattle.mw_sim.specs.Texts.{line, memory_lines}
 use Rattle.mw_replay.specs.Counter.{Counter}
 use Rattle.mw_replay.specs.CounterText.{owner_of, name_of}
 
@@ -35,15 +35,6 @@ abbrev pub set_lines : Job → Boundary → List ℕ → List ℕ
 set_lines job boundary values =
     flat_map (λ e. set_line job e (free_value (is_free boundary) values e))
     (range_with_len 0 (length job.relation.shape.widths))
-
--- mem ADDRESS VALUE; none where the value is 0
-unfoldable pub word_line : ℕ → ℕ → List ℕ
-word_line address word = if word == 0 then [] else line (codes "mem " ++ hex address ++ codes " " ++ hex word)
-
--- the lines of the memory, in rising order of addresses
-abbrev pub memory_lines : List ℕ → List ℕ
-memory_lines words =
-    flat_map (λ address. word_line address (slice_index words address)) (range_with_len 0 (length words))
 
 -- a value of a list, behind a blank
 abbrev pub value_text : ℕ → List ℕ

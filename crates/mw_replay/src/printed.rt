@@ -1,6 +1,5 @@
 // The text of a counter.
-ghost use Rattle.std.specs.Prelude.{◌≡◌, ℕ, ◌+◌, ◌*◌, ◌<◌, ◌≤◌, ◌++◌, List, IfOk, OnOk, Ok, codes, length};
-ghost use Rattle.std.specs.Prelude.{slice_index, true};
+ghost use Rattle.std.specs.Prelude.{◌≡◌, ℕ, ◌+◌, ◌*◌, ◌<◌, ◌≤◌, ◌++◌, List, IfOk, OnOk, Ok, codes, length, true};
 ghost use Rattle.std.specs.List.{flat_map};
 ghost use Rattle.mw_cycle.specs.Environment.{values_of};
 ghost use Rattle.mw_cycle.specs.Trimmed.{shortened, trimmed};
@@ -14,7 +13,7 @@ ghost use Rattle.mw_replay.specs.Counter.{IsCounter};
 ghost use Rattle.mw_replay.specs.CounterText.{counter_of, owner_of};
 ghost use Rattle.mw_asm.specs.declared.assembled.Label.{Label};
 ghost use Rattle.mw_replay.specs.CounterPrinted.{AreShort, MayFollow, in_short, no_lines, boundary_line};
-ghost use Rattle.mw_replay.specs.CounterPrinted.{set_line, set_lines, word_line, memory_lines, value_text, series_line};
+ghost use Rattle.mw_replay.specs.CounterPrinted.{set_line, set_lines, value_text, series_line};
 ghost use Rattle.mw_replay.specs.CounterPrinted.{line_count, values_at, values_lines, series_lines};
 ghost use Rattle.mw_replay.specs.CounterPrinted.{environment_lines, counter_text};
 
@@ -23,7 +22,7 @@ use crate::elements::{name_of, owner_of};
 use mw_base::{NoMemory, append_hex};
 use mw_cycle::{Env, Series};
 use mw_rel::{Job, free};
-use mw_sim::{Owner, append_hex_line, append_line};
+use mw_sim::{Owner, append_hex_line, append_line, append_memory};
 use std::alloc::Global;
 
 /// How many values a line of a list has at most.
@@ -103,36 +102,6 @@ fn append_sets(
     let mut before = 0;
     for number in 0..job.element_count() {
         before = append_free(alloc, text, job, boundary, values, number, before)?;
-    }
-    Ok(())
-}
-
-/// Appends the line that gives the word at an address; none where it is 0.
-#[tactic(auto, unfolding(crate::specs::CounterPrinted::word_line))]
-fn append_word(
-    alloc: Global,
-    text: &mut Vec<u8>,
-    words: &[u32],
-    address: usize,
-) -> Result<(), NoMemory>
-    requires there { address < length words.now }
-    ensures { OnOk result (text.new.items ≡ text.old.items ++ word_line address (slice_index words.now address)) }
-{
-    let word = words[address];
-    if word != 0 {
-        text.extend_from_slice(b"mem ")?;
-        append_hex(alloc, text, address as u128)?;
-        append_hex_line(alloc, text, b" ", word)?;
-    }
-    Ok(())
-}
-
-/// Appends the lines of a memory, in rising order of addresses.
-fn append_memory(alloc: Global, text: &mut Vec<u8>, words: &[u32]) -> Result<(), NoMemory>
-    ensures { OnOk result (text.new.items ≡ text.old.items ++ memory_lines words.now) }
-{
-    for address in 0..words.len() {
-        append_word(alloc, text, words, address)?;
     }
     Ok(())
 }

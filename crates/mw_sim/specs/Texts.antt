@@ -1,5 +1,6 @@
 -- Lines of reports that several commands print.
-use Rattle.std.specs.Prelude.{ℕ, List, [], ◌∷◌, ◌++◌, codes}
+use Rattle.std.specs.Prelude.{ℕ, List, [], ◌∷◌, ◌++◌, codes, length, slice_index, if◌then◌else◌, ◌==◌}
+use Rattle.std.specs.List.{flat_map, range_with_len}
 use Rattle.mw_base.specs.Numbers.{hex}
 use Rattle.mw_base.specs.declared.event.Event.{Event}
 use Rattle.mw_base.specs.declared.event.Event.TheVariants.{Out, Taken}
@@ -12,3 +13,12 @@ line text = text ++ 10 ∷ []
 abbrev pub event_line : Event → List ℕ
 event_line (Out word) = line (codes "out " ++ hex word)
 event_line (Taken word) = line (codes "taken " ++ hex word)
+
+-- mem ADDRESS VALUE; none where the value is 0
+unfoldable pub word_line : ℕ → ℕ → List ℕ
+word_line address word = if word == 0 then [] else line (codes "mem " ++ hex address ++ codes " " ++ hex word)
+
+-- the lines of a memory, in rising order of addresses
+abbrev pub memory_lines : List ℕ → List ℕ
+memory_lines words =
+    flat_map (λ address. word_line address (slice_index words address)) (range_with_len 0 (length words))

@@ -1,7 +1,7 @@
 // Lines of reports that several commands print.
-ghost use Rattle.std.specs.Prelude.{◌≡◌, ◌++◌, OnOk};
+ghost use Rattle.std.specs.Prelude.{◌≡◌, ◌<◌, ◌++◌, OnOk, length, slice_index};
 ghost use Rattle.mw_base.specs.Numbers.{hex};
-ghost use Rattle.mw_sim.specs.Texts.{event_line, line};
+ghost use Rattle.mw_sim.specs.Texts.{event_line, line, memory_lines, word_line};
 
 use mw_base::{Event, NoMemory, append_hex};
 use std::alloc::Global;
@@ -49,4 +49,38 @@ pub fn append_event(alloc: Global, report: &mut Vec<u8>, event: Event) -> Result
         Event::Out(word) => append_hex_line(alloc, report, b"out ", word),
         Event::Taken(word) => append_hex_line(alloc, report, b"taken ", word),
     }
+}
+
+/// Appends the line that gives the word at an address; none where it is 0.
+#[tactic(auto, unfolding(crate::specs::Texts::word_line))]
+fn append_word(
+    alloc: Global,
+    report: &mut Vec<u8>,
+    words: &[u32],
+    address: usize,
+) -> Result<(), NoMemory>
+    requires there { address < length words.now }
+    ensures { OnOk result (report.new.items ≡ report.old.items ++ word_line address (slice_index words.now address)) }
+{
+    let word = words[address];
+    if word != 0 {
+        report.extend_from_slice(b"mem ")?;
+        append_hex(alloc, report, address as u128)?;
+        append_hex_line(alloc, report, b" ", word)?;
+    }
+    Ok(())
+}
+
+/// Appends the lines that give the words of a memory that aren't 0, in rising order of addresses.
+///
+/// # Errors
+///
+/// Memory ran out.
+pub fn append_memory(alloc: Global, report: &mut Vec<u8>, words: &[u32]) -> Result<(), NoMemory>
+    ensures { OnOk result (report.new.items ≡ report.old.items ++ memory_lines words.now) }
+{
+    for address in 0..words.len() {
+        append_word(alloc, report, words, address)?;
+    }
+    Ok(())
 }

@@ -12,7 +12,7 @@ use Rattle.mw_cycle.proofs.Values.{by_number}
 use Rattle.mw_term.specs.Table.{Table}
 use Rattle.mw_term.specs.declared.word.Word.{Word}
 use Rattle.mw_symmem.specs.Memory.{Memory, IsOfWidth}
-use Rattle.mw_symboard.specs.Kinds.{HaveWidths}
+use Rattle.mw_symboard.specs.Kinds.{AreInputs}
 use Rattle.mw_symboard.specs.Turns.{AreNoLater, IsSymbolic, Symbolic}
 use Rattle.mw_symboard.specs.Parts.{AreElements, AreParts}
 use Rattle.mw_cycle.specs.BoardTerms.{Parts, term_of_part}
@@ -98,16 +98,16 @@ parts_of_elements board t es p are same regs flips stack = record {
 
 -- a board at a place before its first cycle
 pub begun_symbolic : (board : BoardParts) (store : List ℕ) (t : Table) (words : List Word) (m : Memory) (o : Symbolic)
-    → o.place.at < 2 ^ 12 → o.place.sp ≤ depth_of board → AreParts board t o.place.parts → HaveWidths board t words
+    → o.place.at < 2 ^ 12 → o.place.sp ≤ depth_of board → AreParts board t o.place.parts → AreInputs board t words
     → o.place.decided ≡ [] → o.events ≡ [] → o.reading ≡ None → o.leaving ≡ None → AreNoLater o.place.cycle words
     → IsSymbolic board store t words m o
-begun_symbolic board store t words m o at sp parts widths decided events read left none =
+begun_symbolic board store t words m o at sp parts inputs decided events read left none =
     let count : length o.place.decided ≡ 0 = ap length decided in
     record {
       at = at;
       sp = sp;
       parts = parts;
-      widths = widths;
+      inputs = inputs;
       events = rw events (λ k e is. absurd cc);
       reading = rw read (decided, none);
       leaving = rw (read, left) (omega (arith, count));

@@ -9,7 +9,7 @@ use Rattle.std.proofs.lemmas.Option.{same_Some}
 use Rattle.mw_board.specs.declared.parts.BoardParts.{BoardParts}
 use Rattle.mw_term.specs.declared.decided.Decided.{Decided}
 use Rattle.mw_term.specs.declared.kinds.WordKind.{WordKind}
-use Rattle.mw_term.specs.declared.kinds.WordKind.TheVariants.{Base, Line, Noise}
+use Rattle.mw_term.specs.declared.kinds.WordKind.TheVariants.{Base}
 use Rattle.mw_term.specs.declared.word.Word.{Word}
 use Rattle.mw_term.specs.Assigned.{Given}
 use Rattle.mw_term.specs.declared.op.Op.TheVariants.{Var}
@@ -17,48 +17,66 @@ use Rattle.mw_term.specs.Table.{Table, IsTable, op_width}
 use Rattle.mw_term.specs.Values.{op_value, term_value}
 use Rattle.mw_term.proofs.Tables.{terms_have_ops}
 use Rattle.mw_term.specs.WordList.{term_of, variable}
+use Rattle.mw_cycle.specs.declared.microword.Microword.{Microword}
 use Rattle.mw_cycle.specs.declared.series.Series.{Series}
+use Rattle.mw_cycle.specs.declared.series.Series.TheVariants.{Inputs, Line, Noise}
 use Rattle.mw_cycle.specs.Series.{goes_by_cycle, kind_of, series_of_kind, width_of}
 use Rattle.mw_cycle.specs.Environment.{Environment, values_of, with_lists}
 use Rattle.mw_cycle.proofs.Named.{kind_named, no_input, no_variable, series_of_kind_back}
 use Rattle.mw_cycle.proofs.Lists.{lists_are_environment, lists_back}
 use Rattle.mw_symmem.specs.Memory.{Memory, IsOfWidth}
 use Rattle.mw_symmem.specs.Words.{AreOf, HaveOwnKinds, IsVariable}
+use Rattle.mw_symmem.proofs.Growth.{width_stays}
 use Rattle.mw_symmem.proofs.Images.{value_within}
 use Rattle.mw_symmem.proofs.Lists.{missing}
 use Rattle.mw_symboard.specs.declared.reading.Reading.{Reading}
-use Rattle.mw_symboard.specs.Kinds.{HaveWidths}
+use Rattle.mw_symboard.specs.Cycle.{IsReading}
+use Rattle.mw_symboard.specs.Kinds.{AreInputs, HaveWidth}
 use Rattle.mw_symboard.specs.Laws.{IsEnvironmentOf}
-use Rattle.mw_symboard.specs.Seen.{Progress}
+use Rattle.mw_symboard.specs.Seen.{Progress, microword_of}
 use Rattle.mw_symboard.specs.Turns.{HasRead}
 use Rattle.mw_symboard.specs.Variables.{BegunHasVariables, CyclesAreThere, CyclesStay, EnvironmentsAreReached}
-use Rattle.mw_symboard.specs.Variables.{EnvironmentsAreThere, EnvironmentsStay, HaveVariables, HasVariables}
-use Rattle.mw_symboard.specs.Variables.{IsOutsideKind, IsOutsideNumber, IsReadKind, VariablesHaveValues, VariablesStay}
+use Rattle.mw_symboard.specs.Variables.{EnvironmentsAreThere, EnvironmentsStay, HasVariable, HasVariables}
+use Rattle.mw_symboard.specs.Variables.{HaveVariables, IsOutsideKind, IsOutsideNumber, IsReadKind}
+use Rattle.mw_symboard.specs.Variables.{VariablesHaveValues, VariablesHaveWidths, VariablesStay}
 use Rattle.mw_symboard.proofs.Runs.{variable_of}
 use Rattle.mw_symboard.proofs.Standing.{found_stays}
 use Rattle.mw_symboard.proofs.Turning.{read_known}
 use Rattle.mw_symboard.proofs.Variables.{none_both, none_kind}
 
 pub variables_stay : VariablesStay
-variables_stay wold wnew more cycle words has = record {
-  line = has.line;
-  noise = has.noise;
-  is_line = ap (λ (ws : List Word). term_of ws (Line cycle)) words
-      ∙ found_stays wold more (Line cycle) has.line has.is_line;
-  is_noise = ap (λ (ws : List Word). term_of ws (Noise cycle)) words
-      ∙ found_stays wold more (Noise cycle) has.noise has.is_noise;
+variables_stay board told tnew wold wnew more cycle later words has = record {
+  each = λ series by.
+      (let own = has.each series by in
+      record {
+        term = own.term;
+        is = ap (λ (ws : List Word). term_of ws (kind_of series cycle)) words
+            ∙ found_stays wold more (kind_of series cycle) own.term own.is;
+        wide = width_stays told tnew (width_of board.width series) own.term later.extends later.keeps own.wide;
+      });
 }
+
+-- a list that goes by cycle has its variable of a cycle that has read
+list_read : (board : BoardParts) (m : Microword) (t : Table) (words : List Word) (memory : Memory) (p : Progress)
+    (r : Reading) (series : Series) → goes_by_cycle series ≡ true → IsReading board m t words memory p r
+    → HasVariable t words (kind_of series p.cycle) (width_of board.width series)
+list_read board m t words memory p r Inputs by is = absurd cc
+list_read board m t words memory p r Line by is =
+    record { term = r.sources.line; is = is.line; wide = is.sources.line }
+list_read board m t words memory p r Noise by is =
+    record { term = r.sources.noise; is = is.noise; wide = is.sources.noise }
 
 has_variables : (board : BoardParts) (store : List ℕ) (t : Table) (words : List Word) (m : Memory) (p : Progress)
     (read : Option Reading) (r : Reading) → read ≡ Some r → HasRead board store t words m p read
-    → HasVariables words p.cycle
+    → HasVariables board t words p.cycle
 has_variables board store t words m p read r is has =
     let known = (read_known board store t words m p read r is has).0 in
-    record { line = r.sources.line; noise = r.sources.noise; is_line = known.line; is_noise = known.noise }
+    record { each = λ series by. list_read board (microword_of board store p) t words m p r series by known }
 
 -- a cycle of which a bit is decided has begun
 decided_begun : (board : BoardParts) (store : List ℕ) (t : Table) (words : List Word) (m : Memory) (p : Progress)
-    (read : Option Reading) → HasRead board store t words m p read → 0 < length p.decided → HasVariables words p.cycle
+    (read : Option Reading) → HasRead board store t words m p read → 0 < length p.decided
+    → HasVariables board t words p.cycle
 decided_begun board store t words m p None has some =
     let none : length p.decided ≡ 0 = ap (λ (ds : List Decided). length ds) has.0 in
     absurd (omega (arith, none, some))
@@ -71,28 +89,28 @@ begun_has_variables board store t words m o symbolic = (
 )
 
 cycles_begun : (board : BoardParts) (store : List ℕ) (t : Table) (words : List Word) (m : Memory) (p : Progress)
-    (read : Option Reading) → HaveWidths board t words → HasRead board store t words m p read
-    → ((r : Reading) → read ≡ Some r → HasVariables words p.cycle) → ((n : ℕ) → n < p.cycle → HasVariables words n)
-    → (cycles : ℕ) × HaveVariables board t words cycles
-cycles_begun board store t words m p None widths has own each =
-    (p.cycle, record { each = each; none = has.1; widths = widths })
-cycles_begun board store t words m p (Some r) widths has own each = (
+    (read : Option Reading) → AreInputs board t words → HasRead board store t words m p read
+    → ((r : Reading) → read ≡ Some r → HasVariables board t words p.cycle)
+    → ((n : ℕ) → n < p.cycle → HasVariables board t words n) → (cycles : ℕ) × HaveVariables board t words cycles
+cycles_begun board store t words m p None inputs has own each =
+    (p.cycle, record { each = each; none = has.1; inputs = inputs })
+cycles_begun board store t words m p (Some r) inputs has own each = (
   p.cycle + 1,
   record {
     each = λ n less. elim (cases_lt n p.cycle) [
       | inl h ↦ each n h
       | inr h ↦
           let same : p.cycle ≡ n = omega (arith, less, h) in
-          subst (λ (k : ℕ). HasVariables words k) same (own r refl)
+          subst (λ (k : ℕ). HasVariables board t words k) same (own r refl)
     ];
     none = has.1;
-    widths = widths;
+    inputs = inputs;
   },
 )
 
 pub cycles_are_there : CyclesAreThere
 cycles_are_there board store t words m o symbolic each =
-    cycles_begun board store t words m o.place o.reading symbolic.widths symbolic.reading
+    cycles_begun board store t words m o.place o.reading symbolic.inputs symbolic.reading
     (λ r is. (begun_has_variables board store t words m o symbolic).0 r is) each
 
 no_read : (series : Series) (n : ℕ) → goes_by_cycle series ≡ true → IsReadKind (kind_of series n) → ⊥
@@ -102,14 +120,31 @@ no_read series n by is = elim is [
 ]
 
 pub cycles_stay : CyclesStay
-cycles_stay board told tnew wold wnew more cycles later words kinds widths has = record {
-  each = λ n less. variables_stay wold wnew more n words (has.each n less);
+cycles_stay board told tnew wold wnew more cycles later words kinds inputs has = record {
+  each = λ n less. variables_stay board told tnew wold wnew more n later words (has.each n less);
   none = λ series by n past.
       ap (λ (ws : List Word). term_of ws (kind_of series n)) words
       ∙ none_both wold more (kind_of series n) (has.none series by n past)
       (none_kind IsReadKind more (kind_of series n) kinds (no_read series n by));
-  widths = widths;
+  inputs = inputs;
 }
+
+-- a variable of a list that goes by cycle is that of one of the cycles
+width_by_cycle : (board : BoardParts) (t : Table) (words : List Word) (cycles : ℕ) (series : Series)
+    → goes_by_cycle series ≡ true → HaveVariables board t words cycles → HaveWidth board t words series
+width_by_cycle board t words cycles series by has n term is = elim (cases_lt n cycles) [
+  | inl below ↦
+      let own = (has.each n below).each series by in
+      subst (λ (x : ℕ). IsOfWidth t (width_of board.width series) x) (same_Some own.term term (sym own.is ∙ is))
+      own.wide
+  | inr past ↦
+      let none = has.none series by n (omega (arith, past)) in
+      absurd cc
+]
+
+pub variables_have_widths : VariablesHaveWidths
+variables_have_widths board t words cycles has Inputs = has.inputs
+variables_have_widths board t words cycles has series = width_by_cycle board t words cycles series refl has
 
 -- ---- lists of values
 
@@ -195,7 +230,7 @@ within_beyond (w ∷ words) (suc place) term n series is =
 
 -- what the variables of an environment have
 value_below : (board : BoardParts) (t : Table) (words : List Word) (given : Given) (series : Series) (n : ℕ)
-    → IsTable t → HaveWidths board t words
+    → IsTable t → ((series : Series) → HaveWidth board t words series)
     → value_or t given (term_of words (kind_of series n)) < 2 ^ width_of board.width series
 unfolding value_or
 value_below board t words given series n table widths = elim (either (term_of words (kind_of series n))) [
@@ -210,7 +245,7 @@ value_below board t words given series n table widths = elim (either (term_of wo
 -- ---- the environment of an assignment
 
 module _ (board : BoardParts) (t : Table) (words : List Word) (given : Given) (table : IsTable t)
-    (own : HaveOwnKinds words) (widths : HaveWidths board t words) where
+    (own : HaveOwnKinds words) (widths : (series : Series) → HaveWidth board t words series) where
   value_of : Series → ℕ → ℕ
   value_of series n = value_or t given (term_of words (kind_of series n))
 
@@ -236,10 +271,11 @@ module _ (board : BoardParts) (t : Table) (words : List Word) (given : Given) (t
   }
 
 pub environments_are_there : EnvironmentsAreThere
-environments_are_there board t words cycles given table own has = (
-  with_lists (list_of board t words given table own has.widths),
-  environment_there board t words given table own has.widths,
-)
+environments_are_there board t words cycles given table own has =
+    let widths = variables_have_widths board t words cycles has in (
+      with_lists (list_of board t words given table own widths),
+      environment_there board t words given table own widths,
+    )
 
 -- ---- the assignment of an environment
 
@@ -350,9 +386,11 @@ environments_are_reached board t words cycles given env table of own has within 
     within = within;
     values = λ series n place term is.
         reached t words env given place term (width_of board.width series) (slice_index (values_of env series) n)
-        (kind_of series n) table of is (has.widths series n term (own_found words place term (kind_of series n) own is))
+        (kind_of series n) table of is
+        (variables_have_widths board t words cycles has series n term
+        (own_found words place term (kind_of series n) own is))
         (ap (of_value env (given (suc place))) (series_of_kind_back series n))
-        (within series n);
+        (within.values series n);
   },
   λ n none. with_env_keeps words env given n none,
 )

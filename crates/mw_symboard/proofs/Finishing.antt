@@ -31,7 +31,7 @@ use Rattle.mw_symboard.specs.declared.reading.Reading.{Reading}
 use Rattle.mw_symboard.specs.declared.leaving.Leaving.{Leaving}
 use Rattle.mw_symboard.specs.Cycle.{IsEdge, IsReading, bits_before}
 use Rattle.mw_symboard.specs.Growth.{Grew}
-use Rattle.mw_symboard.specs.Kinds.{HaveWidths}
+use Rattle.mw_symboard.specs.Kinds.{AreInputs}
 use Rattle.mw_symboard.specs.Parts.{AreParts}
 use Rattle.mw_symboard.specs.Seen.{Progress, Scene, IsSeen, microword_of}
 use Rattle.mw_symboard.specs.Shown.{shown, taken_after}
@@ -159,17 +159,17 @@ none_leaves board store t p read leaving is_read is_left decided =
 -- it is symbolic still
 pub ended_symbolic : (board : BoardParts) (store : List ℕ) (t : Table) (words : List Word) (m : Memory) (from : DFrom)
     (out : Bool) (source y : ℕ) (e : Symbolic) → e.place.at < 2 ^ 12 → e.place.sp ≤ depth_of board
-    → AreParts board t e.place.parts → HaveWidths board t words → AreEvents board t e.events
+    → AreParts board t e.place.parts → AreInputs board t words → AreEvents board t e.events
     → IsOfWidth t board.width source → IsOfWidth t board.width y → AreNoLater (e.place.cycle + 1) words
     → e.reading ≡ None → e.leaving ≡ None
     → IsSymbolic board store t words m (cycle_left (shown_by from out source y e))
-ended_symbolic board store t words m from out source y e at sp parts widths events source_wide y_wide none read left =
+ended_symbolic board store t words m from out source y e at sp parts inputs events source_wide y_wide none read left =
     let keeps = shown_keeps from out source y e in
     record {
       at = subst (λ (n : ℕ). n < 2 ^ 12) (sym keeps.at) at;
       sp = subst (λ (n : ℕ). n ≤ depth_of board) (sym keeps.sp) sp;
       parts = rw keeps.parts parts;
-      widths = widths;
+      inputs = inputs;
       events = rw keeps.events
           (both_wide board t e.events (option_to_list (shown from out source y)) events
           (λ k f is. shown_wide board t from out source y k f source_wide y_wide is));

@@ -187,8 +187,8 @@ outside_of board t words given env p k same is =
       input = λ term found.
           let v = variable_of words (Input p.taken) term found in
           sym (is.values lists.Inputs p.taken v.0 term v.1);
-      noise_below = is.within lists.Noise p.cycle;
-      input_below = is.within lists.Inputs p.taken;
+      noise_below = is.within.values lists.Noise p.cycle;
+      input_below = is.within.values lists.Inputs p.taken;
     })
 
 -- a cycle of a run as a scene

@@ -8,8 +8,8 @@ use Rattle.mw_alu.specs.Instruction.{source_of}
 use Rattle.mw_seq.specs.declared.instruction.CounterMove.{CounterMove}
 use Rattle.mw_seq.specs.declared.instruction.CounterMove.TheVariants as counters
 use Rattle.mw_seq.specs.Instruction.{instruction_of}
-use Rattle.mw_term.specs.declared.kinds.WordKind.TheVariants.{Line, Noise}
-use Rattle.mw_cycle.specs.Series.{kind_of, width_of}
+use Rattle.mw_term.specs.declared.kinds.WordKind.TheVariants.{Input, Line, Noise}
+use Rattle.mw_cycle.specs.Series.{kind_of}
 use Rattle.mw_term.specs.declared.op.Op.TheVariants.{Not}
 use Rattle.mw_term.specs.Table.{Table, Extends}
 use Rattle.mw_term.specs.declared.event.SymEvent.{SymEvent}
@@ -24,7 +24,7 @@ use Rattle.mw_symboard.specs.declared.reading.Reading.{Reading}
 use Rattle.mw_symboard.specs.declared.leaving.Leaving.{Leaving}
 use Rattle.mw_symboard.specs.Cycle.{IsCounter, IsLeaving, IsReading, IsTurned, effect_by}
 use Rattle.mw_symboard.specs.Growth.{Grew}
-use Rattle.mw_symboard.specs.Kinds.{HaveWidths}
+use Rattle.mw_symboard.specs.Kinds.{AreInputs}
 use Rattle.mw_symboard.specs.Seen.{Progress, microword_of}
 use Rattle.mw_symboard.specs.Turns.{Symbolic, AreEvents, AreNoLater, HasRead, IsSymbolic, Leaves, event_term}
 use Rattle.mw_symboard.proofs.Standing.{addend_r_stays, addend_s_stays, bit_term_stays, bits_stay, direct_stays}
@@ -37,12 +37,12 @@ pub none_stay : (cycle : ℕ) (words : List Word) (made : List ℕ) → AreNoLat
 none_stay cycle words made none series by n later =
     plain_behind words made (kind_of series n) ∙ none series by n later
 
--- the variables of an environment keep their widths
-pub widths_stay : (board : BoardParts) (told tnew : Table) (words : List Word) (made : List ℕ) → IsLater told tnew
-    → HaveWidths board told words → HaveWidths board tnew (words ++ map plain made)
-widths_stay board told tnew words made later widths series n term is =
-    width_stays told tnew (width_of board.width series) term later.extends later.keeps
-    (widths series n term (sym (plain_behind words made (kind_of series n)) ∙ is))
+-- the variables of inputs keep their widths
+pub inputs_stay : (board : BoardParts) (told tnew : Table) (words : List Word) (made : List ℕ) → IsLater told tnew
+    → AreInputs board told words → AreInputs board tnew (words ++ map plain made)
+inputs_stay board told tnew words made later inputs n term is =
+    width_stays told tnew board.width term later.extends later.keeps
+    (inputs n term (sym (plain_behind words made (Input n)) ∙ is))
 
 -- so do events
 pub events_stay : (board : BoardParts) (told tnew : Table) (es : List SymEvent) → IsLater told tnew
@@ -151,7 +151,7 @@ symbolic_stays board store told tnew old new m o workspace grew is =
       at = is.at;
       sp = is.sp;
       parts = parts_stay board told tnew o.place.parts later.extends later.keeps is.parts;
-      widths = widths_stay board told tnew old made later is.widths;
+      inputs = inputs_stay board told tnew old made later is.inputs;
       events = events_stay board told tnew o.events later is.events;
       reading = has_read_stays board store told tnew old made m o.place o.reading workspace later mar is.reading;
       leaving = leaves_stays board store told tnew o.place o.reading o.leaving later is.leaving;

@@ -21,7 +21,7 @@ use Rattle.mw_symmem.specs.Memory.{Memory, IsOfWidth}
 use Rattle.mw_symboard.specs.declared.reading.Reading.{Reading}
 use Rattle.mw_symboard.specs.declared.leaving.Leaving.{Leaving}
 use Rattle.mw_symboard.specs.Cycle.{IsReading, IsLeaving, IsCounter, bits_before, effect_by}
-use Rattle.mw_symboard.specs.Kinds.{HaveWidths}
+use Rattle.mw_symboard.specs.Kinds.{AreInputs}
 use Rattle.mw_symboard.specs.Made.{Is, IsNext}
 use Rattle.mw_symboard.specs.Parts.{AreParts}
 use Rattle.mw_symboard.specs.Seen.{Progress, microword_of}
@@ -121,7 +121,7 @@ decide_keeps board store t words m o asked kind term value asks symbolic =
       at = symbolic.at;
       sp = symbolic.sp;
       parts = symbolic.parts;
-      widths = symbolic.widths;
+      inputs = symbolic.inputs;
       events = symbolic.events;
       reading = read_so board store t words m o.place
           (decided kind value) o.reading asks.begun.0 asks.begun.1 symbolic.reading;
@@ -159,7 +159,7 @@ asking_keeps board store t words m o kind is = record {
   at = is.at;
   sp = is.sp;
   parts = is.parts;
-  widths = is.widths;
+  inputs = is.inputs;
   events = is.events;
   reading = is.reading;
   leaving = is.leaving;
@@ -247,7 +247,7 @@ leaving_keeps board store t words m o r l is_read known left is = record {
   at = is.at;
   sp = is.sp;
   parts = is.parts;
-  widths = is.widths;
+  inputs = is.inputs;
   events = is.events;
   reading = is.reading;
   leaving = subst (λ (x : Option Reading). Leaves board store t o.place x (Some l)) (sym is_read) (left, known);
@@ -258,10 +258,10 @@ leaving_keeps board store t words m o r l is_read known left is = record {
 pub reading_keeps : (board : BoardParts) (store : List ℕ) (told tnew : Table) (wold wnew : List Word)
     (mold mnew : Memory) (o : Symbolic) (r : Reading)
     → o.reading ≡ None → IsSymbolic board store told wold mold o → AreParts board tnew o.place.parts
-    → AreEvents board tnew o.events → HaveWidths board tnew wnew
+    → AreEvents board tnew o.events → AreInputs board tnew wnew
     → IsReading board (microword_of board store o.place) tnew wnew mnew o.place r → AreNoLater (o.place.cycle + 1) wnew
     → IsSymbolic board store tnew wnew mnew (record o { reading = Some r })
-reading_keeps board store told tnew wold wnew mold mnew o r none is parts events widths read later =
+reading_keeps board store told tnew wold wnew mold mnew o r none is parts events inputs read later =
     let has : HasRead board store told wold mold o.place None =
     subst (λ (x : Option Reading). HasRead board store told wold mold o.place x) none is.reading in
     let leaves : Leaves board store told o.place None o.leaving =
@@ -271,7 +271,7 @@ reading_keeps board store told tnew wold wnew mold mnew o r none is parts events
       at = is.at;
       sp = is.sp;
       parts = parts;
-      widths = widths;
+      inputs = inputs;
       events = events;
       reading = (read, later);
       leaving = none_left board store told tnew o.place o.leaving r leaves (omega (arith, count));

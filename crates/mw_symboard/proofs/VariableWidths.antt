@@ -1,4 +1,4 @@
--- The widths of the variables of an environment.
+-- The widths of the variables of a list.
 use Rattle.std.proofs.Common.{◌≡◌, inl, inr, ℕ, ◌⊎◌, List, [], ◌∷◌, ◌++◌, Bool, true, false, refl, ap, sym, subst, ◌∙◌}
 use Rattle.std.proofs.Common.{Option, Some, None}
 use Rattle.std.specs.Prelude.{Result, Ok, Err, OnOk, if◌then◌else◌}
@@ -11,6 +11,7 @@ use Rattle.mw_term.specs.Values.{IsTermOf, Keeps}
 use Rattle.mw_term.specs.declared.word.Word.{Word}
 use Rattle.mw_term.specs.WordList.{same_kind, variable, is_of, term_of}
 use Rattle.mw_cycle.specs.declared.series.Series.{Series}
+use Rattle.mw_cycle.specs.declared.series.Series.TheVariants.{Inputs}
 use Rattle.mw_cycle.specs.Series.{kind_of, width_of}
 use Rattle.mw_cycle.proofs.Named.{no_variable, own_series}
 use Rattle.mw_symmem.specs.Kinds.{kind_is, kind_own}
@@ -19,7 +20,7 @@ use Rattle.mw_symmem.specs.Workspace.{GoesOn}
 use Rattle.mw_symmem.proofs.Growth.{width_stays}
 use Rattle.mw_symmem.proofs.Lists.{absent, plain_behind, term_variable}
 use Rattle.mw_symboard.specs.Growth.{Grew}
-use Rattle.mw_symboard.specs.Kinds.{HaveWidths}
+use Rattle.mw_symboard.specs.Kinds.{AreInputs, HaveWidth}
 
 -- ---- a variable
 
@@ -43,12 +44,12 @@ one_of false x y o is = inr is
 pub no_base : (series : Series) (n k : ℕ) → kind_of series n ≡ Base k → ⊥
 no_base series n k is = no_variable (Base k) series n refl (sym is)
 
--- widths with a variable of a list more
-pub widths_with : (board : BoardParts) (told tnew : Table) (words : List Word) (term : ℕ) (own : Series) (number : ℕ)
-    → Extends told tnew → Keeps told tnew → term_of words (kind_of own number) ≡ None
-    → IsOfWidth tnew (width_of board.width own) term → HaveWidths board told words
-    → HaveWidths board tnew (words ++ variable term (kind_of own number) ∷ [])
-widths_with board told tnew words term own number extends keeps none wide widths series n a at =
+-- the widths of a list with a variable of a list more
+pub widths_with : (board : BoardParts) (told tnew : Table) (words : List Word) (term : ℕ) (own series : Series)
+    (number : ℕ) → Extends told tnew → Keeps told tnew → term_of words (kind_of own number) ≡ None
+    → IsOfWidth tnew (width_of board.width own) term → HaveWidth board told words series
+    → HaveWidth board tnew (words ++ variable term (kind_of own number) ∷ []) series
+widths_with board told tnew words term own series number extends keeps none wide widths n a at =
     elim (one_of (same_kind (kind_of own number) (kind_of series n)) term a (term_of words (kind_of series n))
     (sym (term_variable words term (kind_of own number) (kind_of series n) none) ∙ at)) [
       | inl same ↦
@@ -56,10 +57,10 @@ widths_with board told tnew words term own number extends keeps none wide widths
           own_series own series number n (kind_is (kind_of own number) (kind_of series n) same.0) in
           subst (λ (x : ℕ). IsOfWidth tnew (width_of board.width series) x) same.1
           (subst (λ (s : Series). IsOfWidth tnew (width_of board.width s) term) one wide)
-      | inr old ↦ width_stays told tnew (width_of board.width series) a extends keeps (widths series n a old)
+      | inr old ↦ width_stays told tnew (width_of board.width series) a extends keeps (widths n a old)
     ]
 
--- ---- words that are no variables of an environment
+-- ---- words that are no variables of a list
 
 pub not_behind : (words more : List Word) (kind : WordKind) → term_of more kind ≡ None
     → term_of (words ++ more) kind ≡ term_of words kind
@@ -73,28 +74,29 @@ IsBase kind = (k : ℕ) × (kind ≡ Base k)
 
 -- a read makes no variable of an environment
 pub widths_by_read : (board : BoardParts) (told tnew : Table) (wold wnew : List Word) (mold mnew : Memory)
-    → GoesOn IsBase told tnew wold wnew mold mnew → HaveWidths board told wold → HaveWidths board tnew wnew
-widths_by_read board told tnew wold wnew mold mnew goes widths series n a at =
+    (series : Series) → GoesOn IsBase told tnew wold wnew mold mnew → HaveWidth board told wold series
+    → HaveWidth board tnew wnew series
+widths_by_read board told tnew wold wnew mold mnew series goes widths n a at =
     let own = kind_of series n in
     let none : term_of goes.more own ≡ None =
     absent goes.more own (λ place term is. (let kind = goes.kinds place term own is in no_base series n kind.0 kind.1))
     in
     let old : term_of wold own ≡ Some a =
     sym (not_behind wold goes.more own none) ∙ ap (λ ws. term_of ws own) (sym goes.words) ∙ at in
-    width_stays told tnew (width_of board.width series) a goes.later.extends goes.later.keeps (widths series n a old)
+    width_stays told tnew (width_of board.width series) a goes.later.extends goes.later.keeps (widths n a old)
 
 -- ---- words that are no variables
 
-pub widths_grew : (board : BoardParts) (told tnew : Table) (wold wnew : List Word) → HaveWidths board told wold
-    → Grew told tnew wold wnew → HaveWidths board tnew wnew
-widths_grew board told tnew wold wnew widths grew series n a at =
+pub widths_grew : (board : BoardParts) (told tnew : Table) (wold wnew : List Word) (series : Series)
+    → HaveWidth board told wold series → Grew told tnew wold wnew → HaveWidth board tnew wnew series
+widths_grew board told tnew wold wnew series widths grew n a at =
     let grows = grew.1 in
     let own = kind_of series n in
     let old : term_of wold own ≡ Some a =
     sym (plain_behind wold grew.0 own) ∙ ap (λ ws. term_of ws own) (sym grows.words) ∙ at in
-    width_stays told tnew (width_of board.width series) a grows.extends grows.keeps (widths series n a old)
+    width_stays told tnew (width_of board.width series) a grows.extends grows.keeps (widths n a old)
 
-pub widths_ok : {X Y : Type 0} (r : Result X Y) (board : BoardParts) (told tnew : Table) (wold wnew : List Word)
-    → HaveWidths board told wold → OnOk r (Grew told tnew wold wnew) → OnOk r (HaveWidths board tnew wnew)
-widths_ok (Ok x) board told tnew wold wnew widths grew = widths_grew board told tnew wold wnew widths grew
-widths_ok (Err x) board told tnew wold wnew widths grew = tt
+pub inputs_ok : {X Y : Type 0} (r : Result X Y) (board : BoardParts) (told tnew : Table) (wold wnew : List Word)
+    → AreInputs board told wold → OnOk r (Grew told tnew wold wnew) → OnOk r (AreInputs board tnew wnew)
+inputs_ok (Ok x) board told tnew wold wnew inputs grew = widths_grew board told tnew wold wnew Inputs inputs grew
+inputs_ok (Err x) board told tnew wold wnew inputs grew = tt

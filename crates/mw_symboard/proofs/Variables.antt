@@ -19,7 +19,7 @@ use Rattle.mw_cycle.specs.declared.series.Series.{Series}
 use Rattle.mw_cycle.specs.declared.series.Series.TheVariants as lists
 use Rattle.mw_cycle.specs.Series.{goes_by_cycle, kind_of}
 use Rattle.mw_cycle.proofs.Named.{no_input, no_variable, own_number}
-use Rattle.mw_symboard.specs.Kinds.{HaveWidths, IsCycleKind, IsSourceKind}
+use Rattle.mw_symboard.specs.Kinds.{AreInputs, IsCycleKind, IsSourceKind}
 use Rattle.mw_symboard.specs.Turns.{AreNoLater}
 use Rattle.mw_symboard.proofs.VariableWidths.{no_base, widths_with}
 
@@ -145,15 +145,15 @@ module _ (cycle : ℕ) (t0 t1 t2 : Table) (w0 w1 w2 : List Word) (line noise : �
       (apart lists.Line series cycle n from)
       ∙ none series by n (omega (arith, from))
 
-  pub widths_after : (board : BoardParts) → Extends t0 t1 → Keeps t0 t1 → Extends t1 t2 → Keeps t1 t2
-      → IsOfWidth t1 1 line → IsOfWidth t2 14 noise → HaveWidths board t0 w0 → HaveWidths board t2 w2
-  widths_after board extends keeps later_extends later_keeps line_wide noise_wide are =
-      let one : HaveWidths board t1 w1 =
-      subst (λ (ws : List Word). HaveWidths board t1 ws) (sym words)
-      (widths_with board t0 t1 w0 line lists.Line cycle extends keeps (none lists.Line refl cycle (omega arith))
-      line_wide are) in
-      subst (λ (ws : List Word). HaveWidths board t2 ws) (sym more)
-      (widths_with board t1 t2 w1 noise lists.Noise cycle later_extends later_keeps
+  pub inputs_after : (board : BoardParts) → Extends t0 t1 → Keeps t0 t1 → Extends t1 t2 → Keeps t1 t2
+      → IsOfWidth t1 1 line → IsOfWidth t2 14 noise → AreInputs board t0 w0 → AreInputs board t2 w2
+  inputs_after board extends keeps later_extends later_keeps line_wide noise_wide are =
+      let one : AreInputs board t1 w1 =
+      subst (λ (ws : List Word). AreInputs board t1 ws) (sym words)
+      (widths_with board t0 t1 w0 line lists.Line lists.Inputs cycle extends keeps
+      (none lists.Line refl cycle (omega arith)) line_wide are) in
+      subst (λ (ws : List Word). AreInputs board t2 ws) (sym more)
+      (widths_with board t1 t2 w1 noise lists.Noise lists.Inputs cycle later_extends later_keeps
       (absent_noise cycle w0 w1 line none words) noise_wide one)
 
   pub goes_by_both : (taken : ℕ) (m : Memory) → Extends t0 t1 → Keeps t0 t1 → IsTable t1

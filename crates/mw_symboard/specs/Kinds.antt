@@ -1,9 +1,10 @@
--- The variables that a cycle makes, and the widths of an environment's.
+-- The variables that a cycle makes, and the widths of a list's.
 use Rattle.std.specs.Prelude.{◌≡◌, ℕ, ◌⊎◌, List, true, Some}
 use Rattle.mw_board.specs.declared.parts.BoardParts.{BoardParts}
 use Rattle.mw_term.specs.declared.kinds.WordKind.{WordKind}
 use Rattle.mw_term.specs.declared.kinds.WordKind.TheVariants.{Base, Input}
 use Rattle.mw_cycle.specs.declared.series.Series.{Series}
+use Rattle.mw_cycle.specs.declared.series.Series.TheVariants.{Inputs}
 use Rattle.mw_cycle.specs.Series.{goes_by_cycle, kind_of, width_of}
 use Rattle.mw_term.specs.Table.{Table}
 use Rattle.mw_term.specs.declared.word.Word.{Word}
@@ -19,8 +20,11 @@ abbrev pub IsCycleKind : (cycle taken : ℕ) → WordKind → Type 0
 IsCycleKind cycle taken kind =
     IsSourceKind taken kind ⊎ ((series : Series) × (goes_by_cycle series ≡ true) × (kind ≡ kind_of series cycle))
 
--- the variables of an environment that there are have the widths of its lists
-abbrev pub HaveWidths : BoardParts → Table → List Word → Type 0
-HaveWidths board t words =
-    (series : Series) (n term : ℕ) → term_of words (kind_of series n) ≡ Some term
-    → IsOfWidth t (width_of board.width series) term
+-- the variables of a list that there are have the list's width
+abbrev pub HaveWidth : BoardParts → Table → List Word → Series → Type 0
+HaveWidth board t words series =
+    (n term : ℕ) → term_of words (kind_of series n) ≡ Some term → IsOfWidth t (width_of board.width series) term
+
+-- the variables of inputs that there are have the board's width
+abbrev pub AreInputs : BoardParts → Table → List Word → Type 0
+AreInputs board t words = HaveWidth board t words Inputs

@@ -30,7 +30,7 @@ use Rattle.mw_term.specs.WordList.{term_of}
 use Rattle.mw_symboard.specs.declared.reading.Reading.{Reading}
 use Rattle.mw_symboard.specs.declared.leaving.Leaving.{Leaving}
 use Rattle.mw_symboard.specs.Cycle.{IsReading, IsLeaving, bits_before}
-use Rattle.mw_symboard.specs.Kinds.{HaveWidths}
+use Rattle.mw_symboard.specs.Kinds.{AreInputs}
 use Rattle.mw_symboard.specs.Parts.{AreParts}
 use Rattle.mw_symboard.specs.Seen.{Progress, Scene, IsSeen, IsStateOf, microword_of, after_net}
 
@@ -102,7 +102,7 @@ pub record IsSymbolic (board : BoardParts) (store : List ℕ) (t : Table) (words
   pub at : o.place.at < 2 ^ 12
   pub sp : o.place.sp ≤ depth_of board
   pub parts : AreParts board t o.place.parts
-  pub widths : HaveWidths board t words
+  pub inputs : AreInputs board t words
   pub events : AreEvents board t o.events
   pub reading : HasRead board store t words m o.place o.reading
   pub leaving : Leaves board store t o.place o.reading o.leaving

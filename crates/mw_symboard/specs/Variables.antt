@@ -1,9 +1,9 @@
 -- The variables of the cycles of a run, and the environments and assignments that go with one another.
-use Rattle.std.specs.Prelude.{◌≡◌, ℕ, ◌+◌, ◌%◌, ◌^◌, ◌<◌, ◌⊎◌, ◌++◌, List, length, Some}
+use Rattle.std.specs.Prelude.{◌≡◌, ℕ, ◌+◌, ◌%◌, ◌^◌, ◌<◌, ◌⊎◌, ◌++◌, List, length, true, Some}
 use Rattle.mw_board.specs.declared.parts.BoardParts.{BoardParts}
 use Rattle.mw_cycle.specs.Environment.{Environment, IsEnvironment}
 use Rattle.mw_term.specs.declared.kinds.WordKind.{WordKind}
-use Rattle.mw_term.specs.declared.kinds.WordKind.TheVariants.{Base, Input, Line, Noise}
+use Rattle.mw_term.specs.declared.kinds.WordKind.TheVariants.{Base, Input}
 use Rattle.mw_term.specs.declared.word.Word.{Word}
 use Rattle.mw_term.specs.Assigned.{Given}
 use Rattle.mw_term.specs.Table.{Table, IsTable}
@@ -14,44 +14,55 @@ use Rattle.mw_symmem.specs.Words.{AreOf, HaveOwnKinds, IsVariable}
 use Rattle.mw_symmem.specs.Workspace.{HaveKinds, IsLater}
 use Rattle.mw_symboard.specs.declared.reading.Reading.{Reading}
 use Rattle.mw_cycle.specs.declared.series.Series.{Series}
-use Rattle.mw_cycle.specs.Series.{kind_of}
-use Rattle.mw_symboard.specs.Kinds.{HaveWidths}
+use Rattle.mw_cycle.specs.Series.{goes_by_cycle, kind_of, width_of}
+use Rattle.mw_symboard.specs.Kinds.{AreInputs, HaveWidth}
 use Rattle.mw_symboard.specs.Laws.{IsEnvironmentOf}
 use Rattle.mw_symboard.specs.Turns.{Symbolic, AreNoLater, IsSymbolic}
 
--- the variables of a cycle are there: its line and its noise
-pub record HasVariables (words : List Word) (cycle : ℕ) : Type 0 where
-  pub line : ℕ
-  pub noise : ℕ
-  pub is_line : term_of words (Line cycle) ≡ Some line
-  pub is_noise : term_of words (Noise cycle) ≡ Some noise
+-- a variable is there, and has so many bits
+pub record HasVariable (t : Table) (words : List Word) (kind : WordKind) (width : ℕ) : Type 0 where
+  pub term : ℕ
+  pub is : term_of words kind ≡ Some term
+  pub wide : IsOfWidth t width term
 
--- The variables of the first so many cycles are there, and those of no later one; and the variables of an environment
--- that there are have the widths of its lists.
+-- the variables of a cycle are there, with their widths: one of each list that goes by cycle
+pub record HasVariables (board : BoardParts) (t : Table) (words : List Word) (cycle : ℕ) : Type 0 where
+  pub each : (series : Series) → goes_by_cycle series ≡ true
+      → HasVariable t words (kind_of series cycle) (width_of board.width series)
+
+-- The variables of the first so many cycles are there, and those of no later one; and the variables of inputs that
+-- there are have the board's width.
 pub record HaveVariables (board : BoardParts) (t : Table) (words : List Word) (cycles : ℕ) : Type 0 where
-  pub each : (n : ℕ) → n < cycles → HasVariables words n
+  pub each : (n : ℕ) → n < cycles → HasVariables board t words n
   pub none : AreNoLater cycles words
-  pub widths : HaveWidths board t words
+  pub inputs : AreInputs board t words
+
+-- Each variable of an environment that there is has the width of its list.
+abbrev pub VariablesHaveWidths : Type 0
+VariablesHaveWidths =
+    (board : BoardParts) (t : Table) (words : List Word) (cycles : ℕ) → HaveVariables board t words cycles
+    → (series : Series) → HaveWidth board t words series
 
 -- The variables of a cycle stay, with all words that come behind.
 abbrev pub VariablesStay : Type 0
 VariablesStay =
-    (wold wnew more : List Word) (cycle : ℕ) → wnew ≡ wold ++ more → HasVariables wold cycle → HasVariables wnew cycle
+    (board : BoardParts) (told tnew : Table) (wold wnew more : List Word) (cycle : ℕ) → IsLater told tnew
+    → wnew ≡ wold ++ more → HasVariables board told wold cycle → HasVariables board tnew wnew cycle
 
 -- The variables of its cycle are there where the cycle has begun, and where a bit of it is decided.
 abbrev pub BegunHasVariables : Type 0
 BegunHasVariables =
     (board : BoardParts) (store : List ℕ) (t : Table) (words : List Word) (m : Memory) (o : Symbolic)
     → IsSymbolic board store t words m o
-    → ((reading : Reading) → o.reading ≡ Some reading → HasVariables words o.place.cycle)
-    × (0 < length o.place.decided → HasVariables words o.place.cycle)
+    → ((reading : Reading) → o.reading ≡ Some reading → HasVariables board t words o.place.cycle)
+    × (0 < length o.place.decided → HasVariables board t words o.place.cycle)
 
 -- Where the variables of the finished cycles are there, there is a number of cycles whose variables are there, and
 -- those of no later one.
 abbrev pub CyclesAreThere : Type 0
 CyclesAreThere =
     (board : BoardParts) (store : List ℕ) (t : Table) (words : List Word) (m : Memory) (o : Symbolic)
-    → IsSymbolic board store t words m o → ((n : ℕ) → n < o.place.cycle → HasVariables words n)
+    → IsSymbolic board store t words m o → ((n : ℕ) → n < o.place.cycle → HasVariables board t words n)
     → (cycles : ℕ) × HaveVariables board t words cycles
 
 -- variables of base reads and of inputs, which other parts may make between two cycles
@@ -62,7 +73,7 @@ IsReadKind kind = ((n : ℕ) × (kind ≡ Base n)) ⊎ ((n : ℕ) × (kind ≡ I
 abbrev pub CyclesStay : Type 0
 CyclesStay =
     (board : BoardParts) (told tnew : Table) (wold wnew more : List Word) (cycles : ℕ) → IsLater told tnew
-    → wnew ≡ wold ++ more → HaveKinds IsReadKind more → HaveWidths board tnew wnew
+    → wnew ≡ wold ++ more → HaveKinds IsReadKind more → AreInputs board tnew wnew
     → HaveVariables board told wold cycles → HaveVariables board tnew wnew cycles
 
 -- A variable has the value that the assignment gives its number, cut to its width.

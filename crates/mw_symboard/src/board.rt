@@ -20,7 +20,7 @@ ghost use Rattle.mw_symboard.specs.Bits.{AreBits, AreSources};
 ghost use Rattle.mw_symboard.specs.Cycle.{IsEdge, bits_before, effect_by};
 ghost use Rattle.mw_symboard.specs.Seen.{IsSeen, Scene, microword_of};
 ghost use Rattle.mw_symboard.specs.Growth.{Grew};
-ghost use Rattle.mw_symboard.specs.Kinds.{HaveWidths, IsCycleKind};
+ghost use Rattle.mw_symboard.specs.Kinds.{AreInputs, IsCycleKind};
 ghost use Rattle.mw_symboard.specs.Parts.{AreElements, AreParts};
 ghost use Rattle.mw_cycle.specs.BoardTerms.{term_of_part};
 ghost use Rattle.mw_symmem.specs.declared.turn.Turn.TheVariants.{Ask, Finished};
@@ -121,7 +121,7 @@ impl SymBoard {
         ensures reading { IfOk result (λ b. b.reading ≡ None) }
         ensures symbolic { IfOk result (λ b. (store : List ℕ) (t : Table) (words : List Word) (m : Memory)
             → address < 2 ^ 12 → sp ≤ depth_of board.now → AreElements board.now t elements.now
-            → HaveWidths board.now t words → AreNoLater 0 words → IsSymbolic board.now store t words m b) }
+            → AreInputs board.now t words → AreNoLater 0 words → IsSymbolic board.now store t words m b) }
     {
         Ok(SymBoard {
             place: Progress {

@@ -7,7 +7,7 @@ ghost use Rattle.mw_symboard.specs.Paths.{PassedGoOn, PassedStay, PathsBegin, Pa
 ghost use Rattle.mw_symboard.specs.Paths.{SplitsAreBy};
 ghost use Rattle.mw_symboard.specs.Variables.{BegunHasVariables, CyclesAreThere, CyclesStay, EnvironmentsAreReached};
 ghost use Rattle.mw_symboard.specs.Variables.{EnvironmentsAreThere, EnvironmentsStay, VariablesHaveValues};
-ghost use Rattle.mw_symboard.specs.Variables.{VariablesStay};
+ghost use Rattle.mw_symboard.specs.Variables.{VariablesHaveWidths, VariablesStay};
 
 /// The law of the start: a board that has done nothing is in each run that begins with its terms.
 pub fn runs_begin()
@@ -52,15 +52,16 @@ pub fn paths_are_of_the_run()
 {}
 
 /// The law of variables: a cycle that has begun has its line and its noise, and they stay. Where those of the finished
-/// cycles are there, there is a number of cycles whose variables are there, and no later ones, and the variables of an
-/// environment have the widths of its lists; so it stays while only variables of base reads and inputs come. A variable
-/// has the value that the assignment gives its number.
+/// cycles are there, there is a number of cycles whose variables are there, and no later ones; then the variables of an
+/// environment have the widths of its lists, and so it stays while only variables of base reads and inputs come. A
+/// variable has the value that the assignment gives its number.
 pub fn variables_are_there()
     ensures begun { BegunHasVariables }
     ensures stay { VariablesStay }
     ensures values { VariablesHaveValues }
     ensures cycles { CyclesAreThere }
     ensures cycles_stay { CyclesStay }
+    ensures widths { VariablesHaveWidths }
 {}
 
 /// The law of environments: for every assignment there is an environment that has the values of the variables of its

@@ -22,7 +22,7 @@ ghost use Rattle.mw_cycle.specs.ReadingWords.{y_term, addends_words, all_read_wo
 ghost use Rattle.mw_cycle.specs.ReadingWords.{is_read, link_reads, load_reads, operands_words, read_words};
 ghost use Rattle.mw_cycle.specs.ReadingWords.{reading_words, sources_words, turned_words};
 ghost use Rattle.mw_symboard.specs.Growth.{Grew};
-ghost use Rattle.mw_symboard.specs.Kinds.{HaveWidths, IsCycleKind};
+ghost use Rattle.mw_symboard.specs.Kinds.{AreInputs, IsCycleKind};
 ghost use Rattle.mw_symboard.specs.Made.{IsAddendR, IsAddendS, IsBitTerm, IsR, IsS, sources_of};
 ghost use Rattle.mw_symboard.specs.Parts.{AreParts};
 ghost use Rattle.mw_symboard.specs.Turns.{AreNoLater};
@@ -362,8 +362,8 @@ fn line_and_noise(
         × (with_variable (Noise cycle) 14 line.list ≡ ended v.noise (list_of terms.new.ops words.new reads)))) }
     ensures goes { OnOk result ((taken : ℕ) (m : Memory) → IsWorkspace terms.old words.old m
         → GoesOn (IsCycleKind cycle taken) terms.old terms.new words.old words.new m m) }
-    ensures widths { OnOk result
-        ((board : BoardParts) → HaveWidths board terms.old words.old → HaveWidths board terms.new words.new) }
+    ensures inputs { OnOk result
+        ((board : BoardParts) → AreInputs board terms.old words.old → AreInputs board terms.new words.new) }
     ensures none { OnOk result (AreNoLater (cycle + 1) words.new) }
 {
     let line = words.fresh(alloc, terms, WordKind::Line(cycle), 1)?;
@@ -521,7 +521,7 @@ impl Reading {
         requires workspace { IsWorkspace terms.old words.old memory.old }
         requires parts { AreParts board.now terms.old place.now.parts }
         requires sp { place.now.sp ≤ depth_of board.now }
-        requires widths { HaveWidths board.now terms.old words.old }
+        requires inputs { AreInputs board.now terms.old words.old }
         requires none { AreNoLater place.now.cycle words.old }
         ensures is { IfOk result (IsReading board.now microword.now terms.new words.new memory.new place.now) }
         ensures listed { IfOk result (λ reading. (events : List SymEvent)
@@ -531,7 +531,7 @@ impl Reading {
             terms.old terms.new words.old words.new memory.old memory.new) }
         ensures reads { OnOk result (length memory.new.reads ≤ length memory.old.reads + 1) }
         ensures writes { OnOk result (KeepsWrites memory.old memory.new) }
-        ensures widths { OnOk result (HaveWidths board.now terms.new words.new) }
+        ensures inputs { OnOk result (AreInputs board.now terms.new words.new) }
         ensures none { OnOk result (AreNoLater (place.now.cycle + 1) words.new) }
     {
         let width = board.width().bits();

@@ -9,7 +9,7 @@ ghost use Rattle.mw_symmem.specs.Memory.{IsOfWidth, IsRead};
 ghost use Rattle.mw_term.specs.WordList.{memory_read_words, term_of, with_input};
 ghost use Rattle.mw_symmem.specs.Workspace.{GoesOn, IsWorkspace, KeepsWrites};
 ghost use Rattle.mw_symboard.specs.Growth.{Grew};
-ghost use Rattle.mw_symboard.specs.Kinds.{HaveWidths, IsSourceKind};
+ghost use Rattle.mw_symboard.specs.Kinds.{AreInputs, IsSourceKind};
 ghost use Rattle.mw_symboard.specs.Made.{IsFrom, IsMasked};
 ghost use Rattle.mw_symboard.specs.Parts.{AreParts};
 ghost use Rattle.mw_cycle.specs.ReadingWords.{masked_words, source_words};
@@ -35,13 +35,13 @@ fn fresh_input(
 ) -> Result<Term, NoMemory>
     requires absent { term_of words.old (Input number) ≡ None }
     requires workspace { IsWorkspace terms.old words.old memory.now }
-    requires widths { HaveWidths board.now terms.old words.old }
+    requires inputs { AreInputs board.now terms.old words.old }
     ensures is { IfOk result (λ term. term_of words.new (Input number) ≡ Some term) }
     ensures wide { IfOk result (IsOfWidth terms.new board.now.width) }
     ensures listed { IfOk result (Lists (with_input number board.now.width) terms.old terms.new words.old words.new) }
     ensures goes { OnOk result
         (GoesOn (IsSourceKind number) terms.old terms.new words.old words.new memory.now memory.now) }
-    ensures widths { OnOk result (HaveWidths board.now terms.new words.new) }
+    ensures inputs { OnOk result (AreInputs board.now terms.new words.new) }
 {
     let term = words.fresh(alloc, terms, WordKind::Input(number), board.width().bits())?;
     Ok(term)
@@ -57,13 +57,13 @@ pub(crate) fn input(
     memory: &SymMemory,
 ) -> Result<Term, NoMemory>
     requires workspace { IsWorkspace terms.old words.old memory.now }
-    requires widths { HaveWidths board.now terms.old words.old }
+    requires inputs { AreInputs board.now terms.old words.old }
     ensures is { IfOk result (λ term. term_of words.new (Input number) ≡ Some term) }
     ensures wide { IfOk result (IsOfWidth terms.new board.now.width) }
     ensures listed { IfOk result (Lists (with_input number board.now.width) terms.old terms.new words.old words.new) }
     ensures goes { OnOk result
         (GoesOn (IsSourceKind number) terms.old terms.new words.old words.new memory.now memory.now) }
-    ensures widths { OnOk result (HaveWidths board.now terms.new words.new) }
+    ensures inputs { OnOk result (AreInputs board.now terms.new words.new) }
 {
     match words.find(WordKind::Input(number)) {
         Some(term) => Ok(term),
@@ -86,7 +86,7 @@ fn read_source(
     requires word { memory.old.word ≡ board.now.width }
     requires wide { IsOfWidth terms.old board.now.address mar }
     requires workspace { IsWorkspace terms.old words.old memory.old }
-    requires widths { HaveWidths board.now terms.old words.old }
+    requires inputs { AreInputs board.now terms.old words.old }
     ensures is { IfOk result (IsRead terms.new memory.new side.Board mar) }
     ensures wide { IfOk result (IsOfWidth terms.new board.now.width) }
     ensures listed { IfOk result (ListsOver (memory_read_words board.now.width mar memory.old.board)
@@ -95,7 +95,7 @@ fn read_source(
         (GoesOn (IsSourceKind taken) terms.old terms.new words.old words.new memory.old memory.new) }
     ensures reads { OnOk result (length memory.new.reads ≤ length memory.old.reads + 1) }
     ensures writes { OnOk result (KeepsWrites memory.old memory.new) }
-    ensures widths { OnOk result (HaveWidths board.now terms.new words.new) }
+    ensures inputs { OnOk result (AreInputs board.now terms.new words.new) }
 {
     let term = memory.read(alloc, Side::Board, mar, terms, words)?;
     Ok(term)
@@ -118,7 +118,7 @@ pub(crate) fn from_source(
     requires word { memory.old.word ≡ board.now.width }
     requires workspace { IsWorkspace terms.old words.old memory.old }
     requires parts { AreParts board.now terms.old parts.now }
-    requires widths { HaveWidths board.now terms.old words.old }
+    requires inputs { AreInputs board.now terms.old words.old }
     ensures is { IfOk result
         (IsFrom board.now microword.now.word terms.new words.new memory.new parts.now taken microword.now.d.from) }
     ensures wide { IfOk result (IsOfWidth terms.new board.now.width) }
@@ -129,7 +129,7 @@ pub(crate) fn from_source(
         (GoesOn (IsSourceKind taken) terms.old terms.new words.old words.new memory.old memory.new) }
     ensures reads { OnOk result (length memory.new.reads ≤ length memory.old.reads + 1) }
     ensures writes { OnOk result (KeepsWrites memory.old memory.new) }
-    ensures widths { OnOk result (HaveWidths board.now terms.new words.new) }
+    ensures inputs { OnOk result (AreInputs board.now terms.new words.new) }
 {
     let width = board.width().bits();
     match microword.d.from {

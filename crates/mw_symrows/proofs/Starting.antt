@@ -8,6 +8,7 @@ use Rattle.mw_board.specs.declared.parts.BoardParts.{BoardParts}
 use Rattle.mw_board.specs.Valid as valid
 use Rattle.mw_cycle.specs.declared.microword.Microword.{Microword}
 use Rattle.mw_cycle.specs.declared.series.Series.{Series}
+use Rattle.mw_cycle.specs.declared.series.Series.TheVariants.{Inputs}
 use Rattle.mw_cycle.specs.Decided.{decides_counter, decides_pass}
 use Rattle.mw_cycle.specs.Series.{kind_of as series_kind, series_of_kind}
 use Rattle.mw_cycle.proofs.Named.{no_variable}
@@ -25,7 +26,7 @@ use Rattle.mw_symmem.specs.Words.{AreOf, IsVariable}
 use Rattle.mw_symmem.specs.Workspace.{GoesOn}
 use Rattle.mw_symmem.proofs.Lists.{absent, kind_of, missing, pushed}
 use Rattle.mw_symboard.specs.Cycle.{bits_before}
-use Rattle.mw_symboard.specs.Kinds.{HaveWidths, IsCycleKind}
+use Rattle.mw_symboard.specs.Kinds.{AreInputs, IsCycleKind}
 use Rattle.mw_symboard.specs.Turns.{AreNoLater, IsSymbolic, IsTurn, Symbolic, decided_so}
 use Rattle.mw_symrows.specs.Runs.{AreFree, IsFreeKind, IsTurned, IsUnder}
 
@@ -60,9 +61,9 @@ free_without words series n free =
 pub free_no_later : (words : List Word) → AreFree words → AreNoLater 0 words
 free_no_later words free series by_cycle n from = free_without words series n free
 
-pub free_widths : (board : BoardParts) (t : Table) (words : List Word) → AreFree words → HaveWidths board t words
-free_widths board t words free series n term is =
-    let none : term_of words (series_kind series n) ≡ None = free_without words series n free in absurd cc
+pub free_inputs : (board : BoardParts) (t : Table) (words : List Word) → AreFree words → AreInputs board t words
+free_inputs board t words free n term is =
+    let none : term_of words (series_kind Inputs n) ≡ None = free_without words Inputs n free in absurd cc
 
 -- nor base reads
 pub free_no_base : (words : List Word) → AreFree words → (place term k : ℕ) → ¬ IsVariable words place term (Base k)

@@ -1,5 +1,5 @@
 -- The state of a board as the lines of an environment from which a run can go on: what isn't 0 of it.
-use Rattle.std.specs.Prelude.{ℕ, List, [], ◌∷◌, ◌++◌, codes, length, slice_index, if◌then◌else◌, ◌==◌}
+use Rattle.std.specs.Prelude.{ℕ, List, [], ◌++◌, codes}
 use Rattle.std.specs.List.{flat_map, range_with_len}
 use Rattle.std.specs.Option.{unwrap_or}
 use Rattle.mw_base.specs.Numbers.{hex}
@@ -7,7 +7,7 @@ use Rattle.mw_board.specs.declared.parts.BoardParts.{BoardParts}
 use Rattle.mw_board.specs.Elements.{element_count, element_name, stack_pointer_name}
 use Rattle.mw_cycle.specs.Elements.{element}
 use Rattle.mw_cycle.specs.State.{BoardState}
-use Rattle.mw_sim.specs.Texts.{line}
+use Rattle.mw_sim.specs.Texts.{line, memory_lines}
 use Rattle.mw_top.specs.Report.{value_line}
 
 -- the line that sets an element with a name; none where its value is 0
@@ -21,15 +21,6 @@ element_line board s number = set_line (unwrap_or (element_name board number) []
 -- the lines of the elements, by number
 abbrev pub element_lines : BoardParts → BoardState → List ℕ
 element_lines board s = flat_map (element_line board s) (range_with_len 0 (element_count board))
-
--- the line that gives a word of the memory; none where it is 0
-unfoldable pub word_line : ℕ → ℕ → List ℕ
-word_line address word = if word == 0 then [] else line (codes "mem " ++ hex address ++ 32 ∷ hex word)
-
--- the lines of the memory, in rising order of addresses
-abbrev pub memory_lines : List ℕ → List ℕ
-memory_lines words =
-    flat_map (λ address. word_line address (slice_index words address)) (range_with_len 0 (length words))
 
 -- the control address, the elements, the stack pointer, and the memory
 unfoldable pub state_text : BoardParts → BoardState → List ℕ

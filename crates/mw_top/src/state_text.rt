@@ -1,14 +1,14 @@
 // The state of a board as the lines of an environment.
-ghost use Rattle.std.specs.Prelude.{◌≡◌, ◌<◌, ◌++◌, OnOk, length, slice_index};
+ghost use Rattle.std.specs.Prelude.{◌≡◌, ◌<◌, ◌++◌, OnOk};
 ghost use Rattle.mw_board.specs.Elements.{element_count};
 ghost use Rattle.mw_cycle.specs.State.{Fits};
-ghost use Rattle.mw_top.specs.StateText.{element_line, element_lines, memory_lines, set_line, state_text, word_line};
+ghost use Rattle.mw_top.specs.StateText.{element_line, element_lines, set_line, state_text};
 
 use crate::report::append_value_line;
-use mw_base::{NoMemory, append_hex};
+use mw_base::NoMemory;
 use mw_board::Board;
 use mw_cycle::State;
-use mw_sim::append_hex_line;
+use mw_sim::{append_hex_line, append_memory};
 use std::alloc::Global;
 
 /// Appends the line that sets an element with a name; none where its value is 0.
@@ -46,36 +46,6 @@ fn append_elements(
 {
     for number in 0..board.element_count() {
         append_element(alloc, report, board, state, number)?;
-    }
-    Ok(())
-}
-
-/// Appends the line that gives the word at an address; none where it is 0.
-#[tactic(auto, unfolding(crate::specs::StateText::word_line))]
-fn append_word(
-    alloc: Global,
-    report: &mut Vec<u8>,
-    words: &[u32],
-    address: usize,
-) -> Result<(), NoMemory>
-    requires there { address < length words.now }
-    ensures { OnOk result (report.new.items ≡ report.old.items ++ word_line address (slice_index words.now address)) }
-{
-    let word = words[address];
-    if word != 0 {
-        report.extend_from_slice(b"mem ")?;
-        append_hex(alloc, report, address as u128)?;
-        append_hex_line(alloc, report, b" ", word)?;
-    }
-    Ok(())
-}
-
-/// Appends the lines of the memory, in rising order of addresses.
-fn append_memory(alloc: Global, report: &mut Vec<u8>, words: &[u32]) -> Result<(), NoMemory>
-    ensures { OnOk result (report.new.items ≡ report.old.items ++ memory_lines words.now) }
-{
-    for address in 0..words.len() {
-        append_word(alloc, report, words, address)?;
     }
     Ok(())
 }

@@ -2,7 +2,7 @@ use Rattle.std.proofs.Common.{◌≡◌, ℕ, ◌+◌, true, false, ◌++◌, Li
 use Rattle.mw_rel.specs.Free.{is_free, numbered}
 use Rattle.mw_rel.specs.Views.{job_of}
 use Rattle.mw_rel.proofs.Completed.{before_free, before_left}
-use Rattle.mw_replay.proofs.Appended.{left_line}
+use Rattle.mw_replay.proofs.LeftOut.{left_line}
 use Rattle.mw_replay.proofs.printed.append_free.Goals as goal
 
 pub returns-then-not-free-clause-after : goal.returns-then-not-free-clause-after

@@ -4,7 +4,7 @@ use Rattle.mw_rel.specs.Free.{is_free, numbered}
 use Rattle.mw_rel.specs.Views.{job_of}
 use Rattle.mw_rel.proofs.Completed.{place_within}
 use Rattle.mw_replay.specs.CounterPrinted.{set_line}
-use Rattle.mw_replay.proofs.Appended.{numbered_more}
+use Rattle.mw_sim.proofs.NumberedLines.{numbered_more}
 use Rattle.mw_replay.proofs.printed.append_sets.Goals as goal
 
 pub append_free-requires-clause-each : goal.append_free-requires-clause-each

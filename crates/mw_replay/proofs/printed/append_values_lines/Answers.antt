@@ -1,6 +1,6 @@
 use Rattle.std.proofs.Common.{ℕ, List, ◌++◌, ap, ◌∙◌}
 use Rattle.mw_replay.specs.CounterPrinted.{series_line, values_at}
-use Rattle.mw_replay.proofs.Appended.{numbered_more}
+use Rattle.mw_sim.proofs.NumberedLines.{numbered_more}
 use Rattle.mw_replay.proofs.printed.append_values_lines.Goals as goal
 
 pub loop-number-preserved : goal.loop-number-preserved

@@ -11,7 +11,7 @@ use Rattle.mw_replay.proofs.Segments.{ended_at, late_at, nowhere_at, short}
 use Rattle.mw_replay.proofs.stepping.run_both.Goals as goal
 
 pub run_step-requires-clause-inputs : goal.run_step-requires-clause-inputs
-run_step-requires-clause-inputs g c = λ i. rw c.shape.ensures.valid.matched.word (c.requires.stands.env Inputs i)
+run_step-requires-clause-inputs g c = λ i. rw c.shape.ensures.valid.matched.word (c.requires.stands.env.values Inputs i)
 
 pub run_segment-ended-requires-clause-room : goal.run_segment-ended-requires-clause-room
 run_segment-ended-requires-clause-room g c =

@@ -2,7 +2,7 @@ use Rattle.std.proofs.Common.{◌+◌, length, refl, ap, sym, ◌∙◌, arith}
 use Rattle.mw_cycle.specs.declared.series.Series.TheVariants.{Line}
 use Rattle.mw_symmem.proofs.Growth.{width_stays}
 use Rattle.mw_symboard.proofs.VariableWidths.{wide_variable}
-use Rattle.mw_symboard.proofs.Variables.{absent_noise, goes_by_both, line_there, noise_there, none_after, widths_after}
+use Rattle.mw_symboard.proofs.Variables.{absent_noise, goes_by_both, line_there, noise_there, none_after, inputs_after}
 use Rattle.mw_term.specs.WordList.{Ended, with_variable}
 use Rattle.mw_term.specs.declared.kinds.WordKind.TheVariants.{Noise}
 use Rattle.mw_symboard.proofs.reading.line_and_noise.Goals as goal
@@ -49,11 +49,11 @@ returns-clause-goes c = λ taken m workspace.
     c.in_ok-noise.ensures.words
     taken m one.extends one.keeps one.table one.of two.extends two.keeps two.table two.of workspace)
 
-pub returns-clause-widths : goal.returns-clause-widths
-returns-clause-widths c = λ board are.
+pub returns-clause-inputs : goal.returns-clause-inputs
+returns-clause-inputs c = λ board are.
     (let one = c.in_ok-line.ensures in
     let two = c.in_ok-noise.ensures in
-    widths_after c.args.cycle c.args.terms.now c.fresh.new.terms c.noise_word.new.terms c.args.words.now
+    inputs_after c.args.cycle c.args.terms.now c.fresh.new.terms c.noise_word.new.terms c.args.words.now
     c.fresh.new.self
     c.noise_word.new.words c.in_ok-line.line c.in_ok-noise.noise c.requires.none c.in_ok-line.ensures.words
     c.in_ok-noise.ensures.words

@@ -24,15 +24,15 @@ returns-clause-goes c =
     goes_by_input c.args.number c.args.terms.now c.fresh.new.terms c.args.words.now c.fresh.new.self c.args.memory.now
     c.in_ok-term.term e.words e.extends e.keeps e.table e.of c.requires.workspace
 
-pub returns-clause-widths : goal.returns-clause-widths
-returns-clause-widths c =
+pub returns-clause-inputs : goal.returns-clause-inputs
+returns-clause-inputs c =
     let e = c.in_ok-term.ensures in
     let width : c.bits.result ≡ c.args.board.now.width = c.bits.ensures.exact ∙ c.width.ensures.exact in
     let wide = wide_variable c.args.terms.now c.fresh.new.terms (length c.args.words.now + 1) c.bits.result
     c.in_ok-term.term e.made in
     rw e.words
-    (widths_with c.args.board.now c.args.terms.now c.fresh.new.terms c.args.words.now c.in_ok-term.term Inputs
-    c.args.number e.extends e.keeps c.requires.absent (rw width at wide) c.requires.widths)
+    (widths_with c.args.board.now c.args.terms.now c.fresh.new.terms c.args.words.now c.in_ok-term.term Inputs Inputs
+    c.args.number e.extends e.keeps c.requires.absent (rw width at wide) c.requires.inputs)
 
 pub returns-clause-listed : goal.returns-clause-listed
 returns-clause-listed c = λ reads.

@@ -3,7 +3,7 @@ use Rattle.std.proofs.lemmas.List.{get_or_read}
 use Rattle.mw_board.specs.declared.bit.DFrom.{DFrom}
 use Rattle.mw_board.specs.Valid.{IsFrom}
 use Rattle.mw_symboard.proofs.Sources.{constant_ok, goes_ok}
-use Rattle.mw_symboard.proofs.VariableWidths.{widths_ok}
+use Rattle.mw_symboard.proofs.VariableWidths.{inputs_ok}
 use Rattle.mw_symboard.proofs.Widths.{flip_wide, ir_wide, mar_wide}
 use Rattle.mw_term.specs.WordList.{with_constant}
 use Rattle.mw_cycle.specs.ReadingWords.{source_words}
@@ -49,10 +49,10 @@ returns-in-Zero-clause-goes c =
     c.requires.workspace (constant_ok c.constant.result c.args.terms.now c.constant.new.terms c.args.words.now
     c.constant.ensures.grew)
 
-pub returns-in-Zero-clause-widths : goal.returns-in-Zero-clause-widths
-returns-in-Zero-clause-widths c =
-    widths_ok c.constant.result c.args.board.now c.args.terms.now c.constant.new.terms c.args.words.now c.args.words.now
-    c.requires.widths (constant_ok c.constant.result c.args.terms.now c.constant.new.terms c.args.words.now
+pub returns-in-Zero-clause-inputs : goal.returns-in-Zero-clause-inputs
+returns-in-Zero-clause-inputs c =
+    inputs_ok c.constant.result c.args.board.now c.args.terms.now c.constant.new.terms c.args.words.now c.args.words.now
+    c.requires.inputs (constant_ok c.constant.result c.args.terms.now c.constant.new.terms c.args.words.now
     c.constant.ensures.grew)
 
 pub returns-in-Mar-clause-goes : goal.returns-in-Mar-clause-goes
@@ -61,10 +61,10 @@ returns-in-Mar-clause-goes c =
     c.args.memory.now
     c.requires.workspace (c.widened.ensures.grew)
 
-pub returns-in-Mar-clause-widths : goal.returns-in-Mar-clause-widths
-returns-in-Mar-clause-widths c =
-    widths_ok c.widened.result c.args.board.now c.args.terms.now c.widened.new.terms c.args.words.now
-    c.widened.new.words c.requires.widths (c.widened.ensures.grew)
+pub returns-in-Mar-clause-inputs : goal.returns-in-Mar-clause-inputs
+returns-in-Mar-clause-inputs c =
+    inputs_ok c.widened.result c.args.board.now c.args.terms.now c.widened.new.terms c.args.words.now
+    c.widened.new.words c.requires.inputs (c.widened.ensures.grew)
 
 pub returns-in-Field-clause-goes : goal.returns-in-Field-clause-goes
 returns-in-Field-clause-goes c =
@@ -73,11 +73,11 @@ returns-in-Field-clause-goes c =
     c.requires.workspace (constant_ok c.constant-in-Field.result c.args.terms.now c.constant-in-Field.new.terms
     c.args.words.now c.constant-in-Field.ensures.grew)
 
-pub returns-in-Field-clause-widths : goal.returns-in-Field-clause-widths
-returns-in-Field-clause-widths c =
-    widths_ok c.constant-in-Field.result c.args.board.now c.args.terms.now c.constant-in-Field.new.terms
+pub returns-in-Field-clause-inputs : goal.returns-in-Field-clause-inputs
+returns-in-Field-clause-inputs c =
+    inputs_ok c.constant-in-Field.result c.args.board.now c.args.terms.now c.constant-in-Field.new.terms
     c.args.words.now c.args.words.now
-    c.requires.widths (constant_ok c.constant-in-Field.result c.args.terms.now c.constant-in-Field.new.terms
+    c.requires.inputs (constant_ok c.constant-in-Field.result c.args.terms.now c.constant-in-Field.new.terms
     c.args.words.now c.constant-in-Field.ensures.grew)
 
 pub returns-in-Flip-clause-goes : goal.returns-in-Flip-clause-goes
@@ -86,11 +86,11 @@ returns-in-Flip-clause-goes c =
     c.widened-in-Flip.new.words c.args.memory.now
     c.requires.workspace (c.widened-in-Flip.ensures.grew)
 
-pub returns-in-Flip-clause-widths : goal.returns-in-Flip-clause-widths
-returns-in-Flip-clause-widths c =
-    widths_ok c.widened-in-Flip.result c.args.board.now c.args.terms.now c.widened-in-Flip.new.terms c.args.words.now
+pub returns-in-Flip-clause-inputs : goal.returns-in-Flip-clause-inputs
+returns-in-Flip-clause-inputs c =
+    inputs_ok c.widened-in-Flip.result c.args.board.now c.args.terms.now c.widened-in-Flip.new.terms c.args.words.now
     c.widened-in-Flip.new.words
-    c.requires.widths (c.widened-in-Flip.ensures.grew)
+    c.requires.inputs (c.widened-in-Flip.ensures.grew)
 
 pub returns-in-Zero-clause-listed : goal.returns-in-Zero-clause-listed
 returns-in-Zero-clause-listed c =

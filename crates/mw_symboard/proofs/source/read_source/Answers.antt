@@ -2,6 +2,7 @@ use Rattle.mw_symmem.specs.declared.side.Side.TheVariants.{Board}
 use Rattle.mw_symmem.proofs.Later.{writes_by_read}
 use Rattle.mw_symboard.proofs.Sources.{goes_by_base, goes_as_source}
 use Rattle.mw_symboard.proofs.VariableWidths.{widths_by_read}
+use Rattle.mw_cycle.specs.declared.series.Series.TheVariants.{Inputs}
 use Rattle.mw_symboard.proofs.source.read_source.Goals as goal
 
 pub read-requires-clause-address : goal.read-requires-clause-address
@@ -23,11 +24,11 @@ returns-clause-writes c =
     let e = c.in_ok-term.ensures in
     writes_by_read c.args.memory.now c.read.new.self c.args.mar e.reads.0 e.reads.1
 
-pub returns-clause-widths : goal.returns-clause-widths
-returns-clause-widths c =
+pub returns-clause-inputs : goal.returns-clause-inputs
+returns-clause-inputs c =
     let e = c.in_ok-term.ensures in
     widths_by_read c.args.board.now c.args.terms.now c.read.new.terms c.args.words.now c.read.new.words
-    c.args.memory.now c.read.new.self
+    c.args.memory.now c.read.new.self Inputs
     (goes_by_base c.args.terms.now c.read.new.terms c.args.words.now c.read.new.words c.args.memory.now c.read.new.self
     Board c.args.mar e.reads.0 c.in_ok-term.term e.adds e.reads.1 e.memory e.of e.extends e.keeps e.table)
-    c.requires.widths
+    c.requires.inputs

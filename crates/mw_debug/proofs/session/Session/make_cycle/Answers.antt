@@ -8,7 +8,7 @@ use Rattle.mw_cycle.specs.declared.series.Series.TheVariants.{Inputs}
 use Rattle.mw_debug.proofs.session.Session.make_cycle.Goals as goal
 
 pub cycle-nets-requires-clause-input : goal.cycle-nets-requires-clause-input
-cycle-nets-requires-clause-input c = rw c.given-given.ensures (c.requires.env_in Inputs _)
+cycle-nets-requires-clause-input c = rw c.given-given.ensures (c.requires.env_in.values Inputs _)
 
 pub after-self-requires-clause-cycle : goal.after-self-requires-clause-cycle
 after-self-requires-clause-cycle c =

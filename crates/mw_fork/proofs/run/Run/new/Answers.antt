@@ -11,7 +11,7 @@ use Rattle.mw_rel.specs.Views.{job_of}
 use Rattle.mw_rel.proofs.Elements.{widths_count}
 use Rattle.mw_fork.proofs.FirstListed.{first_listed}
 use Rattle.mw_fork.proofs.OnRun.{path_begins}
-use Rattle.mw_fork.proofs.Runs.{address_at, board_elements, pointer_at, start_no_later, start_widths, under_first}
+use Rattle.mw_fork.proofs.Runs.{address_at, board_elements, pointer_at, start_inputs, start_no_later, under_first}
 use Rattle.mw_fork.proofs.run.Run.new.Goals as goal
 
 pub new-requires : goal.new-requires
@@ -45,7 +45,7 @@ returns-clause-under c =
     (board_elements job t start.terms.items valid are.wide) in
     let e = c.in_ok-board.ensures in
     let symbolic = e.symbolic job.store t words start.space.memory address pointer elements
-    (start_widths job.board t words are.kinds) (start_no_later words are.kinds) in
+    (start_inputs job.board t words are.kinds) (start_no_later words are.kinds) in
     under_first job t words start.space.memory _ start.terms.items _ valid are symbolic e.cycle e.taken e.decided
     (c.in_ok-registers.ensures.items ∙ c.register_terms.ensures ∙ ap (drop k) c.deref-2.ensures.value)
 

@@ -4,11 +4,11 @@ use Rattle.mw_term.specs.MemoryRead.{held, Held}
 use Rattle.mw_cycle.specs.declared.elements.Element.TheVariants.{Mar}
 use Rattle.mw_term.specs.declared.word.Word.{Word}
 use Rattle.mw_symmem.proofs.Later.{goes_by_growth}
-use Rattle.mw_symboard.specs.Kinds.{HaveWidths}
+use Rattle.mw_symboard.specs.Kinds.{AreInputs}
 use Rattle.mw_symboard.specs.Seen.{microword_of, Progress}
 use Rattle.mw_symboard.specs.Turns.{AreNoLater, Symbolic, cycle_left}
 use Rattle.mw_symboard.proofs.Growing.{wide_later}
-use Rattle.mw_symboard.proofs.Staying.{events_stay, none_stay, widths_stay, workspace_grown}
+use Rattle.mw_symboard.proofs.Staying.{events_stay, none_stay, inputs_stay, workspace_grown}
 use Rattle.mw_symboard.proofs.Turning.{read_known}
 use Rattle.mw_symboard.proofs.Finishing.{at_the_end, ended_done, ended_symbolic, shown_keeps, taken_few, written_board}
 use Rattle.mw_symboard.proofs.Finishing.{written_machine, written_workspace, written_reads}
@@ -92,16 +92,16 @@ returns-clause-symbolic c =
     c.take_reading-reading.ensures.taken c.requires.symbolic.reading in
     let cycle : e.place.cycle ≡ o.place.cycle = c.edge.ensures.cycle ∙ ap (λ (s : Symbolic). s.place.cycle) left in
     let events : e.events ≡ o.events = c.edge.ensures.events ∙ ap (λ (s : Symbolic). s.events) left in
-    let widths : HaveWidths board tnew wnew =
-    subst (λ (ws : List Word). HaveWidths board tnew ws) (sym grew.1.words)
-    (widths_stay board told tnew wold grew.0 later c.requires.symbolic.widths) in
+    let inputs : AreInputs board tnew wnew =
+    subst (λ (ws : List Word). AreInputs board tnew ws) (sym grew.1.words)
+    (inputs_stay board told tnew wold grew.0 later c.requires.symbolic.inputs) in
     let none : AreNoLater (o.place.cycle + 1) wnew =
     subst (λ (ws : List Word). AreNoLater (o.place.cycle + 1) ws) (sym grew.1.words)
     (none_stay (o.place.cycle + 1) wold grew.0 known.1) in
     rw (c.leave_cycle.ensures, c.in_ok-show.ensures.shown)
     (ended_symbolic board c.args.store.now.words tnew wnew c.write_memory.new.memory c.microword-microword.result.d.from
     c.microword-microword.result.out c.edge.new.reading.source c.edge.new.reading.y e c.in_ok-edge.ensures.at
-    c.in_ok-edge.ensures.sp c.in_ok-edge.ensures.parts widths
+    c.in_ok-edge.ensures.sp c.in_ok-edge.ensures.parts inputs
     (rw events (events_stay board told tnew o.events later c.requires.symbolic.events))
     (rw c.edge.ensures.source (wide_later told tnew wold wnew board.width r.source grew known.0.source_wide))
     (rw c.edge.ensures.y (wide_later told tnew wold wnew board.width r.y grew known.0.y_wide))

@@ -21,6 +21,7 @@ use Rattle.mw_term.specs.Table.{Table}
 use Rattle.mw_cycle.specs.ReadingWords.{masked_words, source_words}
 use Rattle.mw_symboard.specs.Listed.{standing_of}
 use Rattle.mw_symboard.proofs.Listing.{reading_are}
+use Rattle.mw_cycle.specs.declared.series.Series.TheVariants.{Inputs}
 use Rattle.mw_symboard.proofs.reading.Reading.new.Goals as goal
 
 pub from_source-requires-clause-workspace : goal.from_source-requires-clause-workspace
@@ -36,8 +37,8 @@ from_source-requires-clause-parts c =
     parts_later b t0 c.line_and_noise.new.terms c.place.inside.parts goes.later
     (subst (λ (q : Progress). AreParts b t0 q.parts) (sym c.place.view_is) c.requires.parts)
 
-pub from_source-requires-clause-widths : goal.from_source-requires-clause-widths
-from_source-requires-clause-widths c = c.in_ok-variables.ensures.widths c.args.board.now c.requires.widths
+pub from_source-requires-clause-inputs : goal.from_source-requires-clause-inputs
+from_source-requires-clause-inputs c = c.in_ok-variables.ensures.inputs c.args.board.now c.requires.inputs
 
 pub make_sources-requires-clause-parts : goal.make_sources-requires-clause-parts
 make_sources-requires-clause-parts c =
@@ -158,8 +159,8 @@ returns-clause-goes c =
     c.make_bits.new.words c.condition.new.words m0 m2 goes taken c.in_ok-d.ensures.grew c.in_ok-sources.ensures.grew
     c.in_ok-make_bits.ensures.grew c.in_ok-condition.ensures.grew
 
-pub returns-clause-widths : goal.returns-clause-widths
-returns-clause-widths c =
+pub returns-clause-inputs : goal.returns-clause-inputs
+returns-clause-inputs c =
     let t2 = c.from_source.new.terms in
     let t6 = c.condition.new.terms in
     let w2 = c.from_source.new.words in
@@ -167,7 +168,7 @@ returns-clause-widths c =
     let all = grew_four t2 c.masked.new.terms c.make_sources.new.terms c.make_bits.new.terms t6 w2 c.masked.new.words
     c.make_sources.new.words c.make_bits.new.words w6 c.in_ok-d.ensures.grew c.in_ok-sources.ensures.grew
     c.in_ok-make_bits.ensures.grew c.in_ok-condition.ensures.grew in
-    widths_grew c.args.board.now t2 t6 w2 w6 c.in_ok-source.ensures.widths all
+    widths_grew c.args.board.now t2 t6 w2 w6 Inputs c.in_ok-source.ensures.inputs all
 
 pub returns-clause-none : goal.returns-clause-none
 returns-clause-none c =

@@ -1,7 +1,7 @@
 use Rattle.std.proofs.Common.{slice_index_or}
 use Rattle.mw_rel.specs.Views.{job_of}
 use Rattle.mw_top.specs.Commands.Certify.{no_summary, summary_line}
-use Rattle.mw_top.proofs.Lines.{numbered_more}
+use Rattle.mw_sim.proofs.NumberedLines.{numbered_more}
 use Rattle.mw_top.proofs.commands.certify.append_summaries.Goals as goal
 
 pub loop-number-preserved : goal.loop-number-preserved

@@ -1,5 +1,5 @@
 use Rattle.mw_top.specs.Commands.Equal.{variable_line}
-use Rattle.mw_top.proofs.Lines.{numbered_more}
+use Rattle.mw_sim.proofs.NumberedLines.{numbered_more}
 use Rattle.mw_top.proofs.commands.equal.append_variables.Goals as goal
 
 pub loop-number-preserved : goal.loop-number-preserved

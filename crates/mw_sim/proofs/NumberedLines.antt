@@ -1,12 +1,8 @@
--- Lines behind a text, one after another.
-use Rattle.std.proofs.Common.{◌≡◌, ◌≢◌, ℕ, ◌+◌, ◌-◌, ◌<◌, ◌≤◌, take, List, [], ◌∷◌, ◌++◌, length, slice_index, Bool}
-use Rattle.std.proofs.Common.{false, zero-add, refl, sym, ap, ◌∙◌, subst, arith}
+-- The lines of numbers behind a text, one after another.
+use Rattle.std.proofs.Common.{◌≡◌, ℕ, ◌+◌, List, [], ◌∷◌, ◌++◌, zero-add, ap, sym, ◌∙◌}
 use Rattle.std.specs.List.{flat_map, range_with_len}
 use Rattle.std.proofs.lemmas.List.{map-id, flat_map_more}
 use Rattle.std.proofs.lemmas.List.FromFn.{map-range_with_len_more}
-use Rattle.mw_rel.specs.Completed.{free_value}
-use Rattle.mw_rel.specs.Job.{Job}
-use Rattle.mw_replay.specs.CounterPrinted.{set_line}
 
 -- the numbers up to one more
 numbers_more : (n : ℕ) → range_with_len 0 (n + 1) ≡ range_with_len 0 n ++ n ∷ []
@@ -19,11 +15,3 @@ pub numbered_more : (lines : ℕ → List ℕ) (n : ℕ) (front before after : L
 numbered_more lines n front before after was is =
     is ∙ ap (λ (text : List ℕ). text ++ lines n) was ∙ flat_map_more lines front (range_with_len 0 n) n
     ∙ ap (λ (numbers : List ℕ). front ++ flat_map lines numbers) (sym (numbers_more n))
-
--- ---- the elements that are free
-
--- one that isn't has no line
-pub left_line : (job : Job) (p : ℕ → Bool) (values : List ℕ) (e : ℕ) → p e ≡ false
-    → set_line job e (free_value p values e) ≡ []
-unfolding set_line
-left_line job p values e is = rw is refl

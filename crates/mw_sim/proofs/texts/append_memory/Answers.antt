@@ -1,7 +1,7 @@
 use Rattle.std.proofs.Common.{ℕ, slice_index}
-use Rattle.mw_top.specs.StateText.{word_line}
-use Rattle.mw_top.proofs.Lines.{numbered_more}
-use Rattle.mw_top.proofs.state_text.append_memory.Goals as goal
+use Rattle.mw_sim.specs.Texts.{word_line}
+use Rattle.mw_sim.proofs.NumberedLines.{numbered_more}
+use Rattle.mw_sim.proofs.texts.append_memory.Goals as goal
 
 pub loop-address-preserved : goal.loop-address-preserved
 loop-address-preserved c =
