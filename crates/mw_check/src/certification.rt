@@ -109,8 +109,6 @@ fn next_cycles(
         → HasGone (job_of job.now) boundary budget fork.old summary cases → NoneDiffersBefore (job_of job.now) boundary
         → StopsSearch (job_of job.now) budget stop) }
 {
-    // A call for the proof: its clause `valid` says what holds of every job.
-    let _shape = job.shape();
     let case = match fork.next_case(alloc, job) {
         Ok(Some(case)) => case,
         Ok(None) => return Ok(None),
@@ -188,8 +186,6 @@ pub fn certify(alloc: Global, job: &Job, budget: Budget) -> Result<Verdict, NoMe
     ensures paths { IfOk result (λ v. (number limit : ℕ) → v ≡ verdicts.Unknown (overs.Paths number limit)
         → IsUnknownByPaths (job_of job.now) budget number limit) }
 {
-    // A call for the proof: its clause `valid` says what holds of every job.
-    let _ = job.shape();
     match search_all(alloc, job, budget) {
         Ok(summaries) => Ok(Verdict::Yes(Items::from_vec(summaries))),
         Err(SearchStop::Differs(counter)) => Ok(Verdict::No(counter)),

@@ -46,8 +46,6 @@ fn next_step<A: Datapath>(
     ensures few { HasMade (steps + 1) replay.new }
     ensures valid { IsJob (job_of job.now) }
 {
-    // A call for the proof: its clause `valid` says what holds of every job.
-    let _ = job.shape();
     replay.step(part, job)
 }
 

@@ -189,7 +189,7 @@ none_differs job number elements bits cycles old new path board step reached val
     let wide = wide_compared job.relation.shape.widths (terms_at_end job board step) old new goes
     (wide_at_end job number (ground_in old elements) bits cycles old path board step valid is.ended) in
     let begins = starts.begins in
-    let inputs : AreInputs job.machine start.env.inputs = λ i. rw valid.matched.word (begins.env Inputs i) in
+    let inputs : AreInputs job.machine start.env.inputs = λ i. rw valid.matched.word (begins.env.values Inputs i) in
     let fits =
     step_fits job.machine start.pair.machine (slice_index_or start.env.line 0 false) start.env.inputs 0 valid.machine
     begins.related.machine_fits inputs in

@@ -202,7 +202,7 @@ nothing_shown job number space given start cycles board step reached valid start
     let run = board_run job start cycles in
     let pair = pair_of run.state (first_step job start).state in
     let begins = starts.begins in
-    let inputs : AreInputs job.machine start.env.inputs = λ i. rw valid.matched.word (begins.env Inputs i) in
+    let inputs : AreInputs job.machine start.env.inputs = λ i. rw valid.matched.word (begins.env.values Inputs i) in
     none_where_same job start (record {
       run = run;
       reached = reached;

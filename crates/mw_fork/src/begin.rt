@@ -185,8 +185,6 @@ pub(crate) fn begin_of(
         → (start : Start) × IsChosen (job_of job.now) boundary begin start
         × StandsForStart (job_of job.now) boundary (ground_in space.now elements) (given_by given.now) start) }
 {
-    // A call for the proof: what holds of every job.
-    let _shape = job.shape();
     let values = free_values(alloc, job, boundary, space, given)?;
     let memory = space.memory.image_of(alloc, &space.terms, given)?;
     let env = environment(alloc, space, given)?;

@@ -203,8 +203,6 @@ fn compare_line(
     ensures apart { IfOk result (λ o. IfSome o (λ numbers.
         FailsAt (job_of job.now).relation.shape space.new elements.now (given_by numbers) (line_of line.now))) }
 {
-    // A call for the proof: what holds of every job.
-    let _shape = job.shape();
     let right = expr_term(
         alloc,
         &line.right,
@@ -326,8 +324,6 @@ fn compare_memory(
     ensures same { IfOk result (λ o. o ≡ None → AreOneAtProbe space.new (path_in paths.old)) }
     ensures apart { IfOk result (λ o. IfSome o (λ numbers. AreTwoInMemory space.new (given_by numbers))) }
 {
-    // A call for the proof: what holds of every job.
-    let _shape = job.shape();
     let address = job.board.parts().address;
     let probe = space
         .words
@@ -405,8 +401,6 @@ fn compare_all(
     ensures apart { IfOk result (λ o. IfSome o (λ numbers. AreApart (job_of job.now).relation.shape space.new
         (given_by numbers) elements.now (lines_of lines.now) board.now machine.now)) }
 {
-    // A call for the proof: what holds of every job.
-    let _shape = job.shape();
     if let Some(found) = compare_events(alloc, space, paths, board, machine, nodes)? {
         // A call for the proof: no two variables have one kind.
         let _ = space.words.count();
@@ -454,8 +448,6 @@ fn compare_sides(
         → HasMetCase (job_of job.now) number elements from cycles late way run.old (Some step.now)
         → ComparisonStops (job_of job.now) number nodes (met_of way) stop) }
 {
-    // A call for the proof: what holds of every job.
-    let _shape = job.shape();
     // Laws for the proof: each term of the word list that is no constant has a word, and so has one that is over a
     // budget.
     words_of_cases_are_numbered();
@@ -514,8 +506,6 @@ pub(crate) fn first_failing(
         traced.old.run traced.old.step
         → ComparisonStops (job_of job.now) number nodes (met_of way) stop) }
 {
-    // A call for the proof: what holds of every job.
-    let _shape = job.shape();
     match &traced.step {
         None => Ok(traced.run.paths.first_assignment(alloc)?),
         Some(step) => compare_sides(alloc, job, &mut traced.run, step, nodes),

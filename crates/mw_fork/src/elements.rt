@@ -188,8 +188,6 @@ fn relate_line(
     ensures listed { OnOk result (line_words (job_of job.now).relation.shape own.now (line_of line.now)
         (all_ended terms.old.items (list_of_space space.old)) ≡ all_ended terms.new.items (list_of_space space.new)) }
 {
-    // A call for the proof: what holds of every job.
-    let _shape = job.shape();
     let term = expr_term(
         alloc,
         &line.right,
@@ -255,8 +253,6 @@ pub(crate) fn elements_at(alloc: Global, job: &Job, boundary: usize) -> Result<E
     let mut space = Space::new(alloc, job)?;
     let own = own_terms(alloc, job, boundary, &mut space)?;
     let mut terms = Vec::from_slice(alloc, &own)?;
-    // A call for the proof: what holds of every job.
-    let _shape = job.shape();
     let lines = job.boundary(boundary).lines.as_slice();
     relate(alloc, job, lines, &own, &mut space, &mut terms)?;
     // A call for the proof: no two variables have one kind.

@@ -149,8 +149,6 @@ fn trace(
     ensures fresh { IfOk result (λ traced. term_of traced.run.space.words Probe ≡ None) }
     ensures paths { IfOk result (λ traced. HavePaths traced.run.space traced.run.paths) }
 {
-    // A call for the proof: what holds of every job.
-    let _shape = job.shape();
     let mut run = Run::new(alloc, job, boundary)?;
     let bound = job.boundary(boundary).bound;
     let reached = segment(alloc, job, bound, &mut run, way, nodes)?;
@@ -277,8 +275,6 @@ impl Fork {
             → e ≡ faults.Over (overs.Nodes boundary prefix word bit) → (other : List Decided)
             → IsCase (job_of job.now) boundary other → IsBefore other prefix → ¬ IsToCome self.old.at other) }
     {
-        // A call for the proof: what holds of every job.
-        let _shape = job.shape();
         if !lead_on(self.stage, &mut self.way) {
             self.stage = Stage::Behind;
             return Ok(None);
@@ -334,8 +330,6 @@ impl Fork {
             × AreNodesOver (job_of job.now) boundary self.old.budget.nodes prefix word bit) }
         ensures paths { IfErr result (λ e. (boundary limit : ℕ) → e ≢ faults.Over (overs.Paths boundary limit)) }
     {
-        // A call for the proof: what holds of every job.
-        let _shape = job.shape();
         self.way.begin_anew();
         // The case was run before within its budget; this time no budget is asked that could be passed.
         let Ok(mut traced) = trace(alloc, job, self.boundary, &mut self.way, u32::MAX) else {

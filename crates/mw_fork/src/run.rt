@@ -65,8 +65,6 @@ impl Run {
         ensures first { IfOk result (λ r. (elements : List ℕ) × IsFirst (job_of job.now) boundary elements r) }
         ensures paths { IfOk result (λ r. HavePaths r.space r.paths) }
     {
-        // A call for the proof: what holds of every job.
-        let _shape = job.shape();
         let start = elements_at(alloc, job, boundary)?;
         let at = job.boundary(boundary);
         let board = SymBoard::new(
@@ -97,8 +95,6 @@ impl Run {
         ensures goes { IfOk result (Turns (job_of job.now) self.old self.new) }
         ensures paths { OnOk result (HavePaths self.new.space self.new.paths) }
     {
-        // A call for the proof: what holds of every job.
-        let _shape = job.shape();
         // A law for the proof: the bits that were made are right for a table with more terms.
         stays_with_terms();
         let turn = self.board.sym_cycle(
@@ -137,8 +133,6 @@ impl Run {
         ensures over { IfErr result (SettlesNot (job_of job.now) nodes way.old way.new self.old kind term) }
         ensures paths { OnOk result (HavePaths self.new.space self.new.paths) }
     {
-        // A call for the proof: what holds of every job.
-        let _shape = job.shape();
         let value = decide(alloc, &self.space, &mut self.paths, kind, term, way, nodes)?;
         self.board.decide(value);
         Ok(())

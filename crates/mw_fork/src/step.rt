@@ -64,8 +64,6 @@ fn begin(alloc: Global, job: &Job, run: &Run) -> Result<SymMach, NoMemory>
         → IsOnStep (job_of job.now) number elements from cycles
         (ways.met_of way) run.now.board way run.now.space run.now.paths s) }
 {
-    // A call for the proof: what holds of every job.
-    let _shape = job.shape();
     // A call for the proof: no two variables have one kind.
     let _ = run.space.words.count();
     let request = request(&run.space.terms, &run.space.words);
@@ -91,8 +89,6 @@ fn turn(alloc: Global, job: &Job, space: &mut Space, step: &mut SymMach) -> Resu
         → IsTurnedOnStep (job_of job.now) number elements from cycles segment board way space.new paths step.new turn) }
     ensures paths { OnOk result ((paths : diagrams.Paths) → HavePaths space.old paths → HavePaths space.new paths) }
 {
-    // A call for the proof: what holds of every job.
-    let _shape = job.shape();
     // A law for the proof: the bits that were made are right for a table with more terms.
     stays_with_terms();
     // A law for the proof: a step goes along the bits that are given to it.
@@ -152,8 +148,6 @@ fn decide_branch(
         → StopsBy (job_of job.now) number nodes from way.new stop) }
     ensures paths { OnOk result (HavePaths space.now paths.new) }
 {
-    // A call for the proof: what holds of every job.
-    let _shape = job.shape();
     // A law for the proof: a step goes along the bits that are given to it.
     steps_go_along();
     let value = decide(alloc, space, paths, kind, term, way, nodes)?;

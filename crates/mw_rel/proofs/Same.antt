@@ -120,7 +120,7 @@ shown_boundary job start run None none = cc
 
 -- what is taken are words of the machine's memory
 inputs_fit : (job : Job) (start : Start) → IsJob job → IsStart job start → AreInputs job.machine start.env.inputs
-inputs_fit job start is begins i = rw is.matched.word (begins.env Inputs i)
+inputs_fit job start is begins i = rw is.matched.word (begins.env.values Inputs i)
 
 -- the board where its segment ended fits
 reached_fits : (job : Job) (start : Start) (run : BoardRun) → IsJob job → IsStart job start → Segment job start run

@@ -15,6 +15,7 @@ pub mod InRelation
 pub mod Job
 pub mod Laws
 pub mod Lines
+pub mod OneProof
 pub mod OverBudget
 pub mod PathWords
 pub mod Relation

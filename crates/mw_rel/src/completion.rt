@@ -145,8 +145,6 @@ fn board_of(
     ensures set { IfOk result (λ state. (e : ℕ) → e < element_count (job_of job.now).board
         → element (job_of job.now).board state e ≡ slice_index values.now e) }
 {
-    // A call for the proof: its clause `valid` says what holds of every job.
-    let _ = job.shape();
     let mut state = State::new(alloc, &job.board)?;
     set_elements(&job.board, &mut state, values);
     stand_at(&mut state, at, memory);
@@ -184,8 +182,6 @@ fn machine_of(
         (λ state. state ≡ kept (drop (element_count (job_of job.now).board) values.now) memory.now) }
     ensures fits { IfOk result (λ state. machines.Fits (job_of job.now).machine state) }
 {
-    // A call for the proof: its clause `valid` says what holds of every job.
-    let _ = job.shape();
     let mut state = MacState::new(alloc, &job.machine)?;
     let registers = behind(values, job.board.element_count());
     fill(&mut state, registers, memory);
@@ -200,8 +196,6 @@ fn place_given(job: &Job, at: &Boundary, begin: &Begin, places: &mut [u32])
     ensures placed { (e : ℕ) → e < length places.new
         → slice_index places.new e ≡ free_value (is_free (boundary_of at.now)) begin.now.values e }
 {
-    // A call for the proof: its clause `valid` says what holds of every job.
-    let _ = job.shape();
     place_free(at, begin.values.as_slice(), places);
 }
 
@@ -246,8 +240,6 @@ fn pair_at(
     ensures values { IfOk result (λ pair. values_of (job_of job.now).board pair ≡ values.now) }
     ensures memory { IfOk result (λ pair. pair.machine.memory ≡ memory.now) }
 {
-    // A call for the proof: its clause `valid` says what holds of every job.
-    let _ = job.shape();
     let board = board_of(alloc, job, at, values, memory)?;
     let machine = machine_of(alloc, job, values, memory)?;
     Ok(Pair { board, machine })

@@ -49,7 +49,5 @@ pub fn line_difference(job: &Job, boundary: usize, pair: &Pair) -> Option<Differ
     requires fit { BothFit (job_of job.now) pair.now }
     ensures { result ≡ line_difference (job_of job.now) (numbered (job_of job.now) boundary) pair.now }
 {
-    // A call for the proof: its clause `valid` says what holds of every job.
-    let _ = job.shape();
     fails_at(job, job.boundary(boundary), pair)
 }

@@ -1,9 +1,11 @@
 // Jobs.
 ghost use Rattle.std.specs.Prelude.{◌≡◌, ◌+◌, ◌≤◌, List, map, take, length, IfOk, IfErr, IsOk, true, false};
+ghost use Rattle.std.proofs.Props.{props};
 ghost use Rattle.mw_board.specs.Elements.{elements_of};
 ghost use Rattle.mw_base.specs.declared.cause.Cause.TheVariants.{ShapesDiffer};
 ghost use Rattle.mw_macro.specs.Described.{description_of};
-ghost use Rattle.mw_rel.specs.Job.{shape_of, AreMatched};
+ghost use Rattle.mw_rel.specs.Job.{shape_of, IsJob, job_with};
+ghost use Rattle.mw_rel.specs.OneProof.{board_once};
 ghost use Rattle.mw_rel.specs.Relation.{related};
 ghost use Rattle.mw_rel.specs.Seen.{boundaries_of};
 
@@ -49,8 +51,8 @@ pub fn shape_of(alloc: Global, board: &Board, machine: &Machine) -> Result<Shape
 }
 
 /// What is certified: that a board with its microprogram does what a described machine does, as a relation between
-/// them says. Contracts see it as its parts; `are_matched` says of them that the relation was made for both, and that
-/// both memories have the same widths.
+/// them says. Contracts see it as its parts; `is_job` says what holds of them: the board and the machine keep their
+/// rules, the relation was made for both, and both memories have the same widths.
 #[derive(Drop)]
 pub struct Job {
     /// The board.
@@ -61,15 +63,15 @@ pub struct Job {
     pub machine: Machine,
     /// The relation between them.
     pub relation: Relation,
-    pub ghost are_matched: { AreMatched board (description_of machine)
-        (related (boundaries_of relation.boundaries.items) relation.shape) },
+    pub ghost is_job: { IsJob (job_with board store.words (description_of machine)
+        (related (boundaries_of relation.boundaries.items) relation.shape)) } by { Prim.hlevel (board_once board, props) },
 }
 
 impl Job {
     ghost use Rattle.std.specs.Prelude.{◌<◌, length};
     ghost use Rattle.mw_board.specs.Elements.{element_count};
     ghost use Rattle.mw_rel.specs.Free.{numbered};
-    ghost use Rattle.mw_rel.specs.Job.{job_with, AreForEachOther, memories_agree, IsJob};
+    ghost use Rattle.mw_rel.specs.Job.{AreForEachOther, memories_agree};
     ghost use Rattle.mw_rel.specs.Seen.{boundary_of};
     ghost use Rattle.mw_rel.specs.Views.{relation_of, job_of};
 
@@ -110,11 +112,8 @@ impl Job {
     /// The shape that the lines of its relation are over: the widths of the elements of both sides, and those of the
     /// memory.
     pub fn shape(&self) -> &Shape
-        ensures exact { result.now ≡ (job_of self.now).relation.shape }
-        ensures valid { IsJob (job_of self.now) }
+        ensures { result.now ≡ (job_of self.now).relation.shape }
     {
-        // A call for the proof: its clause `valid` says what holds of every board.
-        let _ = self.board.parts();
         self.relation.shape()
     }
 
@@ -131,7 +130,6 @@ impl Job {
         ensures exact { result ≡ length (job_of self.now).relation.shape.widths }
         ensures both { result ≡ element_count (job_of self.now).board + (job_of self.now).machine.registers }
         ensures few { result ≤ 170 }
-        ensures valid { IsJob (job_of self.now) }
     {
         self.shape().widths.as_slice().len()
     }

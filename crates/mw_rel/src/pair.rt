@@ -118,8 +118,6 @@ pub fn holds(job: &Job, boundary: usize, pair: &Pair) -> bool
     requires there { boundary < length (job_of job.now).relation.boundaries }
     ensures { IsTrue result ↔ InRelation (job_of job.now) (numbered (job_of job.now) boundary) pair.now }
 {
-    // A call for the proof: its clause `valid` says what holds of every job.
-    let _ = job.shape();
     let at = job.boundary(boundary);
     if !fit(job, pair) {
         return false;

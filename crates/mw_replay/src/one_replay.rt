@@ -23,8 +23,6 @@ pub fn replay(alloc: Global, job: &Job, counter: &Counter) -> Result<Option<Diff
     ensures { IfOk result (λ shown. (start : Start) × IsStartOf (job_of job.now) counter.now start
         × (shown ≡ difference_of (job_of job.now) start)) }
 {
-    // A call for the proof: its clause `valid` says what holds of every job.
-    let _ = job.shape();
     let mut replay = Replay::start(alloc, job, counter)?;
     Ok(replay.step(&Whole, job))
 }

@@ -231,8 +231,7 @@ pub fn print_counter(alloc: Global, job: &Job, counter: &Counter) -> Result<Vec<
         → AreShort (shortened counter.now.begin.env)
         → counter_of (job_of job.now) labels (no_lines difference ++ text.items) ≡ Ok (in_short counter.now)) }
 {
-    // Calls for the proof: their clauses `valid` and `kept` say what holds of every job and of every board.
-    let _ = job.shape();
+    // A call for the proof: its clause `kept` says what holds of every board.
     let _ = job.board.parts();
     let text = counter_text(alloc, job, counter)?;
     Ok(text)

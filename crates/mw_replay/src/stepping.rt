@@ -189,8 +189,6 @@ fn run_both<A: Datapath>(part: &A, job: &Job, stand: &mut Stand) -> Option<Reach
     ensures late { result ≡ None → difference_of (job_of job.now) (next_start (job_of job.now) (replay_of stand.old))
         ≡ Some Late }
 {
-    // A call for the proof: its clause `valid` says what holds of every job.
-    let _ = job.shape();
     let limit = job.boundary(stand.boundary).bound;
     run_step(
         job,

@@ -106,8 +106,6 @@ fn counter_with(
     ensures exact { IfOk result (λ counter. counter ≡ counter_with (job_of job.now) boundary (given_seen given)) }
     ensures counts { IfOk result (λ counter. IsCounter (job_of job.now) counter) }
 {
-    // A call for the proof: its clause `valid` says what holds of every job.
-    let _ = job.shape();
     let values = free_values(alloc, job, boundary, &given.values)?;
     let env = environment_with(alloc, &job.board, &given)?;
     let memory = given.memory;

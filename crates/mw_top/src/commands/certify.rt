@@ -237,8 +237,6 @@ fn difference_shown(alloc: Global, job: &Job, counter: &Counter) -> Result<Diffe
     requires { IsNo (job_of job.now) counter.now }
     ensures { IfOk result (Shows (job_of job.now) counter.now) }
 {
-    // A call for the proof: its clause `valid` says what holds of every job.
-    let _ = job.shape();
     match replay(alloc, job, counter)? {
         Some(difference) => Ok(difference),
         None => unreachable!(),
@@ -271,8 +269,7 @@ fn append_no(
     requires no { IsNo (job_of job.now) counter.now }
     ensures { OnOk result (IsNoReport (job_of job.now) counter.now report.new.items) }
 {
-    // Calls for the proof: their clauses `valid` and `kept` say what holds of every job and of every board.
-    let _ = job.shape();
+    // A call for the proof: its clause `kept` says what holds of every board.
     let _ = job.board.parts();
     let difference = difference_shown(alloc, job, counter)?;
     append_no_lines(alloc, report, job, difference)?;
@@ -304,8 +301,6 @@ fn append_verdict(
 pub(super) fn report(alloc: Global, job: &Job, budget: Budget) -> Result<Outcome, NoMemory>
     ensures { IfOk result (λ outcome. IsCertification budget (job_of job.now) outcome.status outcome.report.items) }
 {
-    // A call for the proof: its clause `valid` says what holds of every job.
-    let _ = job.shape();
     let verdict = certify(alloc, job, budget)?;
     let mut report = Vec::new(alloc);
     append_verdict(alloc, &mut report, job, budget, &verdict)?;

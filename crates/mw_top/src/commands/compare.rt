@@ -108,8 +108,6 @@ pub(super) fn report(
         labelled: Labelled { job, .. },
         counter,
     } = comparison;
-    // A call for the proof: its clause `valid` says what holds of every job.
-    let _ = job.shape();
     let compared = compare(alloc, job, counter, steps, parts)?;
     let mut report = Vec::new(alloc);
     append_comparison(alloc, &mut report, job, steps, compared)?;

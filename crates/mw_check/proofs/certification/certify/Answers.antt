@@ -4,7 +4,7 @@ use Rattle.mw_check.proofs.certification.certify.Goals as goal
 
 pub returns-in-Ok-clause-yes : goal.returns-in-Ok-clause-yes
 returns-in-Ok-clause-yes c = λ summaries is.
-    certified (job_of c.args.job.now) c.args.budget c.in-Ok.summaries.items c.shape.ensures.valid
+    certified (job_of c.args.job.now) c.args.budget c.in-Ok.summaries.items c.args.job.now.is_job
     c.in-Ok.ensures.searched
     c.in-Ok.ensures.count
 

@@ -11,7 +11,7 @@ use Rattle.mw_check.proofs.certification.next_cycles.Goals as goal
 pub returns-in-Ok-None-clause-all : goal.returns-in-Ok-None-clause-all
 returns-in-Ok-None-clause-all c = λ none budget summary cases gone.
     let job = job_of c.args.job.now in
-    after_all job c.args.boundary budget c.args.fork.now summary cases c.shape-shape.ensures.valid gone
+    after_all job c.args.boundary budget c.args.fork.now summary cases c.args.job.now.is_job gone
     (subst (λ n. NoneIsToCome job n c.args.fork.now.at) gone.boundary
     (c.in-Ok-None.ensures.none c.in-Ok-None.field-0-is))
 
@@ -40,7 +40,7 @@ returns-in-Ok-None-differs-clause-more c = λ budget summary cases gone.
     let here = said.boundary ∙ gone.boundary in
     let same = said.budget ∙ gone.budget_is in
     one_more job c.args.boundary budget c.args.fork.now c.differs.new.self summary cases bits c.in-Ok-Some.case.cycles
-    c.shape-shape.ensures.valid gone (rw found.same (record {
+    c.args.job.now.is_job gone (rw found.same (record {
       of = said.of;
       boundary = here;
       budget_is = same;
@@ -69,7 +69,7 @@ returns-in-Ok-Some-differs-clause-stops c = λ budget summary cases gone none.
     let said = c.in-Ok-Some.ensures in
     let bits = c.in-Ok-Some.case.prefix in
     stops_at_start job c.args.boundary budget c.args.fork.now c.next_case.new.self summary cases bits
-    c.in-Ok-Some-differs.begin _ c.shape-shape.ensures.valid (record {
+    c.in-Ok-Some-differs.begin _ c.args.job.now.is_job (record {
       boundary = said.boundary ∙ gone.boundary;
       budget_is = said.budget ∙ gone.budget_is;
       at = rw c.in-Ok-Some.field-0-is at said.at;

@@ -7,13 +7,13 @@ use Rattle.mw_check.proofs.comparison.next_step.Goals as goal
 
 pub step-requires-clause-cycles : goal.step-requires-clause-cycles
 step-requires-clause-cycles g c =
-    let solved = solved_at (job_of c.args.job.now) c.args.replay.now.boundary c.shape.ensures.valid
+    let solved = solved_at (job_of c.args.job.now) c.args.replay.now.boundary c.args.job.now.is_job
     c.requires.stands.there in
     omega (arith, c.requires.few.cycles, solved.most)
 
 pub step-requires-clause-taken : goal.step-requires-clause-taken
 step-requires-clause-taken g c =
-    let solved = solved_at (job_of c.args.job.now) c.args.replay.now.boundary c.shape.ensures.valid
+    let solved = solved_at (job_of c.args.job.now) c.args.replay.now.boundary c.args.job.now.is_job
     c.requires.stands.there in
     omega (arith, c.requires.few.taken, solved.most)
 

@@ -17,5 +17,5 @@ returns-clause-start c = λ elements ground.
     let begin : Begin =
     record { values = c.in_ok-values.values.items; memory = c.in_ok-memory.memory.items; env = c.in_ok-env.env } in
     start_begun (job_of c.args.job.now) c.args.boundary c.args.space.now elements (given_by c.args.given.now) begin
-    c.shape-shape.ensures.valid ground c.in_ok-values.ensures c.in_ok-memory.ensures.image c.in_ok-memory.ensures.fit
+    c.args.job.now.is_job ground c.in_ok-values.ensures c.in_ok-memory.ensures.image c.in_ok-memory.ensures.fit
     c.in_ok-env.ensures.entries

@@ -21,7 +21,7 @@ use Rattle.mw_fork.proofs.comparing.compare_line.Goals as goal
 pub expr_term-requires : goal.expr_term-requires
 expr_term-requires c =
     let job = job_of c.args.job.now in
-    let valid = c.shape-shape.ensures.valid in
+    let valid = c.args.job.now.is_job in
     line_ready job.relation.shape c.args.space.now c.args.elements.now (line_of c.args.line.now) c.requires.line_of
     c.requires.space.workspace c.requires.wide
     (shape_is job.relation.shape c.args.space.now.terms c.args.elements.now c.args.space.now.memory c.requires.wide
@@ -39,7 +39,7 @@ apart-requires-clause-paths c =
 pub apart-requires-clause-wide : goal.apart-requires-clause-wide
 apart-requires-clause-wide c =
     let job = job_of c.args.job.now in
-    let valid = c.shape-shape.ensures.valid in
+    let valid = c.args.job.now.is_job in
     let mid : Space =
     record { terms = c.expr_term.new.terms; words = c.expr_term.new.words; memory = c.expr_term.new.memory } in
     both_wide job.relation.shape c.args.space.now mid c.args.elements.now (line_of c.args.line.now)
@@ -65,7 +65,7 @@ right_made : (c : goal.After-apart)
     (line_of c.args.line.now) c.in_ok-right.right
 right_made c =
     let job = job_of c.args.job.now in
-    let valid = c.shape-shape.ensures.valid in
+    let valid = c.args.job.now.is_job in
     record {
       workspace = c.requires.space.workspace;
       shape = shape_is job.relation.shape c.args.space.now.terms c.args.elements.now c.args.space.now.memory

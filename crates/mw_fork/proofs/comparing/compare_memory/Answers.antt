@@ -80,7 +80,7 @@ leads : (c : goal.After-apart)
     (λ on so_far. with_memory (job_of c.args.job.now).relation.shape on so_far)
 leads c =
     let job = job_of c.args.job.now in
-    let valid = c.shape-shape.ensures.valid in
+    let valid = c.args.job.now.is_job in
     memory_leads job.relation.shape c.args.nodes c.args.space.now (first_space c) c.read_at.new.space
     c.read_at-2.new.space (path_in c.args.paths.now) c.parts.result.now.address c.in_ok-probe.probe c.in_ok-board.board
     c.in_ok-machine.machine (board_address job valid ∙ sym (ap (λ b. b.address) c.parts.ensures.exact))

@@ -29,7 +29,7 @@ unreachable-requires c =
     let job = job_of c.args.job.now in
     let run = c.args.run.now in
     let m = c.requires.met in
-    let valid = c.shape-shape.ensures.valid in
+    let valid = c.args.job.now.is_job in
     at_boundary job m.0 m.2 (met_of m.5) m.1 run.space (path_in run.paths) run.board c.args.step.now valid
     (ended_met job m.0 m.2 m.3 m.1 m.4 m.5 run c.args.step.now valid m.6)
     (ap (boundary_at job) (sym c.at.ensures) ∙ c.in_default.ensures.none refl)
@@ -38,7 +38,7 @@ pub returns-then-alike-sp-clause-none : goal.returns-then-alike-sp-clause-none
 returns-then-alike-sp-clause-none c = λ none number cycles elements from late way met.
     let run = c.args.run.now in
     nowhere_none (job_of c.args.job.now) number elements (met_of way) run.space
-    (path_in run.paths) c.shape-shape.ensures.valid
+    (path_in run.paths) c.args.job.now.is_job
     met.on.stands met.on.cases (c.in_ok-first_assignment.ensures.none none)
 
 pub returns-then-alike-sp-clause-within : goal.returns-then-alike-sp-clause-within
@@ -46,7 +46,7 @@ returns-then-alike-sp-clause-within c = λ none number cycles elements from late
     let job = job_of c.args.job.now in
     let run = c.args.run.now in
     let step = c.args.step.now in
-    let valid = c.shape-shape.ensures.valid in
+    let valid = c.args.job.now.is_job in
     let reached = boundary_of c.in-Some.reached.now in
     let there : boundary_at job run.board.place.at ≡ Some reached =
     ap (boundary_at job) (sym c.at.ensures) ∙ c.in-Some.ensures.some in
@@ -62,7 +62,7 @@ returns-then-alike-sp-clause-found c =
     let job = job_of c.args.job.now in
     let run = c.args.run.now in
     let step = c.args.step.now in
-    let valid = c.shape-shape.ensures.valid in
+    let valid = c.args.job.now.is_job in
     let reached = boundary_of c.in-Some.reached.now in
     let there : boundary_at job run.board.place.at ≡ Some reached =
     ap (boundary_at job) (sym c.at.ensures) ∙ c.in-Some.ensures.some in
@@ -81,7 +81,7 @@ compare_all-requires-clause-events c =
     let job = job_of c.args.job.now in
     let run = c.args.run.now in
     let step = c.args.step.now in
-    let valid = c.shape-shape.ensures.valid in
+    let valid = c.args.job.now.is_job in
     let reached = boundary_of c.in-Some.reached.now in
     let there : boundary_at job run.board.place.at ≡ Some reached =
     ap (boundary_at job) (sym c.at.ensures) ∙ c.in-Some.ensures.some in
@@ -102,7 +102,7 @@ compare_all-requires-clause-lines_of c =
     let job = job_of c.args.job.now in
     let run = c.args.run.now in
     let step = c.args.step.now in
-    let valid = c.shape-shape.ensures.valid in
+    let valid = c.args.job.now.is_job in
     let reached = boundary_of c.in-Some.reached.now in
     let there : boundary_at job run.board.place.at ≡ Some reached =
     ap (boundary_at job) (sym c.at.ensures) ∙ c.in-Some.ensures.some in
@@ -115,7 +115,7 @@ compare_all-requires-clause-few c =
     let job = job_of c.args.job.now in
     let run = c.args.run.now in
     let step = c.args.step.now in
-    let valid = c.shape-shape.ensures.valid in
+    let valid = c.args.job.now.is_job in
     let reached = boundary_of c.in-Some.reached.now in
     let there : boundary_at job run.board.place.at ≡ Some reached =
     ap (boundary_at job) (sym c.at.ensures) ∙ c.in-Some.ensures.some in
@@ -129,7 +129,7 @@ compare_all-requires-clause-wide c =
     let job = job_of c.args.job.now in
     let run = c.args.run.now in
     let step = c.args.step.now in
-    let valid = c.shape-shape.ensures.valid in
+    let valid = c.args.job.now.is_job in
     let reached = boundary_of c.in-Some.reached.now in
     let there : boundary_at job run.board.place.at ≡ Some reached =
     ap (boundary_at job) (sym c.at.ensures) ∙ c.in-Some.ensures.some in
@@ -146,7 +146,7 @@ returns-clause-none c = λ none number cycles elements from late way met.
     let job = job_of c.args.job.now in
     let run = c.args.run.now in
     let step = c.args.step.now in
-    let valid = c.shape-shape.ensures.valid in
+    let valid = c.args.job.now.is_job in
     let reached = boundary_of c.in-Some.reached.now in
     let there : boundary_at job run.board.place.at ≡ Some reached =
     ap (boundary_at job) (sym c.at.ensures) ∙ c.in-Some.ensures.some in
@@ -171,7 +171,7 @@ returns-clause-within c = λ none number cycles elements from late way met.
     let job = job_of c.args.job.now in
     let run = c.args.run.now in
     let step = c.args.step.now in
-    let valid = c.shape-shape.ensures.valid in
+    let valid = c.args.job.now.is_job in
     let reached = boundary_of c.in-Some.reached.now in
     let there : boundary_at job run.board.place.at ≡ Some reached =
     ap (boundary_at job) (sym c.at.ensures) ∙ c.in-Some.ensures.some in
@@ -194,7 +194,7 @@ returns-clause-found c =
     let job = job_of c.args.job.now in
     let run = c.args.run.now in
     let step = c.args.step.now in
-    let valid = c.shape-shape.ensures.valid in
+    let valid = c.args.job.now.is_job in
     let reached = boundary_of c.in-Some.reached.now in
     let there : boundary_at job run.board.place.at ≡ Some reached =
     ap (boundary_at job) (sym c.at.ensures) ∙ c.in-Some.ensures.some in
@@ -231,7 +231,7 @@ returns-in_err-found-clause-over c =
     let job = job_of c.args.job.now in
     let run = c.args.run.now in
     let step = c.args.step.now in
-    let valid = c.shape-shape.ensures.valid in
+    let valid = c.args.job.now.is_job in
     let reached = boundary_of c.in-Some.reached.now in
     let there : boundary_at job run.board.place.at ≡ Some reached =
     ap (boundary_at job) (sym c.at.ensures) ∙ c.in-Some.ensures.some in

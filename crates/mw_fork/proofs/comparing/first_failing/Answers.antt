@@ -11,7 +11,7 @@ pub returns-in_ok-first_assignment-in-None-clause-none : goal.returns-in_ok-firs
 returns-in_ok-first_assignment-in-None-clause-none c = λ none number elements from way met.
     let traced = c.args.traced.now in
     late_none (job_of c.args.job.now) number elements from traced.cycles traced.late way traced.run traced.step
-    c.shape-shape.ensures.valid met (c.in_ok-first_assignment-in-None.ensures.none none)
+    c.args.job.now.is_job met (c.in_ok-first_assignment-in-None.ensures.none none)
 
 pub returns-in_ok-first_assignment-in-None-clause-found : goal.returns-in_ok-first_assignment-in-None-clause-found
 returns-in_ok-first_assignment-in-None-clause-found c =
@@ -19,7 +19,7 @@ returns-in_ok-first_assignment-in-None-clause-found c =
     some_as (IsFirst (path_in traced.run.paths)) _ c.in_ok-first_assignment-in-None.field-0
     (λ numbers first number elements from way met.
     late_found (job_of c.args.job.now) number elements from traced.cycles traced.late way traced.run traced.step numbers
-    c.shape-shape.ensures.valid c.in-None.is met first) c.in_ok-first_assignment-in-None.ensures.first
+    c.args.job.now.is_job c.in-None.is met first) c.in_ok-first_assignment-in-None.ensures.first
 
 pub returns-in-Some-clause-none : goal.returns-in-Some-clause-none
 returns-in-Some-clause-none c =

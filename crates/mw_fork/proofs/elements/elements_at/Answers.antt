@@ -19,7 +19,7 @@ relate-requires-clause-lines_of c =
     let P = IsLineOf job.relation.shape in
     subst (λ xs. All P (lines_of xs)) (sym c.as_slice-lines.ensures)
     (subst (λ (b : Boundary). All P b.lines) (sym c.boundary.ensures)
-    (solved_at job c.args.boundary c.shape-shape.ensures.valid c.requires.boundary).lines)
+    (solved_at job c.args.boundary c.args.job.now.is_job c.requires.boundary).lines)
 
 pub returns-clause-elements : goal.returns-clause-elements
 returns-clause-elements c =
@@ -35,7 +35,7 @@ returns-clause-stands c =
     ap lines_of c.as_slice-lines.ensures ∙ ap (λ (b : Boundary). b.lines) c.boundary.ensures in
     let none = ap (λ (m : Memory). m.machine) first.memory ∙ c.in_ok-space.ensures.unwritten.1 in
     ground_begun job number _ (lines_of c.as_slice-lines.result.now) _ _ _ _ _ _ c.in_ok-own.own.items _ _
-    c.shape-shape.ensures.valid c.requires.boundary first.elements first.own none c.deref-2.ensures.value here
+    c.args.job.now.is_job c.requires.boundary first.elements first.own none c.deref-2.ensures.value here
     (seen_count c.as_slice-lines.result.now) after.related after.own after.wide c.count.ensures.own
 
 pub returns-clause-unwritten : goal.returns-clause-unwritten

@@ -8,7 +8,7 @@ use Rattle.mw_fork.proofs.elements.relate_line.Goals as goal
 
 pub expr_term-requires : goal.expr_term-requires
 expr_term-requires c =
-    ready (job_of c.args.job.now) _ _ _ _ (line_of c.args.line.now) c.shape-shape.ensures.valid c.requires.own
+    ready (job_of c.args.job.now) _ _ _ _ (line_of c.args.line.now) c.args.job.now.is_job c.requires.own
     c.requires.line_of c.requires.few
 
 pub returns-clause-own : goal.returns-clause-own
@@ -17,7 +17,7 @@ returns-clause-own c =
 
 pub returns-clause-wide : goal.returns-clause-wide
 returns-clause-wide c =
-    wide_set (job_of c.args.job.now) _ _ _ _ _ _ _ _ _ (line_of c.args.line.now) _ c.shape-shape.ensures.valid
+    wide_set (job_of c.args.job.now) _ _ _ _ _ _ _ _ _ (line_of c.args.line.now) _ c.args.job.now.is_job
     c.requires.own c.requires.line_of c.in_ok-term.ensures.made c.requires.wide
 
 pub returns-clause-related : goal.returns-clause-related
@@ -30,4 +30,4 @@ pub returns-clause-listed : goal.returns-clause-listed
 returns-clause-listed c =
     let now = c.expr_term.new in
     line_listed (job_of c.args.job.now) _ now.terms _ now.words _ now.memory _ _ (line_of c.args.line.now) _
-    c.shape-shape.ensures.valid c.requires.own c.requires.unwritten c.in_ok-term.ensures.listed
+    c.args.job.now.is_job c.requires.own c.requires.unwritten c.in_ok-term.ensures.listed

@@ -9,6 +9,6 @@ pub returns-clause-range : goal.returns-clause-range
 returns-clause-range c =
     let job = job_of c.args.job.now in
     let same : c.as_slice.result.now ≡ job.relation.shape.widths =
-    c.as_slice.ensures ∙ ap (λ (s : Shape). s.widths) c.shape-shape.ensures.exact in
+    c.as_slice.ensures ∙ ap (λ (s : Shape). s.widths) c.shape-shape.ensures in
     subst (λ xs. IsWidth (slice_index xs c.args.number)) (sym same)
-    (wide_at job c.args.number c.shape-shape.ensures.valid c.requires)
+    (wide_at job c.args.number c.args.job.now.is_job c.requires)

@@ -10,19 +10,19 @@ use Rattle.mw_fork.proofs.fork.trace.Goals as goal
 
 pub segment-requires-clause-some : goal.segment-requires-clause-some
 segment-requires-clause-some c =
-    (bound_within (job_of c.args.job.now) c.args.boundary _ c.shape-shape.ensures.valid c.requires.boundary
+    (bound_within (job_of c.args.job.now) c.args.boundary _ c.args.job.now.is_job c.requires.boundary
     c.boundary.ensures).0
 
 pub segment-requires-clause-most : goal.segment-requires-clause-most
 segment-requires-clause-most c =
-    (bound_within (job_of c.args.job.now) c.args.boundary _ c.shape-shape.ensures.valid c.requires.boundary
+    (bound_within (job_of c.args.job.now) c.args.boundary _ c.args.job.now.is_job c.requires.boundary
     c.boundary.ensures).1
 
 pub with_step-requires-clause-some : goal.with_step-requires-clause-some
 with_step-requires-clause-some c =
     let job = job_of c.args.job.now in
     let within =
-    bound_within job c.args.boundary _ c.shape-shape.ensures.valid c.requires.boundary c.boundary.ensures in
+    bound_within job c.args.boundary _ c.args.job.now.is_job c.requires.boundary c.boundary.ensures in
     let e = c.in_ok-reached.ensures in
     (cycles_made job _ c.in_ok-reached.reached _ within.0 within.1 e.reached e.late).0
 
@@ -30,7 +30,7 @@ pub with_step-requires-clause-few : goal.with_step-requires-clause-few
 with_step-requires-clause-few c =
     let job = job_of c.args.job.now in
     let within =
-    bound_within job c.args.boundary _ c.shape-shape.ensures.valid c.requires.boundary c.boundary.ensures in
+    bound_within job c.args.boundary _ c.args.job.now.is_job c.requires.boundary c.boundary.ensures in
     let e = c.in_ok-reached.ensures in
     (cycles_made job _ c.in_ok-reached.reached _ within.0 within.1 e.reached e.late).1
 
@@ -39,7 +39,7 @@ returns-clause-case c = λ are.
     let job = job_of c.args.job.now in
     let first = c.in_ok-run.ensures.first in
     let met = segment_met job c.args.boundary first.0 c.args.way.now c.in_ok-run.run' c.in_ok-reached.reached _
-    c.unwrap_or.result c.is_none-late.result _ _ c.shape-shape.ensures.valid first.1
+    c.unwrap_or.result c.is_none-late.result _ _ c.args.job.now.is_job first.1
     c.in_ok-run.ensures.idle c.requires.anew
     (ap (λ (b : Boundary). b.bound) c.boundary.ensures) c.is_none-late.ensures c.unwrap_or.ensures
     c.in_ok-reached.ensures.goes are in
@@ -53,12 +53,12 @@ returns-clause-nodes c = λ are.
     let first = c.in_ok-run.ensures.first in
     let bound = ap (λ (b : Boundary). b.bound) c.boundary.ensures in
     let met = segment_met job number first.0 c.args.way.now c.in_ok-run.run' c.in_ok-reached.reached _
-    c.unwrap_or.result c.is_none-late.result _ _ c.shape-shape.ensures.valid first.1 c.in_ok-run.ensures.idle
+    c.unwrap_or.result c.is_none-late.result _ _ c.args.job.now.is_job first.1 c.in_ok-run.ensures.idle
     c.requires.anew bound
     c.is_none-late.ensures c.unwrap_or.ensures c.in_ok-reached.ensures.goes are in
     c.in_ok-step.ensures.nodes number c.unwrap_or.result first.0 kept met
     (c.in_ok-reached.ensures.nodes number first.0 kept
-    (on_run_first job number first.0 c.args.way.now c.in_ok-run.run' c.shape-shape.ensures.valid first.1
+    (on_run_first job number first.0 c.args.way.now c.in_ok-run.run' c.args.job.now.is_job first.1
     c.in_ok-run.ensures.idle c.requires.anew are)
     bound
     (subst (AreDecidedWithin job number c.args.nodes) (sym c.requires.anew) (within_none job number c.args.nodes)))
@@ -70,7 +70,7 @@ returns-in_err-reached-clause-over c =
     let first = c.in_ok-run.ensures.first in
     c.in_err-reached.ensures.over c.args.boundary first.0 c.args.way.now.kept
     (on_run_first (job_of c.args.job.now) c.args.boundary first.0 c.args.way.now c.in_ok-run.run'
-    c.shape-shape.ensures.valid first.1
+    c.args.job.now.is_job first.1
     c.in_ok-run.ensures.idle c.requires.anew are)
     (ap (λ (b : Boundary). b.bound) c.boundary.ensures))
 
@@ -83,5 +83,5 @@ returns-in_err-step-clause-over c =
     c.args.way.now.kept
     (segment_met (job_of c.args.job.now) c.args.boundary first.0 c.args.way.now c.in_ok-run.run'
     c.in_ok-reached.reached _
-    _ c.is_none-late.result _ _ c.shape-shape.ensures.valid first.1 c.in_ok-run.ensures.idle c.requires.anew
+    _ c.is_none-late.result _ _ c.args.job.now.is_job first.1 c.in_ok-run.ensures.idle c.requires.anew
     (ap (λ (b : Boundary). b.bound) c.boundary.ensures) c.is_none-late.ensures refl c.in_ok-reached.ensures.goes are))

@@ -12,7 +12,7 @@ pub returns-clause-under : goal.returns-clause-under
 returns-clause-under c =
     let job = job_of c.args.job.now in
     let run = c.args.run.now in
-    let valid = c.shape-shape.ensures.valid in
+    let valid = c.args.job.now.is_job in
     let waits =
     waits_behind job _ _ _ _ _ _ valid c.requires.under c.count.ensures.own c.request-request.ensures.wide in
     let e = c.in_ok-step.ensures in

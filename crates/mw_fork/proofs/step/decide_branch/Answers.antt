@@ -29,17 +29,17 @@ returns-clause-goes c = λ number cycles elements from segment board turned.
     c.args.term _ c.requires.asks
     (e.decided job.machine _ _ _ under.stepping) c.steps_go_along.ensures.bits e.new
     (e.left job.machine _ _ _ under.stepping)
-    (c.in_ok-value.ensures.goes job number elements from c.shape-shape.ensures.valid turned.0.on turned.1 asks) turned
+    (c.in_ok-value.ensures.goes job number elements from c.args.job.now.is_job turned.0.on turned.1 asks) turned
 
 pub returns-clause-nodes : goal.returns-clause-nodes
 returns-clause-nodes c = λ number cycles elements from segment board turned are.
     let job = job_of c.args.job.now in
-    c.in_ok-value.ensures.nodes job number elements from c.shape-shape.ensures.valid turned.0.on turned.1
+    c.in_ok-value.ensures.nodes job number elements from c.args.job.now.is_job turned.0.on turned.1
     (asks_where job number cycles elements from segment board _ _ _ _ _ _ turned) are
 
 pub returns-in_err-value-clause-over : goal.returns-in_err-value-clause-over
 returns-in_err-value-clause-over c =
     let p = err_from_is_err_and c.from_residual.result c.from_residual.ensures.1 in
     rw (p.1, p.2) (λ number cycles elements from segment board turned.
-    c.in_err-value.ensures.over (job_of c.args.job.now) number elements from c.shape-shape.ensures.valid turned.0.on
+    c.in_err-value.ensures.over (job_of c.args.job.now) number elements from c.args.job.now.is_job turned.0.on
     (asks_where (job_of c.args.job.now) number cycles elements from segment board _ _ _ _ _ _ turned))

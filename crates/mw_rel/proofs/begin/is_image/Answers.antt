@@ -11,8 +11,8 @@ pub returns : goal.returns
 returns c =
     let job = job_of c.args.job.now in
     let address : c.parts.result.now.address ≡ job.relation.shape.address =
-    ap (λ (p : BoardParts). p.address) c.parts.ensures.exact ∙ sym (board_address job c.shape-shape.ensures.valid) in
+    ap (λ (p : BoardParts). p.address) c.parts.ensures.exact ∙ sym (board_address job c.args.job.now.is_job) in
     image_if job.relation.shape c.args.memory.now c.is_two_to-sized.result c.have_bits-words.result
     (c.is_two_to-sized.ensures ∙ ap (λ b. length c.args.memory.now == 2 ^ b) address)
     (c.have_bits-words.ensures
-    ∙ ap (λ (s : Shape). list_all (λ n. nat_lt n (2 ^ s.word)) c.args.memory.now) c.shape-shape.ensures.exact)
+    ∙ ap (λ (s : Shape). list_all (λ n. nat_lt n (2 ^ s.word)) c.args.memory.now) c.shape-shape.ensures)

@@ -15,7 +15,7 @@ pub place_values-requires-clause-solved : goal.place_values-requires-clause-solv
 place_values-requires-clause-solved c =
     let job = job_of c.args.job.now in
     subst (IsSolved job.relation.shape) (sym c.boundary-at.ensures)
-    (solved_at job c.args.boundary c.element_count-count.ensures.valid c.requires.there)
+    (solved_at job c.args.boundary c.args.job.now.is_job c.requires.there)
 
 pub returns : goal.returns
 returns c =

@@ -9,5 +9,5 @@ pub returns-clause-values : goal.returns-clause-values
 returns-clause-values c =
     let job = job_of c.args.job.now in
     ap (λ (m : MachineState). values_of job.board (pair_of c.in_ok-board.board m)) c.in_ok-machine.ensures.exact
-    ∙ sym (set_values job c.in_ok-board.board c.args.values.now c.args.memory.now c.shape.ensures.valid c.requires.words
+    ∙ sym (set_values job c.in_ok-board.board c.args.values.now c.args.memory.now c.args.job.now.is_job c.requires.words
     c.in_ok-board.ensures.set)

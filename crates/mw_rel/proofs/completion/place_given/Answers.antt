@@ -10,7 +10,7 @@ use Rattle.mw_rel.proofs.completion.place_given.Goals as goal
 
 pub place_free-requires-clause-few : goal.place_free-requires-clause-few
 place_free-requires-clause-few c =
-    omega (arith, c.requires.size, widths_few (job_of c.args.job.now) c.shape.ensures.valid)
+    omega (arith, c.requires.size, widths_few (job_of c.args.job.now) c.args.job.now.is_job)
 
 pub returns-clause-placed : goal.returns-clause-placed
 returns-clause-placed c =

@@ -11,7 +11,7 @@ pub fails_at-requires-clause-lines_of : goal.fails_at-requires-clause-lines_of
 fails_at-requires-clause-lines_of c =
     let job = job_of c.args.job.now in
     subst (λ (b : Boundary). All (IsLineOf job.relation.shape) b.lines) (sym c.boundary.ensures)
-    (solved_at job c.args.boundary c.shape.ensures.valid c.requires.there).lines
+    (solved_at job c.args.boundary c.args.job.now.is_job c.requires.there).lines
 
 pub returns : goal.returns
 returns c =

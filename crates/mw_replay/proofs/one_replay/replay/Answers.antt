@@ -8,13 +8,13 @@ use Rattle.mw_replay.proofs.one_replay.replay.Goals as goal
 
 pub step-requires-clause-cycles : goal.step-requires-clause-cycles
 step-requires-clause-cycles c =
-    let solved = solved_at (job_of c.args.job.now) c.in_ok-replay.replay.boundary c.shape.ensures.valid
+    let solved = solved_at (job_of c.args.job.now) c.in_ok-replay.replay.boundary c.args.job.now.is_job
     c.in_ok-replay.ensures.stands.there in
     omega (arith, ap (λ (clock : Clock). clock.cycle) c.in_ok-replay.ensures.clock, solved.most)
 
 pub step-requires-clause-taken : goal.step-requires-clause-taken
 step-requires-clause-taken c =
-    let solved = solved_at (job_of c.args.job.now) c.in_ok-replay.replay.boundary c.shape.ensures.valid
+    let solved = solved_at (job_of c.args.job.now) c.in_ok-replay.replay.boundary c.args.job.now.is_job
     c.in_ok-replay.ensures.stands.there in
     omega (arith, ap (λ (clock : Clock). clock.taken) c.in_ok-replay.ensures.clock, solved.most)
 

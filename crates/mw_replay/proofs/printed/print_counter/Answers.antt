@@ -9,12 +9,12 @@ pub returns-clause-reads_back : goal.returns-clause-reads_back
 returns-clause-reads_back c = λ labels short.
     let job = job_of c.args.job.now in
     ap (counter_of job labels) c.in_ok-text.ensures
-    ∙ reads_back job c.args.counter.now labels c.shape.ensures.valid c.parts.ensures.kept c.requires short
+    ∙ reads_back job c.args.counter.now labels c.args.job.now.is_job c.parts.ensures.kept c.requires short
 
 pub returns-clause-in_report : goal.returns-clause-in_report
 returns-clause-in_report c = λ labels difference follows short.
     let job = job_of c.args.job.now in
     ap (λ (text : List ℕ). counter_of job labels (no_lines difference ++ text)) c.in_ok-text.ensures
-    ∙ reads_back_in_report job c.args.counter.now labels difference c.shape.ensures.valid
+    ∙ reads_back_in_report job c.args.counter.now labels difference c.args.job.now.is_job
     c.parts.ensures.kept c.requires
     short follows

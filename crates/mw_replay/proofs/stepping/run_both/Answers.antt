@@ -11,12 +11,12 @@ use Rattle.mw_replay.proofs.Segments.{ended_at, late_at, nowhere_at, short}
 use Rattle.mw_replay.proofs.stepping.run_both.Goals as goal
 
 pub run_step-requires-clause-inputs : goal.run_step-requires-clause-inputs
-run_step-requires-clause-inputs g c = λ i. rw c.shape.ensures.valid.matched.word (c.requires.stands.env.values Inputs i)
+run_step-requires-clause-inputs g c = λ i. rw c.args.job.now.is_job.matched.word (c.requires.stands.env.values Inputs i)
 
 pub run_segment-ended-requires-clause-room : goal.run_segment-ended-requires-clause-room
 run_segment-ended-requires-clause-room g c =
     let job = job_of c.args.job.now in
-    let solved = solved_at job c.args.stand.now.boundary c.shape.ensures.valid c.requires.stands.there in
+    let solved = solved_at job c.args.stand.now.boundary c.args.job.now.is_job c.requires.stands.there in
     let same = ap (λ (b : Boundary). b.bound) c.boundary.ensures in
     omega (arith, same, solved.most, c.requires.room.segment)
 
@@ -58,6 +58,6 @@ pub returns-clause-short : goal.returns-clause-short
 returns-clause-short g c =
     let job = job_of c.args.job.now in
     let replay = replay_of c.args.stand.now in
-    let solved = solved_at job replay.boundary c.shape.ensures.valid c.requires.stands.there in
+    let solved = solved_at job replay.boundary c.args.job.now.is_job c.requires.stands.there in
     short job (next_start job replay) replay.clock c.run_segment-ended.new.pair.board
     c.run_segment-ended.new.events.items c.in-Some.clock (returns-clause-reached g c).ended solved.most

@@ -17,6 +17,6 @@ returns-clause-counts c =
     let job = job_of c.args.job.now in
     let free = free_elements job (numbered job c.args.boundary) in
     is_counter job c.args.boundary (given_seen c.args.given) c.in_ok-values.values.items c.in_ok-env.env
-    c.shape.ensures.valid c.requires.there c.requires.valid
+    c.args.job.now.is_job c.requires.there c.requires.valid
     (c.in_ok-values.ensures ∙ ap (λ (vs : List ℕ). map (slice_index vs) free) c.deref.ensures.value)
     c.in_ok-env.ensures.valid

@@ -9,14 +9,14 @@ use Rattle.mw_fork.proofs.fork.Fork.differs.Goals as goal
 
 pub first_failing-requires-clause-met : goal.first_failing-requires-clause-met
 first_failing-requires-clause-met c =
-    let again = run_again (job_of c.args.job.now) _ _ _ _ _ _ _ _ c.trace.new.way _ _ _ _ c.shape-shape.ensures.valid
+    let again = run_again (job_of c.args.job.now) _ _ _ _ _ _ _ _ c.trace.new.way _ _ _ _ c.args.job.now.is_job
     c.self.view_is c.requires.of c.requires.given.1
     (ap (λ (w : Way). w.kept) c.begin_anew.ensures) c.in-Ok.ensures.case in
     (c.self.inside.boundary, again.0.0, _, c.trace.new.way, again.0.1)
 
 pub returns-in-Ok-None-clause-same : goal.returns-in-Ok-None-clause-same
 returns-in-Ok-None-clause-same c =
-    let again = run_again (job_of c.args.job.now) _ _ _ _ _ _ _ _ c.trace.new.way _ _ _ _ c.shape-shape.ensures.valid
+    let again = run_again (job_of c.args.job.now) _ _ _ _ _ _ _ _ c.trace.new.way _ _ _ _ c.args.job.now.is_job
     c.self.view_is c.requires.of c.requires.given.1
     (ap (λ (w : Way). w.kept) c.begin_anew.ensures) c.in-Ok.ensures.case in
     let kept = again.1.same in
@@ -26,7 +26,7 @@ returns-in-Ok-None-clause-same c =
 
 pub returns-in-Ok-None-clause-none : goal.returns-in-Ok-None-clause-none
 returns-in-Ok-None-clause-none c = λ none last here.
-    let again = run_again (job_of c.args.job.now) _ _ _ _ _ _ _ _ c.trace.new.way _ _ _ _ c.shape-shape.ensures.valid
+    let again = run_again (job_of c.args.job.now) _ _ _ _ _ _ _ _ c.trace.new.way _ _ _ _ c.args.job.now.is_job
     c.self.view_is c.requires.of c.requires.given.1
     (ap (λ (w : Way). w.kept) c.begin_anew.ensures) c.in-Ok.ensures.case in
     none_again (job_of c.args.job.now) _ _ _ _ last again.1 here
@@ -34,7 +34,7 @@ returns-in-Ok-None-clause-none c = λ none last here.
 
 pub returns-in-Ok-None-clause-within : goal.returns-in-Ok-None-clause-within
 returns-in-Ok-None-clause-within c = λ none last here.
-    let again = run_again (job_of c.args.job.now) _ _ _ _ _ _ _ _ c.trace.new.way _ _ _ _ c.shape-shape.ensures.valid
+    let again = run_again (job_of c.args.job.now) _ _ _ _ _ _ _ _ c.trace.new.way _ _ _ _ c.args.job.now.is_job
     c.self.view_is c.requires.of c.requires.given.1
     (ap (λ (w : Way). w.kept) c.begin_anew.ensures) c.in-Ok.ensures.case in
     within_again (job_of c.args.job.now) _ _ _ _ last _ again.1 here
@@ -43,7 +43,7 @@ returns-in-Ok-None-clause-within c = λ none last here.
 
 pub begin_of-requires : goal.begin_of-requires
 begin_of-requires c =
-    let again = run_again (job_of c.args.job.now) _ _ _ _ _ _ _ _ c.trace.new.way _ _ _ _ c.shape-shape.ensures.valid
+    let again = run_again (job_of c.args.job.now) _ _ _ _ _ _ _ _ c.trace.new.way _ _ _ _ c.args.job.now.is_job
     c.self.view_is c.requires.of c.requires.given.1
     (ap (λ (w : Way). w.kept) c.begin_anew.ensures) c.in-Ok.ensures.case in
     record {
@@ -56,7 +56,7 @@ begin_of-requires c =
 
 pub returns-in-Ok-begin_of-clause-same : goal.returns-in-Ok-begin_of-clause-same
 returns-in-Ok-begin_of-clause-same c =
-    let again = run_again (job_of c.args.job.now) _ _ _ _ _ _ _ _ c.trace.new.way _ _ _ _ c.shape-shape.ensures.valid
+    let again = run_again (job_of c.args.job.now) _ _ _ _ _ _ _ _ c.trace.new.way _ _ _ _ c.args.job.now.is_job
     c.self.view_is c.requires.of c.requires.given.1
     (ap (λ (w : Way). w.kept) c.begin_anew.ensures) c.in-Ok.ensures.case in
     let kept = again.1.same in
@@ -66,7 +66,7 @@ returns-in-Ok-begin_of-clause-same c =
 
 pub returns-in-Ok-begin_of-clause-differs : goal.returns-in-Ok-begin_of-clause-differs
 returns-in-Ok-begin_of-clause-differs c = λ last here.
-    let again = run_again (job_of c.args.job.now) _ _ _ _ _ _ _ _ c.trace.new.way _ _ _ _ c.shape-shape.ensures.valid
+    let again = run_again (job_of c.args.job.now) _ _ _ _ _ _ _ _ c.trace.new.way _ _ _ _ c.args.job.now.is_job
     c.self.view_is c.requires.of c.requires.given.1
     (ap (λ (w : Way). w.kept) c.begin_anew.ensures) c.in-Ok.ensures.case in
     found_differs (job_of c.args.job.now) _ _ _ _ again.0.0 _ _ _ last again.1 here
@@ -75,7 +75,7 @@ returns-in-Ok-begin_of-clause-differs c = λ last here.
 
 pub returns-in-Ok-begin_of-clause-least : goal.returns-in-Ok-begin_of-clause-least
 returns-in-Ok-begin_of-clause-least c = λ last here.
-    let again = run_again (job_of c.args.job.now) _ _ _ _ _ _ _ _ c.trace.new.way _ _ _ _ c.shape-shape.ensures.valid
+    let again = run_again (job_of c.args.job.now) _ _ _ _ _ _ _ _ c.trace.new.way _ _ _ _ c.args.job.now.is_job
     c.self.view_is c.requires.of c.requires.given.1
     (ap (λ (w : Way). w.kept) c.begin_anew.ensures) c.in-Ok.ensures.case in
     found_least (job_of c.args.job.now) _ _ _ _ again.0.0 _ _ _ last again.1 here
@@ -84,7 +84,7 @@ returns-in-Ok-begin_of-clause-least c = λ last here.
 
 pub returns-clause-cause : goal.returns-clause-cause
 returns-clause-cause c = λ number prefix word j same.
-    let again = run_again (job_of c.args.job.now) _ _ _ _ _ _ _ _ c.trace.new.way _ _ _ _ c.shape-shape.ensures.valid
+    let again = run_again (job_of c.args.job.now) _ _ _ _ _ _ _ _ c.trace.new.way _ _ _ _ c.args.job.now.is_job
     c.self.view_is c.requires.of c.requires.given.1
     (ap (λ (w : Way). w.kept) c.begin_anew.ensures) c.in-Ok.ensures.case in
     found_over (job_of c.args.job.now) _ _ _ _ _ _ number prefix word j again.1

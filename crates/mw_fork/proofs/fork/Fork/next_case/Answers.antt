@@ -21,7 +21,7 @@ returns-clause-of c =
       few = omega (arith, before.few, c.if-self.false);
       keeps = subst (λ (g : Fork). KeepsFor job g.boundary (At (bits_of way.kept)) way.kept) (sym c.self.view_is)
           (has_given (job_of c.args.job.now) _ _ _ _ _ _ _ c.trace.new.way _ _ _ _
-          c.shape-shape.ensures.valid c.self.view_is
+          c.args.job.now.is_job c.self.view_is
           c.requires.of (c.lead_on.ensures.some c.if-not-lead_on.false) c.in-Ok.ensures.case
           c.in-Ok.ensures.nodes).keeps;
     }
@@ -29,38 +29,38 @@ returns-clause-of c =
 pub returns-clause-case : goal.returns-clause-case
 returns-clause-case c =
     subst (IsNextCase (job_of c.args.job.now) c.args.self.now.boundary c.args.self.now.at) (sym c.in_ok-prefix.ensures)
-    (has_given (job_of c.args.job.now) _ _ _ _ _ _ _ c.trace.new.way _ _ _ _ c.shape-shape.ensures.valid c.self.view_is
+    (has_given (job_of c.args.job.now) _ _ _ _ _ _ _ c.trace.new.way _ _ _ _ c.args.job.now.is_job c.self.view_is
     c.requires.of (c.lead_on.ensures.some c.if-not-lead_on.false) c.in-Ok.ensures.case c.in-Ok.ensures.nodes).next
 
 pub returns-clause-ends : goal.returns-clause-ends
 returns-clause-ends c =
     ends_so (job_of c.args.job.now) c.args.self.now.boundary (met_of c.trace.new.way) _ _ _ _ _ c.in_ok-prefix.ensures
     c.ending-cycles.ensures.cycles c.ending-cycles.ensures.late
-    (has_given (job_of c.args.job.now) _ _ _ _ _ _ _ c.trace.new.way _ _ _ _ c.shape-shape.ensures.valid c.self.view_is
+    (has_given (job_of c.args.job.now) _ _ _ _ _ _ _ c.trace.new.way _ _ _ _ c.args.job.now.is_job c.self.view_is
     c.requires.of (c.lead_on.ensures.some c.if-not-lead_on.false) c.in-Ok.ensures.case c.in-Ok.ensures.nodes).ends
 
 pub returns-clause-nodes : goal.returns-clause-nodes
 returns-clause-nodes c =
     subst (AreDecidedWithin (job_of c.args.job.now) c.args.self.now.boundary c.args.self.now.budget.nodes)
     (sym c.in_ok-prefix.ensures)
-    (has_given (job_of c.args.job.now) _ _ _ _ _ _ _ c.trace.new.way _ _ _ _ c.shape-shape.ensures.valid c.self.view_is
+    (has_given (job_of c.args.job.now) _ _ _ _ _ _ _ c.trace.new.way _ _ _ _ c.args.job.now.is_job c.self.view_is
     c.requires.of (c.lead_on.ensures.some c.if-not-lead_on.false) c.in-Ok.ensures.case c.in-Ok.ensures.nodes).within
 
 pub returns-clause-at : goal.returns-clause-at
 returns-clause-at c =
     ap At
-    ((has_given (job_of c.args.job.now) _ _ _ _ _ _ _ c.trace.new.way _ _ _ _ c.shape-shape.ensures.valid c.self.view_is
+    ((has_given (job_of c.args.job.now) _ _ _ _ _ _ _ c.trace.new.way _ _ _ _ c.args.job.now.is_job c.self.view_is
     c.requires.of (c.lead_on.ensures.some c.if-not-lead_on.false) c.in-Ok.ensures.case c.in-Ok.ensures.nodes).bits
     ∙ sym c.in_ok-prefix.ensures)
 
 pub returns-in-Err-clause-cause : goal.returns-in-Err-clause-cause
 returns-in-Err-clause-cause c = λ number prefix word j same.
     (has_stopped (job_of c.args.job.now) _ _ _ _ _ _ _ c.trace.new.way c.in-Err.stop number prefix word j
-    c.shape-shape.ensures.valid c.self.view_is c.requires.of (c.lead_on.ensures.some c.if-not-lead_on.false)
+    c.args.job.now.is_job c.self.view_is c.requires.of (c.lead_on.ensures.some c.if-not-lead_on.false)
     c.in-Err.ensures.over (c.fault_of.ensures.nodes number prefix word j same)).cause
 
 pub returns-in-Err-clause-before : goal.returns-in-Err-clause-before
 returns-in-Err-clause-before c = λ number prefix word j same.
     (has_stopped (job_of c.args.job.now) _ _ _ _ _ _ _ c.trace.new.way c.in-Err.stop number prefix word j
-    c.shape-shape.ensures.valid c.self.view_is c.requires.of (c.lead_on.ensures.some c.if-not-lead_on.false)
+    c.args.job.now.is_job c.self.view_is c.requires.of (c.lead_on.ensures.some c.if-not-lead_on.false)
     c.in-Err.ensures.over (c.fault_of.ensures.nodes number prefix word j same)).before

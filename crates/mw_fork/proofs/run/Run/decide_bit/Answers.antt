@@ -33,7 +33,7 @@ returns-clause-goes c = λ number elements from turned below.
     let run = c.args.self.now in
     let next = next_of_case job number elements from c.args.way.now run c.args.kind c.args.term below turned in
     let has =
-    c.in_ok-value.ensures.goes job number elements from c.shape-shape.ensures.valid turned.0.on next turned.2.here in
+    c.in_ok-value.ensures.goes job number elements from c.args.job.now.is_job turned.0.on next turned.2.here in
     on_decided job number elements from c.args.way.now c.decide.new.way run c.decide.new.paths c.decide-2.new.self
     c.args.kind c.args.term c.in_ok-value.value
     (c.decide-2.ensures.new c.args.kind c.requires.asks.asked) turned has
@@ -43,12 +43,12 @@ returns-clause-nodes c = λ number elements from turned below are.
     let job = job_of c.args.job.now in
     let next =
     next_of_case job number elements from c.args.way.now c.args.self.now c.args.kind c.args.term below turned in
-    c.in_ok-value.ensures.nodes job number elements from c.shape-shape.ensures.valid turned.0.on next turned.2.here
+    c.in_ok-value.ensures.nodes job number elements from c.args.job.now.is_job turned.0.on next turned.2.here
     are
 
 pub returns-in_err-value-clause-over : goal.returns-in_err-value-clause-over
 returns-in_err-value-clause-over c =
     let p = err_from_is_err_and c.from_residual.result c.from_residual.ensures.1 in
     rw (p.1, p.2) (λ number elements from turned below.
-    c.in_err-value.ensures.over (job_of c.args.job.now) number elements from c.shape-shape.ensures.valid turned.0.on
+    c.in_err-value.ensures.over (job_of c.args.job.now) number elements from c.args.job.now.is_job turned.0.on
     turned.2.here)

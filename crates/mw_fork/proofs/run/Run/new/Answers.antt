@@ -22,13 +22,13 @@ new-requires c =
     record {
       elements = ap length (c.board_terms.ensures ∙ ap (take k) c.deref.ensures.value)
           ∙ length-take-le k c.in_ok-start.start.terms.items
-          (omega (arith, are.wide.count, widths_count job c.shape-shape.ensures.valid));
+          (omega (arith, are.wide.count, widths_count job c.args.job.now.is_job));
     }
 
 pub returns-clause-under : goal.returns-clause-under
 returns-clause-under c =
     let job = job_of c.args.job.now in
-    let valid = c.shape-shape.ensures.valid in
+    let valid = c.args.job.now.is_job in
     let are = c.in_ok-start.ensures.elements in
     let start = c.in_ok-start.start in
     let t = start.space.terms in
@@ -74,12 +74,12 @@ returns-clause-first c =
       record {
         stands = c.in_ok-start.ensures.stands;
         path = c.in_ok-paths.ensures.always;
-        in_run = path_begins job c.args.boundary start.space terms c.in_ok-board.board _ c.shape-shape.ensures.valid
+        in_run = path_begins job c.args.boundary start.space terms c.in_ok-board.board _ c.args.job.now.is_job
             c.in_ok-start.ensures.elements new at sp none c.in_ok-paths.ensures.always;
         unwritten = c.in_ok-start.ensures.unwritten.1;
         registers = registers;
         listed = first_listed job c.args.boundary start.space terms _ c.in_ok-board.board
-            (omega (arith, c.in_ok-start.ensures.elements.wide.count, widths_count job c.shape-shape.ensures.valid))
+            (omega (arith, c.in_ok-start.ensures.elements.wide.count, widths_count job c.args.job.now.is_job))
             (returns-clause-under c).symbolic.parts new at sp none registers c.in_ok-start.ensures.listed;
         before = c.in_ok-board.ensures.reading;
       },

@@ -11,7 +11,7 @@ returns-clause-turned c =
 pub returns-clause-goes : goal.returns-clause-goes
 returns-clause-goes c = λ number elements from way on.
     let e = c.in_ok-turn.ensures in
-    on_turn (job_of c.args.job.now) number elements from way c.args.self.now _ _ _ c.shape-shape.ensures.valid
+    on_turn (job_of c.args.job.now) number elements from way c.args.self.now _ _ _ c.args.job.now.is_job
     c.requires.under.space.workspace c.requires.under.symbolic c.requires.idle e.goes e.turn e.listed e.symbolic e.all
     e.machine c.count.ensures.own on
 

@@ -16,14 +16,14 @@ pub are_given-given-requires : goal.are_given-given-requires
 are_given-given-requires c =
     let job = job_of c.args.job.now in
     let widths : c.as_slice-widths.result.now ≡ job.relation.shape.widths =
-    c.as_slice-widths.ensures ∙ ap (λ (s : Shape). s.widths) c.shape.ensures.exact in
-    record { few = subst (λ xs. length xs ≤ 170) (sym widths) (widths_few job c.shape.ensures.valid) }
+    c.as_slice-widths.ensures ∙ ap (λ (s : Shape). s.widths) c.shape.ensures in
+    record { few = subst (λ xs. length xs ≤ 170) (sym widths) (widths_few job c.args.job.now.is_job) }
 
 pub returns : goal.returns
 returns c =
     let job = job_of c.args.job.now in
     let widths : c.as_slice-widths.result.now ≡ job.relation.shape.widths =
-    c.as_slice-widths.ensures ∙ ap (λ (s : Shape). s.widths) c.shape.ensures.exact in
+    c.as_slice-widths.ensures ∙ ap (λ (s : Shape). s.widths) c.shape.ensures in
     let values : c.as_slice.result.now ≡ c.args.self.now.values =
     c.as_slice.ensures.value ∙ ap (λ (b : Begin). b.values) c.self.view_is in
     let memory : c.as_slice-2.result.now ≡ c.args.self.now.memory =

@@ -4,8 +4,8 @@ use Rattle.mw_rel.proofs.job.Job.element_count.Goals as goal
 
 pub returns-clause-both : goal.returns-clause-both
 returns-clause-both c =
-    rw (c.as_slice.ensures, c.shape.ensures.exact) (widths_count (job_of c.args.self.now) c.shape.ensures.valid)
+    rw (c.as_slice.ensures, c.shape.ensures) (widths_count (job_of c.args.self.now) c.args.self.now.is_job)
 
 pub returns-clause-few : goal.returns-clause-few
 returns-clause-few c =
-    rw (c.as_slice.ensures, c.shape.ensures.exact) (widths_few (job_of c.args.self.now) c.shape.ensures.valid)
+    rw (c.as_slice.ensures, c.shape.ensures) (widths_few (job_of c.args.self.now) c.args.self.now.is_job)

@@ -40,7 +40,7 @@ append_verdict-requires-clause-is c =
 
 pub returns : goal.returns
 returns c = record {
-  job_is = c.shape.ensures.valid;
+  job_is = c.args.job.now.is_job;
   verdict = c.in_ok-verdict.verdict;
   answers = verdict_says _ c.args.budget c.in_ok-verdict.verdict c.in_ok-verdict.ensures.yes
       c.in_ok-verdict.ensures.summaries c.in_ok-verdict.ensures.within c.in_ok-verdict.ensures.no
