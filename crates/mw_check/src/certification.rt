@@ -1,21 +1,17 @@
 // Whether a job is certified.
 ghost use Rattle.std.specs.Prelude.{◌≡◌, ◌≢◌, ◌<◌, ℕ, List, length, IfOk, IfErr, IfSome, IsTrue, OnOk, None};
 ghost use Rattle.mw_term.specs.declared.decided.Decided.{Decided};
-ghost use Rattle.mw_rel.specs.Certified.{Certified};
 ghost use Rattle.mw_rel.specs.Views.{job_of};
 ghost use Rattle.mw_fork.specs.declared.budget.Budget.{Budget as BudgetOf};
 ghost use Rattle.mw_fork.specs.declared.fault.ForkFault.TheVariants as faults;
 ghost use Rattle.mw_fork.specs.declared.fault.Over.{Over as OverOf};
-ghost use Rattle.mw_fork.specs.declared.fault.Over.TheVariants as overs;
 ghost use Rattle.mw_fork.specs.Forks.{IsForkOf};
 ghost use Rattle.mw_replay.specs.Counter.{Counter as CounterOf};
 ghost use Rattle.mw_replay.specs.CounterPrinted.{AreShort};
 ghost use Rattle.mw_check.specs.declared.certification.SearchStop.TheVariants as stops;
 ghost use Rattle.mw_check.specs.declared.verdict.Summary.{Summary as SummaryOf};
-ghost use Rattle.mw_check.specs.declared.verdict.Verdict.TheVariants as verdicts;
 ghost use Rattle.mw_check.specs.Searched.{AreSearched, HasGone, IsSearched, IsOneMore, StopsSearch};
-ghost use Rattle.mw_check.specs.Verdict.{AreSummaries, AreWithinBudget, IsNo, IsUnknownByNodes, IsUnknownByPaths};
-ghost use Rattle.mw_check.specs.Verdict.{NoneDiffersBefore};
+ghost use Rattle.mw_check.specs.Verdict.{IsVerdict, NoneDiffersBefore};
 
 use crate::verdict::{Summary, Verdict};
 use mw_base::{Items, NoMemory};
@@ -173,18 +169,7 @@ fn search_all(alloc: Global, job: &Job, budget: Budget) -> Result<Vec<Summary>, 
 ///
 /// Memory ran out.
 pub fn certify(alloc: Global, job: &Job, budget: Budget) -> Result<Verdict, NoMemory>
-    ensures yes { IfOk result
-        (λ v. (summaries : List SummaryOf) → v ≡ verdicts.Yes summaries → Certified (job_of job.now)) }
-    ensures summaries { IfOk result (λ v. (summaries : List SummaryOf) → v ≡ verdicts.Yes summaries
-        → AreSummaries (job_of job.now) summaries) }
-    ensures within { IfOk result (λ v. (summaries : List SummaryOf) → v ≡ verdicts.Yes summaries
-        → AreWithinBudget (job_of job.now) budget) }
-    ensures no { IfOk result (λ v. (counter : CounterOf) → v ≡ verdicts.No counter → IsNo (job_of job.now) counter) }
-    ensures nodes { IfOk result (λ v. (number : ℕ) (prefix : List Decided) (word bit : ℕ)
-        → v ≡ verdicts.Unknown (overs.Nodes number prefix word bit)
-        → IsUnknownByNodes (job_of job.now) budget number prefix word bit) }
-    ensures paths { IfOk result (λ v. (number limit : ℕ) → v ≡ verdicts.Unknown (overs.Paths number limit)
-        → IsUnknownByPaths (job_of job.now) budget number limit) }
+    ensures { IfOk result (IsVerdict (job_of job.now) budget) }
 {
     match search_all(alloc, job, budget) {
         Ok(summaries) => Ok(Verdict::Yes(Items::from_vec(summaries))),

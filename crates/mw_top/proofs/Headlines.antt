@@ -159,10 +159,8 @@ yes_by call job budget lines (verdicts.Yes summaries) work is status text took =
   job = job;
   budget = budget;
   work = work;
-  certified = is.certified;
   summaries = summaries;
-  true_summaries = is.true_summaries;
-  within = is.within;
+  yes = is;
   report = subst (λ (ls : List ℕ). Took call (ls ++ after_yes work.asks.request.command)) text took;
 }
 yes_by call job budget lines (verdicts.No counter) work is status text took = absurd cc

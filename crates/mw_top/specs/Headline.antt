@@ -4,7 +4,7 @@ use Rattle.mw_asm.specs.declared.assembled.Label.{Label}
 use Rattle.mw_cases.specs.Generated.{IsGenerated}
 use Rattle.mw_cases.specs.Operations.{all_operations}
 use Rattle.mw_check.specs.declared.verdict.Summary.{Summary}
-use Rattle.mw_check.specs.Verdict.{AreSummaries, AreWithinBudget, IsNo, IsUnknown}
+use Rattle.mw_check.specs.Verdict.{IsNo, IsUnknown, IsYes}
 use Rattle.mw_term.specs.declared.decided.Decided.{Decided}
 use Rattle.mw_fork.specs.declared.budget.Budget.{Budget}
 use Rattle.mw_fork.specs.declared.fault.Over.{Over}
@@ -68,10 +68,8 @@ pub record IsYesEnd (call : Call) : Type 0 where
   pub job : Job
   pub budget : Budget
   pub work : Certifies call job budget
-  pub certified : Certified job
   pub summaries : List Summary
-  pub true_summaries : AreSummaries job summaries
-  pub within : AreWithinBudget job budget
+  pub yes : IsYes job budget summaries
   pub report : Took call (yes_report job summaries ++ after_yes work.asks.request.command)
 
 -- No: a start differs. The report has the difference, and the start's counter, as which it is read back; and this start
