@@ -1,6 +1,6 @@
 -- The case given last, when it is run once more.
 use Rattle.std.proofs.Common.{◌≡◌, ℕ, List, [], ◌∷◌, ◌++◌, ap, append-nil, refl, subst, sym, ◌∙◌}
-use Rattle.std.specs.Prelude.{Bool, Option}
+use Rattle.std.specs.Prelude.{Bool, IfSome, None, Option, Some}
 use Rattle.std.proofs.lemmas.List.{map-append}
 use Rattle.mw_term.specs.declared.decided.Decided.{Decided}
 use Rattle.mw_rel.specs.Begin.{Begin}
@@ -19,7 +19,7 @@ use Rattle.mw_fork.specs.declared.stop.RunStop.{RunStop}
 use Rattle.mw_fork.specs.declared.stop.RunStop.TheVariants.{Over}
 use Rattle.mw_fork.specs.declared.way.Kept.{Kept}
 use Rattle.mw_fork.specs.Begins.{IsAssigned, IsChosen, IsDiffering, IsLeast}
-use Rattle.mw_fork.specs.Failing.{ComparisonStops, ComparisonsAreWithin, IsFound, NoneDiffersOf}
+use Rattle.mw_fork.specs.Failing.{ComparisonStops, ComparisonsAreWithin, IsFound}
 use Rattle.mw_fork.specs.Forks.{At, Fork, IsForkOf, KeepsFor, Standing, fork_of}
 use Rattle.mw_fork.specs.KeptBits.{AreKeptBits, IsWayFrom}
 use Rattle.mw_fork.specs.Listed.{list_of_space}
@@ -102,58 +102,55 @@ run_again job f boundary given budget stage kept begun last way cycles late run 
 
 -- ---- what is found
 
--- a start that differs, of the case given last
-pub found_differs : (job : Job) (f : Fork) (boundary : ℕ) (kept : List Kept) (way : Way)
-    (elements : List ℕ) (space : Space)
-    (numbers : Numbers) (begin : Begin) (last : List Decided) → HasMetAgain job f boundary kept way → f.at ≡ At last
-    → IsFound job boundary elements (met_of way) space numbers
+-- what was found of a start that differs
+pub found_differs : (job : Job) (boundary : ℕ) (elements : List ℕ) (space : Space) (numbers : Numbers) (begin : Begin)
+    (bits : List Decided) → IsFound job boundary elements bits space numbers
     → ((elements : List ℕ) → IsGround job boundary (ground_in space elements)
     → (start : Start) × IsChosen job boundary begin start
     × StandsForStart job boundary (ground_in space elements) (given_by numbers) start)
-    → IsDiffering job f.boundary last begin
-found_differs job f boundary kept way elements space numbers begin last again here found begins =
+    → IsDiffering job boundary bits begin
+found_differs job boundary elements space numbers begin bits found begins =
     let is = begins elements found.stands in
-    subst (λ (n : ℕ). IsDiffering job n last begin) (sym again.at_boundary) (record {
+    record {
       start = is.0;
       chosen = is.1;
-      of_case = found.of_case is.0 is.2 ∙ again.met last here;
+      of_case = found.of_case is.0 is.2;
       differs = found.differs is.0 is.2;
-    })
+    }
 
 -- it is the least
-pub found_least : (job : Job) (f : Fork) (boundary : ℕ) (kept : List Kept) (way : Way)
-    (elements : List ℕ) (space : Space)
-    (numbers : Numbers) (begin : Begin) (last : List Decided) → HasMetAgain job f boundary kept way → f.at ≡ At last
-    → IsFound job boundary elements (met_of way) space numbers
-    → IsAssigned job boundary (list_of_space space) (given_by numbers) begin → IsLeast job f.boundary last begin
-found_least job f boundary kept way elements space numbers begin last again here found assigned =
-    subst (λ (n : ℕ). IsLeast job n last begin) (sym again.at_boundary)
-    (subst (λ (bits : List Decided). IsLeast job boundary bits begin) (again.met last here) (record {
-      sought = found.sought;
-      list = list_of_space space;
-      among = found.among;
-      numbers = numbers;
-      first = found.first;
-      assigned = assigned;
-    }))
+pub found_least : (job : Job) (boundary : ℕ) (elements : List ℕ) (space : Space) (numbers : Numbers) (begin : Begin)
+    (bits : List Decided) → IsFound job boundary elements bits space numbers
+    → IsAssigned job boundary (list_of_space space) (given_by numbers) begin → IsLeast job boundary bits begin
+found_least job boundary elements space numbers begin bits found assigned = record {
+  sought = found.sought;
+  list = list_of_space space;
+  among = found.among;
+  numbers = numbers;
+  first = found.first;
+  assigned = assigned;
+}
 
--- no start of the case given last differs
-pub none_again : (job : Job) (f : Fork) (boundary : ℕ) (kept : List Kept) (way : Way) (last : List Decided)
-    → HasMetAgain job f boundary kept way → f.at ≡ At last → NoneDiffersOf job boundary (met_of way)
-    → NoneDiffersOf job f.boundary last
-none_again job f boundary kept way last again here none =
-    subst (λ (n : ℕ). NoneDiffersOf job n last) (sym again.at_boundary)
-    (subst (NoneDiffersOf job boundary) (again.met last here) none)
+-- what is so of the case that was met is so of the one given last
+pub said_again : (P : ℕ → List Decided → Type 0) (job : Job) (f : Fork) (boundary : ℕ) (kept : List Kept) (way : Way)
+    (last : List Decided) → HasMetAgain job f boundary kept way → f.at ≡ At last → P boundary (met_of way)
+    → P f.boundary last
+said_again P job f boundary kept way last again here said =
+    subst (λ (n : ℕ). P n last) (sym again.at_boundary) (subst (P boundary) (again.met last here) said)
+
+-- what is so of what is found where something is
+pub if_found : (P Q : Begin → Type 0) (o : Option Begin) → ((begin : Begin) → P begin → Q begin) → IfSome o P
+    → IfSome o Q
+if_found P Q None leads holds = tt
+if_found P Q (Some begin) leads holds = leads begin holds
 
 -- the path operations of its comparisons are within the budget
-pub within_again : (job : Job) (f : Fork) (boundary : ℕ) (kept : List Kept) (way : Way)
-    (last : List Decided) (nodes : ℕ)
-    → HasMetAgain job f boundary kept way → f.at ≡ At last → f.budget.nodes ≡ nodes
+pub within_again : (job : Job) (f : Fork) (boundary : ℕ) (kept : List Kept) (way : Way) (last : List Decided)
+    (nodes : ℕ) → HasMetAgain job f boundary kept way → f.at ≡ At last → f.budget.nodes ≡ nodes
     → ComparisonsAreWithin job boundary nodes (met_of way) → ComparisonsAreWithin job f.boundary f.budget.nodes last
 within_again job f boundary kept way last nodes again here budget within =
-    subst (λ (n : ℕ). ComparisonsAreWithin job n f.budget.nodes last) (sym again.at_boundary)
-    (subst (λ (n : ℕ). ComparisonsAreWithin job boundary n last) (sym budget)
-    (subst (ComparisonsAreWithin job boundary nodes) (again.met last here) within))
+    said_again (λ number bits. ComparisonsAreWithin job number f.budget.nodes bits) job f boundary kept way last again
+    here (subst (λ (n : ℕ). ComparisonsAreWithin job boundary n (met_of way)) (sym budget) within)
 
 -- an operation that stops the comparison is one of the list of the case given last
 pub found_over : (job : Job) (f : Fork) (boundary nodes : ℕ) (kept : List Kept) (way : Way) (stop : RunStop)

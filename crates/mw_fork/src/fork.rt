@@ -6,7 +6,7 @@ ghost use Rattle.mw_term.specs.declared.kinds.WordKind.TheVariants.{Probe};
 ghost use Rattle.mw_term.specs.WordList.{term_of};
 ghost use Rattle.mw_rel.specs.Case.{IsBefore, IsCase};
 ghost use Rattle.mw_fork.specs.Begins.{IsDiffering, IsLeast};
-ghost use Rattle.mw_fork.specs.Failing.{ComparisonsAreWithin, NoneDiffersOf};
+ghost use Rattle.mw_fork.specs.Failing.{ComparisonStops, ComparisonsAreWithin, NoneDiffersOf};
 ghost use Rattle.mw_rel.specs.OverBudget.{AreNodesOver};
 ghost use Rattle.mw_rel.specs.Views.{job_of};
 ghost use Rattle.mw_fork.specs.declared.fault.ForkFault.TheVariants as faults;
@@ -20,7 +20,7 @@ ghost use Rattle.mw_fork.specs.Forks.{NoneIsToCome, OneIsToCome};
 ghost use Rattle.mw_fork.specs.KeptBits.{AreKeptBits};
 ghost use Rattle.mw_fork.specs.OnWay.{HasMetCase, HasMetSegment, HavePaths, IsRunOf};
 ghost use Rattle.mw_fork.specs.Stops.{StopsBy};
-ghost use Rattle.mw_fork.specs.Ways.{met_of};
+ghost use Rattle.mw_fork.specs.Ways.{Way as WayOf, met_of};
 ghost use Rattle.mw_fork.specs.Within.{AreDecidedWithin};
 
 use crate::begin::begin_of;
@@ -168,6 +168,51 @@ fn ending(traced: Traced) -> (u32, bool)
     ensures late { result.1 ≡ traced.late }
 {
     (traced.cycles, traced.late)
+}
+
+/// What a start of a case that was run is chosen by, where one differs: the first of those that are sought.
+fn differing(
+    alloc: Global,
+    job: &Job,
+    boundary: usize,
+    traced: &mut Traced,
+    nodes: u32,
+) -> Result<Option<Begin>, RunStop>
+    requires met { (elements : List ℕ) × (from : List Kept) × (way : WayOf)
+        × HasMetCase (job_of job.now) boundary elements from traced.old.cycles traced.old.late way traced.old.run
+        traced.old.step }
+    requires few { length traced.old.run.space.memory.reads ≤ 1024 }
+    requires fresh { term_of traced.old.run.space.words Probe ≡ None }
+    requires paths { HavePaths traced.old.run.space traced.old.run.paths }
+    ensures none { IfOk result (λ o. o ≡ None → (elements : List ℕ) (from : List Kept) (way : WayOf)
+        → HasMetCase (job_of job.now) boundary elements from traced.old.cycles traced.old.late way traced.old.run
+        traced.old.step
+        → NoneDiffersOf (job_of job.now) boundary (met_of way)) }
+    ensures within { IfOk result (λ o. o ≡ None → (elements : List ℕ) (from : List Kept) (way : WayOf)
+        → HasMetCase (job_of job.now) boundary elements from traced.old.cycles traced.old.late way traced.old.run
+        traced.old.step
+        → ComparisonsAreWithin (job_of job.now) boundary nodes (met_of way)) }
+    ensures differs { IfOk result (λ o. IfSome o (λ begin. (elements : List ℕ) (from : List Kept) (way : WayOf)
+        → HasMetCase (job_of job.now) boundary elements from traced.old.cycles traced.old.late way traced.old.run
+        traced.old.step
+        → IsDiffering (job_of job.now) boundary (met_of way) begin)) }
+    ensures least { IfOk result (λ o. IfSome o (λ begin. (elements : List ℕ) (from : List Kept) (way : WayOf)
+        → HasMetCase (job_of job.now) boundary elements from traced.old.cycles traced.old.late way traced.old.run
+        traced.old.step
+        → IsLeast (job_of job.now) boundary (met_of way) begin)) }
+    ensures over { IfErr result (λ stop. (elements : List ℕ) (from : List Kept) (way : WayOf)
+        → HasMetCase (job_of job.now) boundary elements from traced.old.cycles traced.old.late way traced.old.run
+        traced.old.step
+        → ComparisonStops (job_of job.now) boundary nodes (met_of way) stop) }
+{
+    match first_failing(alloc, job, traced, nodes) {
+        Ok(None) => Ok(None),
+        Ok(Some(given)) => {
+            let begin = begin_of(alloc, job, boundary, &traced.run.space, &given)?;
+            Ok(Some(begin))
+        }
+        Err(stop) => Err(stop),
+    }
 }
 
 /// Why a case isn't given, by why its run stopped.
@@ -335,14 +380,8 @@ impl Fork {
         let Ok(mut traced) = trace(alloc, job, self.boundary, &mut self.way, u32::MAX) else {
             return Err(ForkFault::NoMemory);
         };
-        match first_failing(alloc, job, &mut traced, self.budget.nodes) {
-            Ok(None) => Ok(None),
-            Ok(Some(given)) => {
-                match begin_of(alloc, job, self.boundary, &traced.run.space, &given) {
-                    Ok(begin) => Ok(Some(begin)),
-                    Err(NoMemory) => Err(ForkFault::NoMemory),
-                }
-            }
+        match differing(alloc, job, self.boundary, &mut traced, self.budget.nodes) {
+            Ok(begin) => Ok(begin),
             Err(stop) => Err(fault_of(alloc, self.boundary, &self.way, stop)),
         }
     }
