@@ -25,10 +25,10 @@ use Rattle.mw_fork.proofs.Related.{lines_rest, seen_count, seen_line}
 
 -- the value that there is
 pub some_at : {X : Type 0} (P : X → Type 0) (o : Option X) (x : X) → o ≡ Some x → IfSome o P → P x
-some_at P None x is holds = absurd cc
-some_at P (Some y) x is holds = subst P (same_Some y x is) holds
+some_at P o x is holds = subst (λ y. IfSome y P) is holds
 
-all_at : {X : Type 0} (P : X → Type 0) (xs : List X) (i : ℕ) (x : X) → All P xs → slice_get xs i ≡ Some x → P x
+-- what is so of each is so of the one at a place
+pub all_at : {X : Type 0} (P : X → Type 0) (xs : List X) (i : ℕ) (x : X) → All P xs → slice_get xs i ≡ Some x → P x
 all_at P [] i x all at = absurd cc
 all_at P (y ∷ rest) zero x all at = subst P (same_Some y x at) (All-head P y rest all)
 all_at P (y ∷ rest) (suc i) x all at = all_at P rest i x (All-tail P y rest all) at

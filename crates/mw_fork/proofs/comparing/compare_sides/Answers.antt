@@ -1,7 +1,7 @@
 use Rattle.std.proofs.Common.{◌≡◌, refl, true, false, ap, ap₂, arith, subst, sym, ◌∙◌}
-use Rattle.std.specs.Prelude.{All, IfSome, Some}
+use Rattle.std.specs.Prelude.{All, Err, IfSome, None, Ok, Some}
+use Rattle.std.proofs.lemmas.Option.{IfSome_then}
 use Rattle.std.proofs.lemmas.Result.{err_from_is_err_and}
-use Rattle.mw_dd.specs.Diagrams.{IsFirst}
 use Rattle.mw_term.specs.Assigned.{given_by}
 use Rattle.mw_rel.specs.Certified.{boundary_at}
 use Rattle.mw_rel.specs.Lines.{reads_of}
@@ -11,16 +11,15 @@ use Rattle.mw_rel.specs.Views.{job_of}
 use Rattle.mw_fork.specs.Boundaries.{AreWide}
 use Rattle.mw_symmach.specs.Steps.{event_term}
 use Rattle.mw_symmem.specs.Memory.{IsOfWidth}
-use Rattle.mw_fork.specs.Comparing.{AreApart, AreEventsOf, AreOne, FailsFirst, HaveCompared, StopsComparing}
+use Rattle.mw_fork.specs.Comparing.{AreApart, AreEventsOf, AreOne}
 use Rattle.mw_fork.specs.OnWay.{ground_in, path_in}
 use Rattle.mw_fork.specs.Ways.{met_of}
 use Rattle.mw_rel.specs.ComparisonWords.{are_alike}
 use Rattle.mw_fork.proofs.CaseCompared.{at_boundary, ended_met, lines_at, none_differs, nowhere_none}
-use Rattle.mw_fork.proofs.ComparedAll.{some_as}
 use Rattle.mw_fork.proofs.Differing.{wide_at_end}
 use Rattle.mw_fork.proofs.Numbered.{AreNumbered}
 use Rattle.mw_fork.proofs.Sides.{terms_at_end}
-use Rattle.mw_fork.proofs.SidesCompared.{OfAll, alike_at, alike_found, alike_stops, alike_within, same_ends, some_both}
+use Rattle.mw_fork.proofs.SidesCompared.{CompareAll, alike_at, alike_found, alike_stops, alike_within, same_ends, some_both}
 use Rattle.mw_fork.proofs.SidesCompared.{unlike_as, unlike_found, unlike_within}
 use Rattle.mw_fork.proofs.comparing.compare_sides.Goals as goal
 
@@ -69,12 +68,11 @@ returns-then-alike-sp-clause-found c =
     let lines = lines_at job run.board.place.at reached valid there in
     let unlike = unlike_as job run.space run.board step reached c.alike.result c.sp.result true
     (c.alike.ensures ∙ ap₂ are_alike c.events.ensures c.events-2.ensures) c.sp.ensures c.if-alike-sp.true in
-    some_as (IsFirst (path_in run.paths)) _ c.in_ok-first_assignment.field-0
+    IfSome_then c.in_ok-first_assignment.field-0 c.in_ok-first_assignment.ensures.first
     (λ numbers first number cycles elements from late way met.
     unlike_found job number elements (met_of way) cycles run.space
     (path_in run.paths) run.board step reached numbers valid
     (ended_met job number elements from cycles late way run step valid met) lines.0 there unlike first)
-    c.in_ok-first_assignment.ensures.first
 
 pub compare_all-requires-clause-events : goal.compare_all-requires-clause-events
 compare_all-requires-clause-events c =
@@ -162,7 +160,7 @@ returns-clause-none c = λ none number cycles elements from late way met.
     let e = c.in_ok-found.ensures in
     let alike = alike_at job old run.board step reached unlike in
     none_differs job number elements (met_of way) cycles old new path run.board step reached valid
-    (ended_met job number elements from cycles late way run step valid met) e.goes e.own lines.0 there alike.0 alike.1
+    (ended_met job number elements from cycles late way run step valid met) e.goes c.count.ensures.own lines.0 there alike.0 alike.1
     (same_ends (λ t ls b m. AreOne job.relation.shape new path t ls b m) _ _ _ _ _ _ _ _ terms here c.events-3.ensures
     c.events-4.ensures (e.same none))
 
@@ -186,8 +184,10 @@ returns-clause-within c = λ none number cycles elements from late way met.
     let e = c.in_ok-found.ensures in
     alike_within job number nodes elements (met_of way) cycles old new path run.board step reached
     (ended_met job number elements from cycles late way run step valid met) there unlike
-    (same_ends (OfAll job nodes old path (HaveCompared old.terms.map nodes new path)) _ _ _ _ _ _ _ _ terms here
-    c.events-3.ensures c.events-4.ensures (e.none none))
+    (same_ends (CompareAll job nodes old new path (Ok None)) _ _ _ _ _ _ _ _ terms here
+    c.events-3.ensures c.events-4.ensures
+    (subst (λ o. CompareAll job nodes old new path (Ok o) c.deref.result.now (lines_of c.as_slice.result.now)
+    c.events-3.result.now c.events-4.result.now) none e.compared))
 
 pub returns-clause-found : goal.returns-clause-found
 returns-clause-found c =
@@ -209,22 +209,20 @@ returns-clause-found c =
     (c.alike.ensures ∙ ap₂ are_alike c.events.ensures c.events-2.ensures) c.sp.ensures c.if-alike-sp.false in
     let e = c.in_ok-found.ensures in
     let found = c.in_ok-found.found in
-    let fails = same_ends
-    (λ t ls b m.
-    IfSome found (λ numbers. OfAll job nodes old path (λ all. FailsFirst old.terms.map new path all numbers) t ls b m))
-    _ _ _ _ _ _ _ _ terms here c.events-3.ensures c.events-4.ensures e.found in
+    let compared = same_ends (CompareAll job nodes old new path (Ok found)) _ _ _ _ _ _ _ _ terms here
+    c.events-3.ensures c.events-4.ensures e.compared in
     let two =
     same_ends (λ t ls b m. IfSome found (λ numbers. AreApart job.relation.shape new (given_by numbers) t ls b m))
     _ _ _ _ _ _ _ _ terms here c.events-3.ensures c.events-4.ensures e.apart in
-    some_both (λ numbers. OfAll job nodes old path (λ all. FailsFirst old.terms.map new path all numbers)
-    (terms_at_end job run.board step) reached.lines run.board.events step.parts.events)
+    some_both (λ o. CompareAll job nodes old new path (Ok o) (terms_at_end job run.board step) reached.lines
+    run.board.events step.parts.events)
     (λ numbers. AreApart job.relation.shape new (given_by numbers) (terms_at_end job run.board step) reached.lines
     run.board.events step.parts.events) _ found
-    (λ numbers fail apart number cycles elements from late way met.
+    (λ numbers fails apart number cycles elements from late way met.
     alike_found job number nodes elements (met_of way) cycles old new path run.board step reached numbers valid
-    (ended_met job number elements from cycles late way run step valid met) e.goes e.own lines.0
-    there unlike fail apart)
-    fails two
+    (ended_met job number elements from cycles late way run step valid met) e.goes c.count.ensures.own lines.0
+    there unlike fails apart)
+    compared two
 
 pub returns-in_err-found-clause-over : goal.returns-in_err-found-clause-over
 returns-in_err-found-clause-over c =
@@ -255,7 +253,5 @@ returns-in_err-found-clause-over c =
     c.in_err-found.field-0.0
     c.over_have_numbers.ensures.over laws
     (ended_met job number elements from cycles late way run step valid met) there unlike
-    (λ word j over.
-    same_ends (OfAll job nodes old path (λ all. StopsComparing old.terms.map nodes new path all word j))
-    _ _ _ _ _ _ _ _ terms
-    here c.events-3.ensures c.events-4.ensures (c.in_err-found.ensures.over word j over)))
+    (same_ends (CompareAll job nodes old new path (Err c.in_err-found.field-0.0)) _ _ _ _ _ _ _ _ terms here
+    c.events-3.ensures c.events-4.ensures c.in_err-found.ensures.compared))
