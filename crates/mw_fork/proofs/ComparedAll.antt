@@ -1,5 +1,5 @@
 -- All comparisons of a case, one after another.
-use Rattle.std.proofs.Common.{◌≡◌, ℕ, ◌<◌, List, sym, refl, subst, ◌∙◌}
+use Rattle.std.proofs.Common.{◌≡◌, ℕ, List, sym, refl, subst, ◌∙◌}
 use Rattle.std.specs.Prelude.{All, IfOk, OnOk, Option, None, Some, Result, Err, Ok, slice_get, true}
 use Rattle.mw_expr.specs.declared.shape.Shape.{Shape}
 use Rattle.mw_rel.specs.ComparisonWords.{Compared, Sides, with_events, with_lines, with_memory}

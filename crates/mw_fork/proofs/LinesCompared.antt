@@ -1,7 +1,7 @@
 -- Lines, compared one after another.
 use Rattle.std.proofs.Common.{◌≡◌, inl, inr, ap, subst, sym, ◌∙◌, ℕ, zero, suc, ◌+◌, ◌<◌, ◌≤◌, List, [], ◌∷◌, arith}
 use Rattle.std.proofs.Common.{drop, get_or, length, true}
-use Rattle.std.specs.Prelude.{All, IfSome, None, Option, Some, slice_get}
+use Rattle.std.specs.Prelude.{All, IfSome, Option, Some, slice_get}
 use Rattle.std.proofs.lemmas.Bool.{cases_lt}
 use Rattle.std.proofs.lemmas.List.{drop_all}
 use Rattle.std.proofs.lemmas.List.Elements.{All-head, All-tail}

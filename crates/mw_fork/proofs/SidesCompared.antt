@@ -15,7 +15,7 @@ use Rattle.mw_symmach.specs.Turns.{Stepping}
 use Rattle.mw_symmach.specs.Walks.{underway_in}
 use Rattle.mw_rel.specs.CaseWords.{CaseWords, case_words, sides_of, whole}
 use Rattle.mw_rel.specs.Certified.{boundary_at}
-use Rattle.mw_rel.specs.ComparisonWords.{Compared, Sides, all_compared, are_alike, compared_in, is_unlike}
+use Rattle.mw_rel.specs.ComparisonWords.{Sides, all_compared, are_alike, compared_in, is_unlike}
 use Rattle.mw_rel.specs.Job.{Job, IsJob}
 use Rattle.mw_rel.specs.Lines.{Line}
 use Rattle.mw_rel.specs.Relation.{Boundary}

@@ -1,6 +1,6 @@
 // The comparison of both sides of a case, on terms.
-ghost use Rattle.std.specs.Prelude.{◌≡◌, ◌↔◌, ◌<◌, ◌≤◌, ◌+◌, ◌^◌, Bool, ℕ, List, All, IfErr, IfOk, IfSome, None};
-ghost use Rattle.std.specs.Prelude.{OnOk, Some, length, slice_get, take, true};
+ghost use Rattle.std.specs.Prelude.{◌≡◌, ◌↔◌, ◌<◌, ◌≤◌, ◌+◌, ◌^◌, ◌∷◌, [], Bool, ℕ, List, All, IfErr, IfOk, IfSome};
+ghost use Rattle.std.specs.Prelude.{None, OnOk, Some, length, slice_get, take, true};
 ghost use Rattle.mw_macro.specs.Counts.{reads};
 ghost use Rattle.mw_rel.specs.ComparisonWords.{Sides, Subject, are_alike, with_comparison, with_events};
 ghost use Rattle.mw_rel.specs.ComparisonWords.{with_line};
@@ -102,6 +102,40 @@ fn apart(
     }
 }
 
+/// Compares the words of two events, if both put one out.
+fn compare_pair(
+    alloc: Global,
+    space: &mut Space,
+    paths: &mut Paths,
+    board: SymEvent,
+    machine: SymEvent,
+    nodes: u32,
+) -> Result<Option<Assignment>, RunStop>
+    requires wide { (a b : ℕ) → board ≡ Out a → machine ≡ Out b
+        → (word : ℕ) × IsOfWidth space.old.terms word a × IsOfWidth space.old.terms word b }
+    requires workspace { IsWorkspace space.old.terms space.old.words space.old.memory }
+    requires paths { HavePaths space.old paths.old }
+    ensures goes { OnOk result (GoesComparing space.old space.new) }
+    ensures paths { OnOk result (HavePaths space.new paths.new) }
+    ensures path { Agree (path_in paths.new) (path_in paths.old) }
+    ensures memory { OnOk result (space.new.memory ≡ space.old.memory) }
+    ensures probe { OnOk result (term_of space.new.words Probe ≡ term_of space.old.words Probe) }
+    ensures compared { (number : ℕ) → Compares nodes space.old space.new (path_in paths.old)
+        (with_events number (board ∷ []) (machine ∷ [])) result }
+    ensures same { IfOk result (λ o. o ≡ None → (a b : ℕ) → board ≡ Out a → machine ≡ Out b
+        → AreOneOn space.new.terms (path_in paths.old) a b) }
+    ensures apart { IfOk result (λ o. IfSome o (λ numbers. (a : ℕ) × (b : ℕ) × (board ≡ Out a) × (machine ≡ Out b)
+        × AreTwoAt space.new.terms (given_by numbers) a b)) }
+{
+    let Some(a) = out_of(board) else {
+        return Ok(None);
+    };
+    let Some(b) = out_of(machine) else {
+        return Ok(None);
+    };
+    apart(alloc, space, paths, a, b, nodes)
+}
+
 /// Compares the words that both sides put out, pair by pair.
 fn compare_events(
     alloc: Global,
@@ -129,12 +163,8 @@ fn compare_events(
         × ArePutOut board.now machine.now number a b × AreTwoAt space.new.terms (given_by numbers) a b)) }
 {
     for number in 0..board.len() {
-        if let Some(a) = out_of(board[number]) {
-            if let Some(b) = out_of(machine[number]) {
-                if let Some(found) = apart(alloc, space, paths, a, b, nodes)? {
-                    return Ok(Some(found));
-                }
-            }
+        if let Some(found) = compare_pair(alloc, space, paths, board[number], machine[number], nodes)? {
+            return Ok(Some(found));
         }
     }
     Ok(None)
