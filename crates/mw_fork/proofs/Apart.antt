@@ -213,7 +213,8 @@ pub compared_over : (nodes : ℕ) (old new : Space) (path : Function) (subject :
     (fault : BlastFault) (stop : RunStop) → new.terms.map ≡ old.terms.map → IsTable new.terms
     → IsFailingCause new.terms path term nodes fault → IsStopOf new.words fault stop
     → Compares nodes old new path (compared_at subject term (list_of_space new)) (Err stop)
-compared_over nodes old new path subject term (faults.Over named i) stop same table cause told = λ so_far have word j is.
+compared_over nodes old new path subject term (faults.Over named i) stop same table cause told =
+    λ so_far have word j is.
     let map = old.terms.map in
     let other = told.over named i refl in
     let c = comparison_of subject term (list_of_space new) in

@@ -8,7 +8,8 @@ use Rattle.mw_fork.specs.declared.stop.RunStop.{RunStop}
 use Rattle.mw_fork.specs.Comparing.{Compares}
 
 -- none showed a difference up to those that are left: what is said of these, from this space on, is so of all
-abbrev pub CameTo : (nodes : ℕ) → (old now : Space) → (path other : Function) → (all left : Compared → Compared) → Type 0
+abbrev pub CameTo : (nodes : ℕ) → (old now : Space) → (path other : Function) → (all left : Compared → Compared)
+    → Type 0
 CameTo nodes old now path other all left =
     (new : Space) (result : Result (Option Numbers) RunStop) → Compares nodes now new other left result
     → Compares nodes old new path all result

@@ -127,12 +127,14 @@ line_ends s old new elements l a right on so_far has at fit same =
     ap (λ es. line_behind l so_far es (expression_words s es on.machine_writes l.right so_far.list)) fit.elements_are
     ∙ ap (λ (ws : List Held). line_behind l so_far elements (expression_words s elements ws l.right so_far.list))
     fit.writes.machine
-    ∙ ap (λ (all : WordList). line_behind l so_far elements (expression_words s elements old.memory.machine l.right all))
+    ∙ ap
+    (λ (all : WordList). line_behind l so_far elements (expression_words s elements old.memory.machine l.right all))
     same
     ∙ ap (line_behind l so_far elements)
     (ap (λ (sh : Shape). expression_words sh elements old.memory.machine l.right (list_of_space old)) (sym has.shape)
     ∙ sym has.listed)
-    ∙ ap (λ (x : ℕ). with_comparison (line l.left) x right (compared_in (list_of_space new) so_far.comparisons)) (sym at)
+    ∙ ap (λ (x : ℕ). with_comparison (line l.left) x right (compared_in (list_of_space new) so_far.comparisons))
+    (sym at)
 
 -- ---- what it stands for
 

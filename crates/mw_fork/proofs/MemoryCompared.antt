@@ -125,8 +125,8 @@ memory_ends s s0 s1 s2 s3 width probe board machine on so_far address word has f
     let by_board : on.board_writes ≡ s1.memory.board = writes.board ∙ ap (λ m. m.board) (sym has.kept) in
     let by_machine : on.machine_writes ≡ s2.memory.machine =
     writes.machine ∙ ap (λ m. m.machine) (sym has.kept) ∙ sym (first.goes.writes.each sides.Machine) in
-    memory_is s on so_far (list_of_space s0) (list_of_space s1) (list_of_space s2) (list_of_space s3) probe board machine
-    same
+    memory_is s on so_far (list_of_space s0) (list_of_space s1) (list_of_space s2) (list_of_space s3) probe board
+    machine same
     (ap (λ (w : ℕ). with_variable Probe w (list_of_space s0)) address ∙ sym has.listed)
     (ap (λ (w : ℕ). memory_read_words w probe on.board_writes (list_of_space s1)) word_1
     ∙ ap (λ (ws : List Held). memory_read_words s1.memory.word probe ws (list_of_space s1)) by_board

@@ -20,7 +20,8 @@ use Rattle.mw_rel.specs.Job.{Job, IsJob}
 use Rattle.mw_rel.specs.Lines.{Line}
 use Rattle.mw_rel.specs.Relation.{Boundary}
 use Rattle.mw_rel.specs.Rules.{IsLineOf}
-use Rattle.mw_fork.specs.Comparing.{AreApart, AreSidesOn, Compares, GoesComparing, HaveCompared, IsOutcome, compared_all}
+use Rattle.mw_fork.specs.Comparing.{AreApart, AreSidesOn, Compares, GoesComparing, HaveCompared, IsOutcome}
+use Rattle.mw_fork.specs.Comparing.{compared_all}
 use Rattle.mw_fork.specs.declared.elements.Space.{Space}
 use Rattle.mw_fork.specs.declared.stop.RunStop.{RunStop}
 use Rattle.mw_fork.specs.Failing.{ComparisonStops, ComparisonsAreWithin, IsFound}
@@ -137,7 +138,8 @@ CompareAll job nodes old new path result elements lines board machine =
 -- so it says it of those of the case
 at_end : (job : Job) (nodes : ℕ) (old new : Space) (path : Function) (board : Symbolic) (step : Stepping)
     (reached : Boundary) (result : Result (Option Numbers) RunStop)
-    → CompareAll job nodes old new path result (terms_at_end job board step) reached.lines board.events step.parts.events
+    → CompareAll job nodes old new path result (terms_at_end job board step) reached.lines board.events
+    step.parts.events
     → IsOutcome old.terms.map nodes new path
     (all_compared job.relation.shape reached (ends_of job old board step) (list_of_space old)) result
 at_end job nodes old new path board step reached result compared =
@@ -199,7 +201,8 @@ pub alike_stops : (job : Job) (number nodes : ℕ) (elements : List ℕ) (bits :
     → CompareAll job nodes old new path (Err stop) (terms_at_end job board step) reached.lines board.events
     step.parts.events
     → ComparisonStops job number nodes bits stop
-alike_stops job number nodes elements bits cycles old new path board step reached stop law laws is there alike compared =
+alike_stops job number nodes elements bits cycles old new path board step reached stop law laws is there alike
+    compared =
     stops_comparing job number nodes bits old.terms.map new path _ stop law laws is.stands.space.map
     (words_at_end job number elements bits cycles old path board step reached false is there alike) is.written
     (prefix_of_case job number bits is.feasible)

@@ -163,7 +163,14 @@ fn compare_events(
         × ArePutOut board.now machine.now number a b × AreTwoAt space.new.terms (given_by numbers) a b)) }
 {
     for number in 0..board.len() {
-        if let Some(found) = compare_pair(alloc, space, paths, board[number], machine[number], nodes)? {
+        if let Some(found) = compare_pair(
+            alloc,
+            space,
+            paths,
+            board[number],
+            machine[number],
+            nodes,
+        )? {
             return Ok(Some(found));
         }
     }

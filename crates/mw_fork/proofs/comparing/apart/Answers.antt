@@ -23,15 +23,7 @@ returns-in-Ok-clause-goes c =
     let e = c.in_ok-same.ensures in
     record {
       goes = compared_goes _ _ _ _ c.args.space.now.memory c.args.a c.args.b c.in_ok-same.same
-          (record {
-            words = e.words;
-            made = e.made;
-            listed = e.listed;
-            of = e.of;
-            extends = e.extends;
-            keeps = e.keeps;
-            table = e.table;
-          })
+          (assumption e)
           c.requires.workspace;
       writes = writes_itself c.args.space.now.memory;
     }
@@ -48,15 +40,7 @@ returns-in-Ok-clause-compared c = λ subject.
     record { terms = c.add.new.terms; words = c.add.new.self; memory = c.args.space.now.memory } in
     compared_so c.args.nodes c.args.space.now new (path_in c.args.paths.now) subject c.args.a c.args.b c.in_ok-same.same
     (Ok c.in-Ok.found) refl
-    (record {
-      words = e.words;
-      made = e.made;
-      listed = e.listed;
-      of = e.of;
-      extends = e.extends;
-      keeps = e.keeps;
-      table = e.table;
-    })
+    (assumption e)
     (compared_found c.args.nodes c.args.space.now new (path_in c.args.paths.now) subject c.in_ok-same.same c.in-Ok.found
     e.extends.map c.in-Ok.ensures.none c.in-Ok.ensures.within c.in-Ok.ensures.first)
 
@@ -79,15 +63,7 @@ returns-in-Err-clause-compared c = λ subject.
     record { terms = c.add.new.terms; words = c.add.new.self; memory = c.args.space.now.memory } in
     compared_so c.args.nodes c.args.space.now new (path_in c.args.paths.now) subject c.args.a c.args.b c.in_ok-same.same
     (Err c.stop_of.result) refl
-    (record {
-      words = e.words;
-      made = e.made;
-      listed = e.listed;
-      of = e.of;
-      extends = e.extends;
-      keeps = e.keeps;
-      table = e.table;
-    })
+    (assumption e)
     (compared_over c.args.nodes c.args.space.now new (path_in c.args.paths.now) subject c.in_ok-same.same
     c.in-Err.fault c.stop_of.result e.extends.map e.table c.in-Err.ensures.over
     (record { over = c.stop_of.ensures.over; none = c.stop_of.ensures.none }))

@@ -31,12 +31,7 @@ compare_pair-requires-clause-wide c = λ a b is_a is_b.
     inv.goes c.requires.wide
     (put_out c.args.board.now c.args.machine.now c.loop-number.number c.index-board-number.result
     c.index-machine-number.result a b
-    (record {
-      inside = c.loop-number-test.true;
-      count = inv.count;
-      first = c.index-board-number.is;
-      second = c.index-machine-number.is;
-    }) is_a is_b)
+    (assumption (c.loop-number-test.true, inv.count, c.index-board-number.is, c.index-machine-number.is)) is_a is_b)
 
 pub returns-in_err-found-clause-compared : goal.returns-in_err-found-clause-compared
 returns-in_err-found-clause-compared c =
@@ -52,12 +47,7 @@ returns-in_err-found-clause-compared c =
     (compares_shown c.args.nodes c.loop-number.space c.compare_pair.new.space (path_in c.loop-number.paths)
     (with_events k (x ∷ []) (y ∷ [])) (with_events k (drop k board) (drop k machine)) (Err stop) tt
     (λ so_far. events_behind board machine k x y so_far
-    (record {
-      inside = c.loop-number-test.true;
-      count = inv.count;
-      first = c.index-board-number.is;
-      second = c.index-machine-number.is;
-    }) inv.alike)
+    (assumption (c.loop-number-test.true, inv.count, c.index-board-number.is, c.index-machine-number.is)) inv.alike)
     (c.in_err-found.ensures.compared k)))
 
 pub returns-in-Some-clause-goes : goal.returns-in-Some-clause-goes
@@ -86,12 +76,7 @@ returns-in-Some-clause-compared c =
     (compares_shown c.args.nodes now new path (with_events k (x ∷ []) (y ∷ []))
     (with_events k (drop k board) (drop k machine)) (Ok (Some c.in-Some.found)) tt
     (λ so_far. events_behind board machine k x y so_far
-    (record {
-      inside = c.loop-number-test.true;
-      count = inv.count;
-      first = c.index-board-number.is;
-      second = c.index-machine-number.is;
-    }) inv.alike)
+    (assumption (c.loop-number-test.true, inv.count, c.index-board-number.is, c.index-machine-number.is)) inv.alike)
     (subst (λ o. Compares c.args.nodes now new path (with_events k (x ∷ []) (y ∷ [])) (Ok o)) c.in-Some.is
     (c.in_ok-found.ensures.compared k)))
 
@@ -103,12 +88,12 @@ returns-in-Some-clause-apart c =
       two.1,
       put_out c.args.board.now c.args.machine.now c.loop-number.number c.index-board-number.result
           c.index-machine-number.result two.0 two.1
-          (record {
-            inside = c.loop-number-test.true;
-            count = c.loop-number.invariant.count;
-            first = c.index-board-number.is;
-            second = c.index-machine-number.is;
-          }) two.2 two.3,
+          (assumption (
+            c.loop-number-test.true,
+            c.loop-number.invariant.count,
+            c.index-board-number.is,
+            c.index-machine-number.is,
+          )) two.2 two.3,
       two.4,
     )
 
@@ -125,12 +110,7 @@ loop-number-preserved c =
     let y = c.index-machine-number.result in
     let e = c.in_ok-found.ensures in
     let at : AreAt board machine k x y =
-    record {
-      inside = c.loop-number-test.true;
-      count = inv.count;
-      first = c.index-board-number.is;
-      second = c.index-machine-number.is;
-    } in
+    assumption (c.loop-number-test.true, inv.count, c.index-board-number.is, c.index-machine-number.is) in
     record {
       count = inv.count;
       alike = alike_rest board machine k x y at inv.alike;

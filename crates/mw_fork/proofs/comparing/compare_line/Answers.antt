@@ -99,8 +99,8 @@ pub returns-clause-compared : goal.returns-clause-compared
 returns-clause-compared c = λ sides on.
     let s = (job_of c.args.job.now).relation.shape in
     let l = line_of c.args.line.now in
-    compares_later c.args.nodes c.args.space.now (mid_space c) c.apart.new.space (path_in c.args.paths.now) (line l.left)
-    c.index-elements-line.result c.in_ok-right.right (with_line s sides l) c.apart.result
+    compares_later c.args.nodes c.args.space.now (mid_space c) c.apart.new.space (path_in c.args.paths.now)
+    (line l.left) c.index-elements-line.result c.in_ok-right.right (with_line s sides l) c.apart.result
     (to_apart c).goes.later.extends.map
     (λ so_far same. line_ends s c.args.space.now (mid_space c) c.args.elements.now l c.index-elements-line.result
     c.in_ok-right.right sides so_far (right_made c) (left_at s c.args.space.now.terms c.args.elements.now l _

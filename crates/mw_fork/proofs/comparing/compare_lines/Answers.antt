@@ -100,7 +100,8 @@ loop-line-preserved c =
           (with_line s sides (line_of line)) (with_lines s sides (lines_of (drop (k + 1) c.args.lines.now)))
           (with_lines s sides (lines_of (drop k c.args.lines.now))) result e.goes.goes.later.extends.map e.path
           (λ so_far same. lines_next s c.args.lines.now k line sides so_far c.loop-line-test.true c.line-item.is)
-          (subst (λ o. Compares c.args.nodes now new (path_in c.loop-line.paths) (with_line s sides (line_of line)) (Ok o))
+          (subst
+          (λ o. Compares c.args.nodes now new (path_in c.loop-line.paths) (with_line s sides (line_of line)) (Ok o))
           c.in_default.is
           (e.compared sides (sides_compared c.args.elements.now c.args.space.now now sides inv.goes on))) says);
       holds = hold_more s c.args.lines.now k line now new (path_in c.args.paths.now) (path_in c.loop-line.paths)

@@ -48,7 +48,8 @@ returns-clause-same c =
     let a = c.in-Some.a in
     let b = c.in-Some-out_of.b in
     IfOk-weaker c.apart.result _ _
-    (λ o one none d e is_d is_e. pair_one c.apart.new.space (path_in c.args.paths.now) c.args.board c.args.machine a b d e
+    (λ o one none d e is_d is_e.
+    pair_one c.apart.new.space (path_in c.args.paths.now) c.args.board c.args.machine a b d e
     ((c.out_of.ensures a).0 c.in-Some.is) ((c.out_of-2.ensures b).0 c.in-Some-out_of.is) is_d is_e (one none))
     c.apart.ensures.same
 
