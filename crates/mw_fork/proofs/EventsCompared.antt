@@ -1,11 +1,11 @@
 -- Events, compared pair by pair.
-use Rattle.std.proofs.Common.{◌≡◌, inl, inr, add-one, ap, ap₂, drop, drop-cons, get_or, subst, sym, ◌∙◌, refl, ℕ, zero}
+use Rattle.std.proofs.Common.{◌≡◌, inl, inr, add-one, ap, ap₂, drop, drop-cons, get_or, subst, sym, ◌∙◌, refl, ℕ}
 use Rattle.std.proofs.Common.{◌+◌, ◌<◌, ◌≤◌, List, [], ◌∷◌, length, arith, suc, Bool, true, false}
 use Rattle.std.specs.Prelude.{None, Option, Some, is_some, slice_get, ◌↔◌}
 use Rattle.std.proofs.Math.Bool.{beq, not}
 use Rattle.std.proofs.lemmas.Bool.{cases_lt}
 use Rattle.std.proofs.lemmas.List.{drop_all}
-use Rattle.std.proofs.lemmas.Option.{same_Some, slice_get_read}
+use Rattle.std.proofs.lemmas.Option.{same_Some, slice_get_read, slice_get_within}
 use Rattle.mw_rel.specs.ComparisonWords.{Compared, are_alike, event, with_comparison, with_events}
 use Rattle.mw_symmem.specs.Memory.{IsOfWidth}
 use Rattle.mw_symmem.proofs.Later.{goes_nowhere, width_later, writes_itself}
@@ -171,13 +171,8 @@ pair_one space path x y a b d e is_a is_b is_d is_e one =
     subst (λ v. AreOneOn space.terms path v e) (out_of_same a d (sym is_a ∙ is_d))
     (subst (λ v. AreOneOn space.terms path a v) (out_of_same b e (sym is_b ∙ is_e)) one)
 
-inside_events : (xs : List SymEvent) (i : ℕ) (e : SymEvent) → slice_get xs i ≡ Some e → i < length xs
-inside_events [] i e at = absurd cc
-inside_events (x ∷ rest) zero e at = omega arith
-inside_events (x ∷ rest) (suc i) e at = omega (arith, inside_events rest i e at)
-
 pub out_inside : (board machine : List SymEvent) (k a b : ℕ) → ArePutOut board machine k a b → k < length board
-out_inside board machine k a b out = inside_events board k (Out a) out.by_board
+out_inside board machine k a b out = slice_get_within board k (Out a) out.by_board
 
 pub events_done : (board machine : List SymEvent) (k : ℕ) (c : Compared) → length board ≤ k
     → length board ≡ length machine
