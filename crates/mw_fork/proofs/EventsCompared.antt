@@ -1,7 +1,7 @@
 -- Events, compared pair by pair.
 use Rattle.std.proofs.Common.{◌≡◌, inl, inr, add-one, ap, ap₂, drop, drop-cons, get_or, subst, sym, ◌∙◌, refl, ℕ}
 use Rattle.std.proofs.Common.{◌+◌, ◌<◌, ◌≤◌, List, [], ◌∷◌, length, arith, suc, Bool, true, false}
-use Rattle.std.specs.Prelude.{None, Option, Some, is_some, slice_get, ◌↔◌}
+use Rattle.std.specs.Prelude.{None, Option, Some, is_some, ◌↔◌}
 use Rattle.std.proofs.Math.Bool.{beq, not}
 use Rattle.std.proofs.lemmas.Bool.{cases_lt}
 use Rattle.std.proofs.lemmas.List.{drop_all}

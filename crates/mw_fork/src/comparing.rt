@@ -25,6 +25,7 @@ ghost use Rattle.mw_fork.specs.Comparing.{AreWritesOn, Compares, FailsAt, GoesCo
 ghost use Rattle.mw_fork.specs.Comparing.{compared_all};
 ghost use Rattle.mw_rel.specs.CaseWords.{terms_with};
 ghost use Rattle.mw_symboard.specs.Parts.{AreParts};
+ghost use Rattle.mw_symmem.specs.Words.{HaveOwnKinds};
 ghost use Rattle.mw_term.specs.Table.{Table};
 ghost use Rattle.mw_fork.specs.Listed.{list_of_space};
 ghost use Rattle.mw_fork.specs.Failing.{ComparisonStops, ComparisonsAreWithin, IsFound, NoneDiffersOf};
@@ -355,6 +356,7 @@ fn compare_all(
     requires wide { AreWide space.old.terms (job_of job.now).relation.shape.widths elements.now }
     requires paths { HavePaths space.old paths.old }
     ensures goes { OnOk result (GoesComparing space.old space.new) }
+    ensures own { OnOk result (HaveOwnKinds space.new.words) }
     ensures compared { (sides : Sides) → AreSidesOn elements.now space.old sides → Compares nodes space.old space.new
         (path_in paths.old)
         (compared_all (job_of job.now).relation.shape sides (lines_of lines.now) board.now machine.now) result }
@@ -364,12 +366,19 @@ fn compare_all(
         (given_by numbers) elements.now (lines_of lines.now) board.now machine.now)) }
 {
     if let Some(found) = compare_events(alloc, space, paths, board, machine, nodes)? {
+        // A call for the proof: no two variables have one kind.
+        let _ = space.words.count();
         return Ok(Some(found));
     }
     if let Some(found) = compare_lines(alloc, job, space, paths, elements, lines, nodes)? {
+        // A call for the proof: no two variables have one kind.
+        let _ = space.words.count();
         return Ok(Some(found));
     }
-    compare_memory(alloc, job, space, paths, nodes)
+    let compared = compare_memory(alloc, job, space, paths, nodes);
+    // A call for the proof: no two variables have one kind.
+    let _ = space.words.count();
+    compared
 }
 
 /// Compares both sides: the events, the lines of the boundary reached, the memory. Where the events aren't alike or the
@@ -427,8 +436,6 @@ fn compare_sides(
         step.events(),
         nodes,
     )?;
-    // A call for the proof: no two variables have one kind.
-    let _ = run.space.words.count();
     Ok(found)
 }
 

@@ -94,8 +94,8 @@ returns-in-Some-2-clause-apart c =
     let at = some_at _ _ _ c.in-Some-2.is c.in_ok-found-2.ensures.apart in
     AreApart.at_line at.0 at.1 at.2 at.3
 
-pub compare_memory-requires-clause-few : goal.compare_memory-requires-clause-few
-compare_memory-requires-clause-few c =
+pub compare_memory-compared-requires-clause-few : goal.compare_memory-compared-requires-clause-few
+compare_memory-compared-requires-clause-few c =
     let same = ap (λ (m : Memory). length m.reads) c.in_ok-found.ensures.memory in
     omega (arith, same, c.requires.few, c.in_ok-found-2.ensures.more)
 
@@ -104,10 +104,14 @@ returns-clause-goes c =
     let old = c.args.space.now in
     let first = c.compare_events.new.space in
     let second = c.compare_lines.new.space in
-    on_ok_weaker c.compare_memory.result
-    (comparing_then old second c.compare_memory.new.space
+    on_ok_weaker c.compare_memory-compared.result
+    (comparing_then old second c.compare_memory-compared.new.space
     (comparing_then old first second c.in_ok-found.ensures.goes c.in_ok-found-2.ensures.goes))
-    c.compare_memory.ensures.goes
+    c.compare_memory-compared.ensures.goes
+
+pub returns-clause-own : goal.returns-clause-own
+returns-clause-own c =
+    on_ok_weaker c.compare_memory-compared.result (λ goes. c.count-2.ensures.own) c.compare_memory-compared.ensures.goes
 
 pub returns-clause-compared : goal.returns-clause-compared
 returns-clause-compared c = λ sides on.
@@ -116,7 +120,8 @@ returns-clause-compared c = λ sides on.
     let old = c.args.space.now in
     let first = c.compare_events.new.space in
     let second = c.compare_lines.new.space in
-    let new = c.compare_memory.new.space in
+    let new = c.compare_memory-compared.new.space in
+    let result = c.compare_memory-compared.result in
     let path = path_in c.args.paths.now in
     let next = path_in c.compare_events.new.paths in
     let board = c.args.board.now in
@@ -126,27 +131,28 @@ returns-clause-compared c = λ sides on.
     let f = c.in_ok-found-2.ensures in
     let here = sides_compared c.args.elements.now old first sides e.goes on in
     let there = sides_compared c.args.elements.now first second sides f.goes here in
-    events_then nodes old first new path next s sides lines board machine c.compare_memory.result e.goes e.path
+    events_then nodes old first new path next s sides lines board machine result e.goes e.path
     (subst (λ o. Compares nodes old first path (with_events 0 board machine) (Ok o)) c.in_default.is e.compared)
     (compares_then nodes first second new next (path_in c.compare_lines.new.paths) (with_lines s sides lines)
-    (with_memory s sides) (λ so_far. with_memory s sides (with_lines s sides lines so_far)) c.compare_memory.result
+    (with_memory s sides) (λ so_far. with_memory s sides (with_lines s sides lines so_far)) result
     f.goes.goes.later.extends.map f.path (λ so_far same. refl)
     (subst (λ o. Compares nodes first second next (with_lines s sides lines) (Ok o)) c.in_default-2.is
     (f.compared sides here))
-    (c.compare_memory.ensures.compared sides there.writes))
+    (c.compare_memory-compared.ensures.compared sides there.writes))
 
 pub returns-clause-same : goal.returns-clause-same
 returns-clause-same c =
     let e = c.in_ok-found.ensures in
     let f = c.in_ok-found-2.ensures in
     one_all (job_of c.args.job.now).relation.shape c.args.space.now c.compare_events.new.space
-    c.compare_lines.new.space c.compare_memory.new.space (path_in c.args.paths.now) (path_in c.compare_events.new.paths)
-    (path_in c.compare_lines.new.paths) c.args.elements.now (lines_of c.args.lines.now) c.requires.events.0
-    c.args.board.now c.args.machine.now c.compare_memory.result e.goes f.goes c.compare_memory.ensures.goes e.path
+    c.compare_lines.new.space c.compare_memory-compared.new.space (path_in c.args.paths.now)
+    (path_in c.compare_events.new.paths) (path_in c.compare_lines.new.paths) c.args.elements.now (lines_of c.args.lines.now) c.requires.events.0
+    c.args.board.now c.args.machine.now c.compare_memory-compared.result e.goes f.goes
+    c.compare_memory-compared.ensures.goes e.path
     (λ given. f.path given ∙ e.path given) c.requires.wide c.requires.lines_of c.requires.events.1 c.requires.events.2
-    (e.same c.in_default.is) (f.same c.in_default-2.is) c.compare_memory.ensures.same
+    (e.same c.in_default.is) (f.same c.in_default-2.is) c.compare_memory-compared.ensures.same
 
 pub returns-clause-apart : goal.returns-clause-apart
 returns-clause-apart c =
-    IfOk-weaker c.compare_memory.result _ _
-    (λ o two. IfSome_then o two (λ numbers differ. AreApart.in_memory differ)) c.compare_memory.ensures.apart
+    IfOk-weaker c.compare_memory-compared.result _ _
+    (λ o two. IfSome_then o two (λ numbers differ. AreApart.in_memory differ)) c.compare_memory-compared.ensures.apart

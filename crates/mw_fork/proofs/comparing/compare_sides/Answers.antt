@@ -169,7 +169,7 @@ returns-clause-none c = λ none number cycles elements from late way met.
     let e = c.in_ok-found.ensures in
     let alike = alike_at job run.space run.board step reached (are_like c) in
     none_differs job number elements (met_of way) cycles run.space new path run.board step reached valid
-    (ended_met job number elements from cycles late way run step valid met) e.goes c.count.ensures.own
+    (ended_met job number elements from cycles late way run step valid met) e.goes e.own
     (lines_at job run.board.place.at reached valid (reached_is c)).0 (reached_is c) alike.0 alike.1
     (at_ends c (λ t ls b m. AreOne job.relation.shape new path t ls b m) (e.same none))
 
@@ -206,7 +206,7 @@ returns-clause-found c =
     step.parts.events) _ found
     (λ numbers fails apart number cycles elements from late way met.
     alike_found job number nodes elements (met_of way) cycles run.space new path run.board step reached numbers valid
-    (ended_met job number elements from cycles late way run step valid met) e.goes c.count.ensures.own
+    (ended_met job number elements from cycles late way run step valid met) e.goes e.own
     (lines_at job run.board.place.at reached valid (reached_is c)).0 (reached_is c) (are_like c) fails apart)
     (at_ends c (CompareAll job nodes run.space new path (Ok found)) e.compared)
     (at_ends c (λ t ls b m. IfSome found (λ numbers. AreApart job.relation.shape new (given_by numbers) t ls b m))
