@@ -146,9 +146,9 @@ returns-clause-same c =
     let f = c.in_ok-found-2.ensures in
     one_all (job_of c.args.job.now).relation.shape c.args.space.now c.compare_events.new.space
     c.compare_lines.new.space c.compare_memory-compared.new.space (path_in c.args.paths.now)
-    (path_in c.compare_events.new.paths) (path_in c.compare_lines.new.paths) c.args.elements.now (lines_of c.args.lines.now) c.requires.events.0
-    c.args.board.now c.args.machine.now c.compare_memory-compared.result e.goes f.goes
-    c.compare_memory-compared.ensures.goes e.path
+    (path_in c.compare_events.new.paths) (path_in c.compare_lines.new.paths) c.args.elements.now
+    (lines_of c.args.lines.now) c.requires.events.0 c.args.board.now c.args.machine.now
+    c.compare_memory-compared.result e.goes f.goes c.compare_memory-compared.ensures.goes e.path
     (λ given. f.path given ∙ e.path given) c.requires.wide c.requires.lines_of c.requires.events.1 c.requires.events.2
     (e.same c.in_default.is) (f.same c.in_default-2.is) c.compare_memory-compared.ensures.same
 
