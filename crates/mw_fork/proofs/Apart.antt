@@ -1,6 +1,6 @@
 -- One comparison more: whether two terms have one value on a path.
 use Rattle.std.proofs.Common.{◌≡◌, ◌⊎◌, inl, inr, ap, subst, sym, ◌∙◌, refl, ℕ, ◌<◌, List, [], ◌∷◌, ◌++◌, length}
-use Rattle.std.specs.Prelude.{Bool, true, false, ◌==◌, if◌then◌else◌, IfSome, None, Option, Some}
+use Rattle.std.specs.Prelude.{Bool, true, false, ◌==◌, if◌then◌else◌, IfSome, None, Option, Some, Err, Ok, Result}
 use Rattle.std.specs.Option.{unwrap_or}
 use Rattle.std.proofs.lemmas.Bool.{eq-eqb, eqb-true}
 use Rattle.std.proofs.lemmas.List.Elements.{All-push}
@@ -29,10 +29,10 @@ use Rattle.mw_term.specs.WordList.{Ended, WordList, word_number, plain, with_wor
 use Rattle.mw_fork.specs.declared.elements.Space.{Space}
 use Rattle.mw_fork.specs.declared.stop.RunStop.{RunStop}
 use Rattle.mw_fork.specs.declared.stop.RunStop.TheVariants as stops
-use Rattle.mw_fork.specs.Comparing.{AreOneOn, AreTwoAt, FailsFirst, HaveCompared, IsComparedKind, IsComparedOver}
-use Rattle.mw_fork.specs.Comparing.{StopsComparing, word_on}
+use Rattle.mw_fork.specs.Comparing.{AreOneOn, AreTwoAt, Compares, IsComparedKind, IsComparedOver, word_on}
 use Rattle.mw_fork.specs.Comparing.IsComparedOver.{at_comparison, in_list}
 use Rattle.mw_fork.specs.Listed.{list_of_space}
+use Rattle.mw_fork.proofs.ComparingOn.{compares_as}
 use Rattle.mw_fork.proofs.GoingOn.{front_itself}
 
 -- ---- the word of a comparison
@@ -135,60 +135,46 @@ word_is : (map : List ℕ) (path : Function) (subject : Subject) (term : ℕ) (t
 word_is map path subject term t words m same =
     ap (λ (entries : List ℕ). path_zero path (bit (table_of t.ops entries) term 0)) (sym same)
 
--- it can't fail, and isn't over the budget
-pub compared_none : (nodes : ℕ) (old new : Space) (path : Function) (subject : Subject)
-    (a b term : ℕ) (so_far : Compared)
-    → new.memory ≡ old.memory → IsCompared old.terms new.terms old.words new.words a b term
-    → Agree (made (path_zero path (bit new.terms term 0))) never
+-- what is so of one more, of this term, in the list of the space, is so of the comparison of the two terms
+pub compared_so : (nodes : ℕ) (old new : Space) (path : Function) (subject : Subject) (a b term : ℕ)
+    (result : Result (Option Numbers) RunStop) → new.memory ≡ old.memory
+    → IsCompared old.terms new.terms old.words new.words a b term
+    → Compares nodes old new path (compared_at subject term (list_of_space new)) result
+    → Compares nodes old new path (with_comparison subject a b) result
+compared_so nodes old new path subject a b term result kept is =
+    compares_as nodes old new path (compared_at subject term (list_of_space new)) (with_comparison subject a b) result
+    (λ so_far same. compared_is subject a b term old.terms new.terms old.words new.words new.memory so_far
+    (same ∙ ap (list_in old.terms old.words) (sym kept)) is.listed)
+
+-- it can't fail, and isn't over the budget; or it is the first that can fail
+pub compared_found : (nodes : ℕ) (old new : Space) (path : Function) (subject : Subject) (term : ℕ)
+    (found : Option Numbers) → new.terms.map ≡ old.terms.map
+    → (found ≡ None → Agree (made (path_zero path (bit new.terms term 0))) never)
     → HasAtMostCofactors (path_zero path (bit new.terms term 0)) nodes
-    → HaveCompared old.terms.map nodes old path so_far
-    → HaveCompared old.terms.map nodes new path (with_comparison subject a b so_far)
-compared_none nodes old new path subject a b term so_far kept is none within have =
+    → IfSome found (IsFirst (made (path_zero path (bit new.terms term 0))))
+    → Compares nodes old new path (compared_at subject term (list_of_space new)) (Ok found)
+compared_found nodes old new path subject term None same none within first = λ so_far have.
     let map = old.terms.map in
     let c = comparison_of subject term (list_of_space new) in
-    let at = compared_is subject a b term old.terms new.terms old.words new.words new.memory so_far
-    (have.list ∙ ap (list_in old.terms old.words) (sym kept)) is.listed in
-    let word = word_is map path subject term new.terms new.words new.memory is.extends.map in
-    subst (HaveCompared map nodes new path) (sym at) (record {
+    let word = word_is map path subject term new.terms new.words new.memory same in
+    record {
       list = refl;
       none = All-push (λ (c : Comparison). Agree (made (word_on map path c)) never) so_far.comparisons c have.none
-          (subst (λ (w : Triple). Agree (made w) never) (sym word) none);
+          (subst (λ (w : Triple). Agree (made w) never) (sym word) (none refl));
       within =
           All-push (λ (c : Comparison). HasAtMostCofactors (word_on map path c) nodes) so_far.comparisons c have.within
           (subst (λ (w : Triple). HasAtMostCofactors w nodes) (sym word) within);
-    })
-
--- it is the first that can fail
-pub compared_found : (nodes : ℕ) (old new : Space) (path : Function) (subject : Subject)
-    (a b term : ℕ) (so_far : Compared)
-    (numbers : Numbers) → new.memory ≡ old.memory → IsCompared old.terms new.terms old.words new.words a b term
-    → IsFirst (made (path_zero path (bit new.terms term 0))) numbers
-    → HaveCompared old.terms.map nodes old path so_far
-    → FailsFirst old.terms.map new path (with_comparison subject a b so_far) numbers
-compared_found nodes old new path subject a b term so_far numbers kept is first have =
-    let map = old.terms.map in
-    let c = comparison_of subject term (list_of_space new) in
-    let at = compared_is subject a b term old.terms new.terms old.words new.words new.memory so_far
-    (have.list ∙ ap (list_in old.terms old.words) (sym kept)) is.listed in
-    let word = word_is map path subject term new.terms new.words new.memory is.extends.map in
-    subst (λ (all : Compared). FailsFirst map new path all numbers) (sym at) (record {
-      before = so_far.comparisons;
-      after = [];
-      at = c;
-      are = refl;
-      none = have.none;
-      list = refl;
-      first = subst (λ (w : Triple). IsFirst (made w) numbers) (sym word) first;
-    })
-
-pub compared_found_if : (nodes : ℕ) (old new : Space) (path : Function) (a b term : ℕ) (o : Option Numbers)
-    → new.memory ≡ old.memory → IsCompared old.terms new.terms old.words new.words a b term
-    → IfSome o (IsFirst (made (path_zero path (bit new.terms term 0))))
-    → IfSome o (λ numbers. (subject : Subject) (so_far : Compared) → HaveCompared old.terms.map nodes old path so_far
-    → FailsFirst old.terms.map new path (with_comparison subject a b so_far) numbers)
-compared_found_if nodes old new path a b term None kept is first = first
-compared_found_if nodes old new path a b term (Some numbers) kept is first = λ subject so_far have.
-    compared_found nodes old new path subject a b term so_far numbers kept is first have
+    }
+compared_found nodes old new path subject term (Some numbers) same none within first = λ so_far have. record {
+  before = so_far.comparisons;
+  after = [];
+  at = comparison_of subject term (list_of_space new);
+  are = refl;
+  none = have.none;
+  list = refl;
+  first = subst (λ (w : Triple). IsFirst (made w) numbers)
+      (sym (word_is old.terms.map path subject term new.terms new.words new.memory same)) first;
+}
 
 -- ---- where it stops
 
@@ -223,11 +209,13 @@ over_by nodes new map path subject term named j same cause = elim cause [
       (sym (word_is map path subject term new.terms new.words new.memory same)) h.2)
 ]
 
-stops_at : (nodes : ℕ) (new : Space) (map : List ℕ) (path : Function) (subject : Subject) (term : ℕ) (so_far : Compared)
-    (fault : BlastFault) (stop : RunStop) (word j : ℕ) → new.terms.map ≡ map → IsTable new.terms
-    → IsFailingCause new.terms path term nodes fault → IsStopOf new.words fault stop → stop ≡ stops.Over word j
-    → StopsComparing map nodes new path (compared_at subject term (list_of_space new) so_far) word j
-stops_at nodes new map path subject term so_far (faults.Over named i) stop word j same table cause told is =
+pub compared_over : (nodes : ℕ) (old new : Space) (path : Function) (subject : Subject) (term : ℕ)
+    (fault : BlastFault) (stop : RunStop) → new.terms.map ≡ old.terms.map → IsTable new.terms
+    → IsFailingCause new.terms path term nodes fault → IsStopOf new.words fault stop
+    → Compares nodes old new path (compared_at subject term (list_of_space new)) (Err stop)
+compared_over nodes old new path subject term (faults.Over named i) stop same table cause told =
+    λ so_far have word j is.
+    let map = old.terms.map in
     let other = told.over named i refl in
     let c = comparison_of subject term (list_of_space new) in
     record {
@@ -244,20 +232,6 @@ stops_at nodes new map path subject term so_far (faults.Over named i) stop word 
           (over_by nodes new map path subject term named i same (cause named i refl));
       front = front_itself (list_of_space new);
     }
-stops_at nodes new map path subject term so_far faults.NoMemory stop word j same table cause told is =
+compared_over nodes old new path subject term faults.NoMemory stop same table cause told = λ so_far have word j is.
     let other = told.none refl in
     absurd cc
-
-pub compared_over : (nodes : ℕ) (old new : Space) (path : Function) (subject : Subject)
-    (a b term : ℕ) (so_far : Compared)
-    (fault : BlastFault) (stop : RunStop) (word j : ℕ) → new.memory ≡ old.memory
-    → IsCompared old.terms new.terms old.words new.words a b term
-    → IsFailingCause new.terms path term nodes fault → IsStopOf new.words fault stop → stop ≡ stops.Over word j
-    → HaveCompared old.terms.map nodes old path so_far
-    → StopsComparing old.terms.map nodes new path (with_comparison subject a b so_far) word j
-compared_over nodes old new path subject a b term so_far fault stop word j kept is cause told stopped have =
-    let map = old.terms.map in
-    let at = compared_is subject a b term old.terms new.terms old.words new.words new.memory so_far
-    (have.list ∙ ap (list_in old.terms old.words) (sym kept)) is.listed in
-    subst (λ (all : Compared). StopsComparing map nodes new path all word j) (sym at)
-    (stops_at nodes new map path subject term so_far fault stop word j is.extends.map is.table cause told stopped)

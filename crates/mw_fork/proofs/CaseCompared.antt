@@ -53,7 +53,7 @@ use Rattle.mw_fork.specs.Listed.{list_of_space}
 use Rattle.mw_fork.specs.OnWay.{HasMetCase, ground_in, path_in}
 use Rattle.mw_fork.specs.Starts.{IsGround, StandsForStart}
 use Rattle.mw_fork.specs.Ways.{Way, met_of}
-use Rattle.mw_fork.proofs.ComparedAll.{wide_compared}
+use Rattle.mw_fork.proofs.ComparingOn.{wide_compared}
 use Rattle.mw_fork.proofs.Differing.{AreEven, even_where_nothing, nothing_shown, terms_there, wide_at_end}
 use Rattle.mw_fork.proofs.Grounds.{have_starts}
 use Rattle.mw_fork.proofs.OverCompared.{sought_by, sought_on_path}

@@ -1,26 +1,22 @@
 -- How what is compared goes on: from one space to the next, along paths that agree, and with comparisons behind.
-use Rattle.std.proofs.Common.{◌≡◌, ap, subst, sym, ◌∙◌, refl, ℕ, List, ◌∷◌, ◌++◌, append_assoc}
-use Rattle.std.specs.Prelude.{All, IfErr, IfOk, IfSome, None, Option, Some, Result, Ok, Err}
-use Rattle.std.proofs.lemmas.List.Elements.{All-weaker}
+use Rattle.std.proofs.Common.{◌≡◌, ap, subst, sym, ◌∙◌, refl, ℕ, List, ◌∷◌, ◌++◌, append_assoc, slice_index}
+use Rattle.std.specs.Prelude.{None, Option, Some, Result, Ok, Err}
 use Rattle.mw_blast.proofs.Kept.{stays_with_terms}
-use Rattle.mw_dd.proofs.Cofactors.{more-same}
 use Rattle.mw_rel.specs.ComparisonWords.{Compared, Comparison, Sides, Subject, compared_in, with_comparison}
-use Rattle.mw_symmem.proofs.Later.{goes_then, writes_then}
+use Rattle.mw_symmem.specs.declared.side.Side.TheVariants.{Board, Machine}
+use Rattle.mw_symmem.proofs.Later.{goes_then, width_later, writes_then}
 use Rattle.mw_term.specs.Assigned.{Numbers}
-use Rattle.mw_term.specs.Cofactors.{Agree, AreSame, HasAtMostCofactors}
-use Rattle.mw_term.specs.Functions.{Function, made, never}
+use Rattle.mw_term.specs.Cofactors.{Agree}
+use Rattle.mw_term.specs.Functions.{Function}
 use Rattle.mw_fork.specs.declared.elements.Space.{Space}
 use Rattle.mw_fork.specs.declared.paths.Paths.{Paths}
 use Rattle.mw_fork.specs.declared.stop.RunStop.{RunStop}
-use Rattle.mw_fork.specs.declared.stop.RunStop.TheVariants as stops
-use Rattle.mw_fork.specs.Comparing.{FailsFirst, GoesComparing, HaveCompared, IsComparedKind, IsComparedOver}
-use Rattle.mw_fork.specs.Comparing.{StopsComparing, word_on}
-use Rattle.mw_fork.specs.Comparing.IsComparedOver.{at_comparison, in_list}
+use Rattle.mw_fork.specs.Boundaries.{AreWide}
+use Rattle.mw_fork.specs.Comparing.{AreSidesOn, Compares, FailsFirst, GoesComparing, HaveCompared, IsComparedKind}
+use Rattle.mw_fork.specs.Comparing.{IsOutcome, StopsComparing}
 use Rattle.mw_fork.specs.Listed.{list_of_space}
 use Rattle.mw_fork.specs.OnWay.{HavePaths}
-use Rattle.mw_fork.proofs.Failings.{first_as}
 use Rattle.mw_fork.proofs.GoingOn.{GoesOnAs, front_then}
-use Rattle.mw_fork.proofs.WordPaths.{at_most_same, made_same}
 
 -- ---- from one space to the next
 
@@ -39,73 +35,24 @@ comparing_paths old new paths goes have = record {
   of = stays_with_terms old.terms new.terms paths.dds paths.blast goes.goes.later.extends have.of;
 }
 
--- what was compared, in a list that went on
-pub compared_in_next : (map : List ℕ) (nodes : ℕ) (old new : Space) (path : Function) (so_far : Compared)
-    → HaveCompared map nodes old path so_far
-    → HaveCompared map nodes new path (compared_in (list_of_space new) so_far.comparisons)
-compared_in_next map nodes old new path so_far have =
-    record { list = refl; none = have.none; within = have.within }
-
--- ---- along paths that agree
-
-word_agrees : (map : List ℕ) (path other : Function) (c : Comparison) → Agree path other
-    → AreSame (word_on map path c) (word_on map other c)
-word_agrees map path other c agree = record { f = λ given. refl; g = λ given. refl; h = agree }
-
-never_agrees : (map : List ℕ) (path other : Function) (comparisons : List Comparison) → Agree path other
-    → All (λ c. Agree (made (word_on map path c)) never) comparisons
-    → All (λ c. Agree (made (word_on map other c)) never) comparisons
-never_agrees map path other comparisons agree none =
-    All-weaker (λ (c : Comparison). Agree (made (word_on map path c)) never)
-    (λ (c : Comparison). Agree (made (word_on map other c)) never)
-    (λ c never_so given. sym (made_same _ _ (word_agrees map path other c agree) given) ∙ never_so given) comparisons
-    none
-
-pub compared_agrees : (map : List ℕ) (nodes : ℕ) (space : Space) (path other : Function) (so_far : Compared)
-    → Agree path other → HaveCompared map nodes space path so_far → HaveCompared map nodes space other so_far
-compared_agrees map nodes space path other so_far agree have = record {
-  list = have.list;
-  none = never_agrees map path other so_far.comparisons agree have.none;
-  within = All-weaker (λ (c : Comparison). HasAtMostCofactors (word_on map path c) nodes)
-      (λ (c : Comparison). HasAtMostCofactors (word_on map other c) nodes)
-      (λ c few. at_most_same _ _ nodes (word_agrees map path other c agree) few) so_far.comparisons have.within;
+-- the elements' terms are as wide
+pub wide_compared : (widths elements : List ℕ) (old new : Space) → GoesComparing old new
+    → AreWide old.terms widths elements → AreWide new.terms widths elements
+wide_compared widths elements old new goes wide = record {
+  count = wide.count;
+  each = λ i inside. width_later old.terms new.terms (slice_index widths i) (slice_index elements i) goes.goes.later
+      (wide.each i inside);
 }
 
-pub fails_agrees : (map : List ℕ) (space : Space) (path other : Function) (compared : Compared) (numbers : Numbers)
-    → Agree path other → FailsFirst map space path compared numbers → FailsFirst map space other compared numbers
-fails_agrees map space path other compared numbers agree fails = record {
-  before = fails.before;
-  after = fails.after;
-  at = fails.at;
-  are = fails.are;
-  none = never_agrees map path other fails.before agree fails.none;
-  list = fails.list;
-  first = first_as (made (word_on map path fails.at)) (made (word_on map other fails.at)) (Some numbers)
-      (made_same _ _ (word_agrees map path other fails.at agree)) fails.first;
-}
-
-over_agrees : (map : List ℕ) (nodes : ℕ) (space : Space) (path other : Function) (c : Comparison) (term j : ℕ)
-    → Agree path other → IsComparedOver map nodes space path c term j
-    → IsComparedOver map nodes space other c term j
-over_agrees map nodes space path other c term j agree (in_list over) = in_list over
-over_agrees map nodes space path other c term j agree (at_comparison is lowest more) =
-    at_comparison is lowest (more-same _ _ nodes (word_agrees map path other c agree) more)
-
-pub stops_agrees : (map : List ℕ) (nodes : ℕ) (space : Space) (path other : Function) (compared : Compared) (word j : ℕ)
-    → Agree path other → StopsComparing map nodes space path compared word j
-    → StopsComparing map nodes space other compared word j
-stops_agrees map nodes space path other compared word j agree stopped = record {
-  before = stopped.before;
-  after = stopped.after;
-  at = stopped.at;
-  are = stopped.are;
-  list = stopped.list;
-  table = stopped.table;
-  map_is = stopped.map_is;
-  term = stopped.term;
-  named = stopped.named;
-  over = over_agrees map nodes space path other stopped.at stopped.term j agree stopped.over;
-  front = stopped.front;
+-- both sides are on it too
+pub sides_compared : (elements : List ℕ) (old new : Space) (sides : Sides) → GoesComparing old new
+    → AreSidesOn elements old sides → AreSidesOn elements new sides
+sides_compared elements old new sides goes on = record {
+  elements_are = on.elements_are;
+  writes = record {
+    board = on.writes.board ∙ sym (goes.writes.each Board);
+    machine = on.writes.machine ∙ sym (goes.writes.each Machine);
+  };
 }
 
 -- ---- with comparisons behind
@@ -116,7 +63,7 @@ behind_one : (all some before after more : List Comparison) (c : Comparison) →
 behind_one all some before after more c is are =
     is ∙ ap (λ (xs : List Comparison). xs ++ more) are ∙ append_assoc before (c ∷ after) more
 
-pub fails_further : (map : List ℕ) (space : Space) (path : Function) (compared all : Compared) (numbers : Numbers)
+fails_further : (map : List ℕ) (space : Space) (path : Function) (compared all : Compared) (numbers : Numbers)
     → GoesOnAs compared all → FailsFirst map space path compared numbers → FailsFirst map space path all numbers
 fails_further map space path compared all numbers on fails = record {
   before = fails.before;
@@ -129,7 +76,7 @@ fails_further map space path compared all numbers on fails = record {
   first = fails.first;
 }
 
-pub stops_further : (map : List ℕ) (nodes : ℕ) (space : Space) (path : Function) (compared all : Compared) (word j : ℕ)
+stops_further : (map : List ℕ) (nodes : ℕ) (space : Space) (path : Function) (compared all : Compared) (word j : ℕ)
     → GoesOnAs compared all → StopsComparing map nodes space path compared word j
     → StopsComparing map nodes space path all word j
 stops_further map nodes space path compared all word j on stopped = record {
@@ -148,59 +95,54 @@ stops_further map nodes space path compared all word j on stopped = record {
   front = front_then (list_of_space space) compared.list all.list stopped.front on.front;
 }
 
--- ---- to a last comparison
+-- a difference was found, or the comparing stopped
+abbrev pub IsShown : Result (Option Numbers) RunStop → Type 0
+IsShown (Ok None) = ⊥
+IsShown (Ok (Some numbers)) = Unit {0}
+IsShown (Err stop) = Unit {0}
 
--- What was compared in one space comes, in the next one, to a list in which two terms are compared, and that is all.
-abbrev pub Leads : (nodes : ℕ) → (old new : Space) → (path : Function) → (a b : ℕ) → (Fit : Sides → Type 0)
-    → (all : Sides → Compared → Compared) → Type 0
-Leads nodes old new path a b Fit all =
-    (sides : Sides) (so_far : Compared) → Fit sides → HaveCompared old.terms.map nodes old path so_far
-    → (subject : Subject) × (next : Compared) × HaveCompared old.terms.map nodes new path next
-    × (all sides so_far ≡ with_comparison subject a b next)
+-- then it is so with others behind
+pub compares_shown : (nodes : ℕ) (old new : Space) (path : Function) (first all : Compared → Compared)
+    (result : Result (Option Numbers) RunStop) → IsShown result → ((c : Compared) → GoesOnAs (first c) (all c))
+    → Compares nodes old new path first result → Compares nodes old new path all result
+compares_shown nodes old new path first all (Ok None) shown on says = absurd shown
+compares_shown nodes old new path first all (Ok (Some numbers)) shown on says = λ so_far have.
+    fails_further old.terms.map new path (first so_far) (all so_far) numbers (on so_far) (says so_far have)
+compares_shown nodes old new path first all (Err stop) shown on says = λ so_far have word j over.
+    stops_further old.terms.map nodes new path (first so_far) (all so_far) word j (on so_far)
+    (says so_far have word j over)
 
-pub leads_none : (nodes : ℕ) (old mid new : Space) (path : Function) (a b : ℕ) (Fit : Sides → Type 0)
-    (all : Sides → Compared → Compared) (r : Result (Option Numbers) RunStop) → mid.terms.map ≡ old.terms.map
-    → Leads nodes old mid path a b Fit all
-    → IfOk r (λ o. o ≡ None → (subject : Subject) (so_far : Compared)
-    → HaveCompared mid.terms.map nodes mid path so_far
-    → HaveCompared mid.terms.map nodes new path (with_comparison subject a b so_far))
-    → IfOk r (λ o. o ≡ None → (sides : Sides) (so_far : Compared) → Fit sides
-    → HaveCompared old.terms.map nodes old path so_far → HaveCompared old.terms.map nodes new path (all sides so_far))
-leads_none nodes old mid new path a b Fit all (Err e) same leads says = tt
-leads_none nodes old mid new path a b Fit all (Ok o) same leads says = λ none sides so_far fit have.
-    let at = leads sides so_far fit have in
-    subst (λ (map : List ℕ). HaveCompared map nodes new path (all sides so_far)) same
-    (subst (HaveCompared mid.terms.map nodes new path) (sym at.3)
-    (says none at.0 at.1 (subst (λ (map : List ℕ). HaveCompared map nodes mid path at.1) (sym same) at.2)))
+-- ---- one comparison after another
 
-pub leads_found : (nodes : ℕ) (old mid new : Space) (path : Function) (a b : ℕ) (Fit : Sides → Type 0)
-    (all : Sides → Compared → Compared) (r : Result (Option Numbers) RunStop) → mid.terms.map ≡ old.terms.map
-    → Leads nodes old mid path a b Fit all
-    → IfOk r (λ o. IfSome o (λ numbers. (subject : Subject) (so_far : Compared)
-    → HaveCompared mid.terms.map nodes mid path so_far
-    → FailsFirst mid.terms.map new path (with_comparison subject a b so_far) numbers))
-    → IfOk r (λ o. IfSome o (λ numbers. (sides : Sides) (so_far : Compared) → Fit sides
-    → HaveCompared old.terms.map nodes old path so_far → FailsFirst old.terms.map new path (all sides so_far) numbers))
-leads_found nodes old mid new path a b Fit all (Err e) same leads says = tt
-leads_found nodes old mid new path a b Fit all (Ok None) same leads says = says
-leads_found nodes old mid new path a b Fit all (Ok (Some numbers)) same leads says = λ sides so_far fit have.
-    let at = leads sides so_far fit have in
-    subst (λ (map : List ℕ). FailsFirst map new path (all sides so_far) numbers) same
-    (subst (λ (c : Compared). FailsFirst mid.terms.map new path c numbers) (sym at.3)
-    (says at.0 at.1 (subst (λ (map : List ℕ). HaveCompared map nodes mid path at.1) (sym same) at.2)))
+-- the same comparisons behind each list that the space has
+pub compares_as : (nodes : ℕ) (old new : Space) (path : Function) (some all : Compared → Compared)
+    (result : Result (Option Numbers) RunStop) → ((c : Compared) → c.list ≡ list_of_space old → all c ≡ some c)
+    → Compares nodes old new path some result → Compares nodes old new path all result
+compares_as nodes old new path some all result same says = λ so_far have.
+    subst (λ (c : Compared). IsOutcome old.terms.map nodes new path c result) (sym (same so_far have.list))
+    (says so_far have)
 
-pub leads_over : (nodes : ℕ) (old mid new : Space) (path : Function) (a b : ℕ) (Fit : Sides → Type 0)
-    (all : Sides → Compared → Compared) (r : Result (Option Numbers) RunStop) → mid.terms.map ≡ old.terms.map
-    → Leads nodes old mid path a b Fit all
-    → IfErr r (λ stop. (word j : ℕ) → stop ≡ stops.Over word j → (subject : Subject) (so_far : Compared)
-    → HaveCompared mid.terms.map nodes mid path so_far
-    → StopsComparing mid.terms.map nodes new path (with_comparison subject a b so_far) word j)
-    → IfErr r (λ stop. (word j : ℕ) → stop ≡ stops.Over word j → (sides : Sides) (so_far : Compared) → Fit sides
-    → HaveCompared old.terms.map nodes old path so_far
-    → StopsComparing old.terms.map nodes new path (all sides so_far) word j)
-leads_over nodes old mid new path a b Fit all (Ok o) same leads says = tt
-leads_over nodes old mid new path a b Fit all (Err stop) same leads says = λ word j is sides so_far fit have.
-    let at = leads sides so_far fit have in
-    subst (λ (map : List ℕ). StopsComparing map nodes new path (all sides so_far) word j) same
-    (subst (λ (c : Compared). StopsComparing mid.terms.map nodes new path c word j) (sym at.3)
-    (says word j is at.0 at.1 (subst (λ (map : List ℕ). HaveCompared map nodes mid path at.1) (sym same) at.2)))
+-- where the first shows nothing, what the second says from there on, along a path that agrees, the whole says
+pub compares_then : (nodes : ℕ) (old mid new : Space) (path other : Function) (first second all : Compared → Compared)
+    (result : Result (Option Numbers) RunStop) → mid.terms.map ≡ old.terms.map → Agree other path
+    → ((c : Compared) → c.list ≡ list_of_space old → all c ≡ second (first c))
+    → Compares nodes old mid path first (Ok None) → Compares nodes mid new other second result
+    → Compares nodes old new path all result
+compares_then nodes old mid new path other first second all result map agree splits none says =
+    let same : other ≡ path = λ i given. agree given i in
+    compares_as nodes old new path (λ c. second (first c)) all result splits (λ so_far have.
+    subst (λ (p : Function). (c : Compared) → HaveCompared old.terms.map nodes mid p c
+    → IsOutcome old.terms.map nodes new p (second c) result) same
+    (subst (λ (m : List ℕ). (c : Compared) → HaveCompared m nodes mid other c
+    → IsOutcome m nodes new other (second c) result) map says) (first so_far) (none so_far have))
+
+-- two terms, compared where the list went on
+pub compares_later : (nodes : ℕ) (old mid new : Space) (path : Function) (subject : Subject) (a b : ℕ)
+    (all : Compared → Compared) (result : Result (Option Numbers) RunStop) → mid.terms.map ≡ old.terms.map
+    → ((c : Compared) → c.list ≡ list_of_space old
+    → all c ≡ with_comparison subject a b (compared_in (list_of_space mid) c.comparisons))
+    → Compares nodes mid new path (with_comparison subject a b) result → Compares nodes old new path all result
+compares_later nodes old mid new path subject a b all result map ends =
+    compares_then nodes old mid new path path (λ c. compared_in (list_of_space mid) c.comparisons)
+    (with_comparison subject a b) all result map (λ given. refl) ends
+    (λ so_far have. record { list = refl; none = have.none; within = have.within })

@@ -1,11 +1,11 @@
 -- Events, compared pair by pair.
-use Rattle.std.proofs.Common.{◌≡◌, inl, inr, add-one, ap, drop, drop-cons, get_or, subst, sym, ◌∙◌, refl, ℕ, zero, suc}
-use Rattle.std.proofs.Common.{◌+◌, ◌<◌, ◌≤◌, List, [], ◌∷◌, length, arith, Bool, true, false}
-use Rattle.std.specs.Prelude.{None, Option, Some, is_some, slice_get, ◌↔◌}
+use Rattle.std.proofs.Common.{◌≡◌, inl, inr, add-one, ap, ap₂, drop, drop-cons, get_or, subst, sym, ◌∙◌, refl, ℕ}
+use Rattle.std.proofs.Common.{◌+◌, ◌<◌, ◌≤◌, List, [], ◌∷◌, length, arith, suc, Bool, true, false}
+use Rattle.std.specs.Prelude.{None, Option, Some, is_some, ◌↔◌}
 use Rattle.std.proofs.Math.Bool.{beq, not}
 use Rattle.std.proofs.lemmas.Bool.{cases_lt}
-use Rattle.std.proofs.lemmas.List.{drop_all, get_or_default}
-use Rattle.std.proofs.lemmas.Option.{same_Some, slice_get_read}
+use Rattle.std.proofs.lemmas.List.{drop_all}
+use Rattle.std.proofs.lemmas.Option.{same_Some, slice_get_read, slice_get_within}
 use Rattle.mw_rel.specs.ComparisonWords.{Compared, are_alike, event, with_comparison, with_events}
 use Rattle.mw_symmem.specs.Memory.{IsOfWidth}
 use Rattle.mw_symmem.proofs.Later.{goes_nowhere, width_later, writes_itself}
@@ -63,6 +63,12 @@ put_out board machine k x y a b at is_a is_b = record {
       ∙ ap (λ e. Some e) is_b;
 }
 
+alike_heads : (board machine : List SymEvent) (k : ℕ) (x y : SymEvent) → AreAt board machine k x y
+    → are_alike (drop k board) (drop k machine) ≡ are_alike (x ∷ drop (k + 1) board) (y ∷ drop (k + 1) machine)
+alike_heads board machine k x y at =
+    ap (λ xs. are_alike xs (drop k machine)) (board_rest board machine k x y at)
+    ∙ ap (are_alike (x ∷ drop (k + 1) board)) (machine_rest board machine k x y at)
+
 same_kind : (x y : SymEvent) (xs ys : List SymEvent) → are_alike (x ∷ xs) (y ∷ ys) ≡ true
     → are_alike xs ys ≡ true
 same_kind (Out a) (Out d) xs ys same = same
@@ -73,9 +79,7 @@ same_kind (Taken a) (Out d) xs ys same = absurd cc
 pub alike_rest : (board machine : List SymEvent) (k : ℕ) (x y : SymEvent) → AreAt board machine k x y
     → are_alike (drop k board) (drop k machine) ≡ true → are_alike (drop (k + 1) board) (drop (k + 1) machine) ≡ true
 alike_rest board machine k x y at alike =
-    same_kind x y (drop (k + 1) board) (drop (k + 1) machine)
-    (ap (λ xs. are_alike xs (y ∷ drop (k + 1) machine)) (sym (board_rest board machine k x y at))
-    ∙ ap (are_alike (drop k board)) (sym (machine_rest board machine k x y at)) ∙ alike)
+    same_kind x y (drop (k + 1) board) (drop (k + 1) machine) (sym (alike_heads board machine k x y at) ∙ alike)
 
 -- ---- what is left of the comparison
 
@@ -86,40 +90,41 @@ both_rest board machine k x y c at =
     ap (λ xs. with_events k xs (drop k machine) c) (board_rest board machine k x y at)
     ∙ ap (λ ys. with_events k (x ∷ drop (k + 1) board) ys c) (machine_rest board machine k x y at)
 
+heads_next : (k : ℕ) (x y : SymEvent) (xs ys : List SymEvent) (c : Compared) → are_alike (x ∷ xs) (y ∷ ys) ≡ true
+    → with_events k (x ∷ xs) (y ∷ ys) c ≡ with_events (k + 1) xs ys (with_events k (x ∷ []) (y ∷ []) c)
+heads_next k (Out a) (Out b) xs ys c alike = refl
+heads_next k (Taken a) (Taken b) xs ys c alike = refl
+heads_next k (Out a) (Taken b) xs ys c alike = absurd cc
+heads_next k (Taken a) (Out b) xs ys c alike = absurd cc
+
+-- the pair at the place, and those behind it
+pub events_next : (board machine : List SymEvent) (k : ℕ) (x y : SymEvent) (c : Compared) → AreAt board machine k x y
+    → are_alike (drop k board) (drop k machine) ≡ true
+    → with_events k (drop k board) (drop k machine) c
+    ≡ with_events (k + 1) (drop (k + 1) board) (drop (k + 1) machine) (with_events k (x ∷ []) (y ∷ []) c)
+events_next board machine k x y c at alike =
+    both_rest board machine k x y c at
+    ∙ heads_next k x y (drop (k + 1) board) (drop (k + 1) machine) c (sym (alike_heads board machine k x y at) ∙ alike)
+
+pub events_behind : (board machine : List SymEvent) (k : ℕ) (x y : SymEvent) (c : Compared) → AreAt board machine k x y
+    → are_alike (drop k board) (drop k machine) ≡ true
+    → GoesOnAs (with_events k (x ∷ []) (y ∷ []) c) (with_events k (drop k board) (drop k machine) c)
+events_behind board machine k x y c at alike =
+    subst (GoesOnAs (with_events k (x ∷ []) (y ∷ []) c)) (sym (events_next board machine k x y c at alike))
+    (events_go_on (k + 1) (drop (k + 1) board) (drop (k + 1) machine) (with_events k (x ∷ []) (y ∷ []) c))
+
 -- a pair of words
-pub events_next : (board machine : List SymEvent) (k : ℕ) (x y : SymEvent) (a b : ℕ) (c : Compared)
-    → AreAt board machine k x y → x ≡ Out a → y ≡ Out b
-    → with_events k (drop k board) (drop k machine) c
-    ≡ with_events (k + 1) (drop (k + 1) board) (drop (k + 1) machine) (with_comparison (event k) a b c)
-events_next board machine k x y a b c at is_a is_b =
-    both_rest board machine k x y c at
-    ∙ ap (λ e. with_events k (e ∷ drop (k + 1) board) (y ∷ drop (k + 1) machine) c) is_a
-    ∙ ap (λ e. with_events k (Out a ∷ drop (k + 1) board) (e ∷ drop (k + 1) machine) c) is_b
+pub pair_out : (k : ℕ) (x y : SymEvent) (a b : ℕ) (c : Compared) → x ≡ Out a → y ≡ Out b
+    → with_events k (x ∷ []) (y ∷ []) c ≡ with_comparison (event k) a b c
+pair_out k x y a b c is_a is_b = ap₂ (λ (e f : SymEvent). with_events k (e ∷ []) (f ∷ []) c) is_a is_b
 
-pub events_behind : (board machine : List SymEvent) (k : ℕ) (x y : SymEvent) (a b : ℕ) (c : Compared)
-    → AreAt board machine k x y → x ≡ Out a → y ≡ Out b
-    → GoesOnAs (with_comparison (event k) a b c) (with_events k (drop k board) (drop k machine) c)
-events_behind board machine k x y a b c at is_a is_b =
-    subst (GoesOnAs (with_comparison (event k) a b c)) (sym (events_next board machine k x y a b c at is_a is_b))
-    (events_go_on (k + 1) (drop (k + 1) board) (drop (k + 1) machine) (with_comparison (event k) a b c))
-
-skip_heads : (k : ℕ) (x y : SymEvent) (xs ys : List SymEvent) (c : Compared) → are_alike (x ∷ xs) (y ∷ ys) ≡ true
-    → ((a b : ℕ) → x ≡ Out a → y ≡ Out b → ⊥) → with_events k (x ∷ xs) (y ∷ ys) c ≡ with_events (k + 1) xs ys c
-skip_heads k (Out a) (Out b) xs ys c alike none_out = absurd (none_out a b refl refl)
-skip_heads k (Taken a) (Taken b) xs ys c alike none_out = refl
-skip_heads k (Out a) (Taken b) xs ys c alike none_out = absurd cc
-skip_heads k (Taken a) (Out b) xs ys c alike none_out = absurd cc
-
--- a pair of inputs that were taken
-pub events_skip : (board machine : List SymEvent) (k : ℕ) (x y : SymEvent) (c : Compared) → AreAt board machine k x y
-    → are_alike (drop k board) (drop k machine) ≡ true → ((a b : ℕ) → x ≡ Out a → y ≡ Out b → ⊥)
-    → with_events k (drop k board) (drop k machine) c
-    ≡ with_events (k + 1) (drop (k + 1) board) (drop (k + 1) machine) c
-events_skip board machine k x y c at alike none_out =
-    both_rest board machine k x y c at
-    ∙ skip_heads k x y (drop (k + 1) board) (drop (k + 1) machine) c
-    (ap (λ xs. are_alike xs (y ∷ drop (k + 1) machine)) (sym (board_rest board machine k x y at))
-    ∙ ap (are_alike (drop k board)) (sym (machine_rest board machine k x y at)) ∙ alike) none_out
+-- a pair that isn't one
+pub pair_skip : (k : ℕ) (x y : SymEvent) (c : Compared) → ((a b : ℕ) → x ≡ Out a → y ≡ Out b → ⊥)
+    → with_events k (x ∷ []) (y ∷ []) c ≡ c
+pair_skip k (Out a) (Out b) c none_out = absurd (none_out a b refl refl)
+pair_skip k (Taken a) (Taken b) c none_out = refl
+pair_skip k (Out a) (Taken b) c none_out = refl
+pair_skip k (Taken a) (Out b) c none_out = refl
 
 -- ---- both sides' words
 
@@ -159,24 +164,15 @@ one_more first old new board machine k path before goes wide are now number a b 
       now a b (subst (λ n. ArePutOut board machine n a b) place out)
 ]
 
--- what is put out at a place is one word
-pub out_first : (board machine : List SymEvent) (k a b d e : ℕ) → ArePutOut board machine k a b
-    → ArePutOut board machine k d e → d ≡ a
-out_first board machine k a b d e one other =
-    out_of_same d a (same_Some (Out d) (Out a) (sym other.by_board ∙ one.by_board))
-
-pub out_second : (board machine : List SymEvent) (k a b d e : ℕ) → ArePutOut board machine k a b
-    → ArePutOut board machine k d e → e ≡ b
-out_second board machine k a b d e one other =
-    out_of_same e b (same_Some (Out e) (Out b) (sym other.by_machine ∙ one.by_machine))
-
-inside_events : (xs : List SymEvent) (i : ℕ) (e : SymEvent) → slice_get xs i ≡ Some e → i < length xs
-inside_events [] i e at = absurd cc
-inside_events (x ∷ rest) zero e at = omega arith
-inside_events (x ∷ rest) (suc i) e at = omega (arith, inside_events rest i e at)
+-- what an event puts out is one word
+pub pair_one : (space : Space) (path : Function) (x y : SymEvent) (a b d e : ℕ) → x ≡ Out a → y ≡ Out b → x ≡ Out d
+    → y ≡ Out e → AreOneOn space.terms path a b → AreOneOn space.terms path d e
+pair_one space path x y a b d e is_a is_b is_d is_e one =
+    subst (λ v. AreOneOn space.terms path v e) (out_of_same a d (sym is_a ∙ is_d))
+    (subst (λ v. AreOneOn space.terms path a v) (out_of_same b e (sym is_b ∙ is_e)) one)
 
 pub out_inside : (board machine : List SymEvent) (k a b : ℕ) → ArePutOut board machine k a b → k < length board
-out_inside board machine k a b out = inside_events board k (Out a) out.by_board
+out_inside board machine k a b out = slice_get_within board k (Out a) out.by_board
 
 pub events_done : (board machine : List SymEvent) (k : ℕ) (c : Compared) → length board ≤ k
     → length board ≡ length machine
@@ -194,16 +190,6 @@ out_here board machine k x y a b at out = (
       (sym (slice_get_read machine (length machine) k y refl (omega (arith, at.inside, at.count)) at.second)
       ∙ out.by_machine),
 )
-
--- there is an event of the machine too
-pub at_board : (board machine : List SymEvent) (k : ℕ) (x : SymEvent) → k < length board
-    → length board ≡ length machine → x ≡ get_or board k x → AreAt board machine k x (get_or machine k x)
-at_board board machine k x inside count first = record {
-  inside = inside;
-  count = count;
-  first = first;
-  second = get_or_default machine k x (get_or machine k x) (omega (arith, inside, count));
-}
 
 pub none_or_some : (o : Option ℕ) (a : ℕ) → o ≡ None → o ≡ Some a → ⊥
 none_or_some o a none some = absurd cc
@@ -238,12 +224,6 @@ heads_unlike (Out a) (Out b) xs ys other = absurd (other refl)
 heads_unlike (Taken a) (Taken b) xs ys other = absurd (other refl)
 heads_unlike (Out a) (Taken b) xs ys other = refl
 heads_unlike (Taken a) (Out b) xs ys other = refl
-
-alike_heads : (board machine : List SymEvent) (k : ℕ) (x y : SymEvent) → AreAt board machine k x y
-    → are_alike (drop k board) (drop k machine) ≡ are_alike (x ∷ drop (k + 1) board) (y ∷ drop (k + 1) machine)
-alike_heads board machine k x y at =
-    ap (λ xs. are_alike xs (drop k machine)) (board_rest board machine k x y at)
-    ∙ ap (are_alike (x ∷ drop (k + 1) board)) (machine_rest board machine k x y at)
 
 pub alike_next : (board machine : List SymEvent) (k : ℕ) (x y : SymEvent) → AreAt board machine k x y
     → is_out x ≡ is_out y

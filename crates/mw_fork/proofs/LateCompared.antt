@@ -2,6 +2,7 @@
 -- step.
 use Rattle.std.proofs.Common.{◌≡◌, ℕ, List, [], Bool, true, Option, None, Some, subst, ◌∙◌}
 use Rattle.std.specs.Prelude.{IfErr, IfOk, IfSome, Result}
+use Rattle.std.proofs.lemmas.Option.{IfSome_then}
 use Rattle.std.proofs.lemmas.Result.{IfErr-weaker, IfOk-weaker}
 use Rattle.mw_dd.specs.Diagrams.{IsFirst}
 use Rattle.mw_rel.specs.CaseWords.{case_words, whole}
@@ -19,7 +20,6 @@ use Rattle.mw_fork.specs.Listed.{list_of_space}
 use Rattle.mw_fork.specs.OnWay.{HasMetCase, ground_in, path_in}
 use Rattle.mw_fork.specs.Ways.{Way, met_of}
 use Rattle.mw_fork.proofs.CaseCompared.{found_on_path, late_differs, nowhere_none}
-use Rattle.mw_fork.proofs.ComparedAll.{some_as}
 
 -- a case with no step is late, and nothing is compared behind its cycles
 ends_late : (job : Job) (number : ℕ) (elements : List ℕ) (from : List Kept) (cycles : ℕ) (late : Bool) (way : Way)
@@ -89,8 +89,7 @@ pub found_so : {A E : Type 0} (job : Job) (cycles : ℕ) (late : Bool) (run : Ru
 found_so job cycles late run o step Says r is says =
     IfOk-weaker r (λ found. IfSome found (λ x. OfEach job run step (Says x)))
     (λ found. IfSome found (λ x. OfEachSo job cycles late run o (Says x)))
-    (λ found some. some_as (λ x. OfEach job run step (Says x)) (λ x. OfEachSo job cycles late run o (Says x)) found
-    (λ x each. of_so job cycles late run o step (Says x) is each) some) says
+    (λ found some. IfSome_then found some (λ x each. of_so job cycles late run o step (Says x) is each)) says
 
 -- where it stops
 pub stops_so : {A E : Type 0} (job : Job) (cycles : ℕ) (late : Bool) (run : Run) (o : Option Stepping) (step : Stepping)

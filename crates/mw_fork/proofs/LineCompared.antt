@@ -16,7 +16,7 @@ use Rattle.mw_rel.specs.Rules.{IsLineOf}
 use Rattle.mw_symmach.proofs.Making.{shape_with, values_same}
 use Rattle.mw_symmach.specs.Expressions.{AreTerms, IsBase, IsMade, IsReady, Runs, shape_over, values_at}
 use Rattle.mw_symmem.proofs.Later.{goes_as, held_by_stays, image_before, images_fit_before, width_later}
-use Rattle.mw_symmem.specs.declared.side.Side.TheVariants.{Board, Machine}
+use Rattle.mw_symmem.specs.declared.side.Side.TheVariants.{Machine}
 use Rattle.mw_symmem.specs.Memory.{FitImage, IsImage, IsOfWidth, Memory, held_by}
 use Rattle.mw_symmem.specs.Workspace.{IsWorkspace}
 use Rattle.mw_term.specs.Assigned.{Given, Numbers, given_by}
@@ -31,7 +31,7 @@ use Rattle.mw_fork.specs.Boundaries.{AreWide}
 use Rattle.mw_fork.specs.Comparing.{AreOneOn, AreSidesOn, AreTwoAt, FailsAt, GoesComparing, HoldsAt, IsComparedKind}
 use Rattle.mw_fork.specs.Comparing.{right_of}
 use Rattle.mw_fork.specs.Listed.{list_of_space}
-use Rattle.mw_fork.proofs.ComparingOn.{Leads, compared_in_next, comparing_then}
+use Rattle.mw_fork.proofs.ComparingOn.{comparing_then}
 
 -- ---- the shape of the elements' terms
 
@@ -118,26 +118,23 @@ abbrev line_behind : Line → Compared → (elements : List ℕ) → Ended → C
 line_behind l so_far elements right =
     with_comparison (line l.left) (slice_index elements l.left) right.term (compared_in right.list so_far.comparisons)
 
-pub line_leads : (s : Shape) (nodes : ℕ) (old new : Space) (path : Function) (elements : List ℕ)
-    (l : Line) (a right : ℕ)
-    → HasMadeRight s old new elements l right → a ≡ slice_index elements l.left
-    → Leads nodes old new path a right (λ on. AreSidesOn elements old on) (λ on so_far. with_line s on l so_far)
-line_leads s nodes old new path elements l a right has at = λ on so_far fit have. (
-  line l.left,
-  compared_in (list_of_space new) so_far.comparisons,
-  compared_in_next old.terms.map nodes old new path so_far have,
-  ap (λ es. line_behind l so_far es (expression_words s es on.machine_writes l.right so_far.list)) fit.elements_are
-      ∙ ap (λ (ws : List Held). line_behind l so_far elements (expression_words s elements ws l.right so_far.list))
-      fit.writes.machine
-      ∙ ap
-      (λ (all : WordList). line_behind l so_far elements (expression_words s elements old.memory.machine l.right all))
-      have.list
-      ∙ ap (line_behind l so_far elements)
-      (ap (λ (sh : Shape). expression_words sh elements old.memory.machine l.right (list_of_space old)) (sym has.shape)
-      ∙ sym has.listed)
-      ∙ ap (λ (x : ℕ). with_comparison (line l.left) x right (compared_in (list_of_space new) so_far.comparisons))
-      (sym at),
-)
+pub line_ends : (s : Shape) (old new : Space) (elements : List ℕ) (l : Line) (a right : ℕ) (on : Sides)
+    (so_far : Compared) → HasMadeRight s old new elements l right → a ≡ slice_index elements l.left
+    → AreSidesOn elements old on → so_far.list ≡ list_of_space old
+    → with_line s on l so_far
+    ≡ with_comparison (line l.left) a right (compared_in (list_of_space new) so_far.comparisons)
+line_ends s old new elements l a right on so_far has at fit same =
+    ap (λ es. line_behind l so_far es (expression_words s es on.machine_writes l.right so_far.list)) fit.elements_are
+    ∙ ap (λ (ws : List Held). line_behind l so_far elements (expression_words s elements ws l.right so_far.list))
+    fit.writes.machine
+    ∙ ap
+    (λ (all : WordList). line_behind l so_far elements (expression_words s elements old.memory.machine l.right all))
+    same
+    ∙ ap (line_behind l so_far elements)
+    (ap (λ (sh : Shape). expression_words sh elements old.memory.machine l.right (list_of_space old)) (sym has.shape)
+    ∙ sym has.listed)
+    ∙ ap (λ (x : ℕ). with_comparison (line l.left) x right (compared_in (list_of_space new) so_far.comparisons))
+    (sym at)
 
 -- ---- what it stands for
 
@@ -197,22 +194,3 @@ holds_later s old new elements given l line_of workspace wide goes holds image i
     ∙ ap (λ h. value s (values_at new.terms given elements) h l.right)
     (sym (held_by_stays old.terms new.terms old.words old.memory new.memory Machine given image goes.goes.later.keeps
     workspace.memory goes.writes))
-
--- the elements' terms are as wide
-pub wide_later : (s : Shape) (old new : Space) (elements : List ℕ) → GoesComparing old new
-    → AreWide old.terms s.widths elements → AreWide new.terms s.widths elements
-wide_later s old new elements goes wide = record {
-  count = wide.count;
-  each = λ i inside. width_later old.terms new.terms _ _ goes.goes.later (wide.each i inside);
-}
-
--- both sides are on it too
-pub sides_later : (elements : List ℕ) (old new : Space) (on : Sides) → GoesComparing old new
-    → AreSidesOn elements old on → AreSidesOn elements new on
-sides_later elements old new on goes are = record {
-  elements_are = are.elements_are;
-  writes = record {
-    board = are.writes.board ∙ sym (goes.writes.each Board);
-    machine = are.writes.machine ∙ sym (goes.writes.each Machine);
-  };
-}

@@ -1,11 +1,10 @@
 -- Lines, compared one after another.
-use Rattle.std.proofs.Common.{◌≡◌, inl, inr, ap, subst, sym, ◌∙◌, ℕ, zero, suc, ◌+◌, ◌<◌, ◌≤◌, List, [], ◌∷◌, arith}
+use Rattle.std.proofs.Common.{◌≡◌, inl, inr, ap, subst, sym, ◌∙◌, ℕ, ◌+◌, ◌<◌, ◌≤◌, List, arith}
 use Rattle.std.proofs.Common.{drop, get_or, length, true}
-use Rattle.std.specs.Prelude.{All, IfSome, None, Option, Some, slice_get}
+use Rattle.std.specs.Prelude.{All, IfSome, Option, Some, slice_get}
 use Rattle.std.proofs.lemmas.Bool.{cases_lt}
 use Rattle.std.proofs.lemmas.List.{drop_all}
-use Rattle.std.proofs.lemmas.List.Elements.{All-head, All-tail}
-use Rattle.std.proofs.lemmas.Option.{same_Some}
+use Rattle.std.proofs.lemmas.Option.{get_or_from_slice_get, same_Some, slice_get_within}
 use Rattle.mw_expr.specs.declared.shape.Shape.{Shape}
 use Rattle.mw_rel.specs.ComparisonWords.{Compared, Sides, with_line, with_lines}
 use Rattle.mw_rel.specs.declared.line.Line.{Line as KeptLine}
@@ -25,13 +24,11 @@ use Rattle.mw_fork.proofs.Related.{lines_rest, seen_count, seen_line}
 
 -- the value that there is
 pub some_at : {X : Type 0} (P : X → Type 0) (o : Option X) (x : X) → o ≡ Some x → IfSome o P → P x
-some_at P None x is holds = absurd cc
-some_at P (Some y) x is holds = subst P (same_Some y x is) holds
+some_at P o x is holds = subst (λ y. IfSome y P) is holds
 
-all_at : {X : Type 0} (P : X → Type 0) (xs : List X) (i : ℕ) (x : X) → All P xs → slice_get xs i ≡ Some x → P x
-all_at P [] i x all at = absurd cc
-all_at P (y ∷ rest) zero x all at = subst P (same_Some y x at) (All-head P y rest all)
-all_at P (y ∷ rest) (suc i) x all at = all_at P rest i x (All-tail P y rest all) at
+-- what is so of each is so of the one at a place
+pub all_at : {X : Type 0} (P : X → Type 0) (xs : List X) (i : ℕ) (x : X) → All P xs → slice_get xs i ≡ Some x → P x
+all_at P xs i x all at = subst P (get_or_from_slice_get xs i x x at) (all i x (slice_get_within xs i x at))
 
 -- the next line
 pub lines_next : (s : Shape) (lines : List KeptLine) (k : ℕ) (line : KeptLine) (on : Sides) (so_far : Compared)
@@ -78,11 +75,6 @@ hold_more s lines k line old new path other elements inside is lines_are workspa
     ]
 
 -- a place at which there is a line
-inside_lines : (lines : List Line) (i : ℕ) (line : Line) → slice_get lines i ≡ Some line → i < length lines
-inside_lines [] i line at = absurd cc
-inside_lines (l ∷ rest) zero line at = omega arith
-inside_lines (l ∷ rest) (suc i) line at = omega (arith, inside_lines rest i line at)
-
 pub inside_kept : (lines : List KeptLine) (i : ℕ) (line : Line) → slice_get (lines_of lines) i ≡ Some line
     → i < length lines
-inside_kept lines i line at = omega (arith, inside_lines (lines_of lines) i line at, seen_count lines)
+inside_kept lines i line at = omega (arith, slice_get_within (lines_of lines) i line at, seen_count lines)

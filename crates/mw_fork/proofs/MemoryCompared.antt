@@ -25,7 +25,7 @@ use Rattle.mw_fork.specs.declared.stop.RunStop.{RunStop}
 use Rattle.mw_fork.specs.Comparing.{AreOneAtProbe, AreOneOn, AreTwoAt, AreTwoInMemory, AreWritesOn, GoesComparing}
 use Rattle.mw_fork.specs.Comparing.{IsComparedKind}
 use Rattle.mw_fork.specs.Listed.{list_of_space}
-use Rattle.mw_fork.proofs.ComparingOn.{Leads, compared_in_next, comparing_then}
+use Rattle.mw_fork.proofs.ComparingOn.{comparing_then}
 
 -- a variable was made that stands for any address
 pub record HasProbe (old new : Space) (width probe : ℕ) : Type 0 where
@@ -113,30 +113,27 @@ memory_is s on so_far l0 l1 l2 l3 probe board machine same first second third =
     ∙ ap (λ (e : Ended). with_comparison (memory probe) board e.term (compared_in e.list so_far.comparisons)) third
 
 -- from before the probe to the comparison of what both memories hold there
-pub memory_leads : (s : Shape) (nodes : ℕ) (s0 s1 s2 s3 : Space) (path : Function) (width probe board machine : ℕ)
+pub memory_ends : (s : Shape) (s0 s1 s2 s3 : Space) (width probe board machine : ℕ) (on : Sides) (so_far : Compared)
     → s.address ≡ width → s.word ≡ s0.memory.word → HasProbe s0 s1 width probe
-    → HasRead s1 s2 sides.Board probe board → HasRead s2 s3 sides.Machine probe machine
-    → Leads nodes s0 s3 path board machine (λ on. AreWritesOn s0 on) (λ on so_far. with_memory s on so_far)
-memory_leads s nodes s0 s1 s2 s3 path width probe board machine address word has first second = λ on so_far writes have.
+    → HasRead s1 s2 sides.Board probe board → HasRead s2 s3 sides.Machine probe machine → AreWritesOn s0 on
+    → so_far.list ≡ list_of_space s0
+    → with_memory s on so_far
+    ≡ with_comparison (memory probe) board machine (compared_in (list_of_space s3) so_far.comparisons)
+memory_ends s s0 s1 s2 s3 width probe board machine on so_far address word has first second writes same =
     let word_1 : s.word ≡ s1.memory.word = word ∙ ap (λ m. m.word) (sym has.kept) in
     let word_2 : s.word ≡ s2.memory.word = word_1 ∙ sym first.goes.goes.reads.word in
     let by_board : on.board_writes ≡ s1.memory.board = writes.board ∙ ap (λ m. m.board) (sym has.kept) in
     let by_machine : on.machine_writes ≡ s2.memory.machine =
-    writes.machine ∙ ap (λ m. m.machine) (sym has.kept) ∙ sym (first.goes.writes.each sides.Machine) in (
-      memory probe,
-      compared_in (list_of_space s3) so_far.comparisons,
-      compared_in_next s0.terms.map nodes s0 s3 path so_far have,
-      memory_is s on so_far (list_of_space s0) (list_of_space s1) (list_of_space s2)
-          (list_of_space s3) probe board machine
-          have.list
-          (ap (λ (w : ℕ). with_variable Probe w (list_of_space s0)) address ∙ sym has.listed)
-          (ap (λ (w : ℕ). memory_read_words w probe on.board_writes (list_of_space s1)) word_1
-          ∙ ap (λ (ws : List Held). memory_read_words s1.memory.word probe ws (list_of_space s1)) by_board
-          ∙ sym first.listed)
-          (ap (λ (w : ℕ). memory_read_words w probe on.machine_writes (list_of_space s2)) word_2
-          ∙ ap (λ (ws : List Held). memory_read_words s2.memory.word probe ws (list_of_space s2)) by_machine
-          ∙ sym second.listed),
-    )
+    writes.machine ∙ ap (λ m. m.machine) (sym has.kept) ∙ sym (first.goes.writes.each sides.Machine) in
+    memory_is s on so_far (list_of_space s0) (list_of_space s1) (list_of_space s2) (list_of_space s3) probe board
+    machine same
+    (ap (λ (w : ℕ). with_variable Probe w (list_of_space s0)) address ∙ sym has.listed)
+    (ap (λ (w : ℕ). memory_read_words w probe on.board_writes (list_of_space s1)) word_1
+    ∙ ap (λ (ws : List Held). memory_read_words s1.memory.word probe ws (list_of_space s1)) by_board
+    ∙ sym first.listed)
+    (ap (λ (w : ℕ). memory_read_words w probe on.machine_writes (list_of_space s2)) word_2
+    ∙ ap (λ (ws : List Held). memory_read_words s2.memory.word probe ws (list_of_space s2)) by_machine
+    ∙ sym second.listed)
 
 -- ---- what both memories hold
 

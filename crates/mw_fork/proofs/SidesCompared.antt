@@ -1,7 +1,7 @@
 -- The comparison of both sides of a case that isn't late: whether they are unlike, and what it says of the case.
 use Rattle.std.proofs.Common.{◌≡◌, ℕ, List, [], Bool, true, false, not, ◌&&◌, ◌||◌, ◌==◌, Option, Some, None, refl, ap}
 use Rattle.std.proofs.Common.{ap₂, sym, subst, ◌∙◌, arith}
-use Rattle.std.specs.Prelude.{All, IfSome, if◌then◌else◌}
+use Rattle.std.specs.Prelude.{All, Err, IfSome, Ok, Result, if◌then◌else◌}
 use Rattle.std.proofs.lemmas.Bool.{eq-eqb, eqb-true}
 use Rattle.mw_term.specs.declared.decided.Decided.{Decided}
 use Rattle.mw_term.specs.Assigned.{Numbers, given_by}
@@ -15,16 +15,15 @@ use Rattle.mw_symmach.specs.Turns.{Stepping}
 use Rattle.mw_symmach.specs.Walks.{underway_in}
 use Rattle.mw_rel.specs.CaseWords.{CaseWords, case_words, sides_of, whole}
 use Rattle.mw_rel.specs.Certified.{boundary_at}
-use Rattle.mw_rel.specs.ComparisonWords.{Compared, Sides, all_compared, are_alike, compared_in, is_unlike}
+use Rattle.mw_rel.specs.ComparisonWords.{Sides, all_compared, are_alike, compared_in, is_unlike}
 use Rattle.mw_rel.specs.Job.{Job, IsJob}
 use Rattle.mw_rel.specs.Lines.{Line}
 use Rattle.mw_rel.specs.Relation.{Boundary}
 use Rattle.mw_rel.specs.Rules.{IsLineOf}
-use Rattle.mw_fork.specs.Comparing.{AreApart, AreSidesOn, FailsFirst, GoesComparing, HaveCompared, StopsComparing}
+use Rattle.mw_fork.specs.Comparing.{AreApart, AreSidesOn, Compares, GoesComparing, HaveCompared, IsOutcome}
 use Rattle.mw_fork.specs.Comparing.{compared_all}
 use Rattle.mw_fork.specs.declared.elements.Space.{Space}
 use Rattle.mw_fork.specs.declared.stop.RunStop.{RunStop}
-use Rattle.mw_fork.specs.declared.stop.RunStop.TheVariants.{Over}
 use Rattle.mw_fork.specs.Failing.{ComparisonStops, ComparisonsAreWithin, IsFound}
 use Rattle.mw_fork.specs.Listed.{list_of_space, standing_on}
 use Rattle.mw_fork.proofs.CaseCompared.{IsEnded, found_apart, found_on_path, prefix_of_case, unlike_differs}
@@ -129,13 +128,23 @@ sides_on : (job : Job) (space : Space) (board : Symbolic) (step : Stepping)
     → AreSidesOn (terms_at_end job board step) space (ends_of job space board step)
 sides_on job space board step = record { elements_are = refl; writes = record { board = refl; machine = refl } }
 
--- what is so of all comparisons, behind any of sides with these terms, lines and events
-abbrev pub OfAll : Job → (nodes : ℕ) → Space → (path : Function) → (compared : Compared → Type 0) → (elements : List ℕ)
-    → List Line → (board machine : List SymEvent) → Type 0
-OfAll job nodes old path so elements lines board machine =
-    (sides : Sides) (so_far : Compared) → AreSidesOn elements old sides
-    → HaveCompared old.terms.map nodes old path so_far
-    → so (compared_all job.relation.shape sides lines board machine so_far)
+-- a result says of all comparisons of sides with these terms, lines and events
+abbrev pub CompareAll : Job → (nodes : ℕ) → (old new : Space) → (path : Function) → Result (Option Numbers) RunStop
+    → (elements : List ℕ) → List Line → (board machine : List SymEvent) → Type 0
+CompareAll job nodes old new path result elements lines board machine =
+    (sides : Sides) → AreSidesOn elements old sides
+    → Compares nodes old new path (compared_all job.relation.shape sides lines board machine) result
+
+-- so it says it of those of the case
+at_end : (job : Job) (nodes : ℕ) (old new : Space) (path : Function) (board : Symbolic) (step : Stepping)
+    (reached : Boundary) (result : Result (Option Numbers) RunStop)
+    → CompareAll job nodes old new path result (terms_at_end job board step) reached.lines board.events
+    step.parts.events
+    → IsOutcome old.terms.map nodes new path
+    (all_compared job.relation.shape reached (ends_of job old board step) (list_of_space old)) result
+at_end job nodes old new path board step reached result compared =
+    compared (ends_of job old board step) (sides_on job old board step) (compared_in (list_of_space old) [])
+    (none_so_far old.terms.map nodes old path)
 
 -- the same of equal terms, lines and events
 pub same_ends : {T L E : Type 0} (P : T → L → E → E → Type 0) (t u : T) (l k : L) (b c m n : E)
@@ -150,14 +159,13 @@ pub alike_within : (job : Job) (number nodes : ℕ) (elements : List ℕ) (bits 
     (path : Function) (board : Symbolic) (step : Stepping) (reached : Boundary)
     → IsEnded job number elements bits cycles old path board step → boundary_at job board.place.at ≡ Some reached
     → is_unlike reached (ends_of job old board step) ≡ false
-    → OfAll job nodes old path (HaveCompared old.terms.map nodes new path) (terms_at_end job board step) reached.lines
-    board.events step.parts.events
+    → CompareAll job nodes old new path (Ok None) (terms_at_end job board step) reached.lines board.events
+    step.parts.events
     → ComparisonsAreWithin job number nodes bits
-alike_within job number nodes elements bits cycles old new path board step reached is there alike have =
-    let first = none_so_far old.terms.map nodes old path in
+alike_within job number nodes elements bits cycles old new path board step reached is there alike compared =
     within_all job number nodes bits old.terms.map new path _ is.stands.space.map
     (words_at_end job number elements bits cycles old path board step reached false is there alike) is.written
-    (have (ends_of job old board step) (compared_in (list_of_space old) []) (sides_on job old board step) first)
+    (at_end job nodes old new path board step reached (Ok None) compared)
 
 -- what was found is the first that is sought
 pub alike_found : (job : Job) (number nodes : ℕ) (elements : List ℕ) (bits : List Decided)
@@ -166,23 +174,21 @@ pub alike_found : (job : Job) (number nodes : ℕ) (elements : List ℕ) (bits :
     → IsEnded job number elements bits cycles old path board step → GoesComparing old new → HaveOwnKinds new.words
     → All (IsLineOf job.relation.shape) reached.lines → boundary_at job board.place.at ≡ Some reached
     → is_unlike reached (ends_of job old board step) ≡ false
-    → OfAll job nodes old path (λ all. FailsFirst old.terms.map new path all numbers) (terms_at_end job board step)
-    reached.lines board.events step.parts.events
+    → CompareAll job nodes old new path (Ok (Some numbers)) (terms_at_end job board step) reached.lines board.events
+    step.parts.events
     → AreApart job.relation.shape new (given_by numbers) (terms_at_end job board step) reached.lines board.events
     step.parts.events
     → IsFound job number elements bits new numbers
 alike_found job number nodes elements bits cycles old new path board step reached numbers valid is goes
-    own formed there alike
-    fails two =
+    own formed there alike compared two =
     found_apart job number elements bits cycles old new path board step reached _ numbers valid is goes own formed there
     (words_at_end job number elements bits cycles old path board step reached false is there alike)
-    (fails (ends_of job old board step) (compared_in (list_of_space old) []) (sides_on job old board step)
-    (none_so_far old.terms.map nodes old path)) two
+    (at_end job nodes old new path board step reached (Ok (Some numbers)) compared) two
 
 -- what follows from two things that are so of what was found
-pub some_both : {A : Type 0} (P Q R : A → Type 0) (o : Option A) → ((x : A) → P x → Q x → R x) → IfSome o P → IfSome o Q
-    → IfSome o R
-some_both P Q R None each one other = one
+pub some_both : {A : Type 0} (P : Option A → Type 0) (Q R : A → Type 0) (o : Option A)
+    → ((x : A) → P (Some x) → Q x → R x) → P o → IfSome o Q → IfSome o R
+some_both P Q R None each one other = other
 some_both P Q R (Some x) each one other = each x one other
 
 -- where the comparison stops, an operation of the case is over the budget
@@ -192,15 +198,12 @@ pub alike_stops : (job : Job) (number nodes : ℕ) (elements : List ℕ) (bits :
     → OverHaveNumbers → AreNumbered
     → IsEnded job number elements bits cycles old path board step → boundary_at job board.place.at ≡ Some reached
     → is_unlike reached (ends_of job old board step) ≡ false
-    → ((word j : ℕ) → stop ≡ Over word j
-    → OfAll job nodes old path (λ all. StopsComparing old.terms.map nodes new path all word j)
-    (terms_at_end job board step)
-    reached.lines board.events step.parts.events)
+    → CompareAll job nodes old new path (Err stop) (terms_at_end job board step) reached.lines board.events
+    step.parts.events
     → ComparisonStops job number nodes bits stop
-alike_stops job number nodes elements bits cycles old new path board step reached stop law laws is there alike stops =
+alike_stops job number nodes elements bits cycles old new path board step reached stop law laws is there alike
+    compared =
     stops_comparing job number nodes bits old.terms.map new path _ stop law laws is.stands.space.map
     (words_at_end job number elements bits cycles old path board step reached false is there alike) is.written
     (prefix_of_case job number bits is.feasible)
-    (λ word j over.
-    stops word j over (ends_of job old board step) (compared_in (list_of_space old) []) (sides_on job old board step)
-    (none_so_far old.terms.map nodes old path))
+    (at_end job nodes old new path board step reached (Err stop) compared)

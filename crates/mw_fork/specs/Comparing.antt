@@ -1,5 +1,6 @@
 -- The comparison of both sides of a case, on terms, on the path of the case.
-use Rattle.std.specs.Prelude.{◌≡◌, ◌≢◌, ℕ, List, ◌∷◌, ◌++◌, All, length, true, Some, slice_get, slice_index, unwrap_or}
+use Rattle.std.specs.Prelude.{◌≡◌, ◌≢◌, ℕ, List, ◌∷◌, ◌++◌, All, length, true, None, Option, Some, Err, Ok, Result}
+use Rattle.std.specs.Prelude.{slice_get, slice_index, unwrap_or}
 use Rattle.mw_expr.specs.declared.shape.Shape.{Shape}
 use Rattle.mw_expr.specs.Values.{value}
 use Rattle.mw_rel.specs.ComparisonWords.{Compared, Comparison, Sides, with_events, with_lines, with_memory}
@@ -27,6 +28,8 @@ use Rattle.mw_symmem.specs.Workspace.{GoesOn, KeepsWrites}
 use Rattle.mw_symmach.specs.Expressions.{values_at}
 use Rattle.mw_symmach.specs.Steps.{event_term}
 use Rattle.mw_fork.specs.declared.elements.Space.{Space}
+use Rattle.mw_fork.specs.declared.stop.RunStop.{RunStop}
+use Rattle.mw_fork.specs.declared.stop.RunStop.TheVariants.{Over}
 use Rattle.mw_fork.specs.Listed.{list_of_space}
 
 -- ---- what is listed
@@ -98,6 +101,22 @@ pub record StopsComparing (map : List ℕ) (nodes : ℕ) (space : Space) (path :
   pub named : word ≡ unwrap_or (word_number space.words term) (length space.words)
   pub over : IsComparedOver map nodes space path at term j
   pub front : IsFrontOf (list_of_space space) compared.list
+
+-- What a result says of comparisons: none of them can fail; or one can, and these are the first numbers under which it
+-- does; or one stops them, at an operation over the budget. Of want of memory it says nothing.
+abbrev pub IsOutcome : (map : List ℕ) → (nodes : ℕ) → Space → (path : Function) → Compared
+    → Result (Option Numbers) RunStop → Type 0
+IsOutcome map nodes space path compared (Ok None) = HaveCompared map nodes space path compared
+IsOutcome map nodes space path compared (Ok (Some numbers)) = FailsFirst map space path compared numbers
+IsOutcome map nodes space path compared (Err stop) =
+    (word j : ℕ) → stop ≡ Over word j → StopsComparing map nodes space path compared word j
+
+-- behind any that were made in a space and can't fail, the result is the outcome of those with more behind them
+abbrev pub Compares : (nodes : ℕ) → (old new : Space) → (path : Function) → (more : Compared → Compared)
+    → Result (Option Numbers) RunStop → Type 0
+Compares nodes old new path more result =
+    (so_far : Compared) → HaveCompared old.terms.map nodes old path so_far
+    → IsOutcome old.terms.map nodes new path (more so_far) result
 
 -- the variables that a comparison makes: of base reads, and the probe
 abbrev pub IsComparedKind : WordKind → Type 0

@@ -1,8 +1,8 @@
 // The comparison of both sides of a case, on terms.
-ghost use Rattle.std.specs.Prelude.{◌≡◌, ◌↔◌, ◌<◌, ◌≤◌, ◌+◌, ◌^◌, Bool, ℕ, List, All, IfErr, IfOk, IfSome, None};
-ghost use Rattle.std.specs.Prelude.{OnOk, Some, length, slice_get, take, true};
+ghost use Rattle.std.specs.Prelude.{◌≡◌, ◌↔◌, ◌<◌, ◌≤◌, ◌+◌, ◌^◌, ◌∷◌, [], Bool, ℕ, List, All, IfErr, IfOk, IfSome};
+ghost use Rattle.std.specs.Prelude.{None, OnOk, Some, length, slice_get, take, true};
 ghost use Rattle.mw_macro.specs.Counts.{reads};
-ghost use Rattle.mw_rel.specs.ComparisonWords.{Compared, Sides, Subject, are_alike, with_comparison, with_events};
+ghost use Rattle.mw_rel.specs.ComparisonWords.{Sides, Subject, are_alike, with_comparison, with_events};
 ghost use Rattle.mw_rel.specs.ComparisonWords.{with_line};
 ghost use Rattle.mw_rel.specs.ComparisonWords.{with_lines, with_memory};
 ghost use Rattle.mw_rel.specs.Lines as rel_line;
@@ -17,13 +17,11 @@ ghost use Rattle.mw_term.specs.declared.kinds.WordKind.TheVariants.{Probe};
 ghost use Rattle.mw_term.specs.WordList.{ended, memory_read_words, term_of};
 ghost use Rattle.mw_symmem.specs.Memory.{IsOfWidth, IsRead, writes_of};
 ghost use Rattle.mw_symmem.specs.Workspace.{IsWorkspace};
-ghost use Rattle.mw_fork.specs.declared.stop.RunStop.TheVariants as stops;
 ghost use Rattle.mw_fork.specs.declared.way.Kept.{Kept};
 ghost use Rattle.mw_fork.specs.Boundaries.{AreWide, IsSpace};
 ghost use Rattle.mw_fork.specs.Comparing.{AreApart, AreEventsOf, AreOne, AreOneAtProbe, AreOneOn, ArePutOut};
 ghost use Rattle.mw_fork.specs.Comparing.{AreSidesOn, AreTwoAt, AreTwoInMemory};
-ghost use Rattle.mw_fork.specs.Comparing.{AreWritesOn, FailsAt, FailsFirst, GoesComparing, HaveCompared, HoldsAt};
-ghost use Rattle.mw_fork.specs.Comparing.{StopsComparing};
+ghost use Rattle.mw_fork.specs.Comparing.{AreWritesOn, Compares, FailsAt, GoesComparing, HoldsAt};
 ghost use Rattle.mw_fork.specs.Comparing.{compared_all};
 ghost use Rattle.mw_rel.specs.CaseWords.{terms_with};
 ghost use Rattle.mw_symboard.specs.Parts.{AreParts};
@@ -93,17 +91,8 @@ fn apart(
     ensures probe { OnOk result (term_of space.new.words Probe ≡ term_of space.old.words Probe) }
     ensures paths { OnOk result (HavePaths space.new paths.new) }
     ensures path { Agree (path_in paths.new) (path_in paths.old) }
-    ensures none { IfOk result (λ o. o ≡ None → (subject : Subject) (so_far : Compared)
-        → HaveCompared space.old.terms.map nodes space.old (path_in paths.old) so_far
-        → HaveCompared space.old.terms.map nodes space.new (path_in paths.old) (with_comparison subject a b so_far)) }
-    ensures found { IfOk result (λ o. IfSome o (λ numbers. (subject : Subject) (so_far : Compared)
-        → HaveCompared space.old.terms.map nodes space.old (path_in paths.old) so_far
-        → FailsFirst space.old.terms.map space.new (path_in paths.old) (with_comparison subject a b so_far) numbers)) }
-    ensures over { IfErr result
-        (λ stop. (word j : ℕ) → stop ≡ stops.Over word j → (subject : Subject) (so_far : Compared)
-        → HaveCompared space.old.terms.map nodes space.old (path_in paths.old) so_far
-        → StopsComparing space.old.terms.map nodes space.new (path_in paths.old)
-        (with_comparison subject a b so_far) word j) }
+    ensures compared { (subject : Subject)
+        → Compares nodes space.old space.new (path_in paths.old) (with_comparison subject a b) result }
     ensures same { IfOk result (λ o. o ≡ None → AreOneOn space.new.terms (path_in paths.old) a b) }
     ensures apart { IfOk result (λ o. IfSome o (λ numbers. AreTwoAt space.new.terms (given_by numbers) a b)) }
 {
@@ -112,6 +101,40 @@ fn apart(
         Ok(found) => Ok(found),
         Err(fault) => Err(stop_of(&space.words, fault)),
     }
+}
+
+/// Compares the words of two events, if both put one out.
+fn compare_pair(
+    alloc: Global,
+    space: &mut Space,
+    paths: &mut Paths,
+    board: SymEvent,
+    machine: SymEvent,
+    nodes: u32,
+) -> Result<Option<Assignment>, RunStop>
+    requires wide { (a b : ℕ) → board ≡ Out a → machine ≡ Out b
+        → (word : ℕ) × IsOfWidth space.old.terms word a × IsOfWidth space.old.terms word b }
+    requires workspace { IsWorkspace space.old.terms space.old.words space.old.memory }
+    requires paths { HavePaths space.old paths.old }
+    ensures goes { OnOk result (GoesComparing space.old space.new) }
+    ensures paths { OnOk result (HavePaths space.new paths.new) }
+    ensures path { Agree (path_in paths.new) (path_in paths.old) }
+    ensures memory { OnOk result (space.new.memory ≡ space.old.memory) }
+    ensures probe { OnOk result (term_of space.new.words Probe ≡ term_of space.old.words Probe) }
+    ensures compared { (number : ℕ) → Compares nodes space.old space.new (path_in paths.old)
+        (with_events number (board ∷ []) (machine ∷ [])) result }
+    ensures same { IfOk result (λ o. o ≡ None → (a b : ℕ) → board ≡ Out a → machine ≡ Out b
+        → AreOneOn space.new.terms (path_in paths.old) a b) }
+    ensures apart { IfOk result (λ o. IfSome o (λ numbers. (a : ℕ) × (b : ℕ) × (board ≡ Out a) × (machine ≡ Out b)
+        × AreTwoAt space.new.terms (given_by numbers) a b)) }
+{
+    let Some(a) = out_of(board) else {
+        return Ok(None);
+    };
+    let Some(b) = out_of(machine) else {
+        return Ok(None);
+    };
+    apart(alloc, space, paths, a, b, nodes)
 }
 
 /// Compares the words that both sides put out, pair by pair.
@@ -133,30 +156,23 @@ fn compare_events(
     ensures path { Agree (path_in paths.new) (path_in paths.old) }
     ensures memory { OnOk result (space.new.memory ≡ space.old.memory) }
     ensures probe { OnOk result (term_of space.new.words Probe ≡ term_of space.old.words Probe) }
-    ensures none { IfOk result (λ o. o ≡ None → (so_far : Compared)
-        → HaveCompared space.old.terms.map nodes space.old (path_in paths.old) so_far
-        → HaveCompared space.old.terms.map nodes space.new (path_in paths.old)
-        (with_events 0 board.now machine.now so_far)) }
-    ensures found { IfOk result (λ o. IfSome o (λ numbers. (so_far : Compared)
-        → HaveCompared space.old.terms.map nodes space.old (path_in paths.old) so_far
-        → FailsFirst space.old.terms.map space.new (path_in paths.old)
-        (with_events 0 board.now machine.now so_far) numbers)) }
-    ensures over { IfErr result (λ stop. (word j : ℕ) → stop ≡ stops.Over word j → (so_far : Compared)
-        → HaveCompared space.old.terms.map nodes space.old (path_in paths.old) so_far
-        → StopsComparing space.old.terms.map nodes space.new (path_in paths.old)
-        (with_events 0 board.now machine.now so_far) word j) }
+    ensures compared { Compares nodes space.old space.new (path_in paths.old) (with_events 0 board.now machine.now)
+        result }
     ensures same { IfOk result (λ o. o ≡ None → (number a b : ℕ) → ArePutOut board.now machine.now number a b
         → AreOneOn space.new.terms (path_in paths.old) a b) }
     ensures apart { IfOk result (λ o. IfSome o (λ numbers. (number : ℕ) × (a : ℕ) × (b : ℕ)
         × ArePutOut board.now machine.now number a b × AreTwoAt space.new.terms (given_by numbers) a b)) }
 {
     for number in 0..board.len() {
-        if let Some(a) = out_of(board[number]) {
-            if let Some(b) = out_of(machine[number]) {
-                if let Some(found) = apart(alloc, space, paths, a, b, nodes)? {
-                    return Ok(Some(found));
-                }
-            }
+        if let Some(found) = compare_pair(
+            alloc,
+            space,
+            paths,
+            board[number],
+            machine[number],
+            nodes,
+        )? {
+            return Ok(Some(found));
         }
     }
     Ok(None)
@@ -181,21 +197,8 @@ fn compare_line(
     ensures paths { OnOk result (HavePaths space.new paths.new) }
     ensures path { Agree (path_in paths.new) (path_in paths.old) }
     ensures probe { OnOk result (term_of space.new.words Probe ≡ term_of space.old.words Probe) }
-    ensures none { IfOk result (λ o. o ≡ None → (sides : Sides) (so_far : Compared)
-        → AreSidesOn elements.now space.old sides
-        → HaveCompared space.old.terms.map nodes space.old (path_in paths.old) so_far
-        → HaveCompared space.old.terms.map nodes space.new (path_in paths.old)
-        (with_line (job_of job.now).relation.shape sides (line_of line.now) so_far)) }
-    ensures found { IfOk result (λ o. IfSome o (λ numbers. (sides : Sides) (so_far : Compared)
-        → AreSidesOn elements.now space.old sides
-        → HaveCompared space.old.terms.map nodes space.old (path_in paths.old) so_far
-        → FailsFirst space.old.terms.map space.new (path_in paths.old)
-        (with_line (job_of job.now).relation.shape sides (line_of line.now) so_far) numbers)) }
-    ensures over { IfErr result (λ stop. (word j : ℕ) → stop ≡ stops.Over word j → (sides : Sides) (so_far : Compared)
-        → AreSidesOn elements.now space.old sides
-        → HaveCompared space.old.terms.map nodes space.old (path_in paths.old) so_far
-        → StopsComparing space.old.terms.map nodes space.new (path_in paths.old)
-        (with_line (job_of job.now).relation.shape sides (line_of line.now) so_far) word j) }
+    ensures compared { (sides : Sides) → AreSidesOn elements.now space.old sides → Compares nodes space.old space.new
+        (path_in paths.old) (with_line (job_of job.now).relation.shape sides (line_of line.now)) result }
     ensures more { OnOk result (length space.new.memory.reads
         ≡ length space.old.memory.reads + reads (line_of line.now).right) }
     ensures same { IfOk result (λ o. o ≡ None → (given : Given) → path_in paths.old given ≡ true
@@ -241,21 +244,8 @@ fn compare_lines(
     ensures paths { OnOk result (HavePaths space.new paths.new) }
     ensures path { Agree (path_in paths.new) (path_in paths.old) }
     ensures probe { OnOk result (term_of space.new.words Probe ≡ term_of space.old.words Probe) }
-    ensures none { IfOk result (λ o. o ≡ None → (sides : Sides) (so_far : Compared)
-        → AreSidesOn elements.now space.old sides
-        → HaveCompared space.old.terms.map nodes space.old (path_in paths.old) so_far
-        → HaveCompared space.old.terms.map nodes space.new (path_in paths.old)
-        (with_lines (job_of job.now).relation.shape sides (lines_of lines.now) so_far)) }
-    ensures found { IfOk result (λ o. IfSome o (λ numbers. (sides : Sides) (so_far : Compared)
-        → AreSidesOn elements.now space.old sides
-        → HaveCompared space.old.terms.map nodes space.old (path_in paths.old) so_far
-        → FailsFirst space.old.terms.map space.new (path_in paths.old)
-        (with_lines (job_of job.now).relation.shape sides (lines_of lines.now) so_far) numbers)) }
-    ensures over { IfErr result (λ stop. (word j : ℕ) → stop ≡ stops.Over word j → (sides : Sides) (so_far : Compared)
-        → AreSidesOn elements.now space.old sides
-        → HaveCompared space.old.terms.map nodes space.old (path_in paths.old) so_far
-        → StopsComparing space.old.terms.map nodes space.new (path_in paths.old)
-        (with_lines (job_of job.now).relation.shape sides (lines_of lines.now) so_far) word j) }
+    ensures compared { (sides : Sides) → AreSidesOn elements.now space.old sides → Compares nodes space.old space.new
+        (path_in paths.old) (with_lines (job_of job.now).relation.shape sides (lines_of lines.now)) result }
     ensures more { OnOk result (length space.new.memory.reads
         ≤ length space.old.memory.reads + reads_of (lines_of lines.now)) }
     ensures same { IfOk result
@@ -306,21 +296,8 @@ fn compare_memory(
     ensures goes { OnOk result (GoesComparing space.old space.new) }
     ensures paths { OnOk result (HavePaths space.new paths.new) }
     ensures path { Agree (path_in paths.new) (path_in paths.old) }
-    ensures none { IfOk result (λ o. o ≡ None → (sides : Sides) (so_far : Compared)
-        → AreWritesOn space.old sides
-        → HaveCompared space.old.terms.map nodes space.old (path_in paths.old) so_far
-        → HaveCompared space.old.terms.map nodes space.new (path_in paths.old)
-        (with_memory (job_of job.now).relation.shape sides so_far)) }
-    ensures found { IfOk result (λ o. IfSome o (λ numbers. (sides : Sides) (so_far : Compared)
-        → AreWritesOn space.old sides
-        → HaveCompared space.old.terms.map nodes space.old (path_in paths.old) so_far
-        → FailsFirst space.old.terms.map space.new (path_in paths.old)
-        (with_memory (job_of job.now).relation.shape sides so_far) numbers)) }
-    ensures over { IfErr result (λ stop. (word j : ℕ) → stop ≡ stops.Over word j → (sides : Sides) (so_far : Compared)
-        → AreWritesOn space.old sides
-        → HaveCompared space.old.terms.map nodes space.old (path_in paths.old) so_far
-        → StopsComparing space.old.terms.map nodes space.new (path_in paths.old)
-        (with_memory (job_of job.now).relation.shape sides so_far) word j) }
+    ensures compared { (sides : Sides) → AreWritesOn space.old sides → Compares nodes space.old space.new
+        (path_in paths.old) (with_memory (job_of job.now).relation.shape sides) result }
     ensures same { IfOk result (λ o. o ≡ None → AreOneAtProbe space.new (path_in paths.old)) }
     ensures apart { IfOk result (λ o. IfSome o (λ numbers. AreTwoInMemory space.new (given_by numbers))) }
 {
@@ -380,22 +357,9 @@ fn compare_all(
     requires paths { HavePaths space.old paths.old }
     ensures goes { OnOk result (GoesComparing space.old space.new) }
     ensures own { OnOk result (HaveOwnKinds space.new.words) }
-    ensures none { IfOk result (λ o. o ≡ None → (sides : Sides) (so_far : Compared)
-        → AreSidesOn elements.now space.old sides
-        → HaveCompared space.old.terms.map nodes space.old (path_in paths.old) so_far
-        → HaveCompared space.old.terms.map nodes space.new (path_in paths.old)
-        (compared_all (job_of job.now).relation.shape sides (lines_of lines.now) board.now machine.now so_far)) }
-    ensures found { IfOk result (λ o. IfSome o (λ numbers. (sides : Sides) (so_far : Compared)
-        → AreSidesOn elements.now space.old sides
-        → HaveCompared space.old.terms.map nodes space.old (path_in paths.old) so_far
-        → FailsFirst space.old.terms.map space.new (path_in paths.old)
-        (compared_all (job_of job.now).relation.shape sides (lines_of lines.now) board.now machine.now so_far)
-        numbers)) }
-    ensures over { IfErr result (λ stop. (word j : ℕ) → stop ≡ stops.Over word j → (sides : Sides) (so_far : Compared)
-        → AreSidesOn elements.now space.old sides
-        → HaveCompared space.old.terms.map nodes space.old (path_in paths.old) so_far
-        → StopsComparing space.old.terms.map nodes space.new (path_in paths.old)
-        (compared_all (job_of job.now).relation.shape sides (lines_of lines.now) board.now machine.now so_far) word j) }
+    ensures compared { (sides : Sides) → AreSidesOn elements.now space.old sides → Compares nodes space.old space.new
+        (path_in paths.old)
+        (compared_all (job_of job.now).relation.shape sides (lines_of lines.now) board.now machine.now) result }
     ensures same { IfOk result (λ o. o ≡ None → AreOne (job_of job.now).relation.shape space.new (path_in paths.old)
         elements.now (lines_of lines.now) board.now machine.now) }
     ensures apart { IfOk result (λ o. IfSome o (λ numbers. AreApart (job_of job.now).relation.shape space.new
@@ -411,10 +375,10 @@ fn compare_all(
         let _ = space.words.count();
         return Ok(Some(found));
     }
-    let found = compare_memory(alloc, job, space, paths, nodes)?;
+    let compared = compare_memory(alloc, job, space, paths, nodes);
     // A call for the proof: no two variables have one kind.
     let _ = space.words.count();
-    Ok(found)
+    compared
 }
 
 /// Compares both sides: the events, the lines of the boundary reached, the memory. Where the events aren't alike or the

@@ -10,12 +10,12 @@ pub returns-then-is_some : goal.returns-then-is_some
 returns-then-is_some c =
     let at : AreAt c.args.board.now c.args.machine.now c.loop-number.number c.index-board-number.result
     c.index-machine-number.result =
-    record {
-      inside = omega (arith, c.loop-number-test.true, c.loop-number.auto.number-end);
-      count = c.loop-number.invariant.count;
-      first = c.index-board-number.is;
-      second = c.index-machine-number.is;
-    } in
+    assumption (
+      c.loop-number-test.true,
+      c.loop-number.invariant.count,
+      c.index-board-number.is,
+      c.index-machine-number.is,
+    ) in
     let first = out_is c.index-board-number.result c.out_of.result c.out_of.ensures in
     let second = out_is c.index-machine-number.result c.out_of-in-loop-number.result c.out_of-in-loop-number.ensures in
     let told = c.if-is_some.true in
@@ -29,12 +29,12 @@ pub loop-number-preserved : goal.loop-number-preserved
 loop-number-preserved c =
     let at : AreAt c.args.board.now c.args.machine.now c.loop-number.number c.index-board-number.result
     c.index-machine-number.result =
-    record {
-      inside = omega (arith, c.loop-number-test.true, c.loop-number.auto.number-end);
-      count = c.loop-number.invariant.count;
-      first = c.index-board-number.is;
-      second = c.index-machine-number.is;
-    } in
+    assumption (
+      c.loop-number-test.true,
+      c.loop-number.invariant.count,
+      c.index-board-number.is,
+      c.index-machine-number.is,
+    ) in
     let first = out_is c.index-board-number.result c.out_of.result c.out_of.ensures in
     let second = out_is c.index-machine-number.result c.out_of-in-loop-number.result c.out_of-in-loop-number.ensures in
     let same : is_out c.index-board-number.result ≡ is_out c.index-machine-number.result = search rules in

@@ -1,11 +1,12 @@
-use Rattle.std.proofs.Common.{[], ◌∷◌, ◌∙◌, ap, refl}
+use Rattle.std.proofs.Common.{[], ◌∷◌, ◌∙◌, ap, refl, Err, Ok}
 use Rattle.mw_symmem.proofs.Made.{pair_of}
 use Rattle.mw_symmem.proofs.Later.{writes_itself}
 use Rattle.mw_symmem.proofs.Lists.{plain_behind}
 use Rattle.mw_term.specs.declared.kinds.WordKind.TheVariants.{Probe}
 use Rattle.mw_term.specs.WordList.{term_of}
 use Rattle.mw_fork.specs.OnWay.{path_in}
-use Rattle.mw_fork.proofs.Apart.{compared_found_if, compared_goes, compared_none, compared_over, compared_wide, one_on}
+use Rattle.mw_fork.specs.declared.elements.Space.{Space}
+use Rattle.mw_fork.proofs.Apart.{compared_found, compared_goes, compared_over, compared_so, compared_wide, one_on}
 use Rattle.mw_fork.proofs.Apart.{two_at_first}
 use Rattle.mw_fork.proofs.comparing.apart.Goals as goal
 
@@ -22,15 +23,7 @@ returns-in-Ok-clause-goes c =
     let e = c.in_ok-same.ensures in
     record {
       goes = compared_goes _ _ _ _ c.args.space.now.memory c.args.a c.args.b c.in_ok-same.same
-          (record {
-            words = e.words;
-            made = e.made;
-            listed = e.listed;
-            of = e.of;
-            extends = e.extends;
-            keeps = e.keeps;
-            table = e.table;
-          })
+          (assumption e)
           c.requires.workspace;
       writes = writes_itself c.args.space.now.memory;
     }
@@ -40,38 +33,16 @@ returns-in-Ok-clause-probe c =
     ap (λ ws. term_of ws Probe) c.in_ok-same.ensures.words
     ∙ plain_behind c.args.space.now.words (c.in_ok-same.same ∷ []) Probe
 
-pub returns-in-Ok-clause-none : goal.returns-in-Ok-clause-none
-returns-in-Ok-clause-none c = λ none subject so_far have.
+pub returns-in-Ok-clause-compared : goal.returns-in-Ok-clause-compared
+returns-in-Ok-clause-compared c = λ subject.
     let e = c.in_ok-same.ensures in
-    compared_none c.args.nodes c.args.space.now _ (path_in c.args.paths.now) subject c.args.a c.args.b c.in_ok-same.same
-    so_far refl
-    (record {
-      words = e.words;
-      made = e.made;
-      listed = e.listed;
-      of = e.of;
-      extends = e.extends;
-      keeps = e.keeps;
-      table = e.table;
-    })
-    (c.in-Ok.ensures.none none) c.in-Ok.ensures.within have
-
-pub returns-in-Ok-clause-found : goal.returns-in-Ok-clause-found
-returns-in-Ok-clause-found c =
-    let e = c.in_ok-same.ensures in
-    compared_found_if c.args.nodes c.args.space.now
-    (record { terms = c.add.new.terms; words = c.add.new.self; memory = c.args.space.now.memory })
-    (path_in c.args.paths.now) c.args.a c.args.b c.in_ok-same.same c.in-Ok.found refl
-    (record {
-      words = e.words;
-      made = e.made;
-      listed = e.listed;
-      of = e.of;
-      extends = e.extends;
-      keeps = e.keeps;
-      table = e.table;
-    })
-    c.in-Ok.ensures.first
+    let new : Space =
+    record { terms = c.add.new.terms; words = c.add.new.self; memory = c.args.space.now.memory } in
+    compared_so c.args.nodes c.args.space.now new (path_in c.args.paths.now) subject c.args.a c.args.b c.in_ok-same.same
+    (Ok c.in-Ok.found) refl
+    (assumption e)
+    (compared_found c.args.nodes c.args.space.now new (path_in c.args.paths.now) subject c.in_ok-same.same c.in-Ok.found
+    e.extends.map c.in-Ok.ensures.none c.in-Ok.ensures.within c.in-Ok.ensures.first)
 
 pub returns-in-Ok-clause-same : goal.returns-in-Ok-clause-same
 returns-in-Ok-clause-same c = λ none.
@@ -85,18 +56,14 @@ returns-in-Ok-clause-apart c =
     c.in-Ok.found c.in_ok-same.ensures.made c.in_ok-same.ensures.keeps c.requires.wide.1.there c.requires.wide.2.there
     c.in-Ok.ensures.first
 
-pub returns-in-Err-clause-over : goal.returns-in-Err-clause-over
-returns-in-Err-clause-over c = λ word j is subject so_far have.
+pub returns-in-Err-clause-compared : goal.returns-in-Err-clause-compared
+returns-in-Err-clause-compared c = λ subject.
     let e = c.in_ok-same.ensures in
-    compared_over c.args.nodes c.args.space.now _ (path_in c.args.paths.now) subject c.args.a c.args.b c.in_ok-same.same
-    so_far c.in-Err.fault c.stop_of.result word j refl
-    (record {
-      words = e.words;
-      made = e.made;
-      listed = e.listed;
-      of = e.of;
-      extends = e.extends;
-      keeps = e.keeps;
-      table = e.table;
-    })
-    c.in-Err.ensures.over (record { over = c.stop_of.ensures.over; none = c.stop_of.ensures.none }) is have
+    let new : Space =
+    record { terms = c.add.new.terms; words = c.add.new.self; memory = c.args.space.now.memory } in
+    compared_so c.args.nodes c.args.space.now new (path_in c.args.paths.now) subject c.args.a c.args.b c.in_ok-same.same
+    (Err c.stop_of.result) refl
+    (assumption e)
+    (compared_over c.args.nodes c.args.space.now new (path_in c.args.paths.now) subject c.in_ok-same.same
+    c.in-Err.fault c.stop_of.result e.extends.map e.table c.in-Err.ensures.over
+    (record { over = c.stop_of.ensures.over; none = c.stop_of.ensures.none }))

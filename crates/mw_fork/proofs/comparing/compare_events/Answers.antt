@@ -1,138 +1,101 @@
-use Rattle.std.proofs.Common.{◌≡◌, ◌+◌, ◌<◌, ◌∙◌, ℕ, arith, drop, get_or, length, refl, subst, sym}
+use Rattle.std.proofs.Common.{[], ◌∷◌, ◌+◌, ◌∙◌, arith, drop, refl, subst}
+use Rattle.std.specs.Prelude.{Err, None, Ok, Some}
 use Rattle.std.proofs.lemmas.Result.{err_from_is_err_and}
-use Rattle.std.proofs.lemmas.Option.{IfSome_then}
-use Rattle.mw_rel.specs.ComparisonWords.{event, with_comparison, with_events}
-use Rattle.mw_symmem.proofs.Later.{goes_nowhere, writes_itself}
-use Rattle.mw_term.specs.Assigned.{given_by}
-use Rattle.mw_fork.specs.Comparing.{AreOneOn, AreTwoAt, FailsFirst, HaveCompared, IsComparedKind}
+use Rattle.mw_rel.specs.ComparisonWords.{with_events}
+use Rattle.mw_fork.specs.Comparing.{Compares}
 use Rattle.mw_fork.specs.OnWay.{path_in}
-use Rattle.mw_fork.proofs.CameTo.{came_found, came_over, came_step}
-use Rattle.mw_fork.proofs.ComparingOn.{comparing_then}
-use Rattle.mw_fork.proofs.EventsCompared.{AreAt, alike_count, alike_rest, at_board, comparing_itself, events_behind}
-use Rattle.mw_fork.proofs.EventsCompared.{events_done, events_next, events_skip, events_wide, none_or_some, one_more}
-use Rattle.mw_fork.proofs.EventsCompared.{out_first, out_here, out_inside, out_second, put_out}
+use Rattle.mw_fork.proofs.ComparingOn.{compares_as, compares_shown, compares_then, comparing_then}
+use Rattle.mw_fork.proofs.EventsCompared.{AreAt, alike_count, alike_rest, comparing_itself, events_behind, events_done}
+use Rattle.mw_fork.proofs.EventsCompared.{events_next, events_wide, one_more, out_here, out_inside, put_out}
 use Rattle.mw_fork.proofs.LinesCompared.{some_at}
 use Rattle.mw_fork.proofs.comparing.compare_events.Goals as goal
-use Rattle.mw_fork.proofs.comparing.compare_events.Goals.{in-Some+in-Some-out_of+in_ok-found+in_default-2}
-use Rattle.mw_fork.proofs.comparing.compare_events.Goals.{in-Some+in_default-out_of, in_default}
 
 pub loop-number-init : goal.loop-number-init
-loop-number-init c =
-    let space = c.args.space.now in
-    record {
-      count = alike_count c.args.board.now c.args.machine.now c.requires.alike;
-      alike = c.requires.alike;
-      workspace = c.requires.workspace;
-      paths = c.requires.paths;
-      path = λ given. refl;
-      goes = record {
-        goes = goes_nowhere IsComparedKind space.terms space.words space.memory c.requires.workspace;
-        writes = writes_itself space.memory;
-      };
-      memory = refl;
-      probe = refl;
-      came = λ x so_far fit have. (so_far, have, refl);
-      same = λ number a b below. absurd (omega (arith, below));
-    }
+loop-number-init c = record {
+  count = alike_count c.args.board.now c.args.machine.now c.requires.alike;
+  alike = c.requires.alike;
+  workspace = c.requires.workspace;
+  paths = c.requires.paths;
+  path = λ given. refl;
+  goes = comparing_itself c.args.space.now c.requires.workspace;
+  memory = refl;
+  probe = refl;
+  came = λ last result says. says;
+  same = λ number a b below. absurd (omega (arith, below));
+}
 
-pub apart-requires-clause-wide : goal.apart-requires-clause-wide
-apart-requires-clause-wide c =
-    events_wide c.args.space.now c.loop-number.space c.args.board.now c.args.machine.now
-    c.loop-number.number c.in-Some.a
-    c.in-Some-out_of.b c.loop-number.invariant.goes c.requires.wide
-    (put_out c.args.board.now c.args.machine.now c.loop-number.number c.index-board-number.result
-    c.index-machine-number.result c.in-Some.a c.in-Some-out_of.b
-    (record {
-      inside = omega (arith, c.loop-number-test.true, c.loop-number.auto.number-end);
-      count = c.loop-number.invariant.count;
-      first = c.index-board-number.is;
-      second = c.index-machine-number.is;
-    })
-    ((c.out_of.ensures c.in-Some.a).0 c.in-Some.is)
-    ((c.out_of-in-Some.ensures c.in-Some-out_of.b).0 c.in-Some-out_of.is))
-
-pub returns-in_err-found-clause-over : goal.returns-in_err-found-clause-over
-returns-in_err-found-clause-over c =
+pub compare_pair-requires-clause-wide : goal.compare_pair-requires-clause-wide
+compare_pair-requires-clause-wide c = λ a b is_a is_b.
     let inv = c.loop-number.invariant in
-    let p = err_from_is_err_and c.from_residual.result c.from_residual.ensures.1 in
-    rw (p.1, p.2) (λ word j is so_far have.
-    came_over c.args.nodes c.args.space.now c.loop-number.space c.apart.new.space (path_in c.args.paths.now)
-    (path_in c.loop-number.paths) (λ (x : ℕ). x ≡ x) (λ (x : ℕ). x ≡ x)
-    (λ x so_far. with_events 0 c.args.board.now c.args.machine.now so_far)
-    (λ x so_far. with_events c.loop-number.number (drop c.loop-number.number c.args.board.now)
-    (drop c.loop-number.number c.args.machine.now) so_far)
-    (λ x so_far. with_comparison (event c.loop-number.number) c.in-Some.a c.in-Some-out_of.b so_far)
-    word j inv.goes.goes.later.extends.map inv.path (λ x fit. fit)
-    (λ x so_far. events_behind c.args.board.now c.args.machine.now c.loop-number.number c.index-board-number.result
-    c.index-machine-number.result c.in-Some.a c.in-Some-out_of.b so_far
-    (record {
-      inside = omega (arith, c.loop-number-test.true, c.loop-number.auto.number-end);
-      count = c.loop-number.invariant.count;
-      first = c.index-board-number.is;
-      second = c.index-machine-number.is;
-    })
-    ((c.out_of.ensures c.in-Some.a).0 c.in-Some.is)
-    ((c.out_of-in-Some.ensures c.in-Some-out_of.b).0 c.in-Some-out_of.is))
-    inv.came (λ x so_far fit have. c.in_err-found.ensures.over word j is (event c.loop-number.number) so_far have)
-    0 so_far refl have)
+    events_wide c.args.space.now c.loop-number.space c.args.board.now c.args.machine.now c.loop-number.number a b
+    inv.goes c.requires.wide
+    (put_out c.args.board.now c.args.machine.now c.loop-number.number c.index-board-number.result
+    c.index-machine-number.result a b
+    (assumption (c.loop-number-test.true, inv.count, c.index-board-number.is, c.index-machine-number.is)) is_a is_b)
 
-pub returns-in-Some-2-clause-goes : goal.returns-in-Some-2-clause-goes
-returns-in-Some-2-clause-goes c =
-    comparing_then c.args.space.now c.loop-number.space c.apart.new.space c.loop-number.invariant.goes
+pub returns-in_err-found-clause-compared : goal.returns-in_err-found-clause-compared
+returns-in_err-found-clause-compared c =
+    let inv = c.loop-number.invariant in
+    let board = c.args.board.now in
+    let machine = c.args.machine.now in
+    let k = c.loop-number.number in
+    let x = c.index-board-number.result in
+    let y = c.index-machine-number.result in
+    let stop = c.in_err-found.field-0.0 in
+    let p = err_from_is_err_and c.from_residual.result c.from_residual.ensures.1 in
+    rw (p.1, p.2) (inv.came c.compare_pair.new.space (Err stop)
+    (compares_shown c.args.nodes c.loop-number.space c.compare_pair.new.space (path_in c.loop-number.paths)
+    (with_events k (x ∷ []) (y ∷ [])) (with_events k (drop k board) (drop k machine)) (Err stop) tt
+    (λ so_far. events_behind board machine k x y so_far
+    (assumption (c.loop-number-test.true, inv.count, c.index-board-number.is, c.index-machine-number.is)) inv.alike)
+    (c.in_err-found.ensures.compared k)))
+
+pub returns-in-Some-clause-goes : goal.returns-in-Some-clause-goes
+returns-in-Some-clause-goes c =
+    comparing_then c.args.space.now c.loop-number.space c.compare_pair.new.space c.loop-number.invariant.goes
     c.in_ok-found.ensures.goes
 
-pub returns-in-Some-2-clause-memory : goal.returns-in-Some-2-clause-memory
-returns-in-Some-2-clause-memory c = c.in_ok-found.ensures.memory ∙ c.loop-number.invariant.memory
+pub returns-in-Some-clause-memory : goal.returns-in-Some-clause-memory
+returns-in-Some-clause-memory c = c.in_ok-found.ensures.memory ∙ c.loop-number.invariant.memory
 
-pub returns-in-Some-2-clause-probe : goal.returns-in-Some-2-clause-probe
-returns-in-Some-2-clause-probe c = c.in_ok-found.ensures.probe ∙ c.loop-number.invariant.probe
+pub returns-in-Some-clause-probe : goal.returns-in-Some-clause-probe
+returns-in-Some-clause-probe c = c.in_ok-found.ensures.probe ∙ c.loop-number.invariant.probe
 
-pub returns-in-Some-2-clause-found : goal.returns-in-Some-2-clause-found
-returns-in-Some-2-clause-found c = λ so_far have.
+pub returns-in-Some-clause-compared : goal.returns-in-Some-clause-compared
+returns-in-Some-clause-compared c =
     let inv = c.loop-number.invariant in
-    came_found c.args.nodes c.args.space.now c.loop-number.space c.apart.new.space (path_in c.args.paths.now)
-    (path_in c.loop-number.paths) (λ (x : ℕ). x ≡ x) (λ (x : ℕ). x ≡ x)
-    (λ x so_far. with_events 0 c.args.board.now c.args.machine.now so_far)
-    (λ x so_far. with_events c.loop-number.number (drop c.loop-number.number c.args.board.now)
-    (drop c.loop-number.number c.args.machine.now) so_far)
-    (λ x so_far. with_comparison (event c.loop-number.number) c.in-Some.a c.in-Some-out_of.b so_far)
-    c.in-Some-2.found inv.goes.goes.later.extends.map inv.path (λ x fit. fit)
-    (λ x so_far. events_behind c.args.board.now c.args.machine.now c.loop-number.number c.index-board-number.result
-    c.index-machine-number.result c.in-Some.a c.in-Some-out_of.b so_far
-    (record {
-      inside = omega (arith, c.loop-number-test.true, c.loop-number.auto.number-end);
-      count = c.loop-number.invariant.count;
-      first = c.index-board-number.is;
-      second = c.index-machine-number.is;
-    })
-    ((c.out_of.ensures c.in-Some.a).0 c.in-Some.is)
-    ((c.out_of-in-Some.ensures c.in-Some-out_of.b).0 c.in-Some-out_of.is))
-    inv.came (λ x so_far fit have.
-    some_at (λ numbers. FailsFirst c.loop-number.space.terms.map c.apart.new.space (path_in c.loop-number.paths)
-    (with_comparison (event c.loop-number.number) c.in-Some.a c.in-Some-out_of.b so_far) numbers) c.in_ok-found.field-0
-    c.in-Some-2.found c.in-Some-2.is
-    (IfSome_then c.in_ok-found.field-0 c.in_ok-found.ensures.found
-    (λ numbers says. says (event c.loop-number.number) so_far have)))
-    0 so_far refl have
+    let board = c.args.board.now in
+    let machine = c.args.machine.now in
+    let k = c.loop-number.number in
+    let x = c.index-board-number.result in
+    let y = c.index-machine-number.result in
+    let now = c.loop-number.space in
+    let new = c.compare_pair.new.space in
+    let path = path_in c.loop-number.paths in
+    inv.came new (Ok (Some c.in-Some.found))
+    (compares_shown c.args.nodes now new path (with_events k (x ∷ []) (y ∷ []))
+    (with_events k (drop k board) (drop k machine)) (Ok (Some c.in-Some.found)) tt
+    (λ so_far. events_behind board machine k x y so_far
+    (assumption (c.loop-number-test.true, inv.count, c.index-board-number.is, c.index-machine-number.is)) inv.alike)
+    (subst (λ o. Compares c.args.nodes now new path (with_events k (x ∷ []) (y ∷ [])) (Ok o)) c.in-Some.is
+    (c.in_ok-found.ensures.compared k)))
 
-pub returns-in-Some-2-clause-apart : goal.returns-in-Some-2-clause-apart
-returns-in-Some-2-clause-apart c = (
-  c.loop-number.number,
-  c.in-Some.a,
-  c.in-Some-out_of.b,
-  put_out c.args.board.now c.args.machine.now c.loop-number.number c.index-board-number.result
-      c.index-machine-number.result c.in-Some.a c.in-Some-out_of.b
-      (record {
-        inside = omega (arith, c.loop-number-test.true, c.loop-number.auto.number-end);
-        count = c.loop-number.invariant.count;
-        first = c.index-board-number.is;
-        second = c.index-machine-number.is;
-      })
-      ((c.out_of.ensures c.in-Some.a).0 c.in-Some.is)
-      ((c.out_of-in-Some.ensures c.in-Some-out_of.b).0 c.in-Some-out_of.is),
-  some_at (λ numbers. AreTwoAt c.apart.new.space.terms (given_by numbers) c.in-Some.a c.in-Some-out_of.b)
-      c.in_ok-found.field-0 c.in-Some-2.found c.in-Some-2.is c.in_ok-found.ensures.apart,
-)
+pub returns-in-Some-clause-apart : goal.returns-in-Some-clause-apart
+returns-in-Some-clause-apart c =
+    let two = some_at _ _ _ c.in-Some.is c.in_ok-found.ensures.apart in (
+      c.loop-number.number,
+      two.0,
+      two.1,
+      put_out c.args.board.now c.args.machine.now c.loop-number.number c.index-board-number.result
+          c.index-machine-number.result two.0 two.1
+          (assumption (
+            c.loop-number-test.true,
+            c.loop-number.invariant.count,
+            c.index-board-number.is,
+            c.index-machine-number.is,
+          )) two.2 two.3,
+      two.4,
+    )
 
 pub loop-number-preserved : goal.loop-number-preserved
 loop-number-preserved c =
@@ -141,110 +104,47 @@ loop-number-preserved c =
     let machine = c.args.machine.now in
     let k = c.loop-number.number in
     let now = c.loop-number.space in
-    let path = path_in c.args.paths.now in
+    let new = c.compare_pair.new.space in
+    let path = path_in c.loop-number.paths in
     let x = c.index-board-number.result in
-    let inside : k < length board = omega (arith, c.loop-number-test.true, c.loop-number.auto.number-end) in
-    elim c.match-out_of.branch [
-      | in-Some+in-Some-out_of+in_ok-found+in_default-2 w ↦
-          let y = w.index-machine-number.result in
-          let a = w.in-Some.a in
-          let b = w.in-Some-out_of.b in
-          let new = w.apart.new.space in
-          let e = w.in_ok-found.ensures in
-          let at : AreAt board machine k x y =
-          record {
-            inside = inside;
-            count = inv.count;
-            first = c.index-board-number.is;
-            second = w.index-machine-number.is;
-          } in
-          let is_a = (c.out_of.ensures a).0 w.in-Some.is in
-          let is_b = (w.out_of-in-Some.ensures b).0 w.in-Some-out_of.is in
-          let out = put_out board machine k x y a b at is_a is_b in
-          let none = w.in_default-2.is in
-          rw (w.space-is, w.paths-is) (record {
-            count = inv.count;
-            alike = alike_rest board machine k x y at inv.alike;
-            workspace = e.goes.goes.workspace;
-            paths = e.paths;
-            path = λ given. e.path given ∙ inv.path given;
-            goes = comparing_then c.args.space.now now new inv.goes e.goes;
-            memory = e.memory ∙ inv.memory;
-            probe = e.probe ∙ inv.probe;
-            came = came_step c.args.nodes c.args.space.now now new path (path_in c.loop-number.paths) (λ (z : ℕ). z ≡ z)
-                (λ (z : ℕ). z ≡ z) (λ z so_far. with_events 0 board machine so_far)
-                (λ z so_far. with_events k (drop k board) (drop k machine) so_far)
-                (λ z so_far. with_comparison (event k) a b so_far)
-                (λ z so_far. with_events (k + 1) (drop (k + 1) board) (drop (k + 1) machine) so_far)
-                inv.goes.goes.later.extends.map inv.path (λ z fit. fit)
-                (λ z so_far. events_next board machine k x y a b so_far at is_a is_b) inv.came
-                (λ z so_far fit have. e.none none (event k) so_far have);
-            same = one_more c.args.space.now now new board machine k path inv.goes e.goes c.requires.wide inv.same
-                (λ d f other.
-                subst (λ v. AreOneOn new.terms path v f) (sym (out_first board machine k a b d f out other))
-                (subst (λ v. AreOneOn new.terms path a v) (sym (out_second board machine k a b d f out other))
-                (λ given on. e.same none given (inv.path given ∙ on))));
-          })
-      | in-Some+in_default-out_of w ↦
-          let y = w.index-machine-number.result in
-          let at : AreAt board machine k x y =
-          record {
-            inside = inside;
-            count = inv.count;
-            first = c.index-board-number.is;
-            second = w.index-machine-number.is;
-          } in
-          rw (w.space-is, w.paths-is) (record {
-            count = inv.count;
-            alike = alike_rest board machine k x y at inv.alike;
-            workspace = inv.workspace;
-            paths = inv.paths;
-            path = inv.path;
-            goes = inv.goes;
-            memory = inv.memory;
-            probe = inv.probe;
-            came = λ z so_far fit have. (let to = inv.came z so_far fit have in (
-              to.0,
-              to.1,
-              to.2 ∙ events_skip board machine k x y to.0 at inv.alike (λ a b is_a is_b.
-                  none_or_some w.out_of-in-Some.result b w.in_default-out_of.is ((w.out_of-in-Some.ensures b).1 is_b)),
-            ));
-            same = one_more c.args.space.now now now board machine k path inv.goes (comparing_itself now inv.workspace)
-                c.requires.wide inv.same
-                (λ a b out. absurd (none_or_some w.out_of-in-Some.result b w.in_default-out_of.is
-                ((w.out_of-in-Some.ensures b).1 (out_here board machine k x y a b at out).1)));
-          })
-      | in_default w ↦
-          let y = get_or machine k x in
-          let at = at_board board machine k x inside inv.count c.index-board-number.is in
-          rw (w.space-is, w.paths-is) (record {
-            count = inv.count;
-            alike = alike_rest board machine k x y at inv.alike;
-            workspace = inv.workspace;
-            paths = inv.paths;
-            path = inv.path;
-            goes = inv.goes;
-            memory = inv.memory;
-            probe = inv.probe;
-            came = λ z so_far fit have. (let to = inv.came z so_far fit have in (
-              to.0,
-              to.1,
-              to.2 ∙ events_skip board machine k x y to.0 at inv.alike (λ a b is_a is_b.
-                  none_or_some c.out_of.result a w.in_default.is ((c.out_of.ensures a).1 is_a)),
-            ));
-            same = one_more c.args.space.now now now board machine k path inv.goes (comparing_itself now inv.workspace)
-                c.requires.wide inv.same (λ a b out. absurd (none_or_some c.out_of.result a w.in_default.is
-                ((c.out_of.ensures a).1 (out_here board machine k x y a b at out).0)));
-          })
-    ]
+    let y = c.index-machine-number.result in
+    let e = c.in_ok-found.ensures in
+    let at : AreAt board machine k x y =
+    assumption (c.loop-number-test.true, inv.count, c.index-board-number.is, c.index-machine-number.is) in
+    record {
+      count = inv.count;
+      alike = alike_rest board machine k x y at inv.alike;
+      workspace = e.goes.goes.workspace;
+      paths = e.paths;
+      path = λ given. e.path given ∙ inv.path given;
+      goes = comparing_then c.args.space.now now new inv.goes e.goes;
+      memory = e.memory ∙ inv.memory;
+      probe = e.probe ∙ inv.probe;
+      came = λ last result says.
+          inv.came last result
+          (compares_then c.args.nodes now new last path (path_in c.compare_pair.new.paths)
+          (with_events k (x ∷ []) (y ∷ [])) (with_events (k + 1) (drop (k + 1) board) (drop (k + 1) machine))
+          (with_events k (drop k board) (drop k machine)) result e.goes.goes.later.extends.map e.path
+          (λ so_far same. events_next board machine k x y so_far at inv.alike)
+          (subst (λ o. Compares c.args.nodes now new path (with_events k (x ∷ []) (y ∷ [])) (Ok o)) c.in_default.is
+          (e.compared k)) says);
+      same = one_more c.args.space.now now new board machine k (path_in c.args.paths.now) inv.goes e.goes
+          c.requires.wide inv.same (λ a b out given on.
+          let here = out_here board machine k x y a b at out in
+          e.same c.in_default.is a b here.0 here.1 given (inv.path given ∙ on));
+    }
 
-pub returns-clause-none : goal.returns-clause-none
-returns-clause-none c = λ none so_far have.
+pub returns-clause-compared : goal.returns-clause-compared
+returns-clause-compared c =
     let inv = c.loop-number.invariant in
-    let at = inv.came 0 so_far refl have in
-    subst (HaveCompared c.args.space.now.terms.map c.args.nodes c.loop-number.space (path_in c.args.paths.now))
-    (sym (at.2 ∙ events_done c.args.board.now c.args.machine.now c.loop-number.number at.0
-    (omega (arith, c.loop-number-test.false, c.loop-number.auto.number-end)) inv.count)) at.1
+    let board = c.args.board.now in
+    let machine = c.args.machine.now in
+    let k = c.loop-number.number in
+    inv.came c.loop-number.space (Ok None)
+    (compares_as c.args.nodes c.loop-number.space c.loop-number.space (path_in c.loop-number.paths) (λ so_far. so_far)
+    (with_events k (drop k board) (drop k machine)) (Ok None)
+    (λ so_far same. events_done board machine k so_far
+    (omega (arith, c.loop-number-test.false, c.loop-number.auto.number-end)) inv.count) (λ so_far have. have))
 
 pub returns-clause-same : goal.returns-clause-same
 returns-clause-same c = λ none number a b out.

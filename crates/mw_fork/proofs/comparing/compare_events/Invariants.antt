@@ -19,9 +19,8 @@ invariant-loop-number l = record {
   goes : GoesComparing l.fn.space l.space;
   memory : l.space.memory ≡ l.fn.space.memory;
   probe : term_of l.space.words Probe ≡ term_of l.fn.space.words Probe;
-  came : CameTo l.nodes l.fn.space l.space (path_in l.fn.paths) (λ (x : ℕ). x ≡ x)
-      (λ x so_far. with_events 0 l.board l.machine so_far)
-      (λ x so_far. with_events l.number (drop l.number l.board) (drop l.number l.machine) so_far);
+  came : CameTo l.nodes l.fn.space l.space (path_in l.fn.paths) (path_in l.paths) (with_events 0 l.board l.machine)
+      (with_events l.number (drop l.number l.board) (drop l.number l.machine));
   same : (number a b : ℕ) → number < l.number → ArePutOut l.board l.machine number a b
       → AreOneOn l.space.terms (path_in l.fn.paths) a b;
 }

@@ -1,6 +1,6 @@
 use Rattle.std.proofs.Common.{sym, ◌≡◌, ◌∙◌}
 use Rattle.std.proofs.lemmas.Result.{on_ok_weaker}
-use Rattle.mw_rel.specs.ComparisonWords.{with_line}
+use Rattle.mw_rel.specs.ComparisonWords.{line, with_line}
 use Rattle.mw_rel.specs.Seen.{line_of}
 use Rattle.mw_rel.specs.Views.{job_of}
 use Rattle.mw_rel.proofs.Standing.{board_address}
@@ -8,12 +8,12 @@ use Rattle.mw_symmach.specs.Expressions.{IsBase}
 use Rattle.mw_term.specs.declared.kinds.WordKind.TheVariants.{Probe}
 use Rattle.mw_term.specs.WordList.{term_of}
 use Rattle.mw_fork.specs.declared.elements.Space.{Space}
-use Rattle.mw_fork.specs.Comparing.{AreSidesOn, GoesComparing}
+use Rattle.mw_fork.specs.Comparing.{GoesComparing}
 use Rattle.mw_fork.specs.OnWay.{path_in}
 use Rattle.mw_fork.proofs.Boundaries.{machine_word}
-use Rattle.mw_fork.proofs.ComparingOn.{Leads, comparing_paths, comparing_then, leads_found, leads_none, leads_over}
-use Rattle.mw_fork.proofs.LineCompared.{HasMadeRight, base_goes, both_wide, line_fails, line_holds, left_at, line_leads}
-use Rattle.mw_fork.proofs.LineCompared.{line_ready, shape_is}
+use Rattle.mw_fork.proofs.ComparingOn.{compares_later, comparing_paths, comparing_then}
+use Rattle.mw_fork.proofs.LineCompared.{HasMadeRight, base_goes, both_wide, left_at, line_ends, line_fails}
+use Rattle.mw_fork.proofs.LineCompared.{line_holds, line_ready, shape_is}
 use Rattle.mw_fork.proofs.MemoryCompared.{not_base}
 use Rattle.mw_fork.proofs.Runs.{probe_kept}
 use Rattle.mw_fork.proofs.comparing.compare_line.Goals as goal
@@ -79,17 +79,6 @@ right_made c =
 to_apart : (c : goal.After-apart) → GoesComparing c.args.space.now (mid_space c)
 to_apart c = base_goes c.args.space.now (mid_space c) _ c.in_ok-right.ensures.made.runs
 
-leads : (c : goal.After-apart)
-    → Leads c.args.nodes c.args.space.now (mid_space c) (path_in c.args.paths.now) c.index-elements-line.result
-    c.in_ok-right.right (λ on. AreSidesOn c.args.elements.now c.args.space.now on)
-    (λ on so_far. with_line (job_of c.args.job.now).relation.shape on (line_of c.args.line.now) so_far)
-leads c =
-    line_leads (job_of c.args.job.now).relation.shape c.args.nodes c.args.space.now (mid_space c)
-    (path_in c.args.paths.now) c.args.elements.now (line_of c.args.line.now) c.index-elements-line.result
-    c.in_ok-right.right (right_made c) (left_at (job_of c.args.job.now).relation.shape c.args.space.now.terms
-    c.args.elements.now (line_of c.args.line.now) _
-    c.requires.line_of c.requires.wide c.index-elements-line.is)
-
 pub returns-clause-goes : goal.returns-clause-goes
 returns-clause-goes c =
     on_ok_weaker c.apart.result (comparing_then c.args.space.now (mid_space c) c.apart.new.space (to_apart c))
@@ -106,26 +95,17 @@ returns-clause-probe c =
     c.in_ok-right.ensures.made.runs.goes (λ is. not_base is.0 is.1))
     c.apart.ensures.probe
 
-pub returns-clause-none : goal.returns-clause-none
-returns-clause-none c =
-    leads_none c.args.nodes c.args.space.now (mid_space c) c.apart.new.space (path_in c.args.paths.now)
-    c.index-elements-line.result c.in_ok-right.right (λ on. AreSidesOn c.args.elements.now c.args.space.now on)
-    (λ on so_far. with_line (job_of c.args.job.now).relation.shape on (line_of c.args.line.now) so_far)
-    c.apart.result (to_apart c).goes.later.extends.map (leads c) c.apart.ensures.none
-
-pub returns-clause-found : goal.returns-clause-found
-returns-clause-found c =
-    leads_found c.args.nodes c.args.space.now (mid_space c) c.apart.new.space (path_in c.args.paths.now)
-    c.index-elements-line.result c.in_ok-right.right (λ on. AreSidesOn c.args.elements.now c.args.space.now on)
-    (λ on so_far. with_line (job_of c.args.job.now).relation.shape on (line_of c.args.line.now) so_far)
-    c.apart.result (to_apart c).goes.later.extends.map (leads c) c.apart.ensures.found
-
-pub returns-clause-over : goal.returns-clause-over
-returns-clause-over c =
-    leads_over c.args.nodes c.args.space.now (mid_space c) c.apart.new.space (path_in c.args.paths.now)
-    c.index-elements-line.result c.in_ok-right.right (λ on. AreSidesOn c.args.elements.now c.args.space.now on)
-    (λ on so_far. with_line (job_of c.args.job.now).relation.shape on (line_of c.args.line.now) so_far)
-    c.apart.result (to_apart c).goes.later.extends.map (leads c) c.apart.ensures.over
+pub returns-clause-compared : goal.returns-clause-compared
+returns-clause-compared c = λ sides on.
+    let s = (job_of c.args.job.now).relation.shape in
+    let l = line_of c.args.line.now in
+    compares_later c.args.nodes c.args.space.now (mid_space c) c.apart.new.space (path_in c.args.paths.now)
+    (line l.left) c.index-elements-line.result c.in_ok-right.right (with_line s sides l) c.apart.result
+    (to_apart c).goes.later.extends.map
+    (λ so_far same. line_ends s c.args.space.now (mid_space c) c.args.elements.now l c.index-elements-line.result
+    c.in_ok-right.right sides so_far (right_made c) (left_at s c.args.space.now.terms c.args.elements.now l _
+    c.requires.line_of c.requires.wide c.index-elements-line.is) on same)
+    (c.apart.ensures.compared (line l.left))
 
 pub returns-clause-same : goal.returns-clause-same
 returns-clause-same c =

@@ -24,9 +24,10 @@ invariant-loop-line l = record {
       ≡ length l.fn.space.memory.reads + reads_of (lines_of l.lines);
   goes : GoesComparing l.fn.space l.space;
   probe : term_of l.space.words Probe ≡ term_of l.fn.space.words Probe;
-  came : CameTo l.nodes l.fn.space l.space (path_in l.fn.paths) (λ (on : Sides). AreSidesOn l.elements l.fn.space on)
-      (λ on so_far. with_lines (job_of l.job).relation.shape on (lines_of l.lines) so_far)
-      (λ on so_far. with_lines (job_of l.job).relation.shape on (lines_of (drop l.line-index l.lines)) so_far);
+  came : (sides : Sides) → AreSidesOn l.elements l.fn.space sides
+      → CameTo l.nodes l.fn.space l.space (path_in l.fn.paths) (path_in l.paths)
+      (with_lines (job_of l.job).relation.shape sides (lines_of l.lines))
+      (with_lines (job_of l.job).relation.shape sides (lines_of (drop l.line-index l.lines)));
   holds : (i : ℕ) (line : Line) → i < l.line-index → slice_get (lines_of l.lines) i ≡ Some line
       → (given : Given) → path_in l.fn.paths given ≡ true
       → HoldsAt (job_of l.job).relation.shape l.space l.elements given line;

@@ -1,16 +1,16 @@
 use Rattle.std.proofs.Common.{ap, refl, sym, ◌∙◌}
 use Rattle.std.proofs.lemmas.Result.{on_ok_weaker}
-use Rattle.mw_rel.specs.ComparisonWords.{with_memory}
+use Rattle.mw_rel.specs.ComparisonWords.{memory, with_memory}
 use Rattle.mw_rel.specs.Views.{job_of}
 use Rattle.mw_rel.proofs.Standing.{board_address}
 use Rattle.mw_symmem.specs.declared.side.Side.TheVariants as sides
 use Rattle.mw_symmem.proofs.Later.{width_later}
 use Rattle.mw_fork.specs.declared.elements.Space.{Space}
-use Rattle.mw_fork.specs.Comparing.{AreWritesOn, GoesComparing}
+use Rattle.mw_fork.specs.Comparing.{GoesComparing}
 use Rattle.mw_fork.specs.OnWay.{path_in}
 use Rattle.mw_fork.proofs.Boundaries.{machine_word}
-use Rattle.mw_fork.proofs.ComparingOn.{Leads, comparing_paths, comparing_then, leads_found, leads_none, leads_over}
-use Rattle.mw_fork.proofs.MemoryCompared.{HasProbe, HasRead, memory_leads, one_at_probe, probe_made, two_in_memory}
+use Rattle.mw_fork.proofs.ComparingOn.{compares_later, comparing_paths, comparing_then}
+use Rattle.mw_fork.proofs.MemoryCompared.{HasProbe, HasRead, memory_ends, one_at_probe, probe_made, two_in_memory}
 use Rattle.mw_fork.proofs.comparing.compare_memory.Goals as goal
 
 pub read_at-requires-clause-workspace : goal.read_at-requires-clause-workspace
@@ -74,18 +74,6 @@ to_apart c =
     (comparing_then c.args.space.now (first_space c) c.read_at.new.space (probed c).goes (board_read c).goes)
     (machine_read c).goes
 
-leads : (c : goal.After-apart)
-    → Leads c.args.nodes c.args.space.now c.read_at-2.new.space (path_in c.args.paths.now) c.in_ok-board.board
-    c.in_ok-machine.machine (λ on. AreWritesOn c.args.space.now on)
-    (λ on so_far. with_memory (job_of c.args.job.now).relation.shape on so_far)
-leads c =
-    let job = job_of c.args.job.now in
-    let valid = c.args.job.now.is_job in
-    memory_leads job.relation.shape c.args.nodes c.args.space.now (first_space c) c.read_at.new.space
-    c.read_at-2.new.space (path_in c.args.paths.now) c.parts.result.now.address c.in_ok-probe.probe c.in_ok-board.board
-    c.in_ok-machine.machine (board_address job valid ∙ sym (ap (λ b. b.address) c.parts.ensures.exact))
-    (machine_word job valid ∙ valid.matched.word ∙ sym c.requires.space.word) (probed c) (board_read c) (machine_read c)
-
 pub apart-requires-clause-paths : goal.apart-requires-clause-paths
 apart-requires-clause-paths c =
     let e = c.in_ok-probe.ensures in
@@ -102,26 +90,19 @@ returns-clause-goes c =
     on_ok_weaker c.apart.result (comparing_then c.args.space.now c.read_at-2.new.space c.apart.new.space (to_apart c))
     c.apart.ensures.goes
 
-pub returns-clause-none : goal.returns-clause-none
-returns-clause-none c =
-    leads_none c.args.nodes c.args.space.now c.read_at-2.new.space c.apart.new.space (path_in c.args.paths.now)
-    c.in_ok-board.board c.in_ok-machine.machine (λ on. AreWritesOn c.args.space.now on)
-    (λ on so_far. with_memory (job_of c.args.job.now).relation.shape on so_far)
-    c.apart.result (to_apart c).goes.later.extends.map (leads c) c.apart.ensures.none
-
-pub returns-clause-found : goal.returns-clause-found
-returns-clause-found c =
-    leads_found c.args.nodes c.args.space.now c.read_at-2.new.space c.apart.new.space (path_in c.args.paths.now)
-    c.in_ok-board.board c.in_ok-machine.machine (λ on. AreWritesOn c.args.space.now on)
-    (λ on so_far. with_memory (job_of c.args.job.now).relation.shape on so_far)
-    c.apart.result (to_apart c).goes.later.extends.map (leads c) c.apart.ensures.found
-
-pub returns-clause-over : goal.returns-clause-over
-returns-clause-over c =
-    leads_over c.args.nodes c.args.space.now c.read_at-2.new.space c.apart.new.space (path_in c.args.paths.now)
-    c.in_ok-board.board c.in_ok-machine.machine (λ on. AreWritesOn c.args.space.now on)
-    (λ on so_far. with_memory (job_of c.args.job.now).relation.shape on so_far)
-    c.apart.result (to_apart c).goes.later.extends.map (leads c) c.apart.ensures.over
+pub returns-clause-compared : goal.returns-clause-compared
+returns-clause-compared c = λ sides on.
+    let job = job_of c.args.job.now in
+    let valid = c.args.job.now.is_job in
+    compares_later c.args.nodes c.args.space.now c.read_at-2.new.space c.apart.new.space (path_in c.args.paths.now)
+    (memory c.in_ok-probe.probe) c.in_ok-board.board c.in_ok-machine.machine (with_memory job.relation.shape sides)
+    c.apart.result (to_apart c).goes.later.extends.map
+    (λ so_far same. memory_ends job.relation.shape c.args.space.now (first_space c) c.read_at.new.space
+    c.read_at-2.new.space c.parts.result.now.address c.in_ok-probe.probe c.in_ok-board.board c.in_ok-machine.machine
+    sides so_far (board_address job valid ∙ sym (ap (λ b. b.address) c.parts.ensures.exact))
+    (machine_word job valid ∙ valid.matched.word ∙ sym c.requires.space.word) (probed c) (board_read c) (machine_read c)
+    on same)
+    (c.apart.ensures.compared (memory c.in_ok-probe.probe))
 
 pub returns-clause-same : goal.returns-clause-same
 returns-clause-same c =

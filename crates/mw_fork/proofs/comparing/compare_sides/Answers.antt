@@ -1,27 +1,28 @@
-use Rattle.std.proofs.Common.{◌≡◌, refl, true, false, ap, ap₂, arith, subst, sym, ◌∙◌}
-use Rattle.std.specs.Prelude.{All, IfSome, Some}
+use Rattle.std.proofs.Common.{◌≡◌, ℕ, List, refl, true, false, ap, ap₂, arith, subst, sym, ◌∙◌}
+use Rattle.std.specs.Prelude.{All, Err, IfSome, Ok, Some}
+use Rattle.std.proofs.lemmas.Option.{IfSome_then}
 use Rattle.std.proofs.lemmas.Result.{err_from_is_err_and}
-use Rattle.mw_dd.specs.Diagrams.{IsFirst}
 use Rattle.mw_term.specs.Assigned.{given_by}
 use Rattle.mw_rel.specs.Certified.{boundary_at}
-use Rattle.mw_rel.specs.Lines.{reads_of}
+use Rattle.mw_rel.specs.Lines.{Line, reads_of}
+use Rattle.mw_rel.specs.Relation.{Boundary}
+use Rattle.mw_term.specs.declared.event.SymEvent.{SymEvent}
 use Rattle.mw_rel.specs.Rules.{IsLineOf}
 use Rattle.mw_rel.specs.Seen.{boundary_of, lines_of}
 use Rattle.mw_rel.specs.Views.{job_of}
 use Rattle.mw_fork.specs.Boundaries.{AreWide}
 use Rattle.mw_symmach.specs.Steps.{event_term}
 use Rattle.mw_symmem.specs.Memory.{IsOfWidth}
-use Rattle.mw_fork.specs.Comparing.{AreApart, AreEventsOf, AreOne, FailsFirst, HaveCompared, StopsComparing}
+use Rattle.mw_fork.specs.Comparing.{AreApart, AreEventsOf, AreOne}
 use Rattle.mw_fork.specs.OnWay.{ground_in, path_in}
 use Rattle.mw_fork.specs.Ways.{met_of}
-use Rattle.mw_rel.specs.ComparisonWords.{are_alike}
+use Rattle.mw_rel.specs.ComparisonWords.{are_alike, is_unlike}
 use Rattle.mw_fork.proofs.CaseCompared.{at_boundary, ended_met, lines_at, none_differs, nowhere_none}
-use Rattle.mw_fork.proofs.ComparedAll.{some_as}
 use Rattle.mw_fork.proofs.Differing.{wide_at_end}
 use Rattle.mw_fork.proofs.Numbered.{AreNumbered}
 use Rattle.mw_fork.proofs.Sides.{terms_at_end}
-use Rattle.mw_fork.proofs.SidesCompared.{OfAll, alike_at, alike_found, alike_stops, alike_within, same_ends, some_both}
-use Rattle.mw_fork.proofs.SidesCompared.{unlike_as, unlike_found, unlike_within}
+use Rattle.mw_fork.proofs.SidesCompared.{CompareAll, alike_at, alike_found, alike_stops, alike_within, ends_of}
+use Rattle.mw_fork.proofs.SidesCompared.{same_ends, some_both, unlike_as, unlike_found, unlike_within}
 use Rattle.mw_fork.proofs.comparing.compare_sides.Goals as goal
 
 pub unreachable-requires : goal.unreachable-requires
@@ -69,12 +70,11 @@ returns-then-alike-sp-clause-found c =
     let lines = lines_at job run.board.place.at reached valid there in
     let unlike = unlike_as job run.space run.board step reached c.alike.result c.sp.result true
     (c.alike.ensures ∙ ap₂ are_alike c.events.ensures c.events-2.ensures) c.sp.ensures c.if-alike-sp.true in
-    some_as (IsFirst (path_in run.paths)) _ c.in_ok-first_assignment.field-0
+    IfSome_then c.in_ok-first_assignment.field-0 c.in_ok-first_assignment.ensures.first
     (λ numbers first number cycles elements from late way met.
     unlike_found job number elements (met_of way) cycles run.space
     (path_in run.paths) run.board step reached numbers valid
     (ended_met job number elements from cycles late way run step valid met) lines.0 there unlike first)
-    c.in_ok-first_assignment.ensures.first
 
 pub compare_all-requires-clause-events : goal.compare_all-requires-clause-events
 compare_all-requires-clause-events c =
@@ -82,11 +82,6 @@ compare_all-requires-clause-events c =
     let run = c.args.run.now in
     let step = c.args.step.now in
     let valid = c.args.job.now.is_job in
-    let reached = boundary_of c.in-Some.reached.now in
-    let there : boundary_at job run.board.place.at ≡ Some reached =
-    ap (boundary_at job) (sym c.at.ensures) ∙ c.in-Some.ensures.some in
-    let here : lines_of c.as_slice.result.now ≡ reached.lines = ap lines_of c.as_slice.ensures in
-    let lines = lines_at job run.board.place.at reached valid there in
     let m = c.requires.met in
     let is = ended_met job m.0 m.2 m.3 m.1 m.4 m.5 run step valid m.6 in (
       job.board.width,
@@ -130,16 +125,37 @@ compare_all-requires-clause-wide c =
     let run = c.args.run.now in
     let step = c.args.step.now in
     let valid = c.args.job.now.is_job in
-    let reached = boundary_of c.in-Some.reached.now in
-    let there : boundary_at job run.board.place.at ≡ Some reached =
-    ap (boundary_at job) (sym c.at.ensures) ∙ c.in-Some.ensures.some in
-    let here : lines_of c.as_slice.result.now ≡ reached.lines = ap lines_of c.as_slice.ensures in
-    let lines = lines_at job run.board.place.at reached valid there in
     let m = c.requires.met in
     let is = ended_met job m.0 m.2 m.3 m.1 m.4 m.5 run step valid m.6 in
     subst (AreWide run.space.terms job.relation.shape.widths) (sym (c.deref.ensures.value ∙ c.in_ok-elements.ensures))
     (wide_at_end job m.0 (ground_in run.space m.2) (met_of m.5) m.1 run.space (path_in run.paths) run.board step valid
     is.ended)
+
+-- ---- where all was compared
+
+abbrev reached_in : (c : goal.After-drop-elements-2) → Boundary
+reached_in c = boundary_of c.in-Some.reached.now
+
+reached_is : (c : goal.After-drop-elements-2)
+    → boundary_at (job_of c.args.job.now) c.args.run.now.board.place.at ≡ Some (reached_in c)
+reached_is c = ap (boundary_at (job_of c.args.job.now)) (sym c.at.ensures) ∙ c.in-Some.ensures.some
+
+are_like : (c : goal.After-drop-elements-2)
+    → is_unlike (reached_in c)
+    (ends_of (job_of c.args.job.now) c.args.run.now.space c.args.run.now.board c.args.step.now) ≡ false
+are_like c =
+    unlike_as (job_of c.args.job.now) c.args.run.now.space c.args.run.now.board c.args.step.now (reached_in c)
+    c.alike.result c.sp.result false (c.alike.ensures ∙ ap₂ are_alike c.events.ensures c.events-2.ensures) c.sp.ensures
+    c.if-alike-sp.false
+
+-- what is so of what was handed over is so of what is there at the end
+at_ends : (c : goal.After-drop-elements-2) (P : List ℕ → List Line → (board machine : List SymEvent) → Type 0)
+    → P c.deref.result.now (lines_of c.as_slice.result.now) c.events-3.result.now c.events-4.result.now
+    → P (terms_at_end (job_of c.args.job.now) c.args.run.now.board c.args.step.now) (reached_in c).lines
+    c.args.run.now.board.events c.args.step.now.parts.events
+at_ends c P =
+    same_ends P _ _ _ _ _ _ _ _ (c.deref.ensures.value ∙ c.in_ok-elements.ensures) (ap lines_of c.as_slice.ensures)
+    c.events-3.ensures c.events-4.ensures
 
 pub returns-clause-none : goal.returns-clause-none
 returns-clause-none c = λ none number cycles elements from late way met.
@@ -147,47 +163,29 @@ returns-clause-none c = λ none number cycles elements from late way met.
     let run = c.args.run.now in
     let step = c.args.step.now in
     let valid = c.args.job.now.is_job in
-    let reached = boundary_of c.in-Some.reached.now in
-    let there : boundary_at job run.board.place.at ≡ Some reached =
-    ap (boundary_at job) (sym c.at.ensures) ∙ c.in-Some.ensures.some in
-    let lines = lines_at job run.board.place.at reached valid there in
-    let here : lines_of c.as_slice.result.now ≡ reached.lines = ap lines_of c.as_slice.ensures in
-    let terms = c.deref.ensures.value ∙ c.in_ok-elements.ensures in
-    let old = run.space in
+    let reached = reached_in c in
     let new = c.compare_all.new.space in
     let path = path_in run.paths in
-    let nodes = c.args.nodes in
-    let unlike = unlike_as job run.space run.board step reached c.alike.result c.sp.result false
-    (c.alike.ensures ∙ ap₂ are_alike c.events.ensures c.events-2.ensures) c.sp.ensures c.if-alike-sp.false in
     let e = c.in_ok-found.ensures in
-    let alike = alike_at job old run.board step reached unlike in
-    none_differs job number elements (met_of way) cycles old new path run.board step reached valid
-    (ended_met job number elements from cycles late way run step valid met) e.goes e.own lines.0 there alike.0 alike.1
-    (same_ends (λ t ls b m. AreOne job.relation.shape new path t ls b m) _ _ _ _ _ _ _ _ terms here c.events-3.ensures
-    c.events-4.ensures (e.same none))
+    let alike = alike_at job run.space run.board step reached (are_like c) in
+    none_differs job number elements (met_of way) cycles run.space new path run.board step reached valid
+    (ended_met job number elements from cycles late way run step valid met) e.goes e.own
+    (lines_at job run.board.place.at reached valid (reached_is c)).0 (reached_is c) alike.0 alike.1
+    (at_ends c (λ t ls b m. AreOne job.relation.shape new path t ls b m) (e.same none))
 
 pub returns-clause-within : goal.returns-clause-within
 returns-clause-within c = λ none number cycles elements from late way met.
     let job = job_of c.args.job.now in
     let run = c.args.run.now in
     let step = c.args.step.now in
-    let valid = c.args.job.now.is_job in
-    let reached = boundary_of c.in-Some.reached.now in
-    let there : boundary_at job run.board.place.at ≡ Some reached =
-    ap (boundary_at job) (sym c.at.ensures) ∙ c.in-Some.ensures.some in
-    let here : lines_of c.as_slice.result.now ≡ reached.lines = ap lines_of c.as_slice.ensures in
-    let terms = c.deref.ensures.value ∙ c.in_ok-elements.ensures in
-    let old = run.space in
     let new = c.compare_all.new.space in
     let path = path_in run.paths in
-    let nodes = c.args.nodes in
-    let unlike = unlike_as job run.space run.board step reached c.alike.result c.sp.result false
-    (c.alike.ensures ∙ ap₂ are_alike c.events.ensures c.events-2.ensures) c.sp.ensures c.if-alike-sp.false in
-    let e = c.in_ok-found.ensures in
-    alike_within job number nodes elements (met_of way) cycles old new path run.board step reached
-    (ended_met job number elements from cycles late way run step valid met) there unlike
-    (same_ends (OfAll job nodes old path (HaveCompared old.terms.map nodes new path)) _ _ _ _ _ _ _ _ terms here
-    c.events-3.ensures c.events-4.ensures (e.none none))
+    let compared = at_ends c (CompareAll job c.args.nodes run.space new path (Ok c.in_ok-found.found))
+    c.in_ok-found.ensures.compared in
+    alike_within job number c.args.nodes elements (met_of way) cycles run.space new path run.board step (reached_in c)
+    (ended_met job number elements from cycles late way run step c.args.job.now.is_job met) (reached_is c) (are_like c)
+    (subst (λ o. CompareAll job c.args.nodes run.space new path (Ok o) (terms_at_end job run.board step)
+    (reached_in c).lines run.board.events step.parts.events) none compared)
 
 pub returns-clause-found : goal.returns-clause-found
 returns-clause-found c =
@@ -195,36 +193,24 @@ returns-clause-found c =
     let run = c.args.run.now in
     let step = c.args.step.now in
     let valid = c.args.job.now.is_job in
-    let reached = boundary_of c.in-Some.reached.now in
-    let there : boundary_at job run.board.place.at ≡ Some reached =
-    ap (boundary_at job) (sym c.at.ensures) ∙ c.in-Some.ensures.some in
-    let lines = lines_at job run.board.place.at reached valid there in
-    let here : lines_of c.as_slice.result.now ≡ reached.lines = ap lines_of c.as_slice.ensures in
-    let terms = c.deref.ensures.value ∙ c.in_ok-elements.ensures in
-    let old = run.space in
+    let reached = reached_in c in
     let new = c.compare_all.new.space in
     let path = path_in run.paths in
     let nodes = c.args.nodes in
-    let unlike = unlike_as job run.space run.board step reached c.alike.result c.sp.result false
-    (c.alike.ensures ∙ ap₂ are_alike c.events.ensures c.events-2.ensures) c.sp.ensures c.if-alike-sp.false in
+    let terms = terms_at_end job run.board step in
     let e = c.in_ok-found.ensures in
     let found = c.in_ok-found.found in
-    let fails = same_ends
-    (λ t ls b m.
-    IfSome found (λ numbers. OfAll job nodes old path (λ all. FailsFirst old.terms.map new path all numbers) t ls b m))
-    _ _ _ _ _ _ _ _ terms here c.events-3.ensures c.events-4.ensures e.found in
-    let two =
-    same_ends (λ t ls b m. IfSome found (λ numbers. AreApart job.relation.shape new (given_by numbers) t ls b m))
-    _ _ _ _ _ _ _ _ terms here c.events-3.ensures c.events-4.ensures e.apart in
-    some_both (λ numbers. OfAll job nodes old path (λ all. FailsFirst old.terms.map new path all numbers)
-    (terms_at_end job run.board step) reached.lines run.board.events step.parts.events)
-    (λ numbers. AreApart job.relation.shape new (given_by numbers) (terms_at_end job run.board step) reached.lines
-    run.board.events step.parts.events) _ found
-    (λ numbers fail apart number cycles elements from late way met.
-    alike_found job number nodes elements (met_of way) cycles old new path run.board step reached numbers valid
-    (ended_met job number elements from cycles late way run step valid met) e.goes e.own lines.0
-    there unlike fail apart)
-    fails two
+    some_both
+    (λ o. CompareAll job nodes run.space new path (Ok o) terms reached.lines run.board.events step.parts.events)
+    (λ numbers. AreApart job.relation.shape new (given_by numbers) terms reached.lines run.board.events
+    step.parts.events) _ found
+    (λ numbers fails apart number cycles elements from late way met.
+    alike_found job number nodes elements (met_of way) cycles run.space new path run.board step reached numbers valid
+    (ended_met job number elements from cycles late way run step valid met) e.goes e.own
+    (lines_at job run.board.place.at reached valid (reached_is c)).0 (reached_is c) (are_like c) fails apart)
+    (at_ends c (CompareAll job nodes run.space new path (Ok found)) e.compared)
+    (at_ends c (λ t ls b m. IfSome found (λ numbers. AreApart job.relation.shape new (given_by numbers) t ls b m))
+    e.apart)
 
 pub returns-in_err-found-clause-over : goal.returns-in_err-found-clause-over
 returns-in_err-found-clause-over c =
@@ -255,7 +241,5 @@ returns-in_err-found-clause-over c =
     c.in_err-found.field-0.0
     c.over_have_numbers.ensures.over laws
     (ended_met job number elements from cycles late way run step valid met) there unlike
-    (λ word j over.
-    same_ends (OfAll job nodes old path (λ all. StopsComparing old.terms.map nodes new path all word j))
-    _ _ _ _ _ _ _ _ terms
-    here c.events-3.ensures c.events-4.ensures (c.in_err-found.ensures.over word j over)))
+    (same_ends (CompareAll job nodes old new path (Err c.in_err-found.field-0.0)) _ _ _ _ _ _ _ _ terms here
+    c.events-3.ensures c.events-4.ensures c.in_err-found.ensures.compared))

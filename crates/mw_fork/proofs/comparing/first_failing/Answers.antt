@@ -1,9 +1,7 @@
-use Rattle.mw_dd.specs.Diagrams.{IsFirst}
+use Rattle.std.proofs.lemmas.Option.{IfSome_then}
 use Rattle.mw_rel.specs.Views.{job_of}
 use Rattle.mw_fork.specs.Failing.{ComparisonStops, ComparisonsAreWithin, IsFound, NoneDiffersOf}
-use Rattle.mw_fork.specs.OnWay.{path_in}
 use Rattle.mw_fork.specs.Ways.{met_of}
-use Rattle.mw_fork.proofs.ComparedAll.{some_as}
 use Rattle.mw_fork.proofs.LateCompared.{found_so, late_found, late_none, none_so, stops_so}
 use Rattle.mw_fork.proofs.comparing.first_failing.Goals as goal
 
@@ -16,10 +14,10 @@ returns-in_ok-first_assignment-in-None-clause-none c = λ none number elements f
 pub returns-in_ok-first_assignment-in-None-clause-found : goal.returns-in_ok-first_assignment-in-None-clause-found
 returns-in_ok-first_assignment-in-None-clause-found c =
     let traced = c.args.traced.now in
-    some_as (IsFirst (path_in traced.run.paths)) _ c.in_ok-first_assignment-in-None.field-0
+    IfSome_then c.in_ok-first_assignment-in-None.field-0 c.in_ok-first_assignment-in-None.ensures.first
     (λ numbers first number elements from way met.
     late_found (job_of c.args.job.now) number elements from traced.cycles traced.late way traced.run traced.step numbers
-    c.args.job.now.is_job c.in-None.is met first) c.in_ok-first_assignment-in-None.ensures.first
+    c.args.job.now.is_job c.in-None.is met first)
 
 pub returns-in-Some-clause-none : goal.returns-in-Some-clause-none
 returns-in-Some-clause-none c =
