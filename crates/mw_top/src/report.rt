@@ -203,5 +203,6 @@ pub(crate) fn append_difference_line(
 {
     report.extend_from_slice(b"difference ")?;
     append_difference(alloc, report, job, difference)?;
-    append_line(report, b"")
+    append_line(report, b"")?;
+    Ok(())
 }
