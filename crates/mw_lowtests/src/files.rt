@@ -2,8 +2,8 @@ ghost use Rattle.std.specs.Prelude.{◌<◌};
 
 // Files and output in memory, failing at each call, and the real ones once.
 use mw_outside::{
-    Failed, FolderShelf, MemoryShelf, MemorySink, ReadRefusal, ScreenSink, Shelf, Sink, read_whole,
-    write_all,
+    Failed, FolderShelf, MemoryShelf, MemorySink, ReadRefusal, ScreenSink, Shelf, Sink,
+    SteadyShelf, SteadySink, read_whole, write_all,
 };
 use std::test::Fail;
 
@@ -79,6 +79,25 @@ fn whole_texts(rt: HostRuntime) -> Result<(), Fail> {
         assert_eq!(rt; write_all(&mut sink, b" or 2"), Ok(()));
         assert_eq!(rt; sink.bytes().len(), most.min(6) + 5, "{most} at a time");
     }
+    Ok(())
+}
+
+#[test]
+fn files_that_never_fail(rt: HostRuntime) -> Result<(), Fail> {
+    let mut shelf = SteadyShelf::new(rt.alloc());
+    shelf.set(rt.alloc(), "t", b"six")?;
+    shelf.set(rt.alloc(), "t", b"seven")?;
+    let mut buffer = [b'-'; 8];
+    assert_eq!(rt; shelf.fetch("t", 2, &mut buffer), Ok(3));
+    assert_eq!(rt; &buffer, b"ven-----");
+    assert_eq!(rt; shelf.fetch("unknown", 0, &mut buffer), Ok(0));
+    assert_eq!(rt;
+        read_whole(rt.alloc(), &mut shelf, "t")?.as_slice(),
+        b"seven".as_slice()
+    );
+    let mut sink = SteadySink::new();
+    assert_eq!(rt; sink.put(b"same 1\n"), Ok(7));
+    assert_eq!(rt; write_all(&mut sink, b"same 1\n"), Ok(()));
     Ok(())
 }
 

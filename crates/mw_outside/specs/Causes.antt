@@ -8,3 +8,7 @@ one_more count = min (count + 1) (2 ^ 64 - 1)
 -- the count rose, or stands at its last value
 abbrev pub Rose : ℕ → ℕ → Type 0
 Rose before now = (before < now) ⊎ (now ≡ 2 ^ 64 - 1)
+
+-- the count of what never fails
+abbrev pub no_faults : ℕ
+no_faults = 0

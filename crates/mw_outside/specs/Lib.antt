@@ -3,4 +3,5 @@ pub mod Causes
 pub mod Contents
 pub mod MemoryShelf
 pub mod MemorySink
+pub mod SteadyShelf
 pub mod Views

@@ -67,10 +67,10 @@ impl<R: Files> Shelf for FolderShelf<'_, R> {
         ensures bound { IfOk result (λ n. n ≤ length into.old) }
         ensures bytes { IfOk result (λ n. IfSome None (λ bytes. Gives bytes at n into.old into.new)) }
         ensures later { self.old ≤ self.new }
+        ensures stands { OnOk result (self.new ≡ self.old) }
         ensures cause { OnErr result (Rose self.old self.new) }
 
-        // Beyond what every shelf promises: what it counts.
-        ensures ok { OnOk result (self.new ≡ self.old) }
+        // Beyond what every shelf promises: how much it counts.
         ensures err { OnErr result (self.new ≡ one_more self.old) }
     {
         counted(&mut self.faults, bytes_at(self.rt, name, at, into).ok())
@@ -113,10 +113,10 @@ impl<R: Print> Sink for ScreenSink<'_, R> {
         ensures bytes { IfOk result (λ n. None ≡ with_more None (take n piece.now)) }
         ensures failed { OnErr result (None ≡ with_more None []) }
         ensures later { self.old ≤ self.new }
+        ensures stands { OnOk result (self.new ≡ self.old) }
         ensures cause { OnErr result (Rose self.old self.new) }
 
-        // Beyond what every sink promises: what it counts.
-        ensures ok { OnOk result (self.new ≡ self.old) }
+        // Beyond what every sink promises: how much it counts.
         ensures err { OnErr result (self.new ≡ one_more self.old) }
     {
         match self.rt.write_some(piece) {

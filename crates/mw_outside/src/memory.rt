@@ -62,6 +62,7 @@ impl Shelf for MemoryShelf {
             (λ n. IfSome (contents self.old name.now) (λ bytes. Gives bytes at n into.old into.new)) }
         ensures same { (other : List ℕ) → contents self.new other ≡ contents self.old other }
         ensures later { (calls_of self.old).faults ≤ (calls_of self.new).faults }
+        ensures stands { OnOk result ((calls_of self.new).faults ≡ (calls_of self.old).faults) }
         ensures cause { OnErr result (Rose (calls_of self.old).faults (calls_of self.new).faults) }
 
         // Beyond what every shelf promises: when it fails, how much it gives, and what it counts.
@@ -86,7 +87,7 @@ impl Shelf for MemoryShelf {
 }
 
 /// Copies what lies at a place into the front of a buffer, at most so many bytes.
-fn copy_from(bytes: &[u8], at: u64, most: usize, into: &mut [u8]) -> usize
+pub(crate) fn copy_from(bytes: &[u8], at: u64, most: usize, into: &mut [u8]) -> usize
     requires { 0 < most }
     ensures given { Gives bytes.now at result into.old into.new }
     ensures count { result ≡ min (min (length bytes.now - at) most) (length into.old) }
@@ -143,6 +144,7 @@ impl Sink for MemorySink {
         ensures bytes { IfOk result (λ n. bytes_of self.new ≡ bytes_of self.old ++ take n piece.now) }
         ensures failed { OnErr result (bytes_of self.new ≡ bytes_of self.old) }
         ensures later { (calls_of self.old).faults ≤ (calls_of self.new).faults }
+        ensures stands { OnOk result ((calls_of self.new).faults ≡ (calls_of self.old).faults) }
         ensures cause { OnErr result (Rose (calls_of self.old).faults (calls_of self.new).faults) }
 
         // Beyond what every sink promises: when it has to fail, how much it takes, and what it counts.

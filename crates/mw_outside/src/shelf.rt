@@ -1,5 +1,5 @@
 // Named files.
-ghost use Rattle.std.specs.Prelude.{◌≡◌, ◌≤◌, List, ℕ, length, Option, IfOk, OnErr, IfSome};
+ghost use Rattle.std.specs.Prelude.{◌≡◌, ◌≤◌, List, ℕ, length, Option, IfOk, OnOk, OnErr, IfSome};
 ghost use Rattle.mw_outside.specs.Causes.{Rose};
 ghost use Rattle.mw_outside.specs.Contents.{Gives};
 
@@ -19,12 +19,13 @@ pub trait Shelf {
     ghost faults: { Self → List ℕ → ℕ };
 
     /// Reads bytes of the name, from a place in bytes from 0, into the front of a buffer, and answers how
-    /// many. `Failed`: the count of this name rose.
+    /// many. `Failed`: the count of this name rose. Else it stands.
     fn fetch(&mut self, name: &str, at: u64, into: &mut [u8]) -> Result<usize, Failed>
         ensures bound { IfOk result (λ n. n ≤ length into.old) }
         ensures bytes { IfOk result
             (λ n. IfSome (told self.old name.now) (λ bytes. Gives bytes at n into.old into.new)) }
         ensures same { (other : List ℕ) → told self.new other ≡ told self.old other }
         ensures later { (other : List ℕ) → faults self.old other ≤ faults self.new other }
+        ensures stands { OnOk result (faults self.new name.now ≡ faults self.old name.now) }
         ensures cause { OnErr result (Rose (faults self.old name.now) (faults self.new name.now)) };
 }
