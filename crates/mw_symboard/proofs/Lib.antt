@@ -3,6 +3,7 @@ pub mod AtEdge
 pub mod Begun
 pub mod CycleAlong
 pub mod Deciding
+pub mod EdgeMade
 pub mod Ends
 pub mod Environments
 pub mod Finishing

@@ -213,20 +213,29 @@ impl Cases {
     }
 }
 
-/// The cases of the boundary of this number.
-fn cases_at(alloc: Global, job: &Job, boundary: usize, budget: Budget) -> Result<Cases, Fault>
-    requires { boundary < length (job_of job.now).relation.boundaries }
+/// The cases of a fork.
+fn cases_of(alloc: Global, job: &Job, fork: &mut Fork) -> Result<Cases, Fault>
+    requires { IsForkOf (job_of job.now) fork.old }
 {
     let mut cases = Cases::new(alloc);
-    let Ok(mut fork) = Fork::start(alloc, job, boundary, budget) else {
-        unreachable!()
-    };
     for _ in 0..=MOST_CASES {
-        if !cases.take_next(alloc, job, &mut fork)? {
+        if !cases.take_next(alloc, job, fork)? {
             return Ok(cases);
         }
     }
     Err(wrong("more cases than are asked for"))
+}
+
+/// The cases of the boundary of this number.
+fn cases_at(alloc: Global, job: &Job, boundary: usize, budget: Budget) -> Result<Cases, Fault>
+    requires { boundary < length (job_of job.now).relation.boundaries }
+{
+    let Ok(mut fork) = Fork::start(alloc, job, boundary, budget) else {
+        unreachable!()
+    };
+    let cases = cases_of(alloc, job, &mut fork);
+    drop(fork);
+    cases
 }
 
 /// What is printed of the cases of a boundary.
@@ -274,6 +283,20 @@ pub(super) fn budget_of(given: &[String]) -> Result<Budget, Fault> {
     })
 }
 
+/// The cases of all boundaries of a job within a budget.
+fn printed_within(
+    alloc: Global,
+    job: &Job,
+    budget: Budget,
+    printed: Printed,
+) -> Result<Vec<u8>, Fault> {
+    let mut report = Vec::new(alloc);
+    for number in 0..job.relation.boundaries().len() {
+        push_boundary(alloc, &mut report, job, number, budget, printed)?;
+    }
+    Ok(report)
+}
+
 /// The cases of all boundaries.
 fn printed_of(
     alloc: Global,
@@ -283,11 +306,9 @@ fn printed_of(
 ) -> Result<Vec<u8>, Fault> {
     let budget = budget_of(given)?;
     let job = read_job(alloc, files, "text")?;
-    let mut report = Vec::new(alloc);
-    for number in 0..job.relation.boundaries().len() {
-        push_boundary(alloc, &mut report, &job, number, budget, printed)?;
-    }
-    Ok(report)
+    let report = printed_within(alloc, &job, budget, printed);
+    drop(job);
+    report
 }
 
 /// The cases of each boundary of a job.

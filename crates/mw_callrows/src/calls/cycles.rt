@@ -34,19 +34,25 @@ fn from_state(
     given: CycleIn,
 ) -> Result<String, Fault> {
     let mut state = state_of(alloc, board, files)?;
-    cycled(alloc, board, store, &mut state, given)
+    let lines = cycled(alloc, board, store, &mut state, given);
+    drop(state);
+    lines
 }
 
 /// The same of this board.
 fn on_board(alloc: Global, board: &Board, files: &[File], given: CycleIn) -> Result<String, Fault> {
     let store = store_of(alloc, files)?;
-    from_state(alloc, board, &store, files, given)
+    let lines = from_state(alloc, board, &store, files, given);
+    drop(store);
+    lines
 }
 
 /// The same of the board of the file `board`.
 fn lines_of(alloc: Global, files: &[File], given: CycleIn) -> Result<String, Fault> {
     let board = board_of(alloc, files, "board")?;
-    on_board(alloc, &board, files, given)
+    let lines = on_board(alloc, &board, files, given);
+    drop(board);
+    lines
 }
 
 /// The state after the cycle of the words `noise=`, `line=` and `input=`, and its nets, a line each.

@@ -13,6 +13,7 @@ ghost use Rattle.mw_replay.specs.Counter.{IsCounter};
 use super::cases::{MOST_CASES, budget_of, push_case, push_over};
 use super::pairs::{read_job, text_of};
 use super::relations::{names_of, refused};
+use super::trees::push_name;
 use mw_base::append_hex;
 use mw_fork::{Budget, Fork, ForkFault};
 use mw_rel::{Begin, Job};
@@ -27,6 +28,7 @@ fn counter_of(job: &Job, boundary: usize, begin: Begin) -> Result<Counter, Fault
     ensures { IfOk result (IsCounter (job_of job.now)) }
 {
     if !begin.fits(job, boundary) {
+        drop(begin);
         return Err(wrong("no start"));
     }
     Ok(Counter { boundary, begin })
@@ -35,11 +37,9 @@ fn counter_of(job: &Job, boundary: usize, begin: Begin) -> Result<Counter, Fault
 /// Appends the name of an element.
 fn push_element(alloc: Global, report: &mut Vec<u8>, job: &Job, element: u32) -> Result<(), Fault> {
     let names = names_of(alloc, &job.board, &job.machine)?;
-    match names.get(element as usize) {
-        Some(name) => report.extend_from_slice(name.as_slice())?,
-        None => return Err(wrong("no such element")),
-    }
-    Ok(())
+    let outcome = push_name(report, &names, element);
+    drop(names);
+    outcome
 }
 
 /// Appends a difference.
@@ -100,6 +100,23 @@ fn read_back(alloc: Global, job: &Job, text: &[u8]) -> Result<Counter, Fault>
     }
 }
 
+/// Appends what is shown by a replay of the counter of a text, which has to be the same when it is printed again.
+fn push_again(
+    alloc: Global,
+    report: &mut Vec<u8>,
+    job: &Job,
+    counter: &Counter,
+    text: &[u8],
+) -> Result<(), Fault>
+    requires { IsCounter (job_of job.now) counter.now }
+{
+    let printed = print_counter(alloc, job, counter)?;
+    if printed.as_slice() != text {
+        report.extend_from_slice(b"another text\n")?;
+    }
+    push_shown(alloc, report, job, counter)
+}
+
 /// Appends a counter, and what is shown by a replay of its text, which has to be the same when it is printed again.
 fn push_counter(
     alloc: Global,
@@ -112,11 +129,9 @@ fn push_counter(
     let text = print_counter(alloc, job, counter)?;
     report.extend_from_slice(&text)?;
     let again = read_back(alloc, job, &text)?;
-    let printed = print_counter(alloc, job, &again)?;
-    if printed.as_slice() != text.as_slice() {
-        report.extend_from_slice(b"another text\n")?;
-    }
-    push_shown(alloc, report, job, &again)
+    let outcome = push_again(alloc, report, job, &again, &text);
+    drop(again);
+    outcome
 }
 
 /// Appends what is over its budget. Nothing comes behind it.
@@ -147,7 +162,9 @@ fn push_differing(
     match fork.differs(alloc, job) {
         Ok(Some(begin)) => {
             let counter = counter_of(job, boundary, begin)?;
-            push_counter(alloc, report, job, &counter)?;
+            let outcome = push_counter(alloc, report, job, &counter);
+            drop(counter);
+            outcome?;
             Ok(true)
         }
         Ok(None) => {
@@ -182,6 +199,26 @@ fn push_next(
     }
 }
 
+/// Appends the cases of a fork, each with a start that differs.
+fn push_cases(
+    alloc: Global,
+    report: &mut Vec<u8>,
+    job: &Job,
+    boundary: usize,
+    fork: &mut Fork,
+) -> Result<(), Fault>
+    requires of { IsForkOf (job_of job.now) fork.old }
+    requires there { boundary < length (job_of job.now).relation.boundaries }
+    requires boundary { fork.old.boundary ≡ boundary }
+{
+    for _ in 0..=MOST_CASES {
+        if !push_next(alloc, report, job, boundary, fork)? {
+            return Ok(());
+        }
+    }
+    Err(wrong("more cases than are asked for"))
+}
+
 /// Appends the cases of the boundary of this number, each with a start that differs.
 fn push_boundary(
     alloc: Global,
@@ -198,12 +235,18 @@ fn push_boundary(
     let Ok(mut fork) = Fork::start(alloc, job, boundary, budget) else {
         unreachable!()
     };
-    for _ in 0..=MOST_CASES {
-        if !push_next(alloc, report, job, boundary, &mut fork)? {
-            return Ok(());
-        }
+    let outcome = push_cases(alloc, report, job, boundary, &mut fork);
+    drop(fork);
+    outcome
+}
+
+/// The cases of each boundary, each with a start that differs.
+fn listed(alloc: Global, job: &Job, budget: Budget) -> Result<Vec<u8>, Fault> {
+    let mut report = Vec::new(alloc);
+    for number in 0..job.relation.boundaries().len() {
+        push_boundary(alloc, &mut report, job, number, budget)?;
     }
-    Err(wrong("more cases than are asked for"))
+    Ok(report)
 }
 
 /// The cases of each boundary of a job, each with a start that differs.
@@ -214,11 +257,9 @@ fn push_boundary(
 pub fn list(alloc: Global, given: &[String], files: &[File]) -> Result<Vec<u8>, Fault> {
     let budget = budget_of(given)?;
     let job = read_job(alloc, files, "text")?;
-    let mut report = Vec::new(alloc);
-    for number in 0..job.relation.boundaries().len() {
-        push_boundary(alloc, &mut report, &job, number, budget)?;
-    }
-    Ok(report)
+    let report = listed(alloc, &job, budget);
+    drop(job);
+    report
 }
 
 /// A text that is read as a counter of a job and printed again.
@@ -226,7 +267,11 @@ fn printed_again(alloc: Global, job: &Job, text: &[u8]) -> Result<Vec<u8>, Fault
     requires { length text.now < 2 ^ 32 }
 {
     match read_counter(alloc, job, &[], text) {
-        Ok(counter) => Ok(print_counter(alloc, job, &counter)?),
+        Ok(counter) => {
+            let text = print_counter(alloc, job, &counter);
+            drop(counter);
+            Ok(text?)
+        }
         Err(refusal) => refused(alloc, refusal),
     }
 }
@@ -239,5 +284,7 @@ fn printed_again(alloc: Global, job: &Job, text: &[u8]) -> Result<Vec<u8>, Fault
 pub fn read(alloc: Global, files: &[File]) -> Result<Vec<u8>, Fault> {
     let text = text_of(files, "s")?;
     let job = read_job(alloc, files, "text")?;
-    printed_again(alloc, &job, text)
+    let report = printed_again(alloc, &job, text);
+    drop(job);
+    report
 }

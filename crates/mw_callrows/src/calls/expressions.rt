@@ -205,7 +205,11 @@ fn push_line(
 {
     let cursor = Cursor::new(text, line, Cause::BadSyntax);
     match parse_expr(alloc, &cursor, given.names, given.shape) {
-        Ok(expr) => push_value(alloc, report, given, &expr),
+        Ok(expr) => {
+            let outcome = push_value(alloc, report, given, &expr);
+            drop(expr);
+            outcome
+        }
         Err(refusal) => push_refusal(alloc, report, refusal),
     }
 }

@@ -1,11 +1,11 @@
 // `call machine`: reads the file `text`. Its machine: the memory, the registers, the temporaries, and the statements,
 // in which expressions are trees and each `if` has both lists; or one line has the first fault.
-use super::trees::push_tree;
+use super::relations::refused;
+use super::trees::{push_name, push_tree};
 use mw_base::{Name, append_decimal};
 use mw_descfile::read_machine;
 use mw_expr::Expr;
 use mw_macro::{Machine, Statement};
-use mw_rowfile::texts::push_refusal;
 use mw_rowfile::{Fault, File, contents, wrong};
 use std::alloc::Global;
 
@@ -14,14 +14,6 @@ fn push_number(alloc: Global, report: &mut Vec<u8>, number: u8) -> Result<(), Fa
     report.push(b' ')?;
     append_decimal(alloc, report, u64::from(number))?;
     Ok(())
-}
-
-/// Appends the name of an element.
-fn push_name(report: &mut Vec<u8>, names: &[Name], number: u32) -> Result<(), Fault> {
-    match names.get(number as usize) {
-        Some(name) => Ok(report.extend_from_slice(name.as_slice())?),
-        None => Err(wrong("no such element")),
-    }
 }
 
 /// Appends a line for the memory and for each element.
@@ -135,6 +127,16 @@ pub(super) fn machine_in(alloc: Global, files: &[File], name: &str) -> Result<Ma
     }
 }
 
+/// The lines of a machine.
+fn lines_of(alloc: Global, machine: &Machine) -> Result<Vec<u8>, Fault> {
+    let names = names_of(alloc, machine)?;
+    let mut report = Vec::new(alloc);
+    push_elements(alloc, &mut report, machine)?;
+    report.extend_from_slice(b"step\n")?;
+    push_statements(alloc, &mut report, &names, machine.statements())?;
+    Ok(report)
+}
+
 /// The lines of the machine of a text, or of its first fault.
 ///
 /// # Errors
@@ -144,15 +146,12 @@ pub fn read(alloc: Global, text: &[u8]) -> Result<Vec<u8>, Fault> {
     if text.len() > 1_048_576 {
         return Err(wrong("a text that is too long"));
     }
-    let mut report = Vec::new(alloc);
     match read_machine(alloc, text) {
         Ok(machine) => {
-            let names = names_of(alloc, &machine)?;
-            push_elements(alloc, &mut report, &machine)?;
-            report.extend_from_slice(b"step\n")?;
-            push_statements(alloc, &mut report, &names, machine.statements())?;
+            let report = lines_of(alloc, &machine);
+            drop(machine);
+            report
         }
-        Err(refusal) => push_refusal(alloc, &mut report, refusal)?,
+        Err(refusal) => refused(alloc, refusal),
     }
-    Ok(report)
 }

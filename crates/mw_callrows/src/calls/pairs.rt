@@ -72,7 +72,11 @@ fn job_with(
 ) -> Result<Job, Fault> {
     match related(alloc, &micro, &machine, files, name) {
         Ok(relation) => joined(micro, machine, relation),
-        Err(fault) => Err(fault),
+        Err(fault) => {
+            drop(micro);
+            drop(machine);
+            Err(fault)
+        }
     }
 }
 
@@ -81,7 +85,10 @@ pub(super) fn read_job(alloc: Global, files: &[File], name: &str) -> Result<Job,
     let micro = read_programmed(alloc, files)?;
     match machine_in(alloc, files, "k") {
         Ok(machine) => job_with(alloc, micro, machine, files, name),
-        Err(fault) => Err(fault),
+        Err(fault) => {
+            drop(micro);
+            Err(fault)
+        }
     }
 }
 
@@ -196,6 +203,19 @@ fn push_held(alloc: Global, report: &mut Vec<u8>, job: &Job, pair: &Pair) -> Res
     Ok(())
 }
 
+/// Appends the numbers of the boundaries at which a pair is in relation by the job with the file `other`.
+fn push_other(
+    alloc: Global,
+    report: &mut Vec<u8>,
+    pair: &Pair,
+    files: &[File],
+) -> Result<(), Fault> {
+    let other = read_job(alloc, files, "other")?;
+    let outcome = push_held(alloc, report, &other, pair);
+    drop(other);
+    outcome
+}
+
 /// Appends what a pair is.
 fn push_made(
     alloc: Global,
@@ -207,8 +227,7 @@ fn push_made(
     push_pair(alloc, report, pair)?;
     push_held(alloc, report, job, pair)?;
     if contents_in(files, "other").is_some() {
-        let other = read_job(alloc, files, "other")?;
-        push_held(alloc, report, &other, pair)?;
+        push_other(alloc, report, pair, files)?;
     }
     Ok(())
 }
@@ -237,7 +256,9 @@ fn push_completed(
         return Ok(());
     }
     let pair = complete(alloc, job, boundary, begin)?;
-    push_made(alloc, report, job, &pair, files)
+    let outcome = push_made(alloc, report, job, &pair, files);
+    drop(pair);
+    outcome
 }
 
 /// Appends how many elements a job has, and those that aren't free at a boundary.
@@ -276,7 +297,9 @@ fn reported(
 fn chosen(alloc: Global, given: &[String], files: &[File], job: &Job) -> Result<Vec<u8>, Fault> {
     let boundary = boundary_number(given)?;
     let begin = begin_of(alloc, given, files)?;
-    reported(alloc, job, boundary, &begin, files)
+    let report = reported(alloc, job, boundary, &begin, files);
+    drop(begin);
+    report
 }
 
 /// The lines of the pair that these words and files give.
@@ -286,5 +309,7 @@ fn chosen(alloc: Global, given: &[String], files: &[File], job: &Job) -> Result<
 /// Words or files that aren't what the call reads, and want of memory.
 pub fn read(alloc: Global, given: &[String], files: &[File]) -> Result<Vec<u8>, Fault> {
     let job = read_job(alloc, files, "text")?;
-    chosen(alloc, given, files, &job)
+    let report = chosen(alloc, given, files, &job);
+    drop(job);
+    report
 }

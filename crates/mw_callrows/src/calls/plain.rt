@@ -7,9 +7,12 @@ ghost use Rattle.std.specs.Prelude.{◌≡◌, ◌≤◌, ◌<◌, ◌^◌, All,
 ghost use Rattle.mw_expr.specs.Tree.{view};
 ghost use Rattle.mw_expr.specs.Widths.{is_known, depth};
 ghost use Rattle.mw_macro.specs.Counts.{reads};
+ghost use Rattle.mw_macro.specs.Described.{description_of};
+ghost use Rattle.mw_rel.specs.Job.{AreForEachOther};
 ghost use Rattle.mw_rel.specs.Lines.{reads_of};
 ghost use Rattle.mw_rel.specs.Relation.{related, IsFormed, IsFormedLine, IsFormedBoundary};
 ghost use Rattle.mw_rel.specs.Seen.{line_of, lines_of, boundary_of, boundaries_of};
+ghost use Rattle.mw_rel.specs.Views.{relation_of};
 
 use super::machines::machine_in;
 use mw_base::{Cause, Items};
@@ -65,13 +68,24 @@ fn read_line(alloc: Global, text: &str) -> Result<Line, Fault> {
     }
 }
 
-/// The lines behind the first three words.
-fn read_lines(alloc: Global, text: &str) -> Result<Vec<Line>, Fault> {
-    let mut lines = Vec::new(alloc);
+/// Appends the lines behind the first three words.
+fn push_lines(alloc: Global, lines: &mut Vec<Line>, text: &str) -> Result<(), Fault> {
     for part in text.split(' ').skip(3) {
         lines.push(read_line(alloc, part)?)?;
     }
-    Ok(lines)
+    Ok(())
+}
+
+/// The lines behind the first three words.
+fn read_lines(alloc: Global, text: &str) -> Result<Vec<Line>, Fault> {
+    let mut lines = Vec::new(alloc);
+    match push_lines(alloc, &mut lines, text) {
+        Ok(()) => Ok(lines),
+        Err(fault) => {
+            drop(lines);
+            Err(fault)
+        }
+    }
 }
 
 /// The word at a place.
@@ -96,13 +110,24 @@ fn read_boundary(alloc: Global, text: &str) -> Result<Boundary, Fault> {
     })
 }
 
-/// The boundaries of a text.
-fn read_boundaries(alloc: Global, text: &str) -> Result<Vec<Boundary>, Fault> {
-    let mut boundaries = Vec::new(alloc);
+/// Appends the boundaries of a text.
+fn push_boundaries(alloc: Global, boundaries: &mut Vec<Boundary>, text: &str) -> Result<(), Fault> {
     for line in text.lines() {
         boundaries.push(read_boundary(alloc, line)?)?;
     }
-    Ok(boundaries)
+    Ok(())
+}
+
+/// The boundaries of a text.
+fn read_boundaries(alloc: Global, text: &str) -> Result<Vec<Boundary>, Fault> {
+    let mut boundaries = Vec::new(alloc);
+    match push_boundaries(alloc, &mut boundaries, text) {
+        Ok(()) => Ok(boundaries),
+        Err(fault) => {
+            drop(boundaries);
+            Err(fault)
+        }
+    }
 }
 
 /// Whether the right side is one of the first elements, a constant, or the memory word at the address in an element.
@@ -175,27 +200,58 @@ fn are_formed(boundaries: &[Boundary], depth: u8, shape: &Shape) -> bool
     true
 }
 
-/// Why there is no job of a board without a microprogram, a machine and these boundaries. None where there is one.
-fn refusal(
-    alloc: Global,
-    board: Board,
-    machine: Machine,
+/// The relation of these boundaries, or the cause for which there is none.
+fn related(
     boundaries: Vec<Boundary>,
-) -> Result<Option<Cause>, Fault> {
-    let shape = shape_of(alloc, &board, &machine)?;
-    if !are_formed(&boundaries, board.depth(), &shape) {
-        return Err(wrong("boundaries that no relation has"));
+    depth: u8,
+    shape: Shape,
+) -> Result<Result<Relation, Cause>, Fault>
+    ensures shape { IfOk result (λ made. IfOk made (λ relation. (relation_of relation).shape ≡ shape)) }
+    ensures pointers { IfOk result (λ made. IfOk made
+        (λ relation. All (λ boundary. boundary.sp ≤ depth) (relation_of relation).boundaries)) }
+{
+    if are_formed(&boundaries, depth, &shape) {
+        Ok(Relation::new(boundaries, shape))
+    } else {
+        drop(boundaries);
+        drop(shape);
+        Err(wrong("boundaries that no relation has"))
     }
+}
+
+/// The relation of the boundaries of a text between a board and a machine, or the cause for which there is none.
+fn relation_in(
+    alloc: Global,
+    board: &Board,
+    machine: &Machine,
+    text: &str,
+) -> Result<Result<Relation, Cause>, Fault>
+    ensures { IfOk result (λ made. IfOk made
+        (λ relation. AreForEachOther board.now (description_of machine.now) (relation_of relation))) }
+{
+    let shape = shape_of(alloc, board, machine)?;
+    match read_boundaries(alloc, text) {
+        Ok(boundaries) => related(boundaries, board.depth(), shape),
+        Err(fault) => {
+            drop(shape);
+            Err(fault)
+        }
+    }
+}
+
+/// Why there is no job of a board without a microprogram, a machine and their relation. None where there is one.
+fn refusal(alloc: Global, board: Board, machine: Machine, relation: Relation) -> Option<Cause>
+    requires { AreForEachOther board (description_of machine) (relation_of relation) }
+{
     let store = Store {
         words: Items::from_vec(Vec::new(alloc)),
     };
-    let relation = match Relation::new(boundaries, shape) {
-        Ok(relation) => relation,
-        Err(cause) => return Ok(Some(cause)),
-    };
     match Job::new(board, store, machine, relation) {
-        Ok(_) => Ok(None),
-        Err(cause) => Ok(Some(cause)),
+        Ok(job) => {
+            drop(job);
+            None
+        }
+        Err(cause) => Some(cause),
     }
 }
 
@@ -215,18 +271,18 @@ fn refusal_in(
     machine: Machine,
     text: &str,
 ) -> Result<Option<Cause>, Fault> {
-    match read_boundaries(alloc, text) {
-        Ok(boundaries) => refusal(alloc, board, machine, boundaries),
-        Err(fault) => Err(fault),
-    }
-}
-
-/// Why there is no job of a board and of these files.
-fn refusal_with(alloc: Global, board: Board, files: &[File]) -> Result<Option<Cause>, Fault> {
-    let text = text_in(files, "text")?;
-    match machine_in(alloc, files, "k") {
-        Ok(machine) => refusal_in(alloc, board, machine, text),
-        Err(fault) => Err(fault),
+    match relation_in(alloc, &board, &machine, text) {
+        Ok(Ok(relation)) => Ok(refusal(alloc, board, machine, relation)),
+        Ok(Err(cause)) => {
+            drop(board);
+            drop(machine);
+            Ok(Some(cause))
+        }
+        Err(fault) => {
+            drop(board);
+            drop(machine);
+            Err(fault)
+        }
     }
 }
 
@@ -236,7 +292,13 @@ fn refusal_with(alloc: Global, board: Board, files: &[File]) -> Result<Option<Ca
 ///
 /// Files that aren't what the call reads, and want of memory.
 pub fn read(alloc: Global, files: &[File]) -> Result<Vec<u8>, Fault> {
+    let text = text_in(files, "text")?;
     let board = board_of(alloc, files, "b")?;
-    let refusal = refusal_with(alloc, board, files)?;
-    cause_line(alloc, refusal)
+    match machine_in(alloc, files, "k") {
+        Ok(machine) => cause_line(alloc, refusal_in(alloc, board, machine, text)?),
+        Err(fault) => {
+            drop(board);
+            Err(fault)
+        }
+    }
 }

@@ -6,7 +6,7 @@ ghost use Rattle.std.specs.Prelude.{◌<◌, ◌^◌, length};
 use super::machines::machine_in;
 use super::pairs::text_of;
 use super::programmed::read_programmed;
-use super::trees::push_tree;
+use super::trees::{push_name, push_tree};
 use mw_asm::Program;
 use mw_base::{Name, Refusal};
 use mw_board::Board;
@@ -14,11 +14,11 @@ use mw_descfile::read_relation;
 use mw_macro::Machine;
 use mw_rel::{Boundary, Line};
 use mw_rowfile::texts::push_refusal;
-use mw_rowfile::{Fault, File, wrong};
+use mw_rowfile::{Fault, File};
 use std::alloc::Global;
 
-/// Appends a name behind the letter of its side.
-fn push_name(alloc: Global, names: &mut Vec<Name>, side: &[u8], name: &[u8]) -> Result<(), Fault> {
+/// Takes a name behind the letter of its side.
+fn take_name(alloc: Global, names: &mut Vec<Name>, side: &[u8], name: &[u8]) -> Result<(), Fault> {
     let mut whole = Vec::from_slice(alloc, side)?;
     whole.extend_from_slice(name)?;
     names.push(Name::from_vec(whole))?;
@@ -34,10 +34,10 @@ pub(super) fn names_of(
     let mut names = Vec::new(alloc);
     for number in 0..board.element_count() {
         let name = board.element_name(number).unwrap_or(b"");
-        push_name(alloc, &mut names, b"b.", name)?;
+        take_name(alloc, &mut names, b"b.", name)?;
     }
     for name in machine.names().iter().take(machine.registers() as usize) {
-        push_name(alloc, &mut names, b"m.", name.as_slice())?;
+        take_name(alloc, &mut names, b"m.", name.as_slice())?;
     }
     Ok(names)
 }
@@ -49,10 +49,7 @@ fn push_line(
     names: &[Name],
     line: &Line,
 ) -> Result<(), Fault> {
-    match names.get(line.left as usize) {
-        Some(name) => report.extend_from_slice(name.as_slice())?,
-        None => return Err(wrong("no such element")),
-    }
+    push_name(report, names, line.left)?;
     report.extend_from_slice(b" = ")?;
     push_tree(alloc, report, names, &line.right)?;
     report.push(b'\n')?;
@@ -76,17 +73,13 @@ fn push_boundary(
     Ok(())
 }
 
-/// Appends the boundaries of a relation.
-fn push_boundaries(
-    alloc: Global,
-    report: &mut Vec<u8>,
-    names: &[Name],
-    boundaries: &[Boundary],
-) -> Result<(), Fault> {
+/// The lines of some boundaries over elements of these names.
+fn named_lines(alloc: Global, names: &[Name], boundaries: &[Boundary]) -> Result<Vec<u8>, Fault> {
+    let mut report = Vec::new(alloc);
     for boundary in boundaries {
-        push_boundary(alloc, report, names, boundary)?;
+        push_boundary(alloc, &mut report, names, boundary)?;
     }
-    Ok(())
+    Ok(report)
 }
 
 /// The lines of some boundaries over the elements of both sides.
@@ -97,9 +90,9 @@ fn lines_of(
     boundaries: &[Boundary],
 ) -> Result<Vec<u8>, Fault> {
     let names = names_of(alloc, board, machine)?;
-    let mut report = Vec::new(alloc);
-    push_boundaries(alloc, &mut report, &names, boundaries)?;
-    Ok(report)
+    let report = named_lines(alloc, &names, boundaries);
+    drop(names);
+    report
 }
 
 /// The line of a fault.
@@ -114,7 +107,11 @@ fn between(alloc: Global, micro: &Program, machine: &Machine, text: &[u8]) -> Re
     requires { length text.now < 2 ^ 32 }
 {
     match read_relation(alloc, &micro.board, &micro.made, machine, text) {
-        Ok(relation) => lines_of(alloc, &micro.board, machine, relation.boundaries()),
+        Ok(relation) => {
+            let report = lines_of(alloc, &micro.board, machine, relation.boundaries());
+            drop(relation);
+            report
+        }
         Err(refusal) => refused(alloc, refusal),
     }
 }
@@ -123,7 +120,9 @@ fn between(alloc: Global, micro: &Program, machine: &Machine, text: &[u8]) -> Re
 fn of_micro(alloc: Global, micro: &Program, files: &[File]) -> Result<Vec<u8>, Fault> {
     let text = text_of(files, "text")?;
     let machine = machine_in(alloc, files, "k")?;
-    between(alloc, micro, &machine, text)
+    let report = between(alloc, micro, &machine, text);
+    drop(machine);
+    report
 }
 
 /// The lines of the relation of a text, or of its first fault.
@@ -134,5 +133,7 @@ fn of_micro(alloc: Global, micro: &Program, files: &[File]) -> Result<Vec<u8>, F
 /// read has, and want of memory.
 pub fn read(alloc: Global, files: &[File]) -> Result<Vec<u8>, Fault> {
     let micro = read_programmed(alloc, files)?;
-    of_micro(alloc, &micro, files)
+    let report = of_micro(alloc, &micro, files);
+    drop(micro);
+    report
 }

@@ -2,16 +2,19 @@
 // `e` has it. `call until address= limit= slices=`: a run from there up to a control address; with `slices=1` it is
 // made slice by slice. What is printed: of a run `late` where that address didn't come, how many cycles were made, and
 // the events; and the state as an environment, or the line that refuses `e`.
+ghost use Rattle.std.specs.Prelude.{◌<◌, ◌^◌, length};
 ghost use Rattle.mw_cycle.specs.Environment.{IsEnvironment};
 ghost use Rattle.mw_cycle.specs.State.{Fits};
 
+use super::pairs::text_of;
 use super::programmed::read_programmed;
+use super::relations::refused;
 use mw_asm::Program;
 use mw_base::{Event, append_hex};
 use mw_board::Board;
 use mw_cycle::{Clock, Datapath, State, Whole};
 use mw_rowfile::named::{address, bit_of, hexadecimal_of};
-use mw_rowfile::{Fault, File, contents, texts, wrong};
+use mw_rowfile::{Fault, File, wrong};
 use mw_sim::{Late, Parts, Start, read_start, run_to_boundary};
 use std::alloc::Global;
 
@@ -105,13 +108,13 @@ fn simulated<A: Datapath>(
     alloc: Global,
     part: &A,
     programmed: &Program,
-    start: Start,
+    start: &mut Start,
     asked: Asked,
 ) -> Result<Vec<u8>, Fault>
-    requires fits { Fits programmed.now.board start.state }
-    requires env_in { IsEnvironment programmed.now.board start.env }
+    requires fits { Fits programmed.now.board start.old.state }
+    requires env_in { IsEnvironment programmed.now.board start.old.env }
 {
-    let Start { mut state, env } = start;
+    let Start { state, env } = start;
     let Program { board, made } = programmed;
     let begun = Clock { cycle: 0, taken: 0 };
     let mut events = Vec::with_capacity(alloc, asked.limit as usize)?;
@@ -120,8 +123,8 @@ fn simulated<A: Datapath>(
         part,
         board,
         &made.store,
-        &mut state,
-        &env,
+        state,
+        env,
         begun,
         &[asked.address],
         asked.limit,
@@ -134,43 +137,67 @@ fn simulated<A: Datapath>(
             clock
         }
     };
-    push_run(alloc, &mut report, board, &state, clock, &events)?;
+    push_run(alloc, &mut report, board, state, clock, &events)?;
     Ok(report)
 }
 
 /// The start of a run, printed as an environment.
-fn printed(alloc: Global, programmed: &Program, start: Start) -> Result<Vec<u8>, Fault>
-    requires { Fits programmed.now.board start.state }
+fn printed(alloc: Global, board: &Board, state: &State) -> Result<Vec<u8>, Fault>
+    requires { Fits board.now state.now }
 {
     let mut report = Vec::new(alloc);
-    push_state(alloc, &mut report, &programmed.board, &start.state)?;
+    push_state(alloc, &mut report, board, state)?;
     Ok(report)
 }
 
-/// What the start of the file `e` comes to: printed where no run is asked for, or a run.
-fn run(alloc: Global, files: &[File], asked: Option<Asked>) -> Result<Vec<u8>, Fault> {
-    let programmed = read_programmed(alloc, files)?;
-    let text = contents(files, "e")?;
-    if text.len() > 1 << 20 {
-        return Err(wrong("the environment is too long"));
-    }
-    match read_start(alloc, &programmed.board, &programmed.made, text) {
-        Ok(start) => match asked {
-            None => printed(alloc, &programmed, start),
-            Some(asked) => {
-                if asked.slices {
-                    simulated(alloc, &Parts, &programmed, start, asked)
-                } else {
-                    simulated(alloc, &Whole, &programmed, start, asked)
-                }
+/// What a start comes to: printed where no run is asked for, or a run.
+fn begun(
+    alloc: Global,
+    programmed: &Program,
+    start: &mut Start,
+    asked: Option<Asked>,
+) -> Result<Vec<u8>, Fault>
+    requires fits { Fits programmed.now.board start.old.state }
+    requires env_in { IsEnvironment programmed.now.board start.old.env }
+{
+    match asked {
+        None => printed(alloc, &programmed.board, &start.state),
+        Some(asked) => {
+            if asked.slices {
+                simulated(alloc, &Parts, programmed, start, asked)
+            } else {
+                simulated(alloc, &Whole, programmed, start, asked)
             }
-        },
-        Err(refusal) => {
-            let mut report = Vec::new(alloc);
-            texts::push_refusal(alloc, &mut report, refusal)?;
-            Ok(report)
         }
     }
+}
+
+/// What the start of an environment comes to, or its first fault.
+fn of_environment(
+    alloc: Global,
+    programmed: &Program,
+    text: &[u8],
+    asked: Option<Asked>,
+) -> Result<Vec<u8>, Fault>
+    requires { length text.now < 2 ^ 32 }
+{
+    match read_start(alloc, &programmed.board, &programmed.made, text) {
+        Ok(mut start) => {
+            let report = begun(alloc, programmed, &mut start, asked);
+            drop(start);
+            report
+        }
+        Err(refusal) => refused(alloc, refusal),
+    }
+}
+
+/// What the start of the file `e` comes to.
+fn run(alloc: Global, files: &[File], asked: Option<Asked>) -> Result<Vec<u8>, Fault> {
+    let text = text_of(files, "e")?;
+    let programmed = read_programmed(alloc, files)?;
+    let report = of_environment(alloc, &programmed, text, asked);
+    drop(programmed);
+    report
 }
 
 /// A number of cycles.

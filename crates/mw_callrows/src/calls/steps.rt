@@ -12,7 +12,9 @@ use std::alloc::Global;
 /// Words or a file that aren't what the call reads, and want of memory.
 pub fn run(alloc: Global, given: &[String], files: &[File]) -> Result<Vec<u8>, Fault> {
     let machine = machine_in(alloc, files, "text")?;
-    described::run(alloc, given, &machine)
+    let report = described::run(alloc, given, &machine);
+    drop(machine);
+    report
 }
 
 /// The words that a step adds.
@@ -22,5 +24,7 @@ pub fn run(alloc: Global, given: &[String], files: &[File]) -> Result<Vec<u8>, F
 /// As `run`.
 pub fn words(alloc: Global, given: &[String], files: &[File]) -> Result<Vec<u8>, Fault> {
     let machine = machine_in(alloc, files, "text")?;
-    described::words(alloc, given, &machine)
+    let report = described::words(alloc, given, &machine);
+    drop(machine);
+    report
 }

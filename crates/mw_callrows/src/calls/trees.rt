@@ -18,7 +18,12 @@ fn begin_pair(sign: Pair2) -> &'static [u8] {
     }
 }
 
-fn push_name(text: &mut Vec<u8>, names: &[Name], number: u32) -> Result<(), Fault> {
+/// Appends the name of an element.
+///
+/// # Errors
+///
+/// An element without a name, and want of memory.
+pub(super) fn push_name(text: &mut Vec<u8>, names: &[Name], number: u32) -> Result<(), Fault> {
     match names.get(number as usize) {
         Some(name) => Ok(text.extend_from_slice(name.as_slice())?),
         None => Err(wrong("no such element")),

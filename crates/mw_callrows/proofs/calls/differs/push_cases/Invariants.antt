@@ -1,7 +1,7 @@
 use Rattle.std.proofs.Common.{◌≡◌}
 use Rattle.mw_rel.specs.Views.{job_of}
 use Rattle.mw_fork.specs.Forks.{IsForkOf}
-use Rattle.mw_callrows.proofs.calls.differs.push_boundary.Given as goal
+use Rattle.mw_callrows.proofs.calls.differs.push_cases.Given as goal
 
 abbrev pub invariant-loop : goal.invariant-loop
 invariant-loop l = record {
