@@ -200,7 +200,7 @@ def difference(job, start, environment=None):
     for name, tree in job.blocks[at][3]:
         if sees.elements[name][1] != valued(tree, sees)[1]:
             return f"element {name}"
-    for address in range(2**job.address):
+    for address in sorted({*board.memory, *described.over.memory}):
         if board.memory.get(address, 0) != described.over.memory.get(address, 0):
             return f"memory 0x{address:X}"
     return None
