@@ -1,6 +1,7 @@
 #!/usr/bin/env python3
 """Writes the constants of mw_cases from the four texts of examples/pdp8: `pdp8_texts.rt` has those that `pdp8()` gives but
-for the microprogram, and `pdp8_micro.rt` this one, as it is and with each of the faults of specs/Faults.antt.
+for the microprogram, and `pdp8_micro.rt` this one, as it is and with each of the faults of specs/Faults.antt. Two of these
+are files of examples/pdp8, and are written too.
 
     tools/pdp8_texts.py            writes the files
     tools/pdp8_texts.py --check    says whether they are as they would be written: status 1 if not
@@ -21,6 +22,8 @@ TEXTS = [
     ("machine", "MACHINE", "The described machine"),
     ("relation", "RELATION", "The relation"),
 ]
+# The faults that are files, by their numbers.
+SHOWN = {5: "micro-jms", 12: "micro-dca"}
 WRITER = "tools/pdp8_texts.py writes this file; with --check it says whether it is due.\n"
 
 
@@ -78,6 +81,7 @@ def micros():
 
 def main():
     files = {WRITTEN / "pdp8_texts.rt": texts(), WRITTEN / "pdp8_micro.rt": micros()}
+    files |= {EXAMPLE / name: faults()[number].planted(text("micro")) for number, name in SHOWN.items()}
     match sys.argv[1:]:
         case []:
             for path, written in files.items():

@@ -9,6 +9,7 @@ word table and the term table; replays and traces by the models on numbers.
     faults.py --check          no row: each fault shows its difference from the start of its report, and the right
                                microprogram none; and from random starts the board does what the fault says, and all else
                                as before
+    faults.py page             no row: docs/manual/faults.md has the changes, the reports and the traces of the rows
     faults.py list NUMBER      the report of `certify` for a fault, and what its cases cost
 """
 import random
@@ -18,7 +19,7 @@ from pathlib import Path
 
 import tools_path
 from differences import counter
-from files import file_lines, row_lines
+from files import file_lines, read, row_lines
 from model.cases import Choice
 from model.certified import first_differing
 from model.comparison import Job, board_state, board_values, completed, difference, segment
@@ -28,7 +29,10 @@ from model.faults import faults
 from model.pdp8 import Machine
 from pdp8 import CONSTANTS, kept, registers
 
-EXAMPLE = Path(__file__).resolve().parent.parent.parent / "examples" / "pdp8"
+TOP = Path(__file__).resolve().parent.parent.parent
+EXAMPLE = TOP / "examples" / "pdp8"
+ROWS = TOP / "crates" / "mw_rows" / "data" / "faults"
+PAGE = TOP / "docs" / "manual" / "faults.md"
 FILES = {"b": "board.toml", "m": "micro", "k": "machine", "r": "relation"}
 CYCLES = 21
 # The difference that each fault shows.
@@ -277,10 +281,49 @@ def check():
         print(f"{number} {fault.what}: case {len(found.looked)}; of {STARTS} random starts {shown['same']} show nothing")
 
 
+# ---- the page
+
+def blocks_of(number, fault, rows_by_name):
+    """What the page has of a fault, each an indented block or a part of one."""
+    title = f"{number}. {fault.what[0].upper()}{fault.what[1:]}"
+    yield f"## {title}\n\n" + indented(mark + line for pair in fault.changes.items() for mark, line in zip(("- ", "+ "), pair))
+    report = rows_by_name[f"fault {number}, {fault.what}"]["report"].decode().splitlines()
+    yield indented(["$ ../../mw_bench certify board.toml /tmp/micro machine relation", *report])
+    yield f"| {number} | [{title.partition(' ')[2]}](#"
+    yield f") | `{DIFFERENCES[number]}` |\n"
+
+
+def walk_of(number, micro, rows_by_name):
+    """What the page has of a walk through a fault that is a file."""
+    row_read = rows_by_name[f"fault {number}, in the debugger"]
+    yield f"../../tools/environment board.toml {micro} machine relation /tmp/no > /tmp/env"
+    yield indented(["$ cat > /tmp/script <<'TEXT'", *row_read["files"]["d"].decode().splitlines(), "TEXT",
+                    f"$ ../../mw_bench debug board.toml {micro} /tmp/env /tmp/script",
+                    *row_read["report"].decode().splitlines()])
+
+
+def indented(lines):
+    return "".join(f"    {line}\n" for line in lines)
+
+
+def check_page():
+    page, found = PAGE.read_text(), {each["name"]: each for each in read(ROWS)}
+    blocks = [block for number, fault in faults().items() for block in blocks_of(number, fault, found)]
+    blocks += [*walk_of(5, "micro-jms", found), *walk_of(12, "micro-dca", found)]
+    blocks.append(indented(found["fault 5, in the debugger"]["files"]["e"].decode().splitlines()))
+    blocks.append(indented(found["fault 5, in the debugger on the right words"]["report"].decode().splitlines()[4:5]))
+    for block in blocks:
+        if block not in page:
+            sys.exit(f"{PAGE.relative_to(TOP)} lacks: {block}")
+    print("the page has what the rows have")
+
+
 def main():
     match sys.argv[1:]:
         case ["rows"]:
             print(rows(), end="")
+        case ["page"]:
+            check_page()
         case ["--check"]:
             check()
         case ["list", number]:
