@@ -1,7 +1,7 @@
 #!/usr/bin/env python3
-"""Writes the constants of mw_cases from the four texts of examples/pdp8: `pdp8_texts.rt` has those that `pdp8()` gives but
-for the microprogram, and `pdp8_micro.rt` this one, as it is and with each of the faults of specs/Faults.antt. Two of these
-are files of examples/pdp8, and are written too.
+"""Writes the constants of mw_cases from the four texts of examples/pdp8: `pdp8_texts.rt` has those that `pdp8()` gives
+but for the microprogram, and `pdp8_micro.rt` this one, as it is and with each of the faults of specs/Faults.antt. Two
+of these are files of examples/pdp8, and are written too.
 
     tools/pdp8_texts.py            writes the files
     tools/pdp8_texts.py --check    says whether they are as they would be written: status 1 if not
@@ -40,7 +40,8 @@ def constant(file, name, what):
 
 
 def texts():
-    return f"// The texts of examples/pdp8 but for the microprogram.\n// {WRITER}" + "".join(constant(*each) for each in TEXTS)
+    head = f"// The texts of examples/pdp8 but for the microprogram.\n// {WRITER}"
+    return head + "".join(constant(*each) for each in TEXTS)
 
 
 def pieces(micro, found):
@@ -58,7 +59,8 @@ def pieces(micro, found):
 
 def of_lines(name, what, lines):
     """The constant of the microprogram with these lines."""
-    return f"\n/// {what}.\npub const {name}: &str = micro!(\n" + ",\n".join(f'    "{line}"' for line in lines) + "\n);\n"
+    literals = ",\n".join(f'    "{line}"' for line in lines)
+    return f"\n/// {what}.\npub const {name}: &str = micro!(\n{literals}\n);\n"
 
 
 def micros():
@@ -89,7 +91,7 @@ def main():
         case ["--check"]:
             for path, written in files.items():
                 if not path.exists() or path.read_bytes() != written.encode():
-                    sys.exit(f"{path.relative_to(TOP)} is not what tools/pdp8_texts.py writes from examples/pdp8: run it")
+                    sys.exit(f"{path.relative_to(TOP)} is not what tools/pdp8_texts.py writes: run it")
         case _:
             sys.exit(__doc__)
 

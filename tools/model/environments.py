@@ -35,7 +35,7 @@ def environment(job, start):
 
 
 class Environment(Outside):
-    """A right environment without labels, read: where the board begins, and what is given of elements, memory and lists."""
+    """An environment without labels and faults: where the board begins, and what is given of elements, memory and lists."""
 
     def __init__(self, text):
         super().__init__({name: [] for name in LISTS})

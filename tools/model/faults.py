@@ -23,6 +23,7 @@ class Fault:
 
 def faults():
     """The faults by their numbers."""
-    found = {int(number): Fault(what, CHANGE.findall(body)) for number, what, _, body in FAULT.findall(DEFINED.read_text())}
+    defined = FAULT.findall(DEFINED.read_text())
+    found = {int(number): Fault(what, CHANGE.findall(body)) for number, what, _, body in defined}
     assert list(found) == list(range(1, 13)) and all(fault.changes for fault in found.values())
     return found

@@ -9,8 +9,8 @@ class OverBudget(Exception):
 
 
 class Nodes:
-    """Functions, each once: 0 is never, 1 always; the others have a variable, what is left where it is 0, and where it is
-    1."""
+    """Functions, each once: 0 is never, 1 always; the others have a variable, what is left where it is 0, and where it
+    is 1."""
 
     never, always = 0, 1
 
@@ -32,7 +32,8 @@ class Nodes:
         return self.parts[f][1 + value] if self.parts[f][0] == variable else f
 
     def chosen(self, f, g, h, found):
-        """What is g where f is 1, and else h. The joint cofactors that are met are put into `found`, with what each gives."""
+        """What is g where f is 1, and else h. The joint cofactors that are met are put into `found`, with what each
+        gives."""
         if f < 2 or g == h:
             return g if f else h
         triple = f, g, h

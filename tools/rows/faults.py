@@ -2,13 +2,13 @@
 """Prints rows of the twelve faults of the PDP-8, and tries them.
 
 model/faults.py has the faults, as crates/mw_cases/specs/Faults.antt states them. Which difference each shows is written
-here by hand, from what the board does with it. The whole report of `certify` is worked out by model/certified.py, from the
-word table and the term table; replays and traces by the models on numbers.
+here by hand, from what the board does with it. The whole report of `certify` is worked out by model/certified.py, from
+the word table and the term table; replays and traces by the models on numbers.
 
     faults.py rows             the rows of crates/mw_rows/data/faults
     faults.py --check          no row: each fault shows its difference from the start of its report, and the right
-                               microprogram none; and from random starts the board does what the fault says, and all else
-                               as before
+                               microprogram none; and from random starts the board does what the fault says, and all
+                               else as before
     faults.py page             no row: docs/manual/faults.md has the changes, the reports and the traces of the rows
     faults.py list NUMBER      the report of `certify` for a fault, and what its cases cost
 """
@@ -53,10 +53,12 @@ DIFFERENCES = {
 # Scripts of the debugger for some faults, from the starts of their reports.
 SCRIPTS = {
     5: ["watch b.r1             ; PC", "watch b.mar", "until JMS_D 21         ; mar is the effective address, 0000",
-        "step 1                 ; memory 0000 takes 0001", "step 1                 ; PC and mar take 0001", "show mem 0"],
+        "step 1                 ; memory 0000 takes 0001", "step 1                 ; PC and mar take 0001",
+        "show mem 0"],
     6: ["watch b.r3             ; SMA, and then the tests together", "watch b.r4             ; the other test",
-        "watch b.skip", "until OPR2 21", "step 1                 ; z is 1, as AC is 0", "step 1                 ; SMA",
-        "step 1                 ; SZA: 0000 where it holds", "show b.z", "until FETCH 21", "show b.r1              ; PC"],
+        "watch b.skip", "until OPR2 21", "step 1                 ; z is 1, as AC is 0",
+        "step 1                 ; SMA", "step 1                 ; SZA: 0000 where it holds", "show b.z",
+        "until FETCH 21", "show b.r1              ; PC"],
     12: ["watch b.r0             ; AC", "until DCA_D 21", "step 1                 ; memory takes AC, and AC becomes 0",
          "until FETCH 21"],
 }
@@ -152,8 +154,9 @@ def rows_of(found, what):
     micro = f"fault {found.number}"
     yield from row(f"fault {found.number}, {what}", "certify b m k r", micro, {}, 1, found.report)
     files = {"c": found.report}
-    yield from row(f"fault {found.number}, replayed", "replay b m k r c", micro, files, 1, ["differs step 1", *found.shown])
-    yield from row(f"fault {found.number}, replayed on the right words", "replay b m k r c", "right", files, 0, ["same 1"])
+    words, differs = "replay b m k r c", ["differs step 1", *found.shown]
+    yield from row(f"fault {found.number}, replayed", words, micro, files, 1, differs)
+    yield from row(f"fault {found.number}, replayed on the right words", words, "right", files, 0, ["same 1"])
     if found.number in SCRIPTS:
         given = list(environment(found.job, found.start))
         files = {"e": given, "d": SCRIPTS[found.number]}
@@ -264,7 +267,8 @@ def check_board(number, job):
             assert board is None
             continue
         found = board_values(job, board)
-        assert all(found[f"b.{name}"] == value for name, value in (kept(machine) | CONSTANTS).items() if name != "sp")
+        wanted = kept(machine) | CONSTANTS
+        assert all(found[f"b.{name}"] == value for name, value in wanted.items() if name != "sp")
         assert events == machine.events and board.sp == 0
         written = start.words | {at: word for at, word in machine.memory.items() if at in board.memory}
         assert board.memory == written
@@ -286,7 +290,8 @@ def check():
 def blocks_of(number, fault, rows_by_name):
     """What the page has of a fault, each an indented block or a part of one."""
     title = f"{number}. {fault.what[0].upper()}{fault.what[1:]}"
-    yield f"## {title}\n\n" + indented(mark + line for pair in fault.changes.items() for mark, line in zip(("- ", "+ "), pair))
+    changed = (mark + line for pair in fault.changes.items() for mark, line in zip(("- ", "+ "), pair))
+    yield f"## {title}\n\n" + indented(changed)
     report = rows_by_name[f"fault {number}, {fault.what}"]["report"].decode().splitlines()
     yield indented(["$ ../../mw_bench certify board.toml /tmp/micro machine relation", *report])
     yield f"| {number} | [{title.partition(' ')[2]}](#"

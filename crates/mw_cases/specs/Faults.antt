@@ -135,7 +135,8 @@ ended line = line ++ 10 ∷ []
 -- what stands in the place of a line of a text: what the first change of this line says, else the line itself
 abbrev pub line_instead : List Change → List ℕ → List ℕ
 line_instead [] line = line
-line_instead (change ∷ rest) line = if bytes_eq line (ended change.line) then ended change.instead else line_instead rest line
+line_instead (change ∷ rest) line =
+    if bytes_eq line (ended change.line) then ended change.instead else line_instead rest line
 
 -- a text with changes: each of its lines stays, or another stands in its place
 unfoldable pub with_changes : List Change → List ℕ → List ℕ

@@ -21,15 +21,15 @@ pub struct Texts {
 
 /// A PDP-8, after the PDP-8/E: the files of `examples/pdp8`, byte for byte.
 pub fn pdp8() -> Texts
-    ensures board { result.board.now ≡ BOARD.now }
-    ensures micro { result.micro.now ≡ MICRO.now }
-    ensures machine { result.machine.now ≡ MACHINE.now }
-    ensures relation { result.relation.now ≡ RELATION.now }
+    ensures board_is { result.board.now ≡ BOARD.now }
+    ensures micro_is { result.micro.now ≡ MICRO.now }
+    ensures machine_is { result.machine.now ≡ MACHINE.now }
+    ensures relation_is { result.relation.now ≡ RELATION.now }
     // No text is longer than what a reader takes.
-    ensures board_length { length result.board.now ≤ 1048576 }
-    ensures micro_length { length result.micro.now ≤ 1048576 }
-    ensures machine_length { length result.machine.now ≤ 1048576 }
-    ensures relation_length { length result.relation.now ≤ 1048576 }
+    ensures board { length result.board.now ≤ 1048576 }
+    ensures micro { length result.micro.now ≤ 1048576 }
+    ensures machine { length result.machine.now ≤ 1048576 }
+    ensures relation { length result.relation.now ≤ 1048576 }
 {
     Texts {
         board: pdp8_texts::BOARD,
