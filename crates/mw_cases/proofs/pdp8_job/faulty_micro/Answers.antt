@@ -1,4 +1,4 @@
-use Rattle.std.proofs.Common.{◌≡◌, ◌∙◌, ap, sym, ℕ}
+use Rattle.std.proofs.Common.{◌∙◌, ap, sym, ℕ}
 use Rattle.mw_cases.specs.declared.pdp8_micro.TheConstants.{MICRO}
 use Rattle.mw_cases.specs.Faults.{with_changes, changes_of, each_stands_once}
 use Rattle.mw_cases.proofs.Planted.{planted_1, planted_2, planted_3, planted_4, planted_5, planted_6}
