@@ -3,7 +3,8 @@
 The rows of the term table are stated anew, once for all kinds of functions: `Bits` makes the bits of the words of
 words.py, and counts. A table has a function's values: bit i of a number is its value under assignment i, whose highest
 bit is the first variable. Joint cofactors are counted by fixing variables in three tables, one after the other.
-rows/questions.py has functions of another kind, nodes, and compares what they cost with these tables; so keep them two.
+nodes.py has functions of another kind, and rows/questions.py compares what they cost with these tables; so keep them
+two.
 """
 from functools import cache
 from typing import NamedTuple

@@ -158,7 +158,8 @@ def board_state(job, values, sp, memory):
 
 
 def segment(job, start, state):
-    """The board at the next boundary and its events; no board where it is late."""
+    """The board at the next boundary and its events, from a state and with what a start or an environment gives from
+    outside; no board where it is late."""
     at, events, taken = start.boundary, [], 0
     for number in range(job.blocks[start.boundary][1]):
         given = start.entry("noise", number), start.entry("line", number), start.entry("inputs", taken)
@@ -179,10 +180,14 @@ def completed(job, start):
     return start.values | {name: valued(tree, sees)[1] for name, tree in job.blocks[start.boundary][3]}
 
 
-def difference(job, start):
-    """The first difference that a start shows; none where there is none."""
+def difference(job, start, environment=None):
+    """The first difference that a start shows; none where there is none. Where an environment is given the board runs in
+    it."""
     values = completed(job, start)
-    at, board, events = segment(job, start, board_state(job, values, job.blocks[start.boundary][2], start.words))
+    if environment:
+        at, board, events = segment(job, environment, environment.state(job))
+    else:
+        at, board, events = segment(job, start, board_state(job, values, job.blocks[start.boundary][2], start.words))
     if board is None:
         return "late"
     described = Described(job.machine, values, dict(start.words), start)
@@ -195,7 +200,7 @@ def difference(job, start):
     for name, tree in job.blocks[at][3]:
         if sees.elements[name][1] != valued(tree, sees)[1]:
             return f"element {name}"
-    for address in range(2**job.address):
+    for address in sorted({*board.memory, *described.over.memory}):
         if board.memory.get(address, 0) != described.over.memory.get(address, 0):
             return f"memory 0x{address:X}"
     return None

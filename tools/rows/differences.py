@@ -23,6 +23,7 @@ from files import file_lines, row_lines
 from model.cases import Case, Choice, decided, random_start, starts
 from model.comparison import LISTS, Start, board_state, completed, difference, segment
 from model.description import Described
+from model.environments import list_lines, memory_lines
 from model.words import IN_LISTS, CaseWords, Values
 from nodes import Boundary, has_twin
 
@@ -168,13 +169,7 @@ def counter(job, start):
     """A start as a report prints it."""
     lines = [f"boundary 0x{start.boundary:X}"]
     lines += [f"set {name} 0x{start.values[name]:X}" for name in job.widths if start.values.get(name)]
-    lines += [f"mem 0x{address:X} 0x{word:X}" for address, word in sorted(start.words.items()) if word]
-    for name in LISTS:
-        entries = list(start.lists.get(name, []))
-        while entries and entries[-1] == 0:
-            entries.pop()
-        for at in range(0, len(entries), 16):
-            lines.append(" ".join([name, *(f"0x{each:X}" for each in entries[at:at + 16])]))
+    lines += [*memory_lines(start.words), *list_lines(start.lists)]
     return "".join(f"{line}\n" for line in lines)
 
 

@@ -2,7 +2,7 @@
 """Answers questions, to print the rows of `equal` and to see that they are right.
 
 It states anew the format of questions; expressions are those of model/expression.py, the list of their words that of
-model/words.py, and the operations of the words' bits those of model/cofactors.py. Functions are nodes of its own. Questions
+model/words.py, and the operations of the words' bits those of model/cofactors.py. Functions are those of model/nodes.py. Questions
 of few bits are answered a second time by trying all values, and their operations counted a second time on the truth tables
 of model/cofactors.py: so nodes and tables are two, and have to stay so.
 
@@ -20,6 +20,7 @@ from machines import many
 from model.cofactors import Bits, Tables
 from model.expression import Over, Reader, judged, valued
 from model.lines import Refused, lines_of
+from model.nodes import Nodes, OverBudget
 from model.words import Nodes as Expressions
 from model.words import Words
 
@@ -114,65 +115,6 @@ def worked(words, last, functions):
     return bits
 
 
-# ---- functions
-
-
-class OverBudget(Exception):
-    """An operation has more joint cofactors than the budget."""
-
-
-class Nodes:
-    """Functions, each once: 0 is never, 1 always; the others have a variable, what is left where it is 0, and where it is
-    1."""
-
-    never, always = 0, 1
-
-    def __init__(self, most):
-        self.most, self.parts, self.numbers = most, [((32, 0), 0, 0), ((32, 0), 1, 1)], {}
-
-    def node(self, variable, low, high):
-        if low == high:
-            return low
-        number = self.numbers.setdefault((variable, low, high), len(self.parts))
-        if number == len(self.parts):
-            self.parts.append((variable, low, high))
-        return number
-
-    def variable(self, variable):
-        return self.node(variable, 0, 1)
-
-    def fixed(self, f, variable, value):
-        return self.parts[f][1 + value] if self.parts[f][0] == variable else f
-
-    def chosen(self, f, g, h, found):
-        """What is g where f is 1, and else h. The joint cofactors that are met are put into `found`, with what each gives."""
-        if f < 2 or g == h:
-            return g if f else h
-        triple = f, g, h
-        if triple not in found:
-            variable = min(self.parts[part][0] for part in triple)
-            halves = [self.chosen(*(self.fixed(part, variable, value) for part in triple), found) for value in (0, 1)]
-            found[triple] = self.node(variable, *halves)
-            if len(found) > self.most:
-                raise OverBudget
-        return found[triple]
-
-    def made(self, f, g, h):
-        """The function, and how many joint cofactors its operation has."""
-        found = {}
-        return self.chosen(f, g, h, found), len(found)
-
-    def first_not(self, f):
-        """The bits that are 1 in the first assignment under which a function doesn't hold."""
-        ones = []
-        while f:
-            variable, low, high = self.parts[f]
-            if low == 1:
-                ones.append(variable)
-            f = high if low == 1 else low
-        return ones
-
-
 # ---- answers
 
 
@@ -210,7 +152,7 @@ def answer(text, nodes=BUDGET):
         equal = bits.of(last)[0]
     except OverBudget:
         return "unknown word {} bit {}\n".format(*bits.at)
-    report = "yes\n" if equal == 1 else differing(question, functions.first_not(equal))
+    report = "yes\n" if equal == 1 else differing(question, functions.first(equal, 0))
     variables = question.variables()
     if len(variables) <= FEW:
         assert report == tried(question)

@@ -3,6 +3,7 @@ pub mod Chosen
 pub mod Counts
 pub mod OnLiterals
 pub mod Packed
+pub mod Planted
 pub mod Pushed
 pub mod Standing
 pub mod Stated

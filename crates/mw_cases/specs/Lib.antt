@@ -1,5 +1,6 @@
 pub mod Board
 pub mod Described
+pub mod Faults
 pub mod Generated
 pub mod Laws
 pub mod Operations
