@@ -33,19 +33,21 @@ abbrev pub Adds : (old new : List Slot) → Triple → ℕ → Type 0
 Adds old new own made = (t : Triple) (value : ℕ) → IsKept new t value
     → IsNone t value ⊎ (((t ≡ own) × (value ≡ made)) ⊎ IsKept old t value)
 
--- each result that is kept is one
+-- a value is the result of an operation
 pub record IsMade (nodes : List Node) (t : Triple) (value : ℕ) : Type 0 where
   pub there : AreDds nodes t
   pub is : IsResult nodes t value
 
+-- each result that is kept is one
 abbrev pub AreMade : List Node → List Slot → Type 0
 AreMade nodes slots = (t : Triple) (value : ℕ) → IsKept slots t value → IsMade nodes t value
 
--- each count that is kept is one that the joint cofactors don't pass
+-- a count is one that the joint cofactors of an operation don't pass
 pub record IsCount (nodes : List Node) (t : Triple) (n : ℕ) : Type 0 where
   pub there : AreDds nodes t
   pub is : HasAtMostCofactors (meaning nodes t) n
 
+-- each count that is kept is one
 abbrev pub AreCounts : List Node → List Slot → Type 0
 AreCounts nodes slots = (t : Triple) (n : ℕ) → IsKept slots t n → IsCount nodes t n
 
