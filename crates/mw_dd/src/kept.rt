@@ -39,7 +39,7 @@ impl Slot {
 }
 
 /// How many slots there are at first: a power of two, as they always are.
-const FIRST_SLOTS: usize = 1024;
+const FIRST_SLOTS: usize = 256;
 
 /// Values of operations, seen as the list of their slots. An operation has one slot, by its hash, and what is put there
 /// takes the place of what was there: so one look finds a value or none, and values may be lost.
