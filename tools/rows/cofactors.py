@@ -10,6 +10,7 @@ Functions are tables of model/cofactors.py, which counts joint cofactors and kno
 import random
 import sys
 from itertools import product
+from math import prod
 
 import tools_path
 from files import read_anew, text_lines
@@ -17,10 +18,13 @@ from model.cofactors import Tables
 
 COFACTORS = """\
 # Functions of three variables made in two ways, sums of words of eight bits, and the budgets with which operations are
-# made: all 4,096 on three functions of two variables, and a thousand on three functions of three. tools/rows/cofactors.py
-# prints these rows, and works out the answers from truth tables, without the crates.
+# made: all 4,096 on three functions of two variables, and a thousand on three functions of three; and some with budgets up
+# to the product of the cofactors of their functions. tools/rows/cofactors.py prints these rows, and works out the answers
+# from truth tables, without the crates.
 """
 DIGITS = {"0", "1"}
+# The greatest budget that a line can name.
+MOST_BUDGET = 255
 
 
 def variables_of(tokens):
@@ -50,6 +54,14 @@ class LineTables(Tables):
         if "." in token:
             return self.column(self.variables.index(tuple(map(int, token.split(".")))))
         return self.of_digits(token)
+
+    def below(self, table):
+        """How many functions are left of one where variables are fixed in turn, the constants with them."""
+        left = found = {table}
+        for place in range(self.count):
+            left = {self.fixed(each, place, value) for each in left for value in (0, 1)}
+            found = found | left
+        return len(found)
 
     def first(self, table):
         """The numbers of words 0 to 3 under the first assignment where a function holds."""
@@ -168,11 +180,24 @@ def budget_rows():
         yield row(f"operations on functions of three variables, hundred {number + 1}", lines)
 
 
+def product_rows():
+    """Budgets up to the product of what is left of each function, which an operation can't pass."""
+    draw, three, tables = random.Random(5), tables_of(3), LineTables([(0, word) for word in range(3)])
+    for number in range(4):
+        lines = []
+        while len(lines) < 25:
+            digits = draw.choices(three, k=3)
+            most = prod(tables.below(tables.of_digits(each)) for each in digits)
+            if most <= MOST_BUDGET:
+                lines += [f"budgets {tried} " + " ".join(digits) for tried in (most, most - 1)]
+        yield row(f"operations up to the product of their functions' cofactors, {number + 1}", lines)
+
+
 def main():
     match sys.argv[1:]:
         case ["cofactors"]:
             print(COFACTORS)
-            for lines in [*function_rows(), *sum_rows(), *budget_rows()]:
+            for lines in [*function_rows(), *sum_rows(), *budget_rows(), *product_rows()]:
                 print("\n".join(lines) + "\n")
         case ["check", *paths]:
             sys.exit(read_anew(paths, report_of))

@@ -429,7 +429,7 @@ module _ (nodes : List Node) (triples : List Triple) where
       (λ q any. let found = found_at us all.0 q all.1 any in slice_get_within triples q found.1 found.3) in
       omega (arith, most, all.2, few)
 
-most-same : (t u : functions.Triple) (n : ℕ) → AreSame t u → HasAtMostCofactors t n → HasAtMostCofactors u n
+pub most-same : (t u : functions.Triple) (n : ℕ) → AreSame t u → HasAtMostCofactors t n → HasAtMostCofactors u n
 most-same t u n same most us are =
     most us (record {
       each = λ i d below. cofactor-same u t _ (same_back t u same) (are.each i d below);

@@ -10,3 +10,6 @@ pub mod Memos
 pub mod Public
 pub mod Walks
 pub mod Somewhere
+pub mod Below
+pub mod Products
+pub mod Keeping

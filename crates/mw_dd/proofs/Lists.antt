@@ -1,6 +1,8 @@
 -- Places of a list that is one longer.
 use Rattle.std.proofs.Common.{◌≡◌, ◌⊎◌, inl, inr, ℕ, zero, suc, List, [], ◌∷◌, ◌++◌, length, set, refl, ap, arith, ◌<◌}
+use Rattle.std.proofs.Common.{get_or, sym, ◌∙◌}
 use Rattle.std.specs.Prelude.{slice_get, Some}
+use Rattle.std.proofs.lemmas.Option.{slice_get_cases, get_or_from_slice_get}
 
 -- a place of a longer list is an old one or the last
 pub get-push : {A : Type 0} (xs : List A) (x : A) (k : ℕ) (y : A) → slice_get (xs ++ x ∷ []) k ≡ Some y
@@ -35,3 +37,11 @@ get-set_other (z ∷ zs) zero zero y h = absurd (h refl)
 get-set_other (z ∷ zs) zero (suc j) y h = refl
 get-set_other (z ∷ zs) (suc k) zero y h = refl
 get-set_other (z ∷ zs) (suc k) (suc j) y h = get-set_other zs k j y (λ e. h (ap suc e))
+
+-- what an index of a list reads stands there
+pub at-index : {A : Type 0} (xs : List A) (i : ℕ) (x : A) → i < length xs → x ≡ get_or xs i x
+    → slice_get xs i ≡ Some x
+at-index xs i x within is = elim (slice_get_cases xs i).1 [
+  | inl found ↦ found.2 ∙ ap Some (sym (get_or_from_slice_get xs i found.0 x found.2) ∙ sym is)
+  | inr past ↦ absurd (omega (arith, past.0, within))
+]

@@ -15,6 +15,10 @@ pub on_ok_both : {T E : Type 0} (r : Result T E) (P Q R : Type 0) → (P → Q �
 on_ok_both (Ok x) P Q R f p q = f p q
 on_ok_both (Err e) P Q R f p q = tt
 
+pub on_ok_from : {T E : Type 0} (r : Result T E) (P Q : Type 0) → (P → Q) → OnOk r P → OnOk r Q
+on_ok_from (Ok x) P Q f p = f p
+on_ok_from (Err e) P Q f p = tt
+
 pub reduced_none : IsReduced []
 reduced_none = record { inner = λ k n at. absurd (cc); once = λ j k n at of. absurd (cc) }
 

@@ -1,5 +1,7 @@
+pub mod Bounds
 pub mod Diagrams
 pub mod Hash
+pub mod Kept
 pub mod Links
 pub mod Memos
 pub mod Nodes

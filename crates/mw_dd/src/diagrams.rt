@@ -9,11 +9,13 @@ ghost use Rattle.mw_term.specs.Functions.{never, made};
 ghost use Rattle.mw_dd.specs.Nodes.{IsDd, function_of, IsReduced};
 ghost use Rattle.mw_dd.specs.Diagrams.{IsCanonical, Keeps, functions_of, IsFirst};
 
+use crate::bounds::Bounds;
 use crate::dd::{Dd, DdFault};
 use crate::first::first_assignment;
-use crate::ite::choose;
+use crate::kept::Kept;
 use crate::memo::Memo;
 use crate::nodes::{Node, Triple, make};
+use crate::operate::operate;
 use crate::table::Table;
 use crate::variable::Variable;
 use mw_base::NoMemory;
@@ -27,18 +29,21 @@ use std::marker::Model;
 pub struct Diagrams {
     nodes: Table<Node>,
     memo: Memo,
+    results: Kept,
+    counts: Kept,
+    bounds: Bounds,
 }
 
 impl Model for Diagrams {
     ghost use Rattle.std.specs.Prelude.{List};
     ghost use Rattle.mw_dd.specs.declared.nodes.Node as node;
-    ghost use Rattle.mw_dd.specs.Nodes.{IsReduced};
+    ghost use Rattle.mw_dd.specs.Kept.{AreRight};
 
     ghost Value = { List node.Node };
 
     ghost view = { λ d. d.nodes };
 
-    ghost invariant = { λ d. IsReduced d.nodes };
+    ghost invariant = { λ d. AreRight d.nodes d.results d.counts d.bounds };
 }
 
 impl Diagrams {
@@ -53,6 +58,9 @@ impl Diagrams {
         Ok(Diagrams {
             nodes: Table::new(alloc)?,
             memo: Memo::new(alloc)?,
+            results: Kept::new(alloc)?,
+            counts: Kept::new(alloc)?,
+            bounds: Bounds::new(alloc),
         })
     }
 
@@ -107,11 +115,12 @@ impl Diagrams {
         ensures keeps { Keeps self.old self.new }
         ensures canonical { IsCanonical self.new }
     {
-        // The budget counts what this call meets, and nothing of earlier ones.
-        self.memo.clear();
-        choose(
+        operate(
             &mut self.nodes,
             &mut self.memo,
+            &mut self.results,
+            &mut self.counts,
+            &mut self.bounds,
             alloc,
             Triple { f, g, h },
             budget,

@@ -4,16 +4,19 @@ ghost use Rattle.mw_term.specs.Cofactors.{HasMoreCofactors};
 ghost use Rattle.mw_dd.specs.declared.nodes.Triple as declared;
 ghost use Rattle.mw_dd.specs.Nodes.{IsReduced};
 ghost use Rattle.mw_dd.specs.Steps.{Grows, AreDds, IsResult, IsEnd, IsLeft, AreAmong, ends, size, meaning};
+ghost use Rattle.mw_dd.specs.Kept.{AreMade};
 ghost use Rattle.mw_dd.specs.Memos.{AreKeys, AreSettled, Settles, AreLeft};
 
 use crate::dd::{Dd, DdFault};
+use crate::kept::Kept;
 use crate::memo::Memo;
 use crate::nodes::{Node, Triple, make, side, top};
 use crate::table::Table;
+use mw_base::NoMemory;
 use std::alloc::Global;
 
 /// The result of an operation in which nothing is left to choose by, or to choose from.
-fn end(t: Triple) -> Option<Dd>
+pub(crate) fn end(t: Triple) -> Option<Dd>
     ensures some { IfSome result (λ r. IsEnd t r) }
     ensures none { result ≡ None → ends t ≡ false }
 {
@@ -84,5 +87,50 @@ pub(crate) fn choose(
         },
     )?;
     memo.end(place, made);
+    Ok(made)
+}
+
+/// The same where nothing has to be counted, so that results of earlier operations serve.
+pub(crate) fn choose_freely(
+    nodes: &mut Table<Node>,
+    results: &mut Kept,
+    alloc: Global,
+    t: Triple,
+) -> Result<Dd, NoMemory>
+    requires reduced { IsReduced nodes.old }
+    requires there { AreDds nodes.old t }
+    requires made { AreMade nodes.old results.old }
+    ensures reduced { IsReduced nodes.new }
+    ensures grows { Grows nodes.old nodes.new }
+    ensures made { AreMade nodes.new results.new }
+    ensures value { IfOk result (λ r. IsResult nodes.new t r) }
+{
+    if let Some(result) = end(t) {
+        return Ok(result);
+    }
+    if let Some(result) = results.get(&t) {
+        return Ok(Dd::at(result));
+    }
+    let variable = top(nodes, t);
+    let at_low = side(nodes, t, variable, false);
+    let at_high = side(nodes, t, variable, true);
+    let low = match choose_freely(nodes, results, alloc, at_low) {
+        Ok(low) => low,
+        Err(e) => return Err(e),
+    };
+    let high = match choose_freely(nodes, results, alloc, at_high) {
+        Ok(high) => high,
+        Err(e) => return Err(e),
+    };
+    let made = make(
+        nodes,
+        alloc,
+        Node {
+            variable,
+            low,
+            high,
+        },
+    )?;
+    results.keep(alloc, t, made.position(), nodes.len())?;
     Ok(made)
 }

@@ -1,13 +1,16 @@
 //! Binary decision diagrams, ordered and reduced: equal functions have equal nodes.
 #![tactic(auto)]
 
+mod bounds;
 mod dd;
 mod diagrams;
 mod first;
 mod hash;
 mod ite;
+mod kept;
 mod memo;
 mod nodes;
+mod operate;
 mod table;
 mod variable;
 

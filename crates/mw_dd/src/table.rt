@@ -57,7 +57,7 @@ impl<K: Key> Model for Table<K> {
 }
 
 /// The bucket of a hash, among so many.
-fn bucket(hash: u32, count: usize) -> usize
+pub(crate) fn bucket(hash: u32, count: usize) -> usize
     requires { 0 < count }
     ensures exact { result ≡ bucket_of hash count }
     ensures below { result < count }

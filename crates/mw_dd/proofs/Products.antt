@@ -1,0 +1,204 @@
+-- The joint cofactors of three nodes are at most as many as the nodes below each, multiplied.
+use Rattle.std.proofs.Common.{◌≡◌, ℕ, zero, suc, ◌+◌, ◌*◌, ◌<◌, List, [], ◌∷◌, ◌++◌, length, arith}
+use Rattle.std.proofs.Common.{refl, ap, sym, subst, ◌∙◌}
+use Rattle.std.specs.Prelude.{Bool, true, false, slice_get, Some}
+use Rattle.std.proofs.Math.Nat.{suc-mul, zero-mul}
+use Rattle.std.proofs.lemmas.List.{length-append}
+use Rattle.std.proofs.lemmas.Nat.{mul-le}
+use Rattle.mw_term.specs.Assigned.{Given}
+use Rattle.mw_term.specs.Cofactors.{Variable, value_of, is_before, with_fixed, HasAtMostCofactors}
+use Rattle.mw_dd.specs.declared.nodes.Node.{Node}
+use Rattle.mw_dd.specs.declared.nodes.Triple.{Triple}
+use Rattle.mw_dd.specs.Bounds.{Has, AreBelow, IsBound, IsFew}
+use Rattle.mw_dd.specs.Nodes.{value_at, IsDd, IsFrom, IsReduced}
+use Rattle.mw_dd.specs.Steps.{AreAmong, meaning}
+use Rattle.mw_dd.proofs.Cofactors.{at_most}
+use Rattle.mw_dd.proofs.From.{NodeCase, is_false, is_true, is_node, place_of, from_node, same_fixed, fixed_before}
+use Rattle.mw_dd.proofs.Values.{value-zero, value-one, value-high, value-low}
+
+-- ---- what is left of a node is a node below it
+
+module _ (nodes : List Node) (r : IsReduced nodes) (whole : ℕ) (found : List ℕ) (below : AreBelow nodes whole found)
+    (place : Variable) (fixed : Given) where
+  abbrev LeavesOne : ℕ → Type 0
+  LeavesOne x = (y : ℕ) × Has found y × IsDd nodes y
+      × ((given : Given) → value_at (with_fixed place fixed given) nodes x ≡ value_at given nodes y)
+
+  node_case : (bound x k : ℕ) (n : Node) → x < suc bound → (has : Has found x) → x ≡ k + 2 → slice_get nodes k ≡ Some n
+      → ((y : ℕ) → y < bound → Has found y → LeavesOne y) → (before value : Bool)
+      → is_before n.variable place ≡ before → value_of n.variable fixed ≡ value → LeavesOne x
+  node_case bound x k n h has e at ih false value later is =
+      let there = below.there has.0 x has.1 in
+      let from : IsFrom nodes place x = subst (IsFrom nodes place) (sym e) (from_node nodes place k n at later) in
+      (x, has, there, λ given. same_fixed nodes r place fixed given x there from)
+  node_case bound x k n h has e at ih true true before is =
+      let own = r.inner k n at in
+      let both = below.branches has.0 x has.1 k n e at in
+      let one = ih n.high (omega (arith, own.high, e, h)) both.1 in (
+        one.0,
+        one.1,
+        one.2,
+        λ given. ap (value_at (with_fixed place fixed given) nodes) e
+            ∙ value-high (with_fixed place fixed given) nodes k n at own.low own.high
+            (fixed_before place n.variable fixed given before ∙ is) ∙ one.3 given,
+      )
+  node_case bound x k n h has e at ih true false before is =
+      let own = r.inner k n at in
+      let both = below.branches has.0 x has.1 k n e at in
+      let one = ih n.low (omega (arith, own.low, e, h)) both.0 in (
+        one.0,
+        one.1,
+        one.2,
+        λ given. ap (value_at (with_fixed place fixed given) nodes) e
+            ∙ value-low (with_fixed place fixed given) nodes k n at own.low own.high
+            (fixed_before place n.variable fixed given before ∙ is) ∙ one.3 given,
+      )
+
+  each_case : (bound x : ℕ) → x < suc bound → (has : Has found x)
+      → ((y : ℕ) → y < bound → Has found y → LeavesOne y) → NodeCase nodes x → LeavesOne x
+  each_case bound x h has ih (is_false e) = (
+    x,
+    has,
+    below.there has.0 x has.1,
+    λ given. rw e (value-zero (with_fixed place fixed given) nodes ∙ sym (value-zero given nodes)),
+  )
+  each_case bound x h has ih (is_true e) = (
+    x,
+    has,
+    below.there has.0 x has.1,
+    λ given. rw e (value-one (with_fixed place fixed given) nodes ∙ sym (value-one given nodes)),
+  )
+  each_case bound x h has ih (is_node k n e at) =
+      node_case bound x k n h has e at ih (is_before n.variable place) (value_of n.variable fixed) refl refl
+
+  leaves : (bound x : ℕ) → x < bound → Has found x → LeavesOne x
+  leaves zero x h has = absurd (omega (arith, h))
+  leaves (suc bound) x h has =
+      each_case bound x h has (leaves bound) (place_of nodes x (below.there has.0 x has.1))
+
+  leaves_one : LeavesOne whole
+  leaves_one = leaves (suc whole) whole (omega arith) below.itself
+
+-- ---- all triples of three lists
+
+abbrev triple : (x y z : ℕ) → Triple
+triple x y z = record { f = x; g = y; h = z }
+
+abbrev HasTriple : List Triple → Triple → Type 0
+HasTriple triples t = (i : ℕ) × (slice_get triples i ≡ Some t)
+
+abbrev row : (x y : ℕ) → List ℕ → List Triple
+row x y [] = []
+row x y (z ∷ zs) = triple x y z ∷ row x y zs
+
+abbrev plane : (x : ℕ) → (ys zs : List ℕ) → List Triple
+plane x [] zs = []
+plane x (y ∷ ys) zs = row x y zs ++ plane x ys zs
+
+abbrev box : (xs ys zs : List ℕ) → List Triple
+box [] ys zs = []
+box (x ∷ xs) ys zs = plane x ys zs ++ box xs ys zs
+
+length-row : (x y : ℕ) (zs : List ℕ) → length (row x y zs) ≡ length zs
+length-row x y [] = refl
+length-row x y (z ∷ zs) = ap suc (length-row x y zs)
+
+length-plane : (x : ℕ) (ys zs : List ℕ) → length (plane x ys zs) ≡ length ys * length zs
+length-plane x [] zs = sym (zero-mul (length zs))
+length-plane x (y ∷ ys) zs =
+    omega (
+      arith,
+      length-append (row x y zs) (plane x ys zs),
+      length-row x y zs,
+      length-plane x ys zs,
+      suc-mul (length ys) (length zs),
+    )
+
+length-box : (xs ys zs : List ℕ) → length (box xs ys zs) ≡ length xs * (length ys * length zs)
+length-box [] ys zs = sym (zero-mul (length ys * length zs))
+length-box (x ∷ xs) ys zs =
+    omega (
+      arith,
+      length-append (plane x ys zs) (box xs ys zs),
+      length-plane x ys zs,
+      length-box xs ys zs,
+      suc-mul (length xs) (length ys * length zs),
+    )
+
+nothing : (t : Triple) (i : ℕ) → slice_get {X = Triple} [] i ≡ Some t → ⊥
+nothing t i at = cc
+
+no_number : (n i : ℕ) → slice_get {X = ℕ} [] i ≡ Some n → ⊥
+no_number n i at = cc
+
+some_number : (n m : ℕ) → Some n ≡ Some m → n ≡ m
+some_number n m e = cc
+
+in-left : (first second : List Triple) (t : Triple) (i : ℕ) → slice_get first i ≡ Some t
+    → HasTriple (first ++ second) t
+in-left [] second t i at = absurd (nothing t i at)
+in-left (u ∷ first) second t zero at = (0, at)
+in-left (u ∷ first) second t (suc i) at = let rest = in-left first second t i at in (suc rest.0, rest.1)
+
+in-right : (first second : List Triple) (t : Triple) → HasTriple second t → HasTriple (first ++ second) t
+in-right [] second t has = has
+in-right (u ∷ first) second t has = let rest = in-right first second t has in (suc rest.0, rest.1)
+
+row-has : (x y z : ℕ) (zs : List ℕ) (i : ℕ) → slice_get zs i ≡ Some z → HasTriple (row x y zs) (triple x y z)
+row-has x y z [] i at = absurd (no_number z i at)
+row-has x y z (w ∷ zs) zero at = (0, ap (λ (v : ℕ). Some (triple x y v)) (some_number w z at))
+row-has x y z (w ∷ zs) (suc i) at = let rest = row-has x y z zs i at in (suc rest.0, rest.1)
+
+plane-has : (x y z : ℕ) (ys zs : List ℕ) (i : ℕ) → slice_get ys i ≡ Some y → Has zs z
+    → HasTriple (plane x ys zs) (triple x y z)
+plane-has x y z [] zs i at has = absurd (no_number y i at)
+plane-has x y z (w ∷ ys) zs zero at has =
+    let own = row-has x y z zs has.0 has.1 in
+    subst (λ (v : ℕ). HasTriple (row x v zs ++ plane x ys zs) (triple x y z)) (sym (some_number w y at))
+    (in-left (row x y zs) (plane x ys zs) (triple x y z) own.0 own.1)
+plane-has x y z (w ∷ ys) zs (suc i) at has =
+    in-right (row x w zs) (plane x ys zs) (triple x y z) (plane-has x y z ys zs i at has)
+
+box-has : (x y z : ℕ) (xs ys zs : List ℕ) (i : ℕ) → slice_get xs i ≡ Some x → Has ys y → Has zs z
+    → HasTriple (box xs ys zs) (triple x y z)
+box-has x y z [] ys zs i at ready has = absurd (no_number x i at)
+box-has x y z (w ∷ xs) ys zs zero at ready has =
+    let own = plane-has x y z ys zs ready.0 ready.1 has in
+    subst (λ (v : ℕ). HasTriple (plane v ys zs ++ box xs ys zs) (triple x y z)) (sym (some_number w x at))
+    (in-left (plane x ys zs) (box xs ys zs) (triple x y z) own.0 own.1)
+box-has x y z (w ∷ xs) ys zs (suc i) at ready has =
+    in-right (plane w ys zs) (box xs ys zs) (triple x y z) (box-has x y z xs ys zs i at ready has)
+
+-- ---- the bound
+
+module _ (nodes : List Node) (r : IsReduced nodes) (t : Triple) (xs ys zs : List ℕ) (f : AreBelow nodes t.f xs)
+    (g : AreBelow nodes t.g ys) (h : AreBelow nodes t.h zs) where
+  all_among : AreAmong nodes (box xs ys zs) t
+  all_among u is =
+      let x = leaves_one nodes r t.f xs f is.place is.fixed in
+      let y = leaves_one nodes r t.g ys g is.place is.fixed in
+      let z = leaves_one nodes r t.h zs h is.place is.fixed in
+      let at = box-has x.0 y.0 z.0 xs ys zs x.1.0 x.1.1 y.1 z.1 in (
+        at.0,
+        triple x.0 y.0 z.0,
+        at.1,
+        record { f = x.2; g = y.2; h = z.2 },
+        record {
+          f = λ given. is.left.f given ∙ x.3 given;
+          g = λ given. is.left.g given ∙ y.3 given;
+          h = λ given. is.left.h given ∙ z.3 given;
+        },
+      )
+
+-- the joint cofactors are at most as many as the product of three bounds
+pub product-bound : (nodes : List Node) → IsReduced nodes → (t : Triple) (f g h budget : ℕ) → IsBound nodes t.f f
+    → IsBound nodes t.g g → IsBound nodes t.h h → IsFew f g h budget → HasAtMostCofactors (meaning nodes t) budget
+product-bound nodes r t f g h budget of_f of_g of_h few =
+    let one = of_f few.of_f.0 few.of_f.1 in
+    let two = of_g few.of_g.0 few.of_g.1 in
+    let three = of_h few.of_h.0 few.of_h.1 in
+    let inner = mul-le (length two.0) (length three.0) g h two.1 three.1 in
+    let outer = mul-le (length one.0) (length two.0 * length three.0) f (g * h) one.1 inner in
+    at_most nodes (box one.0 two.0 three.0) t budget
+    (all_among nodes r t one.0 two.0 three.0 one.2 two.2 three.2)
+    (omega (arith, length-box one.0 two.0 three.0, outer, few.few))

@@ -1,0 +1,263 @@
+// How many cofactors functions have at most.
+ghost use Rattle.std.specs.Prelude.{◌≡◌, ◌⊎◌, ◌+◌, [], ◌<◌, ◌≤◌, ◌*◌, ◌^◌, ℕ, List, length, true};
+ghost use Rattle.std.specs.Prelude.{slice_get, Some, IfOk, IfSome, OnOk};
+ghost use Rattle.mw_term.specs.Cofactors.{HasAtMostCofactors};
+ghost use Rattle.mw_dd.specs.declared.nodes.Node as node;
+ghost use Rattle.mw_dd.specs.Nodes.{IsDd, IsReduced};
+ghost use Rattle.mw_dd.specs.Steps.{AreDds, meaning};
+ghost use Rattle.mw_dd.specs.Kept.{IsKept, AreCounts};
+ghost use Rattle.mw_dd.specs.Bounds.{Has, IsNoted, IsWalked, HasNodes, IsBound, AreBounds, IsFew};
+
+use crate::dd::Dd;
+use crate::kept::Kept;
+use crate::nodes::{Node, Triple, inner};
+use crate::table::Table;
+use mw_base::NoMemory;
+use std::alloc::Global;
+use std::marker::Model;
+
+/// The most nodes of a function that are counted: a power of two, so that the time for it is small beside that of what
+/// made the function.
+const MOST: usize = 8192;
+
+/// In place of how many nodes a function has: more than are counted.
+const MANY: u32 = 0xffff_ffff;
+
+/// Whether a node was found, by the place at which it would be.
+fn is_found(found: &[Dd], places: &[u32], x: Dd) -> bool
+    ensures { result ≡ true → Has found.now x }
+{
+    let at = x.position() as usize;
+    if at >= places.len() {
+        return false;
+    }
+    let place = places[at] as usize;
+    if place >= found.len() {
+        return false;
+    }
+    found[place] == x
+}
+
+/// Puts a node behind those that were found, unless it is among them.
+fn note(found: &mut Vec<Dd>, places: &mut [u32], x: Dd) -> Result<(), NoMemory>
+    requires { length found.old.items < 2 ^ 32 }
+    ensures noted { OnOk result (IsNoted found.old.items found.new.items x) }
+    ensures few { OnOk result (length found.new.items ≤ length found.old.items + 1) }
+{
+    if is_found(found, places, x) {
+        return Ok(());
+    }
+    let at = x.position() as usize;
+    if at < places.len() {
+        places[at] = found.len() as u32;
+    }
+    found.push(x)?;
+    Ok(())
+}
+
+/// Puts the branches of a node behind those that were found.
+fn note_branches(
+    nodes: &Table<Node>,
+    found: &mut Vec<Dd>,
+    places: &mut [u32],
+    x: Dd,
+) -> Result<(), NoMemory>
+    requires reduced { IsReduced nodes.now }
+    requires there { IsDd nodes.now x }
+    requires few { length found.old.items < 2 ^ 31 }
+    ensures { OnOk result (IsWalked nodes.now found.old.items found.new.items x) }
+{
+    if x.position() < 2 {
+        return Ok(());
+    }
+    let node = inner(nodes, x);
+    note(found, places, node.low)?;
+    note(found, places, node.high)
+}
+
+/// How many nodes there are below one, with it and the constants.
+fn walk(
+    nodes: &Table<Node>,
+    found: &mut Vec<Dd>,
+    places: &mut [u32],
+    x: Dd,
+) -> Result<Option<u32>, NoMemory>
+    requires reduced { IsReduced nodes.now }
+    requires there { IsDd nodes.now x }
+    ensures { IfOk result (λ o. IfSome o (HasNodes nodes.now x)) }
+{
+    found.clear();
+    note(found, places, x)?;
+    for at in 0..=MOST {
+        let count = found.len();
+        if at >= count {
+            return Ok(Some(count as u32));
+        }
+        if count > MOST {
+            return Ok(None);
+        }
+        let y = found[at];
+        note_branches(nodes, found, places, y)?;
+    }
+    Ok(None)
+}
+
+/// How many cofactors functions have at most, seen as the list of what is known of each node: 0 where it was never asked
+/// for.
+#[derive(Drop)]
+pub(crate) struct Bounds {
+    counts: Vec<u32>,
+    found: Vec<Dd>,
+    places: Vec<u32>,
+}
+
+impl Model for Bounds {
+    ghost use Rattle.std.specs.Prelude.{List, ℕ};
+
+    ghost Value = { List ℕ };
+
+    ghost view = { λ b. b.counts.items };
+}
+
+/// Whether three bounds are known, and their product is within a budget.
+fn are_few(f: u32, g: u32, h: u32, budget: u32) -> bool
+    ensures { result ≡ true → IsFew f g h budget }
+{
+    if f == 0 || g == 0 || h == 0 || f == MANY || g == MANY || h == MANY {
+        return false;
+    }
+    let pairs = u64::from(g).saturating_mul(u64::from(h));
+    u64::from(f).saturating_mul(pairs) <= u64::from(budget)
+}
+
+impl Bounds {
+    /// No bounds.
+    pub(crate) fn new(alloc: Global) -> Bounds
+        ensures { result ≡ [] }
+    {
+        Bounds {
+            counts: Vec::new(alloc),
+            found: Vec::new(alloc),
+            places: Vec::new(alloc),
+        }
+    }
+
+    /// What is known of a node.
+    fn known(&self, x: Dd) -> u32
+        ensures { result ≡ 0 ⊎ (slice_get self.now x ≡ Some result) }
+    {
+        let at = x.position() as usize;
+        if at < self.counts.len() {
+            self.counts[at]
+        } else {
+            0
+        }
+    }
+
+    /// Counts the nodes below one.
+    fn count(&mut self, nodes: &Table<Node>, x: Dd) -> Result<u32, NoMemory>
+        requires reduced { IsReduced nodes.now }
+        requires there { IsDd nodes.now x }
+        ensures bound { IfOk result (IsBound nodes.now x) }
+        ensures same { self.new ≡ self.old }
+    {
+        self.places.resize(nodes.len(), 0)?;
+        match walk(nodes, &mut self.found, &mut self.places, x)? {
+            Some(count) => Ok(count),
+            None => Ok(MANY),
+        }
+    }
+
+    /// How many cofactors a function has at most, the constants with them, unless it is `MANY`.
+    fn bound(&mut self, nodes: &Table<Node>, x: Dd) -> Result<u32, NoMemory>
+        requires reduced { IsReduced nodes.now }
+        requires there { IsDd nodes.now x }
+        requires right { AreBounds nodes.now self.old }
+        ensures bound { IfOk result (IsBound nodes.now x) }
+        ensures right { AreBounds nodes.now self.new }
+    {
+        if x.position() < 2 {
+            return Ok(1);
+        }
+        let known = self.known(x);
+        if known > 0 {
+            return Ok(known);
+        }
+        let count = self.count(nodes, x)?;
+        self.learn(x, count)?;
+        Ok(count)
+    }
+
+    /// Keeps what is known of a node.
+    fn learn(&mut self, x: Dd, count: u32) -> Result<(), NoMemory>
+        ensures { (nodes : List node.Node) → IsBound nodes x count → AreBounds nodes self.old
+            → AreBounds nodes self.new }
+    {
+        let at = x.position() as usize;
+        if at >= self.counts.len() {
+            self.counts.resize(at + 1, 0)?;
+        }
+        self.counts[at] = count;
+        Ok(())
+    }
+
+    /// Whether three functions can't have more joint cofactors than a budget, since the product of their bounds is
+    /// within it.
+    ///
+    /// # Errors
+    ///
+    /// Memory ran out.
+    pub(crate) fn are_within(
+        &mut self,
+        nodes: &Table<Node>,
+        t: Triple,
+        budget: u32,
+    ) -> Result<bool, NoMemory>
+        requires reduced { IsReduced nodes.now }
+        requires there { AreDds nodes.now t }
+        requires right { AreBounds nodes.now self.old }
+        ensures within { IfOk result (λ b. b ≡ true → HasAtMostCofactors (meaning nodes.now t) budget) }
+        ensures right { AreBounds nodes.now self.new }
+    {
+        let f = self.bound(nodes, t.f)?;
+        let g = self.bound(nodes, t.g)?;
+        let h = self.bound(nodes, t.h)?;
+        Ok(are_few(f, g, h, budget))
+    }
+}
+
+/// Whether an operation was counted, and is within a budget.
+fn was_within(counts: &Kept, t: &Triple, budget: u32) -> bool
+    ensures { result ≡ true → (n : ℕ) × (n ≤ budget) × IsKept counts.now t.now n }
+{
+    match counts.get(t) {
+        Some(count) => count <= budget,
+        None => false,
+    }
+}
+
+/// Whether it is known of an operation that it is within a budget: since it was counted, or by the bounds of its
+/// functions.
+///
+/// # Errors
+///
+/// Memory ran out.
+pub(crate) fn is_within(
+    nodes: &Table<Node>,
+    counts: &Kept,
+    bounds: &mut Bounds,
+    t: &Triple,
+    budget: u32,
+) -> Result<bool, NoMemory>
+    requires reduced { IsReduced nodes.now }
+    requires there { AreDds nodes.now t.now }
+    requires counted { AreCounts nodes.now counts.now }
+    requires bounded { AreBounds nodes.now bounds.old }
+    ensures within { IfOk result (λ b. b ≡ true → HasAtMostCofactors (meaning nodes.now t.now) budget) }
+    ensures bounded { AreBounds nodes.now bounds.new }
+{
+    if was_within(counts, t, budget) {
+        return Ok(true);
+    }
+    bounds.are_within(nodes, *t, budget)
+}
