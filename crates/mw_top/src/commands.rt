@@ -1,4 +1,7 @@
 // The commands: what each makes of its files, and what is answered then.
+//
+// What holds a job or a board is dropped by name where it isn't handed on: one call on each way out. At the end of a
+// scope the drop of each of its parts would be in the proof of each way.
 ghost use Rattle.std.specs.Prelude.{◌≡◌, [], IfOk, length};
 ghost use Rattle.mw_outside.specs.Views.{IsLater, shelf_shown};
 ghost use Rattle.mw_plan.specs.Steps.{Ends};
@@ -92,17 +95,27 @@ pub(crate) fn answer_with(alloc: Global, request: &Request, work: Work) -> Resul
 {
     match work {
         Work::Comparison(comparison) => {
-            compare::report(alloc, &comparison, request.steps, request.parts)
+            let outcome = compare::report(alloc, &comparison, request.steps, request.parts);
+            drop(comparison);
+            outcome
         }
-        Work::Assembly(program) => asm::report(alloc, &program),
+        Work::Assembly(program) => {
+            let outcome = asm::report(alloc, &program);
+            drop(program);
+            outcome
+        }
         Work::Run(prepared) => run::report(alloc, prepared, request.cycles, request.parts),
         Work::Trace(trace) => Ok(debug::report(trace)),
-        Work::Question(asked) => equal::report(alloc, &asked, request.nodes),
-        Work::Certification(certification) => certify::report(
-            alloc,
-            &certification.job,
-            budget_of(request),
-        ),
+        Work::Question(asked) => {
+            let outcome = equal::report(alloc, &asked, request.nodes);
+            drop(asked);
+            outcome
+        }
+        Work::Certification(certification) => {
+            let outcome = certify::report(alloc, &certification.job, budget_of(request));
+            drop(certification);
+            outcome
+        }
         Work::Generation => generate::report(alloc, request.number, budget_of(request)),
     }
 }
