@@ -11,7 +11,7 @@ use Rattle.mw_top.specs.declared.status.Status.TheVariants.{WriteFault, NoMemory
 use Rattle.mw_top.specs.Answer.{AreAccepted, AreRefused, IsWorked, IsRefusal, IsEnd, IsWorkEnd, is_worked}
 use Rattle.mw_top.specs.Call.{Call, NothingFailed}
 use Rattle.mw_top.specs.Commands.Table.{plan_of}
-use Rattle.mw_top.specs.Request.{RequestData, request_of, files_of}
+use Rattle.mw_top.specs.Request.{RequestData, request_of, files_of, task_of}
 
 -- contents that are told and refused are not answered
 not_answered : (call : Call) (status : Status) (report : List ℕ) (request : RequestData) (contents : List (List ℕ))
@@ -19,7 +19,7 @@ not_answered : (call : Call) (status : Status) (report : List ℕ) (request : Re
     → AreRefused request contents → IsWorked call status report → ⊥
 not_answered call status report request contents requested told refuses worked =
     let same : worked.request ≡ request = cc (worked.requested, requested) in
-    let one = ends_once (plan_of request.command) call.shelf_before (files_of request worked.contents) contents
+    let one = ends_once (plan_of (task_of request)) call.shelf_before (files_of request worked.contents) contents
     (refused refuses.0) (done worked.work) told refuses.1 tt (rw same at worked.made) tt in
     cc one
 
@@ -30,7 +30,7 @@ not_refused : (call : Call) (request : RequestData) (contents : List (List ℕ))
 not_refused call request contents report requested told accepts refusal =
     let same : refusal.request ≡ request = cc (refusal.requested, requested) in
     let read = refusal.contents ++ refusal.refused.last ∷ [] in
-    let one = ends_once (plan_of request.command) call.shelf_before (files_of request read) contents
+    let one = ends_once (plan_of (task_of request)) call.shelf_before (files_of request read) contents
     (done accepts.0) (refused refusal.fault) told accepts.1 tt (rw same at refusal.refused.left) tt in
     cc one
 

@@ -7,3 +7,4 @@ pub mod Lines
 pub mod Made
 pub mod Noes
 pub mod Reports
+pub mod Works

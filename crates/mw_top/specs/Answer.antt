@@ -11,16 +11,16 @@ use Rattle.mw_top.specs.declared.status.Status.TheVariants.{WriteFault, NoMemory
 use Rattle.mw_top.specs.Call.{Call, Took, TookSome, SinkFailed, ShelfFailed}
 use Rattle.mw_top.specs.Commands.Table.{plan_of, IsAnswer}
 use Rattle.mw_top.specs.Report.{usage_line, fault_line, refusal_line}
-use Rattle.mw_top.specs.Request.{RequestData, request_of, files_of}
+use Rattle.mw_top.specs.Request.{RequestData, request_of, files_of, task_of}
 
 -- these contents of a request's files are accepted: its plan is done with them
 abbrev pub AreAccepted : RequestData → List (List ℕ) → Type 0
-AreAccepted request contents = (work : Work) × (after (plan_of request.command) contents ≡ Some (done work))
+AreAccepted request contents = (work : Work) × (after (plan_of (task_of request)) contents ≡ Some (done work))
 
 -- the last of these contents of a request's files is refused
 abbrev pub AreRefused : RequestData → List (List ℕ) → Type 0
 AreRefused request contents =
-    (fault : FileFault Fault) × (after (plan_of request.command) contents ≡ Some (refused fault))
+    (fault : FileFault Fault) × (after (plan_of (task_of request)) contents ≡ Some (refused fault))
 
 -- the statuses of work that was done
 abbrev pub is_worked : Status → Bool
@@ -35,7 +35,7 @@ pub record IsWorked (call : Call) (status : Status) (report : List ℕ) : Type 0
   pub requested : request_of call.words ≡ Some request
   pub contents : List (List ℕ)
   pub work : Work
-  pub made : IsLeft (plan_of request.command) call.shelf_before (files_of request contents) (done work)
+  pub made : IsLeft (plan_of (task_of request)) call.shelf_before (files_of request contents) (done work)
   pub answer : IsAnswer request work status report
 
 -- There is a request, its files were read up to one, and the report names that and the fault for which it is refused.
@@ -45,7 +45,7 @@ pub record IsRefusal (call : Call) (report : List ℕ) : Type 0 where
   pub contents : List (List ℕ)
   pub file : List ℕ
   pub fault : FileFault Fault
-  pub refused : IsRefusedAt (plan_of request.command) call.shelf_before (files_of request contents) file fault
+  pub refused : IsRefusedAt (plan_of (task_of request)) call.shelf_before (files_of request contents) file fault
   pub line : report ≡ refusal_line file fault
 
 -- There is a request, its files were read and accepted up to one that its plan asks for, the shelf failed there, and
@@ -55,7 +55,7 @@ pub record IsReadFault (call : Call) (report : List ℕ) : Type 0 where
   pub requested : request_of call.words ≡ Some request
   pub contents : List (List ℕ)
   pub file : List ℕ
-  pub next : IsNext (plan_of request.command) call.shelf_before (files_of request contents) file
+  pub next : IsNext (plan_of (task_of request)) call.shelf_before (files_of request contents) file
   pub failed : ShelfFailed call file
   pub line : report ≡ fault_line file
 

@@ -19,65 +19,59 @@ use Rattle.mw_rel.specs.OverBudget.{AreNodesOver, ArePathsOver}
 use Rattle.mw_rel.specs.Start.{Start}
 use Rattle.mw_replay.specs.Counter.{Counter, IsStartOf}
 use Rattle.mw_replay.specs.CounterText.{counter_of}
-use Rattle.mw_top.specs.declared.commands.Work.TheVariants.{Certification}
-use Rattle.mw_top.specs.declared.request.Command.{Command}
-use Rattle.mw_top.specs.declared.request.Command.TheVariants.{Certify, Generate}
+use Rattle.mw_top.specs.declared.commands.Work.{Work}
+use Rattle.mw_top.specs.declared.commands.Work.TheVariants.{Certification, Generation}
 use Rattle.mw_top.specs.declared.status.Status.{Status}
 use Rattle.mw_top.specs.declared.status.Status.TheVariants as statuses
 use Rattle.mw_top.specs.Call.{Call, Took}
-use Rattle.mw_top.specs.Commands.Certify.{certify_plan, no_report, unknown_report, yes_report}
+use Rattle.mw_top.specs.Commands.Certify.{no_report, unknown_report, yes_report}
 use Rattle.mw_top.specs.Commands.Generate.{operations_text}
-use Rattle.mw_top.specs.Commands.Table.{budget_of}
-use Rattle.mw_top.specs.Request.{RequestData, files_of, request_of}
+use Rattle.mw_top.specs.Commands.Table.{budget_of, plan_of, task_row}
+use Rattle.mw_top.specs.Request.{RequestData, files_of, request_of, task_of}
 
--- the commands that certify: a job of four files, or one that is generated of a number
-abbrev pub is_certifying : Command → Bool
-is_certifying Certify = true
-is_certifying Generate = true
-is_certifying other = false
-
--- what stands behind the boundaries of a yes: of a generated job, how many operations it has
-abbrev pub after_yes : Command → List ℕ
-after_yes Generate = operations_text statuses.Done all_operations
-after_yes other = []
-
--- the words ask to certify
+-- the words ask to certify a job
 pub record AsksToCertify (call : Call) : Type 0 where
   pub request : RequestData
   pub requested : request_of call.words ≡ Some request
-  pub command : is_certifying request.command ≡ true
+  pub certifying : (task_row (task_of request)).is_certifying ≡ true
 
--- The job of a command that certifies: four files were read and accepted, as the board, the microprogram, the described
--- machine and the relation of this job; or it is one that is generated of the number.
-abbrev pub IsJobOf : Command → Call → RequestData → Job → Type 0
-IsJobOf Certify call request job =
-    (contents : List (List ℕ))
-    × IsLeft certify_plan call.shelf_before (files_of request contents) (done (Certification job))
-IsJobOf Generate call request job = IsGenerated request.number job
-IsJobOf other call request job = ⊥
+-- the job of work: the one that its files give, or one that is generated of the number
+abbrev pub IsJobOf : RequestData → Work → Job → Type 0
+IsJobOf request (Certification given) job = job ≡ given
+IsJobOf request Generation job = IsGenerated request.number job
+IsJobOf request other job = ⊥
 
--- the words ask to certify this job within this budget
+-- what stands behind the boundaries of a yes: of a generated job, how many operations it has
+abbrev pub after_yes : Work → List ℕ
+after_yes Generation = operations_text statuses.Done all_operations
+after_yes other = []
+
+-- the words ask to certify within this budget, their files were read and accepted, and the work that was made of them
+-- is on this job
 pub record Certifies (call : Call) (job : Job) (budget : Budget) : Type 0 where
   pub asks : AsksToCertify call
   pub budget_is : budget ≡ budget_of asks.request
-  pub job_is : IsJobOf asks.request.command call asks.request job
+  pub contents : List (List ℕ)
+  pub work : Work
+  pub made : IsLeft (plan_of (task_of asks.request)) call.shelf_before (files_of asks.request contents) (done work)
+  pub job_is : IsJobOf asks.request work job
 
 -- Yes: the job is certified. The report says so, and of each boundary how many feasible cases it has and how many
 -- cycles its longest segment; and all is within the budget.
 pub record IsYesEnd (call : Call) : Type 0 where
   pub job : Job
   pub budget : Budget
-  pub work : Certifies call job budget
+  pub asked : Certifies call job budget
   pub summaries : List Summary
   pub yes : IsYes job budget summaries
-  pub report : Took call (yes_report job summaries ++ after_yes work.asks.request.command)
+  pub report : Took call (yes_report job summaries ++ after_yes asked.work)
 
 -- No: a start differs. The report has the difference, and the start's counter, as which it is read back; and this start
 -- is the first that there is to find.
 pub record IsNoEnd (call : Call) : Type 0 where
   pub job : Job
   pub budget : Budget
-  pub work : Certifies call job budget
+  pub asked : Certifies call job budget
   pub counter : Counter
   pub start : Start
   pub its : IsStartOf job counter start
@@ -91,24 +85,21 @@ pub record IsNoEnd (call : Call) : Type 0 where
 pub record IsUnknownEnd (call : Call) : Type 0 where
   pub job : Job
   pub budget : Budget
-  pub work : Certifies call job budget
+  pub asked : Certifies call job budget
   pub over : Over
   pub unknown : IsUnknown job budget over
   pub report : Took call (unknown_report job over)
 
--- The job of a command that certifies, by what is told: the shelf tells contents of the four files that are accepted as
--- those of this job; or it is the one that is generated of the number.
-abbrev pub IsJobTold : Command → Call → RequestData → Job → Type 0
-IsJobTold Certify call request job = (contents : List (List ℕ)) × AreTold call.shelf_before request.files contents
-    × (after certify_plan contents ≡ Some (done (Certification job)))
-IsJobTold Generate call request job = IsGenerated request.number job
-IsJobTold other call request job = ⊥
-
--- the words ask to certify within this budget, and what is told is this job
+-- the words ask to certify within this budget, the shelf tells contents of their files that are accepted, and the work
+-- that is made of them is on this job
 pub record AreToCertify (call : Call) (job : Job) (budget : Budget) : Type 0 where
   pub asks : AsksToCertify call
   pub budget_is : budget ≡ budget_of asks.request
-  pub told : IsJobTold asks.request.command call asks.request job
+  pub contents : List (List ℕ)
+  pub told : AreTold call.shelf_before asks.request.files contents
+  pub work : Work
+  pub accepted : after (plan_of (task_of asks.request)) contents ≡ Some (done work)
+  pub job_is : IsJobOf asks.request work job
 
 -- no operation and no boundary of a job is over a budget
 pub record NothingIsOver (job : Job) (budget : Budget) : Type 0 where

@@ -7,16 +7,18 @@ use Rattle.mw_replay.specs.CounterPrinted.{MayFollow}
 use Rattle.mw_top.specs.declared.status.Status.{Status}
 use Rattle.mw_top.specs.Answer.{IsWorked}
 use Rattle.mw_top.specs.Call.{Call}
-use Rattle.mw_top.specs.Commands.Table.{is_determined}
+use Rattle.mw_top.specs.Commands.Table.{task_row}
 use Rattle.mw_top.specs.Differences.{IsDifferenceOf}
 use Rattle.mw_top.specs.Report.{difference_text}
+use Rattle.mw_top.specs.Request.{task_of}
 
 -- two calls of a command whose answer is determined, whose requests differ in nothing but `--parts`, and for which the
 -- same was read, are answered alike
 abbrev pub PartsChangeNothing : Type 0
 PartsChangeNothing = (call other : Call) (status otherwise : Status) (report text : List ℕ) (parts : Bool)
     → (worked : IsWorked call status report) → (again : IsWorked other otherwise text)
-    → is_determined worked.request.command ≡ true → again.request ≡ record worked.request { parts = parts }
+    → (task_row (task_of worked.request)).is_determined ≡ true
+    → again.request ≡ record worked.request { parts = parts }
     → again.contents ≡ worked.contents
     → (otherwise ≡ status) × (text ≡ report)
 

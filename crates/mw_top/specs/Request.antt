@@ -6,6 +6,8 @@ use Rattle.std.specs.Str.{bytes_eq}
 use Rattle.clap.specs.Kinds.{Kinds}
 use Rattle.clap.specs.Words.{Row, fault_of, first_of, matches_of}
 use Rattle.mw_plan.specs.Files.{FilesRead}
+use Rattle.mw_top.specs.declared.commands.Task.{Task}
+use Rattle.mw_top.specs.declared.commands.Task.TheVariants as tasks
 use Rattle.mw_top.specs.declared.request.Command.{Command}
 use Rattle.mw_top.specs.declared.request.Command.TheVariants.{Asm, Certify, Compare, Debug, Equal, Generate, Replay}
 use Rattle.mw_top.specs.declared.request.Command.TheVariants.{Run}
@@ -48,23 +50,39 @@ data_of request = record {
 abbrev pub files_of : RequestData → List (List ℕ) → FilesRead
 files_of request contents = record { names = request.files; contents = contents }
 
--- the word that stands for a command, what is expected behind it, and which options are its own
+-- the word that stands for a command, what it does, and which options are its own
 pub record CommandRow : Type 0 where
   pub word : List ℕ
-  pub operands : Expected
+  pub task : Task
   pub numbers : List Number
   pub parts : Bool
 
 -- the row of each command
 abbrev pub row_of : Command → CommandRow
-row_of Compare = record { word = codes "compare"; operands = Files 5; numbers = Steps ∷ []; parts = true }
-row_of Asm = record { word = codes "asm"; operands = Files 2; numbers = []; parts = false }
-row_of Run = record { word = codes "run"; operands = Files 3; numbers = Cycles ∷ []; parts = true }
-row_of Debug = record { word = codes "debug"; operands = Files 4; numbers = []; parts = false }
-row_of Equal = record { word = codes "equal"; operands = Files 1; numbers = Nodes ∷ []; parts = false }
-row_of Certify = record { word = codes "certify"; operands = Files 4; numbers = Nodes ∷ Paths ∷ []; parts = false }
-row_of Replay = record { word = codes "replay"; operands = Files 5; numbers = []; parts = false }
-row_of Generate = record { word = codes "generate"; operands = JobNumber; numbers = Nodes ∷ Paths ∷ []; parts = false }
+row_of Compare = record { word = codes "compare"; task = tasks.Comparison; numbers = Steps ∷ []; parts = true }
+row_of Asm = record { word = codes "asm"; task = tasks.Assembly; numbers = []; parts = false }
+row_of Run = record { word = codes "run"; task = tasks.Run; numbers = Cycles ∷ []; parts = true }
+row_of Debug = record { word = codes "debug"; task = tasks.Trace; numbers = []; parts = false }
+row_of Equal = record { word = codes "equal"; task = tasks.Question; numbers = Nodes ∷ []; parts = false }
+row_of Certify =
+    record { word = codes "certify"; task = tasks.Certification; numbers = Nodes ∷ Paths ∷ []; parts = false }
+row_of Replay = record { word = codes "replay"; task = tasks.Comparison; numbers = []; parts = false }
+row_of Generate =
+    record { word = codes "generate"; task = tasks.Generation; numbers = Nodes ∷ Paths ∷ []; parts = false }
+
+-- what the command of a request does
+abbrev pub task_of : RequestData → Task
+task_of request = (row_of request.command).task
+
+-- what is expected behind a command of a task
+abbrev pub expected_by : Task → Expected
+expected_by tasks.Comparison = Files 5
+expected_by tasks.Assembly = Files 2
+expected_by tasks.Run = Files 3
+expected_by tasks.Trace = Files 4
+expected_by tasks.Question = Files 1
+expected_by tasks.Certification = Files 4
+expected_by tasks.Generation = JobNumber
 
 -- the commands
 abbrev pub commands : List Command
@@ -116,7 +134,8 @@ command_in matches = option_and_then command_of (first_of (codes "command") matc
 abbrev pub with_command : Option Command → List Row → Option RequestData
 with_command None matches = None
 with_command (Some command) matches =
-    with_options command (operands_of (row_of command).operands (words_in matches)) (options_in command matches)
+    with_options command (operands_of (expected_by (row_of command).task) (words_in matches))
+    (options_in command matches)
 
 -- the request of the matches of a line
 abbrev pub request_in : List Row → Option RequestData
@@ -133,7 +152,7 @@ request_of words = unless_refused (fault_of line words) (matches_of line words)
 
 -- a request has as many files as its command
 abbrev pub HasItsFiles : Request → Type 0
-HasItsFiles request = length request.files.items ≡ file_count (row_of request.command).operands
+HasItsFiles request = length request.files.items ≡ file_count (expected_by (row_of request.command).task)
 
 -- a command with its files, where the line gives no option
 abbrev pub plainly : Command → List (List ℕ) → RequestData

@@ -1,10 +1,13 @@
 // The commands: what each makes of its files, and what is answered then.
+//
+// What holds a job or a board is dropped by name where it isn't handed on: one call on each way out. At the end of a
+// scope the drop of each of its parts would be in the proof of each way.
 ghost use Rattle.std.specs.Prelude.{◌≡◌, [], IfOk, length};
 ghost use Rattle.mw_outside.specs.Views.{IsLater, shelf_shown};
 ghost use Rattle.mw_plan.specs.Steps.{Ends};
 ghost use Rattle.mw_top.specs.Commands.Table.{budget_of, plan_of, IsAnswer};
 ghost use Rattle.mw_top.specs.Operands.{file_count};
-ghost use Rattle.mw_top.specs.Request.{data_of, row_of};
+ghost use Rattle.mw_top.specs.Request.{data_of, expected_by};
 
 mod asm;
 mod certify;
@@ -23,7 +26,7 @@ use self::equal::Asked;
 use self::prepared::Prepared;
 use crate::fault::Fault;
 use crate::outcome::Outcome;
-use crate::request::{Command, Request};
+use crate::request::Request;
 use mw_asm::Program;
 use mw_base::{Items, NoMemory};
 use mw_fork::Budget;
@@ -31,7 +34,26 @@ use mw_outside::Shelf;
 use mw_plan::{Files, Stop};
 use std::alloc::Global;
 
-/// What the commands make of their files.
+/// What a command does, whatever its word and its options.
+#[derive(Clone, Copy)]
+pub(crate) enum Task {
+    /// Compares the first steps from a start of a job.
+    Comparison,
+    /// Assembles a microprogram.
+    Assembly,
+    /// Runs a board.
+    Run,
+    /// Runs a script.
+    Trace,
+    /// Answers a question.
+    Question,
+    /// Certifies the job of files.
+    Certification,
+    /// Certifies the job that is generated of a number.
+    Generation,
+}
+
+/// What tasks make of their files.
 #[derive(Drop)]
 pub(crate) enum Work {
     /// A job, and the start of it that is compared.
@@ -50,29 +72,28 @@ pub(crate) enum Work {
     Generation,
 }
 
-/// Reads the files of a command, and makes of them what its plan says.
+/// Reads the files of a task, and makes of them what its plan says.
 pub(crate) fn read_files<S: Shelf>(
     alloc: Global,
-    command: Command,
+    task: Task,
     shelf: &mut S,
     files: &mut Files<'_, Work, Fault>,
 ) -> Result<Work, Stop<Fault>>
-    requires counted { length files.old.names ≡ file_count (row_of command).operands }
+    requires counted { length files.old.names ≡ file_count (expected_by task) }
     requires none_read { files.old.contents ≡ [] }
-    ensures ends { Ends (plan_of command) (shelf_shown S.Shelf shelf.old)
+    ensures ends { Ends (plan_of task) (shelf_shown S.Shelf shelf.old)
         (shelf_shown S.Shelf shelf.new) files.new result }
     ensures names { files.new.names ≡ files.old.names }
     ensures later { IsLater (shelf_shown S.Shelf shelf.old) (shelf_shown S.Shelf shelf.new) }
 {
-    match command {
-        Command::Compare => compare::read(alloc, shelf, files),
-        Command::Asm => asm::read(alloc, shelf, files),
-        Command::Run => run::read(alloc, shelf, files),
-        Command::Debug => debug::read(alloc, shelf, files),
-        Command::Equal => equal::read(alloc, shelf, files),
-        Command::Certify => certify::read(alloc, shelf, files),
-        Command::Replay => compare::read(alloc, shelf, files),
-        Command::Generate => Ok(Work::Generation),
+    match task {
+        Task::Comparison => compare::read(alloc, shelf, files),
+        Task::Assembly => asm::read(alloc, shelf, files),
+        Task::Run => run::read(alloc, shelf, files),
+        Task::Trace => debug::read(alloc, shelf, files),
+        Task::Question => equal::read(alloc, shelf, files),
+        Task::Certification => certify::read(alloc, shelf, files),
+        Task::Generation => Ok(Work::Generation),
     }
 }
 
@@ -86,23 +107,33 @@ fn budget_of(request: &Request) -> Budget
     }
 }
 
-/// Answers a request with what its command made of its files.
+/// Answers a request with what its task made of its files.
 pub(crate) fn answer_with(alloc: Global, request: &Request, work: Work) -> Result<Outcome, NoMemory>
     ensures { IfOk result (λ outcome. IsAnswer (data_of request.now) work outcome.status outcome.report.items) }
 {
     match work {
         Work::Comparison(comparison) => {
-            compare::report(alloc, &comparison, request.steps, request.parts)
+            let outcome = compare::report(alloc, &comparison, request.steps, request.parts);
+            drop(comparison);
+            outcome
         }
-        Work::Assembly(program) => asm::report(alloc, &program),
+        Work::Assembly(program) => {
+            let outcome = asm::report(alloc, &program);
+            drop(program);
+            outcome
+        }
         Work::Run(prepared) => run::report(alloc, prepared, request.cycles, request.parts),
         Work::Trace(trace) => Ok(debug::report(trace)),
-        Work::Question(asked) => equal::report(alloc, &asked, request.nodes),
-        Work::Certification(certification) => certify::report(
-            alloc,
-            &certification.job,
-            budget_of(request),
-        ),
+        Work::Question(asked) => {
+            let outcome = equal::report(alloc, &asked, request.nodes);
+            drop(asked);
+            outcome
+        }
+        Work::Certification(certification) => {
+            let outcome = certify::report(alloc, &certification.job, budget_of(request));
+            drop(certification);
+            outcome
+        }
         Work::Generation => generate::report(alloc, request.number, budget_of(request)),
     }
 }

@@ -2,8 +2,8 @@
 ghost use Rattle.std.specs.Prelude.{◌≡◌, IfOk, IfSome, Some, length, map, option_map, string_bytes};
 ghost use Rattle.std.specs.Str.{bytes_eq};
 ghost use Rattle.clap.specs.Words.{first_of, found_of, rows_of};
-ghost use Rattle.mw_top.specs.Request.{HasItsFiles, command_in, command_of, data_of, number_in, options_in, request_in};
-ghost use Rattle.mw_top.specs.Request.{request_of, row_of, with_options};
+ghost use Rattle.mw_top.specs.Request.{HasItsFiles, command_in, command_of, data_of, expected_by, number_in};
+ghost use Rattle.mw_top.specs.Request.{options_in, request_in, request_of, row_of, with_options};
 ghost use Rattle.mw_top.specs.Operands.{file_count, operands_data};
 
 mod computed_examples;
@@ -14,6 +14,7 @@ mod options;
 use self::line::{LineRead, read_line};
 use self::operands::{Expected, Operands, operands_in};
 use self::options::{Number, Options, option_number, parts_of};
+use crate::commands::Task;
 use clap::ArgMatches;
 use mw_base::NoMemory;
 use std::alloc::Global;
@@ -61,13 +62,13 @@ pub struct Request {
     pub parts: bool,
 }
 
-/// What a command's words are.
+/// What a command is.
 #[derive(Clone, Copy)]
 struct Row {
     /// The word that stands for it.
     word: &'static str,
-    /// What is expected behind it.
-    operands: Expected,
+    /// What it does.
+    task: Task,
     /// Its own options with numbers.
     numbers: &'static [Number],
     /// Whether `--parts` is its own.
@@ -90,60 +91,82 @@ impl Command {
     /// The row of the command.
     fn row(self) -> Row
         ensures word { result.word.now ≡ (row_of self).word }
-        ensures operands { result.operands ≡ (row_of self).operands }
+        ensures task { result.task ≡ (row_of self).task }
         ensures numbers { result.numbers.now ≡ (row_of self).numbers }
         ensures parts { result.parts ≡ (row_of self).parts }
     {
         match self {
             Command::Compare => Row {
                 word: "compare",
-                operands: Expected::Files(5),
+                task: Task::Comparison,
                 numbers: &[Number::Steps],
                 parts: true,
             },
             Command::Asm => Row {
                 word: "asm",
-                operands: Expected::Files(2),
+                task: Task::Assembly,
                 numbers: &[],
                 parts: false,
             },
             Command::Run => Row {
                 word: "run",
-                operands: Expected::Files(3),
+                task: Task::Run,
                 numbers: &[Number::Cycles],
                 parts: true,
             },
             Command::Debug => Row {
                 word: "debug",
-                operands: Expected::Files(4),
+                task: Task::Trace,
                 numbers: &[],
                 parts: false,
             },
             Command::Equal => Row {
                 word: "equal",
-                operands: Expected::Files(1),
+                task: Task::Question,
                 numbers: &[Number::Nodes],
                 parts: false,
             },
             Command::Certify => Row {
                 word: "certify",
-                operands: Expected::Files(4),
+                task: Task::Certification,
                 numbers: &[Number::Nodes, Number::Paths],
                 parts: false,
             },
             Command::Replay => Row {
                 word: "replay",
-                operands: Expected::Files(5),
+                task: Task::Comparison,
                 numbers: &[],
                 parts: false,
             },
             Command::Generate => Row {
                 word: "generate",
-                operands: Expected::JobNumber,
+                task: Task::Generation,
                 numbers: &[Number::Nodes, Number::Paths],
                 parts: false,
             },
         }
+    }
+
+    /// What the command does.
+    pub(crate) fn task(self) -> Task
+        ensures { result ≡ (row_of self).task }
+    {
+        self.row().task
+    }
+}
+
+/// What is expected behind a command of a task.
+fn expected_by(task: Task) -> Expected
+    ensures { result ≡ expected_by task }
+{
+    match task {
+        Task::Comparison => Expected::Files(5),
+        Task::Assembly => Expected::Files(2),
+        Task::Run => Expected::Files(3),
+        Task::Trace => Expected::Files(4),
+        Task::Question => Expected::Files(1),
+        Task::Certification => Expected::Files(4),
+        Task::Generation => Expected::JobNumber,
     }
 }
 
@@ -205,7 +228,7 @@ fn options_in(command: Command, line: &ArgMatches<'_>) -> Option<Options>
 
 /// The command with what stands behind it and with its options.
 fn with_options(command: Command, operands: Operands, options: Options) -> Request
-    requires { length operands.files.items ≡ file_count (row_of command).operands }
+    requires { length operands.files.items ≡ file_count (expected_by (row_of command).task) }
     ensures exact { Some (data_of result) ≡ with_options command (Some (operands_data operands)) (Some options) }
     ensures count { HasItsFiles result }
 {
@@ -233,7 +256,7 @@ fn request_in(alloc: Global, line: &ArgMatches<'_>) -> Result<Option<Request>, N
     let Some(options) = options_in(command, line) else {
         return Ok(None);
     };
-    match operands_in(alloc, command.row().operands, line)? {
+    match operands_in(alloc, expected_by(command.task()), line)? {
         Some(operands) => Ok(Some(with_options(command, operands, options))),
         None => Ok(None),
     }

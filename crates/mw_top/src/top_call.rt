@@ -5,14 +5,14 @@ ghost use Rattle.mw_outside.specs.Views.{ShelfView, SinkView, IsLater, shelf_sho
 ghost use Rattle.mw_fork.specs.declared.budget.Budget.{Budget};
 ghost use Rattle.mw_plan.specs.Shelf.{AreTold};
 ghost use Rattle.mw_rel.specs.Job.{Job};
-ghost use Rattle.mw_top.specs.declared.request.Command.{Command};
+ghost use Rattle.mw_top.specs.declared.commands.Task.{Task};
 ghost use Rattle.mw_top.specs.Answer.{AreAccepted, AreRefused, IsEnd, IsReport, is_worked};
 ghost use Rattle.mw_top.specs.Answer.{IsMemoryEnd, IsReadFaultEnd, IsRefusalEnd, IsUsageEnd, IsWorkEnd};
 ghost use Rattle.mw_top.specs.Answer.{IsWriteFaultEnd};
 ghost use Rattle.mw_top.specs.Call.{Call, NothingFailed, call_of};
 ghost use Rattle.mw_top.specs.Headline.{AreToCertify, AsksToCertify, IsNoEnd, IsSettled, IsUnknownEnd, IsYesEnd};
 ghost use Rattle.mw_top.specs.Headline.{NothingIsOver};
-ghost use Rattle.mw_top.specs.Request.{HasItsFiles, RequestData, data_of, request_of};
+ghost use Rattle.mw_top.specs.Request.{HasItsFiles, RequestData, data_of, request_of, task_of};
 
 use crate::commands::{answer_with, read_files};
 use crate::outcome::{Outcome, read_fault_outcome, refusal_outcome, usage_outcome};
@@ -32,7 +32,7 @@ fn answer<S: Shelf>(alloc: Global, request: &Request, shelf: &mut S) -> Result<O
     ensures later { IsLater (shelf_shown S.Shelf shelf.old) (shelf_shown S.Shelf shelf.new) }
 {
     let mut files = Files::new(alloc, &request.files);
-    match read_files(alloc, request.command, shelf, &mut files) {
+    match read_files(alloc, request.command.task(), shelf, &mut files) {
         Ok(work) => answer_with(alloc, request, work),
         Err(Stop::ReadFault) => read_fault_outcome(alloc, files.next_name()),
         Err(Stop::Refused(fault)) => refusal_outcome(alloc, files.next_name(), &fault),
@@ -134,9 +134,9 @@ pub fn bench<S: Shelf, K: Sink>(
         → NothingFailed (call_of S.Shelf K.Sink words.now shelf.old shelf.new out.old out.new)
         → IsSettled job result }
 
-    // `generate` reads no file, so none is refused, and none can't be read.
+    // A job of a number has no file, so none is refused, and none can't be read.
     ensures without_files { (request : RequestData) → request_of (map string_bytes words.now) ≡ Some request
-        → request.command ≡ Command.Generate
+        → task_of request ≡ Task.Generation
         → Contains (Status.Done ∷ Status.Differs ∷ Status.Unknown ∷ Status.WriteFault ∷ Status.NoMemory ∷ []) result }
 
     // Good words and good files are not refused.

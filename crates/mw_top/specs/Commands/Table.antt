@@ -1,13 +1,12 @@
--- The table of the commands.
+-- The table of the tasks.
 use Rattle.std.specs.Prelude.{ℕ, List, Bool, true, false}
 use Rattle.mw_fork.specs.declared.budget.Budget.{Budget}
 use Rattle.mw_plan.specs.Plan.{Plan}
+use Rattle.mw_top.specs.declared.commands.Task.{Task}
+use Rattle.mw_top.specs.declared.commands.Task.TheVariants as tasks
 use Rattle.mw_top.specs.declared.commands.Work.{Work}
 use Rattle.mw_top.specs.declared.commands.Work.TheVariants as works
 use Rattle.mw_top.specs.declared.fault.Fault.{Fault}
-use Rattle.mw_top.specs.declared.request.Command.{Command}
-use Rattle.mw_top.specs.declared.request.Command.TheVariants.{Compare, Asm, Run, Debug, Equal, Certify, Replay}
-use Rattle.mw_top.specs.declared.request.Command.TheVariants.{Generate}
 use Rattle.mw_top.specs.declared.status.Status.{Status}
 use Rattle.mw_top.specs.Commands.Asm.{asm_plan, IsListing}
 use Rattle.mw_top.specs.Commands.Certify.{certify_plan, IsCertification}
@@ -18,16 +17,26 @@ use Rattle.mw_top.specs.Commands.Generate.{generate_plan, IsGeneration}
 use Rattle.mw_top.specs.Commands.Run.{run_plan, IsRun}
 use Rattle.mw_top.specs.Request.{RequestData}
 
--- what a command makes of its files
-abbrev pub plan_of : Command → Plan Fault Work
-plan_of Compare = compare_plan
-plan_of Asm = asm_plan
-plan_of Run = run_plan
-plan_of Debug = debug_plan
-plan_of Equal = equal_plan
-plan_of Certify = certify_plan
-plan_of Replay = compare_plan
-plan_of Generate = generate_plan
+-- What a task makes of its files; whether status and report are a function of the request and of what was read, since
+-- an unknown answer may name one of several words; and whether a job is to be certified.
+pub record TaskRow : Type 0 where
+  pub plan : Plan Fault Work
+  pub is_determined : Bool
+  pub is_certifying : Bool
+
+-- the row of each task
+abbrev pub task_row : Task → TaskRow
+task_row tasks.Comparison = record { plan = compare_plan; is_determined = true; is_certifying = false }
+task_row tasks.Assembly = record { plan = asm_plan; is_determined = true; is_certifying = false }
+task_row tasks.Run = record { plan = run_plan; is_determined = true; is_certifying = false }
+task_row tasks.Trace = record { plan = debug_plan; is_determined = true; is_certifying = false }
+task_row tasks.Question = record { plan = equal_plan; is_determined = false; is_certifying = false }
+task_row tasks.Certification = record { plan = certify_plan; is_determined = false; is_certifying = true }
+task_row tasks.Generation = record { plan = generate_plan; is_determined = false; is_certifying = true }
+
+-- what a task makes of its files
+abbrev pub plan_of : Task → Plan Fault Work
+plan_of task = (task_row task).plan
 
 -- the budget of a request
 abbrev pub budget_of : RequestData → Budget
@@ -42,15 +51,3 @@ IsAnswer request (works.Trace trace) status report = IsTrace trace status report
 IsAnswer request (works.Question question) status report = IsEquality request.nodes question status report
 IsAnswer request (works.Certification job) status report = IsCertification (budget_of request) job status report
 IsAnswer request works.Generation status report = IsGeneration (budget_of request) request.number status report
-
--- the commands of which status and report are a function of the request and of what was read; an unknown answer may
--- name one of several words
-abbrev pub is_determined : Command → Bool
-is_determined Compare = true
-is_determined Asm = true
-is_determined Run = true
-is_determined Debug = true
-is_determined Equal = false
-is_determined Certify = false
-is_determined Replay = true
-is_determined Generate = false

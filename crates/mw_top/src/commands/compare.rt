@@ -61,8 +61,14 @@ pub(super) fn read<S: Shelf>(
     let labelled = read_job(alloc, shelf, files)?;
     let counter = files.next(alloc, shelf, |bytes| {
         read_counter(alloc, &labelled.job, labelled.labels.as_slice(), bytes)
-    })?;
-    Ok(Work::Comparison(Comparison { labelled, counter }))
+    });
+    match counter {
+        Ok(counter) => Ok(Work::Comparison(Comparison { labelled, counter })),
+        Err(stop) => {
+            drop(labelled);
+            Err(stop)
+        }
+    }
 }
 
 /// The status of what a comparison shows.

@@ -43,8 +43,9 @@ pub(super) fn read<S: Shelf>(
     ensures later { IsLater (shelf_shown S.Shelf shelf.old) (shelf_shown S.Shelf shelf.new) }
 {
     let prepared = read_prepared(alloc, shelf, files)?;
-    let trace = files.next(alloc, shelf, |bytes| traced(alloc, &prepared, bytes))?;
-    Ok(Work::Trace(trace))
+    let trace = files.next(alloc, shelf, |bytes| traced(alloc, &prepared, bytes));
+    drop(prepared);
+    Ok(Work::Trace(trace?))
 }
 
 /// Answers with a trace.

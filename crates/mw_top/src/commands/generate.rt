@@ -28,7 +28,10 @@ pub(super) fn report(alloc: Global, number: u16, budget: Budget) -> Result<Outco
     ensures { IfOk result (λ outcome. IsGeneration budget number outcome.status outcome.report.items) }
 {
     let made = generate(alloc, number)?;
-    let mut outcome = certify::report(alloc, &made.job, budget)?;
-    append_operations(alloc, &mut outcome, made.operations)?;
+    let operations = made.operations;
+    let certified = certify::report(alloc, &made.job, budget);
+    drop(made);
+    let mut outcome = certified?;
+    append_operations(alloc, &mut outcome, operations)?;
     Ok(outcome)
 }

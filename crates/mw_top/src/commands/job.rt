@@ -139,11 +139,24 @@ pub(super) fn read_job<S: Shelf>(
     ensures later { IsLater (shelf_shown S.Shelf shelf.old) (shelf_shown S.Shelf shelf.new) }
 {
     let program = read_microprogram(alloc, shelf, files)?;
-    let machine = files.next(alloc, shelf, |bytes| read_described(alloc, bytes))?;
+    let machine = match files.next(alloc, shelf, |bytes| read_described(alloc, bytes)) {
+        Ok(machine) => machine,
+        Err(stop) => {
+            drop(program);
+            return Err(stop);
+        }
+    };
     let relation = files.next(
         alloc,
         shelf,
         |bytes| read_related(alloc, &program, &machine, bytes),
-    )?;
-    Ok(job_with(program, machine, relation))
+    );
+    match relation {
+        Ok(relation) => Ok(job_with(program, machine, relation)),
+        Err(stop) => {
+            drop(machine);
+            drop(program);
+            Err(stop)
+        }
+    }
 }

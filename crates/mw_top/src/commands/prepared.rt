@@ -57,6 +57,12 @@ pub(super) fn read_prepared<S: Shelf>(
     let program = read_microprogram(alloc, shelf, files)?;
     let start = files.next(alloc, shelf, |bytes| {
         read_start(alloc, &program.board, &program.made, bytes)
-    })?;
-    Ok(Prepared { program, start })
+    });
+    match start {
+        Ok(start) => Ok(Prepared { program, start }),
+        Err(stop) => {
+            drop(program);
+            Err(stop)
+        }
+    }
 }

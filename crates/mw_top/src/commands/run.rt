@@ -142,9 +142,10 @@ pub(super) fn report(
     ensures { IfOk result (λ outcome. IsRun cycles prepared outcome.status outcome.report.items) }
 {
     let Prepared { program, start } = prepared;
-    let report = run_from(alloc, &program, start, cycles, parts)?;
+    let report = run_from(alloc, &program, start, cycles, parts);
+    drop(program);
     Ok(Outcome {
         status: Status::Done,
-        report,
+        report: report?,
     })
 }

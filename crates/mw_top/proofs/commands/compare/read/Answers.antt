@@ -24,8 +24,8 @@ after_start job counter = done (works.Comparison (record { job = job; counter = 
 abbrev after_job : Job → List Label → Plan Fault Work
 after_job job labels = first_by Text (counter_of job labels) (after_start job)
 
-pub next-requires-clause-callable : goal.next-requires-clause-callable
-next-requires-clause-callable g c = λ bytes few _ _ _ _ _ _. omega (arith, few)
+pub next-counter-requires-clause-callable : goal.next-counter-requires-clause-callable
+next-counter-requires-clause-callable g c = λ bytes few _ _ _ _ _ _. omega (arith, few)
 
 pub returns-in_err-labelled-clause-ends : goal.returns-in_err-labelled-clause-ends
 unfolding compare_plan
@@ -37,39 +37,37 @@ returns-in_err-labelled-clause-ends g c =
     (c.in_err-labelled.ensures.follows compare_plan after_job first (at_first first)
     (all_left compare_plan first c.args.files.now c.requires.none_read))
 
-pub returns-in_err-counter-clause-ends : goal.returns-in_err-counter-clause-ends
+pub returns-in-Err-clause-ends : goal.returns-in-Err-clause-ends
 unfolding compare_plan
-returns-in_err-counter-clause-ends g c =
-    let error = err_from_is_err_and c.from_residual-in_err-counter.result c.from_residual-in_err-counter.ensures.1 in
+returns-in-Err-clause-ends g c =
     let first = shelf_shown g.S.Shelf c.args.shelf.now in
     let l = c.in_ok-labelled.labelled in
     let job = c.in_ok-labelled.ensures.follows compare_plan after_job first (at_first first)
     (all_left compare_plan first c.args.files.now c.requires.none_read) in
-    stops (after_start (job_of l.job)) compare_plan first (shelf_shown g.S.Shelf c.next.new.shelf) _ _
-    c.from_residual-in_err-counter.result (rw (sym error.2) error.1)
-    (c.in_err-counter.ensures.follows Text (counter_of (job_of l.job) l.labels) (λ fault seen is. is)
+    stops (after_start (job_of l.job)) compare_plan first (shelf_shown g.S.Shelf c.next-counter.new.shelf) _ c.in-Err.stop _ refl
+    (c.in-Err.ensures.follows Text (counter_of (job_of l.job) l.labels) (λ fault seen is. is)
     (λ bytes result is. search rules) compare_plan (after_start (job_of l.job)) first
     c.in_ok-labelled.ensures.later job)
 
-pub returns-clause-ends : goal.returns-clause-ends
+pub returns-in-Ok-clause-ends : goal.returns-in-Ok-clause-ends
 unfolding compare_plan
-returns-clause-ends g c =
+returns-in-Ok-clause-ends g c =
     let first = shelf_shown g.S.Shelf c.args.shelf.now in
     let l = c.in_ok-labelled.labelled in
     let job = c.in_ok-labelled.ensures.follows compare_plan after_job first (at_first first)
     (all_left compare_plan first c.args.files.now c.requires.none_read) in
-    ends (after_start (job_of l.job)) compare_plan first (shelf_shown g.S.Shelf c.next.new.shelf) _
-    c.in_ok-counter.counter _ refl
-    (c.in_ok-counter.ensures.follows Text (counter_of (job_of l.job) l.labels) (λ fault seen is. is)
+    ends (after_start (job_of l.job)) compare_plan first (shelf_shown g.S.Shelf c.next-counter.new.shelf) _
+    c.in-Ok.counter _ refl
+    (c.in-Ok.ensures.follows Text (counter_of (job_of l.job) l.labels) (λ fault seen is. is)
     (λ bytes result is. search rules) compare_plan (after_start (job_of l.job)) first
     c.in_ok-labelled.ensures.later job)
 
-pub returns-in_err-counter-clause-later : goal.returns-in_err-counter-clause-later
-returns-in_err-counter-clause-later g c =
+pub returns-in-Err-clause-later : goal.returns-in-Err-clause-later
+returns-in-Err-clause-later g c =
     later_still _ (shelf_shown g.S.Shelf c.read_job.new.shelf) _ c.in_ok-labelled.ensures.later
-    c.in_err-counter.ensures.later
+    c.in-Err.ensures.later
 
-pub returns-clause-later : goal.returns-clause-later
-returns-clause-later g c =
+pub returns-in-Ok-clause-later : goal.returns-in-Ok-clause-later
+returns-in-Ok-clause-later g c =
     later_still _ (shelf_shown g.S.Shelf c.read_job.new.shelf) _ c.in_ok-labelled.ensures.later
-    c.in_ok-counter.ensures.later
+    c.in-Ok.ensures.later

@@ -19,8 +19,8 @@ after_script trace = done (Trace trace)
 abbrev after_files : Prepared → Plan Fault Work
 after_files prepared = first_by Text (traced prepared) after_script
 
-pub next-requires-clause-callable : goal.next-requires-clause-callable
-next-requires-clause-callable g c = λ bytes few _ _ _ _ _ _. omega (arith, few)
+pub next-trace-requires-clause-callable : goal.next-trace-requires-clause-callable
+next-trace-requires-clause-callable g c = λ bytes few _ _ _ _ _ _. omega (arith, few)
 
 pub returns-in_err-prepared-clause-ends : goal.returns-in_err-prepared-clause-ends
 unfolding debug_plan
@@ -39,7 +39,7 @@ returns-in_err-trace-clause-ends g c =
     let first = shelf_shown g.S.Shelf c.args.shelf.now in
     let prepared = c.in_ok-prepared.ensures.follows debug_plan after_files first (at_first first)
     (all_left debug_plan first c.args.files.now c.requires.none_read) in
-    stops after_script debug_plan first (shelf_shown g.S.Shelf c.next.new.shelf) _ _
+    stops after_script debug_plan first (shelf_shown g.S.Shelf c.next-trace.new.shelf) _ _
     c.from_residual-in_err-trace.result (rw (sym error.2) error.1)
     (c.in_err-trace.ensures.follows Text (traced c.in_ok-prepared.prepared) (λ fault seen is. is)
     (λ bytes result is. search rules) debug_plan after_script first c.in_ok-prepared.ensures.later prepared)
@@ -50,7 +50,7 @@ returns-clause-ends g c =
     let first = shelf_shown g.S.Shelf c.args.shelf.now in
     let prepared = c.in_ok-prepared.ensures.follows debug_plan after_files first (at_first first)
     (all_left debug_plan first c.args.files.now c.requires.none_read) in
-    ends after_script debug_plan first (shelf_shown g.S.Shelf c.next.new.shelf) _ c.in_ok-trace.trace _ refl
+    ends after_script debug_plan first (shelf_shown g.S.Shelf c.next-trace.new.shelf) _ _ _ refl
     (c.in_ok-trace.ensures.follows Text (traced c.in_ok-prepared.prepared) (λ fault seen is. is)
     (λ bytes result is. search rules) debug_plan after_script first c.in_ok-prepared.ensures.later prepared)
 

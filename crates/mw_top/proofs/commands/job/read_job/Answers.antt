@@ -29,8 +29,8 @@ after_microprogram rest p = first_by Text machine_of (after_machine rest p)
 pub next-requires-clause-callable : goal.next-requires-clause-callable
 next-requires-clause-callable g c = λ bytes few _ _ _ _ _ _. omega (arith, few)
 
-pub next-requires-2-clause-callable : goal.next-requires-2-clause-callable
-next-requires-2-clause-callable g c = λ bytes few _ _ _ _ _ _. omega (arith, few)
+pub next-relation-requires-clause-callable : goal.next-relation-requires-clause-callable
+next-relation-requires-clause-callable g c = λ bytes few _ _ _ _ _ _. omega (arith, few)
 
 pub returns-in_err-program-clause-follows : goal.returns-in_err-program-clause-follows
 returns-in_err-program-clause-follows g c = λ plan rest first since left.
@@ -38,58 +38,37 @@ returns-in_err-program-clause-follows g c = λ plan rest first since left.
     rw error.1 (rw (sym error.2) at
     (c.in_err-program.ensures.follows plan (after_microprogram rest) first since left))
 
-pub returns-in_err-machine-clause-follows : goal.returns-in_err-machine-clause-follows
-returns-in_err-machine-clause-follows g c = λ plan rest first since left.
-    let error = err_from_is_err_and c.from_residual-in_err-machine.result c.from_residual-in_err-machine.ensures.1 in
+pub returns-in-Err-clause-follows : goal.returns-in-Err-clause-follows
+returns-in-Err-clause-follows g c = λ plan rest first since left.
     let second = shelf_shown g.S.Shelf c.args.shelf.now in
     let p = c.in_ok-program.program in
     let program = c.in_ok-program.ensures.follows plan (after_microprogram rest) first since left in
-    rw error.1 (rw (sym error.2) at (c.in_err-machine.ensures.follows Text machine_of (λ fault seen is. is)
-    (λ bytes result is. search rules) plan (after_machine rest p) first
-    (later_still _ second _ since c.in_ok-program.ensures.later) program))
+    c.in-Err.ensures.follows Text machine_of (λ fault seen is. is) (λ bytes result is. search rules) plan
+    (after_machine rest p) first (later_still _ second _ since c.in_ok-program.ensures.later) program
 
-pub returns-in_err-relation-clause-follows : goal.returns-in_err-relation-clause-follows
-returns-in_err-relation-clause-follows g c = λ plan rest first since left.
-    let error = err_from_is_err_and c.from_residual-in_err-relation.result c.from_residual-in_err-relation.ensures.1 in
+pub returns-in-Err-relation-clause-follows : goal.returns-in-Err-relation-clause-follows
+returns-in-Err-relation-clause-follows g c = λ plan rest first since left.
     let second = shelf_shown g.S.Shelf c.args.shelf.now in
     let third = shelf_shown g.S.Shelf c.read_microprogram.new.shelf in
     let p = c.in_ok-program.program in
     let since_program = later_still _ second _ since c.in_ok-program.ensures.later in
     let program = c.in_ok-program.ensures.follows plan (after_microprogram rest) first since left in
-    let machine = c.in_ok-machine.ensures.follows Text machine_of (λ fault seen is. is)
+    let machine = c.in-Ok.ensures.follows Text machine_of (λ fault seen is. is)
     (λ bytes result is. search rules) plan (after_machine rest p) first since_program program in
-    rw error.1 (rw (sym error.2) at (c.in_err-relation.ensures.follows Text
-    (relation_of p.board p.made.labels c.in_ok-machine.machine) (λ fault seen is. is)
-    (λ bytes result is. search rules) plan (after_relation rest p c.in_ok-machine.machine) first
-    (later_still _ third _ since_program c.in_ok-machine.ensures.later) machine))
+    c.in-Err-relation.ensures.follows Text (relation_of p.board p.made.labels c.in-Ok.machine)
+    (λ fault seen is. is) (λ bytes result is. search rules) plan (after_relation rest p c.in-Ok.machine) first
+    (later_still _ third _ since_program c.in-Ok.ensures.later) machine
 
-pub returns-clause-follows : goal.returns-clause-follows
-returns-clause-follows g c = λ plan rest first since left.
+pub returns-in-Ok-relation-clause-follows : goal.returns-in-Ok-relation-clause-follows
+returns-in-Ok-relation-clause-follows g c = λ plan rest first since left.
     let second = shelf_shown g.S.Shelf c.args.shelf.now in
     let third = shelf_shown g.S.Shelf c.read_microprogram.new.shelf in
     let p = c.in_ok-program.program in
     let since_program = later_still _ second _ since c.in_ok-program.ensures.later in
     let program = c.in_ok-program.ensures.follows plan (after_microprogram rest) first since left in
-    let machine = c.in_ok-machine.ensures.follows Text machine_of (λ fault seen is. is)
+    let machine = c.in-Ok.ensures.follows Text machine_of (λ fault seen is. is)
     (λ bytes result is. search rules) plan (after_machine rest p) first since_program program in
-    rw (c.job_with.ensures.job, c.job_with.ensures.labels) (c.in_ok-relation.ensures.follows Text
-    (relation_of p.board p.made.labels c.in_ok-machine.machine) (λ fault seen is. is)
-    (λ bytes result is. search rules) plan (after_relation rest p c.in_ok-machine.machine) first
-    (later_still _ third _ since_program c.in_ok-machine.ensures.later) machine)
-
-pub returns-in_err-machine-clause-later : goal.returns-in_err-machine-clause-later
-returns-in_err-machine-clause-later g c =
-    later_still _ (shelf_shown g.S.Shelf c.read_microprogram.new.shelf) _ c.in_ok-program.ensures.later
-    c.in_err-machine.ensures.later
-
-pub returns-in_err-relation-clause-later : goal.returns-in_err-relation-clause-later
-returns-in_err-relation-clause-later g c =
-    later_still _ (shelf_shown g.S.Shelf c.next.new.shelf) _
-    (later_still _ (shelf_shown g.S.Shelf c.read_microprogram.new.shelf) _ c.in_ok-program.ensures.later
-    c.in_ok-machine.ensures.later) c.in_err-relation.ensures.later
-
-pub returns-clause-later : goal.returns-clause-later
-returns-clause-later g c =
-    later_still _ (shelf_shown g.S.Shelf c.next.new.shelf) _
-    (later_still _ (shelf_shown g.S.Shelf c.read_microprogram.new.shelf) _ c.in_ok-program.ensures.later
-    c.in_ok-machine.ensures.later) c.in_ok-relation.ensures.later
+    rw (c.job_with.ensures.job, c.job_with.ensures.labels) (c.in-Ok-relation.ensures.follows Text
+    (relation_of p.board p.made.labels c.in-Ok.machine) (λ fault seen is. is)
+    (λ bytes result is. search rules) plan (after_relation rest p c.in-Ok.machine) first
+    (later_still _ third _ since_program c.in-Ok.ensures.later) machine)

@@ -19,8 +19,8 @@ abbrev after_microprogram : (Prepared → Plan Fault Work) → Program → Plan 
 after_microprogram rest program =
     first_by Text (start_of program.board program.made.labels) (after_environment rest program)
 
-pub next-requires-clause-callable : goal.next-requires-clause-callable
-next-requires-clause-callable g c = λ bytes few _ _ _ _ _ _. omega (arith, few)
+pub next-start-requires-clause-callable : goal.next-start-requires-clause-callable
+next-start-requires-clause-callable g c = λ bytes few _ _ _ _ _ _. omega (arith, few)
 
 pub returns-in_err-program-clause-follows : goal.returns-in_err-program-clause-follows
 returns-in_err-program-clause-follows g c = λ plan rest first since left.
@@ -28,29 +28,28 @@ returns-in_err-program-clause-follows g c = λ plan rest first since left.
     rw error.1 (rw (sym error.2) at
     (c.in_err-program.ensures.follows plan (after_microprogram rest) first since left))
 
-pub returns-in_err-start-clause-follows : goal.returns-in_err-start-clause-follows
-returns-in_err-start-clause-follows g c = λ plan rest first since left.
-    let error = err_from_is_err_and c.from_residual-in_err-start.result c.from_residual-in_err-start.ensures.1 in
+pub returns-in-Err-clause-follows : goal.returns-in-Err-clause-follows
+returns-in-Err-clause-follows g c = λ plan rest first since left.
     let p = c.in_ok-program.program in
     let program = c.in_ok-program.ensures.follows plan (after_microprogram rest) first since left in
-    rw error.1 (rw (sym error.2) at (c.in_err-start.ensures.follows Text (start_of p.board p.made.labels)
-    (λ fault seen is. is) (λ bytes result is. search rules) plan (after_environment rest p) first
-    (later_still _ (shelf_shown g.S.Shelf c.args.shelf.now) _ since c.in_ok-program.ensures.later) program))
-
-pub returns-clause-follows : goal.returns-clause-follows
-returns-clause-follows g c = λ plan rest first since left.
-    let p = c.in_ok-program.program in
-    let program = c.in_ok-program.ensures.follows plan (after_microprogram rest) first since left in
-    c.in_ok-start.ensures.follows Text (start_of p.board p.made.labels) (λ fault seen is. is)
+    c.in-Err.ensures.follows Text (start_of p.board p.made.labels) (λ fault seen is. is)
     (λ bytes result is. search rules) plan (after_environment rest p) first
     (later_still _ (shelf_shown g.S.Shelf c.args.shelf.now) _ since c.in_ok-program.ensures.later) program
 
-pub returns-in_err-start-clause-later : goal.returns-in_err-start-clause-later
-returns-in_err-start-clause-later g c =
-    later_still _ (shelf_shown g.S.Shelf c.read_microprogram.new.shelf) _ c.in_ok-program.ensures.later
-    c.in_err-start.ensures.later
+pub returns-in-Ok-clause-follows : goal.returns-in-Ok-clause-follows
+returns-in-Ok-clause-follows g c = λ plan rest first since left.
+    let p = c.in_ok-program.program in
+    let program = c.in_ok-program.ensures.follows plan (after_microprogram rest) first since left in
+    c.in-Ok.ensures.follows Text (start_of p.board p.made.labels) (λ fault seen is. is)
+    (λ bytes result is. search rules) plan (after_environment rest p) first
+    (later_still _ (shelf_shown g.S.Shelf c.args.shelf.now) _ since c.in_ok-program.ensures.later) program
 
-pub returns-clause-later : goal.returns-clause-later
-returns-clause-later g c =
+pub returns-in-Err-clause-later : goal.returns-in-Err-clause-later
+returns-in-Err-clause-later g c =
     later_still _ (shelf_shown g.S.Shelf c.read_microprogram.new.shelf) _ c.in_ok-program.ensures.later
-    c.in_ok-start.ensures.later
+    c.in-Err.ensures.later
+
+pub returns-in-Ok-clause-later : goal.returns-in-Ok-clause-later
+returns-in-Ok-clause-later g c =
+    later_still _ (shelf_shown g.S.Shelf c.read_microprogram.new.shelf) _ c.in_ok-program.ensures.later
+    c.in-Ok.ensures.later
