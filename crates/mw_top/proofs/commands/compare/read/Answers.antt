@@ -44,7 +44,8 @@ returns-in-Err-clause-ends g c =
     let l = c.in_ok-labelled.labelled in
     let job = c.in_ok-labelled.ensures.follows compare_plan after_job first (at_first first)
     (all_left compare_plan first c.args.files.now c.requires.none_read) in
-    stops (after_start (job_of l.job)) compare_plan first (shelf_shown g.S.Shelf c.next-counter.new.shelf) _ c.in-Err.stop _ refl
+    stops (after_start (job_of l.job)) compare_plan first (shelf_shown g.S.Shelf c.next-counter.new.shelf) _
+    c.in-Err.stop _ refl
     (c.in-Err.ensures.follows Text (counter_of (job_of l.job) l.labels) (λ fault seen is. is)
     (λ bytes result is. search rules) compare_plan (after_start (job_of l.job)) first
     c.in_ok-labelled.ensures.later job)
