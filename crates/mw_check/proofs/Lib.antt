@@ -11,4 +11,3 @@ pub mod Searching
 pub mod Shown
 pub mod SideTerms
 pub mod Sides
-pub mod Stopping

@@ -1,23 +1,10 @@
--- The cases of a boundary in their order, and how many there are.
-use Rattle.std.specs.Prelude.{◌≡◌, ◌⊎◌, ℕ, ◌≤◌, List, length, All, Contains}
-use Rattle.std.specs.List.{AllPairs}
+-- How many cases a boundary has, and how many cycles its longest segment.
+use Rattle.std.specs.Prelude.{◌≡◌, ℕ, ◌≤◌, List, length}
 use Rattle.mw_term.specs.declared.decided.Decided.{Decided}
-use Rattle.mw_rel.specs.Case.{IsBefore, IsCase, IsStartAt, cycles_of}
+use Rattle.mw_rel.specs.Case.{IsStartAt, cycles_of}
 use Rattle.mw_rel.specs.Job.{Job}
 use Rattle.mw_rel.specs.Start.{Start}
-
--- The first cases of a boundary, in their order: each other case comes after all of these.
-pub record AreFirstCases (job : Job) (number : ℕ) (cases : List (List Decided)) : Type 0 where
-  pub feasible : All (IsCase job number) cases
-  pub in_order : AllPairs IsBefore cases
-  pub others : (other : List Decided) → IsCase job number other
-      → Contains cases other ⊎ All (λ bits. IsBefore bits other) cases
-
--- All cases of a boundary, in their order.
-pub record AreAllCases (job : Job) (number : ℕ) (cases : List (List Decided)) : Type 0 where
-  pub feasible : All (IsCase job number) cases
-  pub in_order : AllPairs IsBefore cases
-  pub all : (other : List Decided) → IsCase job number other → Contains cases other
+use Rattle.mw_fork.specs.Walks.{AreAllCases}
 
 -- a boundary has so many feasible cases
 pub record HasCases (job : Job) (number count : ℕ) : Type 0 where

@@ -12,12 +12,13 @@ use Rattle.mw_fork.specs.declared.fault.Over.{Over}
 use Rattle.mw_fork.specs.declared.fault.Over.TheVariants as overs
 use Rattle.mw_fork.specs.Begins.{IsDiffering, IsLeast}
 use Rattle.mw_fork.specs.Failing.{ComparisonsAreWithin, NoneDiffersOf}
+use Rattle.mw_fork.specs.Walks.{AreFirstCases}
 use Rattle.mw_replay.specs.Counter.{Counter, IsCounter}
 use Rattle.mw_replay.specs.CounterPrinted.{AreShort}
 use Rattle.mw_check.specs.declared.verdict.Summary.{Summary}
 use Rattle.mw_check.specs.declared.verdict.Verdict.{Verdict}
 use Rattle.mw_check.specs.declared.verdict.Verdict.TheVariants.{Yes, No, Unknown}
-use Rattle.mw_check.specs.Cases.{AreFirstCases, HasCases, HasLongest}
+use Rattle.mw_check.specs.Cases.{HasCases, HasLongest}
 
 -- ---- yes
 

@@ -1,64 +1,51 @@
 // Whether a job is certified.
-ghost use Rattle.std.specs.Prelude.{◌≡◌, ◌≢◌, ◌<◌, ℕ, List, length, IfOk, IfErr, IfSome, IsTrue, OnOk, None};
-ghost use Rattle.mw_term.specs.declared.decided.Decided.{Decided};
+ghost use Rattle.std.specs.Prelude.{◌≡◌, ◌<◌, length, IfOk, IfErr, IsTrue};
 ghost use Rattle.mw_rel.specs.Views.{job_of};
-ghost use Rattle.mw_fork.specs.declared.budget.Budget.{Budget as BudgetOf};
-ghost use Rattle.mw_fork.specs.declared.fault.ForkFault.TheVariants as faults;
-ghost use Rattle.mw_fork.specs.declared.fault.Over.{Over as OverOf};
-ghost use Rattle.mw_fork.specs.Forks.{IsForkOf};
-ghost use Rattle.mw_replay.specs.Counter.{Counter as CounterOf};
 ghost use Rattle.mw_replay.specs.CounterPrinted.{AreShort};
-ghost use Rattle.mw_check.specs.declared.certification.SearchStop.TheVariants as stops;
-ghost use Rattle.mw_check.specs.declared.verdict.Summary.{Summary as SummaryOf};
-ghost use Rattle.mw_check.specs.Searched.{AreSearched, HasGone, IsSearched, IsOneMore, StopsSearch};
+ghost use Rattle.mw_check.specs.Searched.{EndsSearch, StopsSearch};
 ghost use Rattle.mw_check.specs.Verdict.{IsVerdict, NoneDiffersBefore};
 
 use crate::verdict::{Summary, Verdict};
 use mw_base::{Items, NoMemory};
 use mw_cycle::{Env, Series};
-use mw_fork::{Budget, Fork, ForkFault, Over};
+use mw_fork::{Budget, Case, Fork, ForkFault, Visitor};
 use mw_rel::{Begin, Job};
 use mw_replay::Counter;
-use std::alloc::{AllocFailed, Global};
+use std::alloc::Global;
+use std::ops::ControlFlow;
 
 /// How many entries each list of a counter may have in a file.
 const MOST_ENTRIES: usize = 65_536;
 
-/// Why a search goes no further.
-#[derive(Debug, Drop)]
-pub(crate) enum SearchStop {
-    /// A start differs.
-    Differs(Counter),
-    /// Something is over the budget.
-    Over(Over),
-    /// Memory ran out.
-    NoMemory,
+/// What was found of the cases of a boundary so far: no start of them differs.
+#[derive(Drop)]
+pub(crate) struct Found {
+    /// How many there are, and how many cycles the longest of their segments has.
+    pub summary: Summary,
 }
 
-impl From<NoMemory> for SearchStop {
-    ghost from_gives = { λ _ stop. stop ≡ stops.NoMemory };
+impl Visitor for Found {
+    ghost use Rattle.mw_check.specs.Searched.{AreGoneThrough, IsFirstDiffering};
 
-    fn from(_: NoMemory) -> SearchStop {
-        SearchStop::NoMemory
-    }
-}
+    type Stop = Begin;
 
-impl<T: Drop> From<AllocFailed<T>> for SearchStop {
-    ghost from_gives = { λ _ stop. stop ≡ stops.NoMemory };
+    ghost has_seen = { λ before now job number budget cases. AreGoneThrough job number budget.nodes now.summary cases };
 
-    fn from(_: AllocFailed<T>) -> SearchStop {
-        SearchStop::NoMemory
-    }
-}
+    ghost stops = { λ now job number budget bits begin. IsFirstDiffering job number bits begin };
 
-/// Why a fork goes no further, as a search does.
-fn stop_of(fault: ForkFault) -> SearchStop
-    ensures over { (over : OverOf) → result ≡ stops.Over over → fault ≡ faults.Over over }
-    ensures differs { (counter : CounterOf) → result ≢ stops.Differs counter }
-{
-    match fault {
-        ForkFault::Over(over) => SearchStop::Over(over),
-        ForkFault::NoMemory => SearchStop::NoMemory,
+    fn visit(
+        &mut self,
+        alloc: Global,
+        job: &Job,
+        fork: &mut Fork,
+        case: &Case,
+    ) -> Result<ControlFlow<Begin>, ForkFault> {
+        if let Some(begin) = fork.differs(alloc, job)? {
+            return Ok(ControlFlow::Break(begin));
+        }
+        self.summary.cases += 1;
+        self.summary.cycles = self.summary.cycles.max(case.cycles);
+        Ok(ControlFlow::Continue(()))
     }
 }
 
@@ -83,73 +70,43 @@ fn counter_at(boundary: usize, begin: Begin) -> Result<Counter, NoMemory>
     Ok(Counter { boundary, begin })
 }
 
-/// Goes through the next case of a boundary, and answers how many cycles its segments have; nothing where there is
-/// none.
-fn next_cycles(
+/// Goes through the cases of a boundary: what is found of it, or the counter of the first start that differs.
+fn search(
     alloc: Global,
     job: &Job,
     boundary: usize,
-    fork: &mut Fork,
-) -> Result<Option<u32>, SearchStop>
-    requires of { IsForkOf (job_of job.now) fork.old }
-    ensures more { IfOk result
-        (λ o. IfSome o (λ cycles. (budget : BudgetOf) (summary : SummaryOf) (cases : List (List Decided))
-        → HasGone (job_of job.now) boundary budget fork.old summary cases
-        → IsOneMore (job_of job.now) boundary budget fork.new summary cycles cases)) }
-    ensures few { IfOk result (λ o. IfSome o (λ cycles. fork.old.given < fork.old.budget.paths)) }
-    ensures of { OnOk result (IsForkOf (job_of job.now) fork.new) }
-    ensures all { IfOk result (λ o. o ≡ None → (budget : BudgetOf) (summary : SummaryOf) (cases : List (List Decided))
-        → HasGone (job_of job.now) boundary budget fork.old summary cases
-        → IsSearched (job_of job.now) boundary budget summary) }
-    ensures stops { IfErr result (λ stop. (budget : BudgetOf) (summary : SummaryOf) (cases : List (List Decided))
-        → HasGone (job_of job.now) boundary budget fork.old summary cases → NoneDiffersBefore (job_of job.now) boundary
-        → StopsSearch (job_of job.now) budget stop) }
-{
-    let case = match fork.next_case(alloc, job) {
-        Ok(Some(case)) => case,
-        Ok(None) => return Ok(None),
-        Err(fault) => return Err(stop_of(fault)),
-    };
-    match fork.differs(alloc, job) {
-        Ok(None) => Ok(Some(case.cycles)),
-        Ok(Some(begin)) => Err(SearchStop::Differs(counter_at(boundary, begin)?)),
-        Err(fault) => Err(stop_of(fault)),
-    }
-}
-
-/// Goes through the cases of a boundary.
-fn search(alloc: Global, job: &Job, boundary: usize, budget: Budget) -> Result<Summary, SearchStop>
+    budget: Budget,
+) -> Result<ControlFlow<Counter, Summary>, ForkFault>
     requires there { boundary < length (job_of job.now).relation.boundaries }
-    ensures searched { IfOk result (IsSearched (job_of job.now) boundary budget) }
-    ensures stops { IfErr result (λ stop. NoneDiffersBefore (job_of job.now) boundary
-        → StopsSearch (job_of job.now) budget stop) }
+    ensures ends { IfOk result (EndsSearch (job_of job.now) boundary budget) }
+    ensures stops { IfErr result (λ fault. NoneDiffersBefore (job_of job.now) boundary
+        → StopsSearch (job_of job.now) budget fault) }
 {
-    let mut fork = match Fork::start(alloc, job, boundary, budget) {
-        Ok(fork) => fork,
-        Err(fault) => return Err(stop_of(fault)),
+    let mut found = Found {
+        summary: Summary {
+            cases: 0,
+            cycles: 0,
+        },
     };
-    let mut summary = Summary {
-        cases: 0,
-        cycles: 0,
-    };
-    while let Some(cycles) = next_cycles(alloc, job, boundary, &mut fork)? {
-        summary.cases += 1;
-        summary.cycles = summary.cycles.max(cycles);
+    match Fork::walk(alloc, job, boundary, budget, &mut found)? {
+        ControlFlow::Continue(()) => Ok(ControlFlow::Continue(found.summary)),
+        ControlFlow::Break(begin) => Ok(ControlFlow::Break(counter_at(boundary, begin)?)),
     }
-    Ok(summary)
 }
 
-/// Goes through the boundaries, in the order of the relation.
-fn search_all(alloc: Global, job: &Job, budget: Budget) -> Result<Vec<Summary>, SearchStop>
-    ensures searched { IfOk result (λ summaries. AreSearched (job_of job.now) budget summaries.items) }
-    ensures count { IfOk result (λ summaries. length summaries.items ≡ length (job_of job.now).relation.boundaries) }
+/// Goes through the boundaries, in the order of the relation, up to the first at which a start differs.
+fn search_all(alloc: Global, job: &Job, budget: Budget) -> Result<Verdict, ForkFault>
+    ensures is { IfOk result (IsVerdict (job_of job.now) budget) }
     ensures stops { IfErr result (StopsSearch (job_of job.now) budget) }
 {
     let mut summaries = Vec::new(alloc);
     for boundary in 0..job.relation.boundaries().len() {
-        summaries.push(search(alloc, job, boundary, budget)?)?;
+        match search(alloc, job, boundary, budget)? {
+            ControlFlow::Continue(summary) => summaries.push(summary)?,
+            ControlFlow::Break(counter) => return Ok(Verdict::No(counter)),
+        }
     }
-    Ok(summaries)
+    Ok(Verdict::Yes(Items::from_vec(summaries)))
 }
 
 /// Whether a job is certified, asked within a budget. It goes through the boundaries in the order of the relation, and
@@ -172,9 +129,8 @@ pub fn certify(alloc: Global, job: &Job, budget: Budget) -> Result<Verdict, NoMe
     ensures { IfOk result (IsVerdict (job_of job.now) budget) }
 {
     match search_all(alloc, job, budget) {
-        Ok(summaries) => Ok(Verdict::Yes(Items::from_vec(summaries))),
-        Err(SearchStop::Differs(counter)) => Ok(Verdict::No(counter)),
-        Err(SearchStop::Over(over)) => Ok(Verdict::Unknown(over)),
-        Err(SearchStop::NoMemory) => Err(NoMemory),
+        Ok(verdict) => Ok(verdict),
+        Err(ForkFault::Over(over)) => Ok(Verdict::Unknown(over)),
+        Err(ForkFault::NoMemory) => Err(NoMemory),
     }
 }

@@ -15,8 +15,8 @@ use Rattle.mw_fork.specs.declared.budget.Budget.{Budget}
 use Rattle.mw_fork.specs.declared.elements.Space.{Space}
 use Rattle.mw_fork.specs.declared.fork.Stage.{Stage}
 use Rattle.mw_fork.specs.declared.run.Run.{Run}
-use Rattle.mw_fork.specs.declared.stop.RunStop.{RunStop}
-use Rattle.mw_fork.specs.declared.stop.RunStop.TheVariants.{Over}
+use Rattle.mw_fork.specs.Faults.{RunStop}
+use Rattle.mw_fork.specs.declared.fault.Fault.TheVariants.{Over}
 use Rattle.mw_fork.specs.declared.way.Kept.{Kept}
 use Rattle.mw_fork.specs.Begins.{IsAssigned, IsChosen, IsDiffering, IsLeast}
 use Rattle.mw_fork.specs.Failing.{ComparisonStops, ComparisonsAreWithin, IsFound}
@@ -157,7 +157,7 @@ pub found_over : (job : Job) (f : Fork) (boundary nodes : ℕ) (kept : List Kept
     (number : ℕ) (prefix : List Decided) (word j : ℕ)
     → HasMetAgain job f boundary kept way → f.budget.nodes ≡ nodes
     → ComparisonStops job boundary nodes (met_of way) stop
-    → (number ≡ boundary) × (prefix ≡ met_of way) × (stop ≡ Over word j)
+    → (number ≡ boundary) × (prefix ≡ met_of way) × (stop ≡ Over (record { word = word; bit = j }))
     → (number ≡ f.boundary) × (f.at ≡ At prefix) × AreNodesOver job number f.budget.nodes prefix word j
 found_over job f boundary nodes kept way stop number prefix word j again budget stops told = (
   told.0 ∙ sym again.at_boundary,

@@ -27,8 +27,9 @@ use Rattle.mw_term.specs.Table.{Extends, IsTable, Table, op_width, table_of}
 use Rattle.mw_term.specs.Values.{IsTermOf, Keeps, op_value, term_value}
 use Rattle.mw_term.specs.WordList.{Ended, WordList, word_number, plain, with_word}
 use Rattle.mw_fork.specs.declared.elements.Space.{Space}
-use Rattle.mw_fork.specs.declared.stop.RunStop.{RunStop}
-use Rattle.mw_fork.specs.declared.stop.RunStop.TheVariants as stops
+use Rattle.mw_fork.specs.Faults.{RunStop}
+use Rattle.mw_fork.specs.declared.fault.Fault.TheVariants as stops
+use Rattle.mw_fork.specs.declared.fault.Place.{Place}
 use Rattle.mw_fork.specs.Comparing.{AreOneOn, AreTwoAt, Compares, IsComparedKind, IsComparedOver, word_on}
 use Rattle.mw_fork.specs.Comparing.IsComparedOver.{at_comparison, in_list}
 use Rattle.mw_fork.specs.Listed.{list_of_space}
@@ -187,14 +188,11 @@ IsFailingCause t path term nodes fault =
 -- how the fault is told
 pub record IsStopOf (words : List Word) (fault : BlastFault) (stop : RunStop) : Type 0 where
   pub over : (term j : ℕ) → fault ≡ faults.Over term j
-      → stop ≡ stops.Over (unwrap_or (word_number words term) (length words)) j
+      → stop ≡ stops.Over (record { word = unwrap_or (word_number words term) (length words); bit = j })
   pub none : fault ≡ faults.NoMemory → stop ≡ stops.NoMemory
 
-word_of_over : (w j v i : ℕ) (stop : RunStop) → stop ≡ stops.Over w j → stop ≡ stops.Over v i → w ≡ v
-word_of_over w j v i stop one other = cc
-
-bit_of_over : (w j v i : ℕ) (stop : RunStop) → stop ≡ stops.Over w j → stop ≡ stops.Over v i → j ≡ i
-bit_of_over w j v i stop one other = cc
+same_place : (a b : Place) (stop : RunStop) → stop ≡ stops.Over a → stop ≡ stops.Over b → a ≡ b
+same_place a b stop one other = cc
 
 over_by : (nodes : ℕ) (new : Space) (map : List ℕ) (path : Function) (subject : Subject) (term named j : ℕ)
     → new.terms.map ≡ map
@@ -214,9 +212,9 @@ pub compared_over : (nodes : ℕ) (old new : Space) (path : Function) (subject :
     → IsFailingCause new.terms path term nodes fault → IsStopOf new.words fault stop
     → Compares nodes old new path (compared_at subject term (list_of_space new)) (Err stop)
 compared_over nodes old new path subject term (faults.Over named i) stop same table cause told =
-    λ so_far have word j is.
+    λ so_far have place is.
     let map = old.terms.map in
-    let other = told.over named i refl in
+    let same_as = same_place place _ stop is (told.over named i refl) in
     let c = comparison_of subject term (list_of_space new) in
     record {
       before = so_far.comparisons;
@@ -227,11 +225,11 @@ compared_over nodes old new path subject term (faults.Over named i) stop same ta
       table = table;
       map_is = same;
       term = named;
-      named = word_of_over word j _ i stop is other;
-      over = subst (λ x. IsComparedOver map nodes new path c named x) (sym (bit_of_over word j _ i stop is other))
+      named = ap (λ (p : Place). p.word) same_as;
+      over = subst (λ x. IsComparedOver map nodes new path c named x) (sym (ap (λ (p : Place). p.bit) same_as))
           (over_by nodes new map path subject term named i same (cause named i refl));
       front = front_itself (list_of_space new);
     }
-compared_over nodes old new path subject term faults.NoMemory stop same table cause told = λ so_far have word j is.
+compared_over nodes old new path subject term faults.NoMemory stop same table cause told = λ so_far have place is.
     let other = told.none refl in
     absurd cc

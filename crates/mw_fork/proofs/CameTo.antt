@@ -4,7 +4,7 @@ use Rattle.mw_rel.specs.ComparisonWords.{Compared}
 use Rattle.mw_term.specs.Assigned.{Numbers}
 use Rattle.mw_term.specs.Functions.{Function}
 use Rattle.mw_fork.specs.declared.elements.Space.{Space}
-use Rattle.mw_fork.specs.declared.stop.RunStop.{RunStop}
+use Rattle.mw_fork.specs.Faults.{RunStop}
 use Rattle.mw_fork.specs.Comparing.{Compares}
 
 -- none showed a difference up to those that are left: what is said of these, from this space on, is so of all

@@ -16,7 +16,7 @@ use Rattle.mw_fork.specs.Boundaries.{AreWide}
 use Rattle.mw_fork.specs.Comparing.{AreEventsOf, AreOne, AreOneAtProbe, AreOneOn, ArePutOut, Compares, GoesComparing}
 use Rattle.mw_fork.specs.Comparing.{HoldsAt, compared_all}
 use Rattle.mw_fork.specs.declared.elements.Space.{Space}
-use Rattle.mw_fork.specs.declared.stop.RunStop.{RunStop}
+use Rattle.mw_fork.specs.Faults.{RunStop}
 use Rattle.mw_fork.proofs.ComparingOn.{IsShown, compares_shown, compares_then, comparing_then, wide_compared}
 use Rattle.mw_fork.proofs.GoingOn.{GoesOnAs, goes_then, lines_go_on, memory_goes_on}
 use Rattle.mw_fork.proofs.LineCompared.{holds_later}

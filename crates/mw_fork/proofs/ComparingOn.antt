@@ -10,7 +10,7 @@ use Rattle.mw_term.specs.Cofactors.{Agree}
 use Rattle.mw_term.specs.Functions.{Function}
 use Rattle.mw_fork.specs.declared.elements.Space.{Space}
 use Rattle.mw_fork.specs.declared.paths.Paths.{Paths}
-use Rattle.mw_fork.specs.declared.stop.RunStop.{RunStop}
+use Rattle.mw_fork.specs.Faults.{RunStop}
 use Rattle.mw_fork.specs.Boundaries.{AreWide}
 use Rattle.mw_fork.specs.Comparing.{AreSidesOn, Compares, FailsFirst, GoesComparing, HaveCompared, IsComparedKind}
 use Rattle.mw_fork.specs.Comparing.{IsOutcome, StopsComparing}
@@ -108,9 +108,9 @@ pub compares_shown : (nodes : ℕ) (old new : Space) (path : Function) (first al
 compares_shown nodes old new path first all (Ok None) shown on says = absurd shown
 compares_shown nodes old new path first all (Ok (Some numbers)) shown on says = λ so_far have.
     fails_further old.terms.map new path (first so_far) (all so_far) numbers (on so_far) (says so_far have)
-compares_shown nodes old new path first all (Err stop) shown on says = λ so_far have word j over.
-    stops_further old.terms.map nodes new path (first so_far) (all so_far) word j (on so_far)
-    (says so_far have word j over)
+compares_shown nodes old new path first all (Err stop) shown on says = λ so_far have place over.
+    stops_further old.terms.map nodes new path (first so_far) (all so_far) place.word place.bit (on so_far)
+    (says so_far have place over)
 
 -- ---- one comparison after another
 

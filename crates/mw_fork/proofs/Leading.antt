@@ -10,8 +10,8 @@ use Rattle.mw_fork.specs.declared.budget.Budget.{Budget}
 use Rattle.mw_fork.specs.declared.fork.Stage.{Stage}
 use Rattle.mw_fork.specs.declared.fork.Stage.TheVariants as stages
 use Rattle.mw_fork.specs.declared.run.Run.{Run}
-use Rattle.mw_fork.specs.declared.stop.RunStop.{RunStop}
-use Rattle.mw_fork.specs.declared.stop.RunStop.TheVariants.{Over}
+use Rattle.mw_fork.specs.Faults.{RunStop}
+use Rattle.mw_fork.specs.declared.fault.Fault.TheVariants.{Over}
 use Rattle.mw_fork.specs.declared.way.Kept.{Kept}
 use Rattle.mw_fork.specs.Forks.{At, Before, EndsEach, Fork, IsForkOf, IsNextCase, IsToCome, KeepsFor, LeadNowhere}
 use Rattle.mw_fork.specs.Forks.{LeadOn, LeadsToNext, NoneIsToCome, fork_of}
@@ -63,7 +63,8 @@ pub has_stopped : (job : Job) (f : Fork) (boundary given : ℕ) (budget : Budget
     (way : Way) (stop : RunStop) (number : ℕ) (prefix : List Decided) (word j : ℕ) → IsJob job
     → fork_of boundary budget given stage kept ≡ f → IsForkOf job f → LeadOn stage kept from
     → (AreKeptBits job boundary [] from → StopsBy job boundary budget.nodes from way stop)
-    → (number ≡ boundary) × (prefix ≡ met_of way) × (stop ≡ Over word j) → HasStopped job f number prefix word j
+    → (number ≡ boundary) × (prefix ≡ met_of way) × (stop ≡ Over (record { word = word; bit = j }))
+    → HasStopped job f number prefix word j
 has_stopped job f boundary given budget stage kept from way stop number prefix word j valid is of lead stops told =
     let before = subst (IsForkOf job) (sym is) of in
     let leads = lead job boundary valid before.there before.keeps in

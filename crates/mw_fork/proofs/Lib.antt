@@ -49,4 +49,5 @@ pub mod Taking
 pub mod Tracing
 pub mod Turned
 pub mod Valued
+pub mod Walking
 pub mod WordPaths

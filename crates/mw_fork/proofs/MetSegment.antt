@@ -14,7 +14,7 @@ use Rattle.mw_rel.specs.Relation.{Boundary}
 use Rattle.mw_rel.specs.Start.{Start, addresses_of}
 use Rattle.mw_fork.specs.declared.run.Run.{Run}
 use Rattle.mw_fork.specs.declared.way.Kept.{Kept}
-use Rattle.mw_fork.specs.declared.stop.RunStop.{RunStop}
+use Rattle.mw_fork.specs.Faults.{RunStop}
 use Rattle.mw_fork.specs.CasePaths.{HasNoBoundary}
 use Rattle.mw_fork.specs.Ends.{IsBoardOf}
 use Rattle.mw_fork.specs.OnWay.{Cycles, CyclesStop, HasFinished, HasMetAll, HasMetSegment, IsOnRun, IsRunOf}

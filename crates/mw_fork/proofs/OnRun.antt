@@ -38,7 +38,7 @@ use Rattle.mw_fork.specs.declared.elements.Space.{Space}
 use Rattle.mw_fork.specs.declared.paths.Paths.{Paths}
 use Rattle.mw_fork.specs.declared.run.Run.{Run}
 use Rattle.mw_fork.specs.declared.way.Kept.{Kept}
-use Rattle.mw_fork.specs.declared.stop.RunStop.{RunStop}
+use Rattle.mw_fork.specs.Faults.{RunStop}
 use Rattle.mw_fork.specs.Listed.{ComesTo, left_in_cycle, list_of_space}
 use Rattle.mw_fork.specs.OnWay.{CyclesStop, HasDecided, HasFinished, HasMetAll, IsOnRun, IsTurnedOnRun, Settles}
 use Rattle.mw_fork.specs.OnWay.{SettlesNot, Turns, ground_in, path_in}

@@ -24,8 +24,9 @@ use Rattle.mw_rel.specs.PathWords.StandsAtWord.{at_word}
 use Rattle.mw_rel.specs.Sought.{IsSought, NeverFails}
 use Rattle.mw_rel.specs.Sought.IsSought.{at_comparison as sought_at, on_path}
 use Rattle.mw_fork.specs.declared.elements.Space.{Space}
-use Rattle.mw_fork.specs.declared.stop.RunStop.{RunStop}
-use Rattle.mw_fork.specs.declared.stop.RunStop.TheVariants.{NoMemory, Over}
+use Rattle.mw_fork.specs.Faults.{RunStop}
+use Rattle.mw_fork.specs.declared.fault.Fault.TheVariants.{NoMemory, Over}
+use Rattle.mw_fork.specs.declared.fault.Place.{Place}
 use Rattle.mw_fork.specs.Comparing.{FailsFirst, HaveCompared, IsComparedOver, IsFrontOf, StopsComparing, word_on}
 use Rattle.mw_fork.specs.Comparing.IsComparedOver.{at_comparison, in_list}
 use Rattle.mw_fork.specs.Failing.{ComparisonStops, ComparisonsAreWithin}
@@ -128,12 +129,12 @@ pub stops_comparing : (job : Job) (number nodes : ℕ) (bits : List Decided) (ma
     (compared : Compared) (stop : RunStop) → OverHaveNumbers → AreNumbered → map ≡ job.board.map_entries
     → case_words job number bits ≡ whole compared → Agree path (path_of job number bits)
     → IsFeasiblePrefix job number bits
-    → ((word j : ℕ) → stop ≡ Over word j → StopsComparing map nodes space path compared word j)
+    → ((place : Place) → stop ≡ Over place → StopsComparing map nodes space path compared place.word place.bit)
     → ComparisonStops job number nodes bits stop
 stops_comparing job number nodes bits map space path compared
-    (Over word j) law laws entries words written feasible stops =
-    over_compared job number nodes bits map space path compared word j law laws entries words written feasible
-    (stops word j refl)
+    (Over place) law laws entries words written feasible stops =
+    over_compared job number nodes bits map space path compared place.word place.bit law laws entries words written
+    feasible (stops place refl)
 stops_comparing job number nodes bits map space path compared NoMemory law laws entries words written feasible stops =
     tt
 

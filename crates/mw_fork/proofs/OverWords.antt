@@ -29,8 +29,8 @@ use Rattle.mw_rel.specs.Job.{Job}
 use Rattle.mw_rel.specs.OverBudget.{AreNodesOver}
 use Rattle.mw_rel.specs.PathWords.{IsWord, StandsAtWord, next_bit, path_of, path_word, table_with}
 use Rattle.mw_rel.specs.PathWords.StandsAtWord.{at_constant, at_word}
-use Rattle.mw_fork.specs.declared.stop.RunStop.{RunStop}
-use Rattle.mw_fork.specs.declared.stop.RunStop.TheVariants as stops
+use Rattle.mw_fork.specs.Faults.{RunStop}
+use Rattle.mw_fork.specs.declared.fault.Fault.TheVariants as stops
 use Rattle.mw_fork.specs.declared.way.Kept.{Kept}
 use Rattle.mw_fork.specs.Comparing.{IsFrontOf}
 use Rattle.mw_fork.specs.Listed.{AsksFor}
@@ -199,7 +199,8 @@ met_feasible job number g from way path starts on =
 
 -- a stop says the fault of a term by the number of its word
 pub record Tells (words : List Word) (fault : BlastFault) (stop : RunStop) : Type 0 where
-  pub over : (term j : ℕ) → fault ≡ faults.Over term j → stop ≡ stops.Over (number_or_last words term) j
+  pub over : (term j : ℕ) → fault ≡ faults.Over term j → stop
+      ≡ stops.Over (record { word = number_or_last words term; bit = j })
   pub none : fault ≡ faults.NoMemory → stop ≡ stops.NoMemory
 
 -- a run whose path wasn't split stops by that

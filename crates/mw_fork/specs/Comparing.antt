@@ -28,8 +28,9 @@ use Rattle.mw_symmem.specs.Workspace.{GoesOn, KeepsWrites}
 use Rattle.mw_symmach.specs.Expressions.{values_at}
 use Rattle.mw_symmach.specs.Steps.{event_term}
 use Rattle.mw_fork.specs.declared.elements.Space.{Space}
-use Rattle.mw_fork.specs.declared.stop.RunStop.{RunStop}
-use Rattle.mw_fork.specs.declared.stop.RunStop.TheVariants.{Over}
+use Rattle.mw_fork.specs.Faults.{RunStop}
+use Rattle.mw_fork.specs.declared.fault.Fault.TheVariants.{Over}
+use Rattle.mw_fork.specs.declared.fault.Place.{Place}
 use Rattle.mw_fork.specs.Listed.{list_of_space}
 
 -- ---- what is listed
@@ -109,7 +110,7 @@ abbrev pub IsOutcome : (map : List ℕ) → (nodes : ℕ) → Space → (path : 
 IsOutcome map nodes space path compared (Ok None) = HaveCompared map nodes space path compared
 IsOutcome map nodes space path compared (Ok (Some numbers)) = FailsFirst map space path compared numbers
 IsOutcome map nodes space path compared (Err stop) =
-    (word j : ℕ) → stop ≡ Over word j → StopsComparing map nodes space path compared word j
+    (place : Place) → stop ≡ Over place → StopsComparing map nodes space path compared place.word place.bit
 
 -- behind any that were made in a space and can't fail, the result is the outcome of those with more behind them
 abbrev pub Compares : (nodes : ℕ) → (old new : Space) → (path : Function) → (more : Compared → Compared)

@@ -15,8 +15,8 @@ use Rattle.mw_term.specs.Cofactors.{HasAtMostCofactors}
 use Rattle.mw_term.specs.Functions.{Function}
 use Rattle.mw_dd.specs.Diagrams.{IsFirst}
 use Rattle.mw_fork.specs.declared.elements.Space.{Space}
-use Rattle.mw_fork.specs.declared.stop.RunStop.{RunStop}
-use Rattle.mw_fork.specs.declared.stop.RunStop.TheVariants.{NoMemory, Over}
+use Rattle.mw_fork.specs.Faults.{RunStop}
+use Rattle.mw_fork.specs.declared.fault.Fault.TheVariants.{NoMemory, Over}
 use Rattle.mw_fork.specs.Listed.{list_of_space}
 use Rattle.mw_fork.specs.OnWay.{ground_in}
 use Rattle.mw_fork.specs.Starts.{IsGround, StandsForStart}
@@ -48,5 +48,5 @@ pub record IsFound (job : Job) (number : ℕ) (elements : List ℕ) (bits : List
 
 -- An operation of the comparison is over the budget, in the list of the case; or memory ran out.
 abbrev pub ComparisonStops : Job → (number nodes : ℕ) → (bits : List Decided) → RunStop → Type 0
-ComparisonStops job number nodes bits (Over word j) = AreNodesOver job number nodes bits word j
+ComparisonStops job number nodes bits (Over place) = AreNodesOver job number nodes bits place.word place.bit
 ComparisonStops job number nodes bits NoMemory = Unit {0}

@@ -5,6 +5,7 @@ pub mod Comparing
 pub mod Ends
 pub mod Entries
 pub mod Failing
+pub mod Faults
 pub mod Forks
 pub mod KeptBits
 pub mod Listed
@@ -16,5 +17,6 @@ pub mod Segments
 pub mod Starts
 pub mod Steps
 pub mod Stops
+pub mod Walks
 pub mod Ways
 pub mod Within

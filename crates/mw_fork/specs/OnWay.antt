@@ -36,7 +36,7 @@ use Rattle.mw_fork.specs.Listed.{left_of_cycles, left_of_step}
 use Rattle.mw_fork.specs.Listed.{list_of_space, standing_on}
 use Rattle.mw_fork.specs.Paths.{ArePaths}
 use Rattle.mw_fork.specs.Runs.{IsUnder}
-use Rattle.mw_fork.specs.declared.stop.RunStop.{RunStop}
+use Rattle.mw_fork.specs.Faults.{RunStop}
 use Rattle.mw_fork.specs.Starts.{Ground, IsGround, StandsForStart, ground_of, origin_of, registers_of}
 use Rattle.mw_fork.specs.Steps.{said_from}
 use Rattle.mw_fork.specs.Stops.{StopsBy}

@@ -34,11 +34,11 @@ ghost use Rattle.mw_fork.specs.Ways.{Way, met_of};
 
 use crate::decide::stop_of;
 use crate::elements::Space;
+use crate::fault::RunStop;
 use crate::fork::Traced;
 use crate::paths::Paths;
 use crate::reached::boundary_at;
 use crate::run::Run;
-use crate::stop::RunStop;
 use mw_base::NoMemory;
 use mw_blast::over_have_numbers;
 use mw_macro::words_are_numbered;

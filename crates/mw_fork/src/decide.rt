@@ -5,7 +5,7 @@ ghost use Rattle.mw_blast.specs.declared.fault.BlastFault.TheVariants as faults;
 ghost use Rattle.mw_term.specs.WordList.{word_number};
 ghost use Rattle.mw_symmem.specs.Memory.{IsOfWidth};
 ghost use Rattle.mw_rel.specs.Job.{IsJob, Job};
-ghost use Rattle.mw_fork.specs.declared.stop.RunStop.TheVariants as stops;
+ghost use Rattle.mw_fork.specs.declared.fault.Fault.TheVariants as stops;
 ghost use Rattle.mw_fork.specs.declared.way.Kept.{Kept};
 ghost use Rattle.mw_fork.specs.CasePaths.{IsNextOfCase};
 ghost use Rattle.mw_fork.specs.Listed.{AsksFor};
@@ -15,8 +15,8 @@ ghost use Rattle.mw_fork.specs.Ways.{met_of};
 ghost use Rattle.mw_fork.specs.Within.{AreDecidedWithin};
 
 use crate::elements::Space;
+use crate::fault::{Place, RunStop};
 use crate::paths::Paths;
-use crate::stop::RunStop;
 use crate::way::Way;
 use mw_blast::{BlastFault, over_have_numbers};
 use mw_macro::words_are_numbered;
@@ -39,14 +39,14 @@ fn operation_number(words: &Words, term: Term) -> u64
 /// Why a run stops, by the fault of a term.
 pub(crate) fn stop_of(words: &Words, fault: BlastFault) -> RunStop
     ensures over { (term j : ℕ) → fault ≡ faults.Over term j
-        → result ≡ stops.Over (unwrap_or (word_number words.now term) (length words.now)) j }
+        → result ≡ stops.Over (record { word = unwrap_or (word_number words.now term) (length words.now); bit = j }) }
     ensures none { fault ≡ faults.NoMemory → result ≡ stops.NoMemory }
 {
     match fault {
-        BlastFault::Over(term, bit) => RunStop::Over {
+        BlastFault::Over(term, bit) => RunStop::Over(Place {
             word: operation_number(words, term),
             bit,
-        },
+        }),
         BlastFault::NoMemory => RunStop::NoMemory,
     }
 }

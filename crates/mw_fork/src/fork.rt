@@ -9,10 +9,9 @@ ghost use Rattle.mw_fork.specs.Begins.{IsDiffering, IsLeast};
 ghost use Rattle.mw_fork.specs.Failing.{ComparisonStops, ComparisonsAreWithin, NoneDiffersOf};
 ghost use Rattle.mw_rel.specs.OverBudget.{AreNodesOver};
 ghost use Rattle.mw_rel.specs.Views.{job_of};
-ghost use Rattle.mw_fork.specs.declared.fault.ForkFault.TheVariants as faults;
+ghost use Rattle.mw_fork.specs.declared.fault.Fault.TheVariants as faults;
 ghost use Rattle.mw_fork.specs.declared.fault.Over.TheVariants as overs;
 ghost use Rattle.mw_fork.specs.declared.fork.Stage.TheVariants as stages;
-ghost use Rattle.mw_fork.specs.declared.stop.RunStop.TheVariants as stops;
 ghost use Rattle.mw_fork.specs.declared.way.Kept.{Kept};
 ghost use Rattle.mw_fork.specs.Forks as forks;
 ghost use Rattle.mw_fork.specs.Forks.{At, Behind, EndsEach, IsForkOf, IsNextCase, IsToCome, LeadNowhere, LeadOn};
@@ -26,11 +25,10 @@ ghost use Rattle.mw_fork.specs.Within.{AreDecidedWithin};
 use crate::begin::begin_of;
 use crate::budget::Budget;
 use crate::comparing::first_failing;
-use crate::fault::{ForkFault, Over};
+use crate::fault::{ForkFault, Over, RunStop};
 use crate::run::Run;
 use crate::segment::segment;
 use crate::step::step;
-use crate::stop::RunStop;
 use crate::way::Way;
 use mw_base::NoMemory;
 use mw_rel::{Begin, Job};
@@ -219,16 +217,16 @@ fn differing(
 fn fault_of(alloc: Global, boundary: usize, way: &Way, stop: RunStop) -> ForkFault
     ensures nodes { (number : ℕ) (prefix : List Decided) (word j : ℕ)
         → result ≡ faults.Over (overs.Nodes number prefix word j)
-        → (number ≡ boundary) × (prefix ≡ met_of way.now) × (stop ≡ stops.Over word j) }
+        → (number ≡ boundary) × (prefix ≡ met_of way.now) × (stop ≡ faults.Over (record { word = word; bit = j })) }
     ensures paths { (number limit : ℕ) → result ≢ faults.Over (overs.Paths number limit) }
 {
     match stop {
-        RunStop::Over { word, bit } => match way.prefix(alloc) {
+        RunStop::Over(place) => match way.prefix(alloc) {
             Ok(prefix) => ForkFault::Over(Over::Nodes {
                 boundary,
                 prefix,
-                word,
-                bit,
+                word: place.word,
+                bit: place.bit,
             }),
             Err(_) => ForkFault::NoMemory,
         },
@@ -380,9 +378,14 @@ impl Fork {
         let Ok(mut traced) = trace(alloc, job, self.boundary, &mut self.way, u32::MAX) else {
             return Err(ForkFault::NoMemory);
         };
-        match differing(alloc, job, self.boundary, &mut traced, self.budget.nodes) {
-            Ok(begin) => Ok(begin),
-            Err(stop) => Err(fault_of(alloc, self.boundary, &self.way, stop)),
-        }
+        let begin = match differing(alloc, job, self.boundary, &mut traced, self.budget.nodes) {
+            Ok(begin) => begin,
+            Err(stop) => {
+                drop(traced);
+                return Err(fault_of(alloc, self.boundary, &self.way, stop));
+            }
+        };
+        drop(traced);
+        Ok(begin)
     }
 }

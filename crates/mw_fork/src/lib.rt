@@ -15,10 +15,11 @@ mod reached;
 mod run;
 mod segment;
 mod step;
-mod stop;
+mod walk;
 mod way;
 
 pub use budget::Budget;
-pub use fault::{ForkFault, Over};
+pub use fault::{Fault, ForkFault, Over};
 pub use fork::{Case, Fork};
 pub use mw_term::{Decided, Prefix};
+pub use walk::Visitor;

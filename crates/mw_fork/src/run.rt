@@ -10,8 +10,8 @@ ghost use Rattle.mw_fork.specs.Runs.{IsIdle, IsTurned};
 
 use crate::decide::decide;
 use crate::elements::{Space, elements_at};
+use crate::fault::RunStop;
 use crate::paths::Paths;
-use crate::stop::RunStop;
 use crate::way::Way;
 use mw_base::NoMemory;
 use mw_blast::stays_with_terms;

@@ -8,9 +8,9 @@ ghost use Rattle.mw_fork.specs.OnWay.{HasMetSegment, HavePaths, IsOnRun, IsRunOf
 ghost use Rattle.mw_fork.specs.Runs.{IsIdle};
 ghost use Rattle.mw_fork.specs.Segments.{HasReached, IsLate};
 
+use crate::fault::RunStop;
 use crate::reached::is_boundary;
 use crate::run::Run;
-use crate::stop::RunStop;
 use crate::way::Way;
 use mw_rel::Job;
 use std::alloc::Global;

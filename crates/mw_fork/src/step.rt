@@ -24,9 +24,9 @@ ghost use Rattle.mw_fork.specs.Within.{AreDecidedWithin};
 
 use crate::decide::decide;
 use crate::elements::Space;
+use crate::fault::RunStop;
 use crate::paths::Paths;
 use crate::run::Run;
-use crate::stop::RunStop;
 use crate::way::Way;
 use mw_base::NoMemory;
 use mw_blast::stays_with_terms;

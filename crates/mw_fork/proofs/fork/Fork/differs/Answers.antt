@@ -8,8 +8,8 @@ use Rattle.mw_fork.specs.Ways.{Way}
 use Rattle.mw_fork.proofs.Again.{found_over, if_found, run_again, said_again, within_again}
 use Rattle.mw_fork.proofs.fork.Fork.differs.Goals as goal
 
-pub returns-in-Ok-differing-clause-same : goal.returns-in-Ok-differing-clause-same
-returns-in-Ok-differing-clause-same c =
+pub returns-clause-same : goal.returns-clause-same
+returns-clause-same c =
     let again = run_again (job_of c.args.job.now) _ _ _ _ _ _ _ _ c.trace.new.way _ _ _ _ c.args.job.now.is_job
     c.self.view_is c.requires.of c.requires.given.1
     (ap (λ (w : Way). w.kept) c.begin_anew.ensures) c.in-Ok.ensures.case in
@@ -17,8 +17,8 @@ returns-in-Ok-differing-clause-same c =
     fork_of c.self.inside.boundary c.self.inside.budget c.self.inside.given c.self.inside.stage kept) again.1.same
     ∙ c.self.view_is
 
-pub returns-in-Ok-differing-clause-none : goal.returns-in-Ok-differing-clause-none
-returns-in-Ok-differing-clause-none c = λ none last here.
+pub returns-clause-none : goal.returns-clause-none
+returns-clause-none c = λ none last here.
     (let job = job_of c.args.job.now in
     let again = run_again job _ _ _ _ _ _ _ _ c.trace.new.way _ _ _ _ c.args.job.now.is_job
     c.self.view_is c.requires.of c.requires.given.1
@@ -26,8 +26,8 @@ returns-in-Ok-differing-clause-none c = λ none last here.
     said_again (NoneDiffersOf job) job _ _ _ _ last again.1 here
     (c.in-Ok-differing.ensures.none none again.0.0 _ _ again.0.1))
 
-pub returns-in-Ok-differing-clause-within : goal.returns-in-Ok-differing-clause-within
-returns-in-Ok-differing-clause-within c = λ none last here.
+pub returns-clause-within : goal.returns-clause-within
+returns-clause-within c = λ none last here.
     (let again = run_again (job_of c.args.job.now) _ _ _ _ _ _ _ _ c.trace.new.way _ _ _ _ c.args.job.now.is_job
     c.self.view_is c.requires.of c.requires.given.1
     (ap (λ (w : Way). w.kept) c.begin_anew.ensures) c.in-Ok.ensures.case in
@@ -35,8 +35,8 @@ returns-in-Ok-differing-clause-within c = λ none last here.
     (sym (ap (λ (g : Fork). g.budget.nodes) c.self.view_is))
     (c.in-Ok-differing.ensures.within none again.0.0 _ _ again.0.1))
 
-pub returns-in-Ok-differing-clause-differs : goal.returns-in-Ok-differing-clause-differs
-returns-in-Ok-differing-clause-differs c =
+pub returns-clause-differs : goal.returns-clause-differs
+returns-clause-differs c =
     let job = job_of c.args.job.now in
     let again = run_again job _ _ _ _ _ _ _ _ c.trace.new.way _ _ _ _ c.args.job.now.is_job
     c.self.view_is c.requires.of c.requires.given.1
@@ -46,8 +46,8 @@ returns-in-Ok-differing-clause-differs c =
     said_again (λ number bits. IsDiffering job number bits begin) job _ _ _ _ last again.1 here
     (said again.0.0 _ _ again.0.1)) c.in-Ok-differing.ensures.differs
 
-pub returns-in-Ok-differing-clause-least : goal.returns-in-Ok-differing-clause-least
-returns-in-Ok-differing-clause-least c =
+pub returns-clause-least : goal.returns-clause-least
+returns-clause-least c =
     let job = job_of c.args.job.now in
     let again = run_again job _ _ _ _ _ _ _ _ c.trace.new.way _ _ _ _ c.args.job.now.is_job
     c.self.view_is c.requires.of c.requires.given.1
@@ -57,8 +57,8 @@ returns-in-Ok-differing-clause-least c =
     said_again (λ number bits. IsLeast job number bits begin) job _ _ _ _ last again.1 here
     (said again.0.0 _ _ again.0.1)) c.in-Ok-differing.ensures.least
 
-pub returns-clause-cause : goal.returns-clause-cause
-returns-clause-cause c = λ number prefix word j same.
+pub returns-in-Err-clause-cause : goal.returns-in-Err-clause-cause
+returns-in-Err-clause-cause c = λ number prefix word j same.
     (let again = run_again (job_of c.args.job.now) _ _ _ _ _ _ _ _ c.trace.new.way _ _ _ _ c.args.job.now.is_job
     c.self.view_is c.requires.of c.requires.given.1
     (ap (λ (w : Way). w.kept) c.begin_anew.ensures) c.in-Ok.ensures.case in
