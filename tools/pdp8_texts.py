@@ -5,6 +5,7 @@ of these are files of examples/pdp8, and are written too.
 
     tools/pdp8_texts.py            writes the files
     tools/pdp8_texts.py --check    says whether they are as they would be written: status 1 if not
+    tools/pdp8_texts.py fault N    prints the microprogram with fault N, 1 to 12
 
 tools/rows/pdp8.py --check compares the texts that the rows have, and tools/rows/faults.py those with faults.
 """
@@ -92,6 +93,8 @@ def main():
             for path, written in files.items():
                 if not path.exists() or path.read_bytes() != written.encode():
                     sys.exit(f"{path.relative_to(TOP)} is not what tools/pdp8_texts.py writes: run it")
+        case ["fault", number] if number in map(str, faults()):
+            print(faults()[int(number)].planted(text("micro")), end="")
         case _:
             sys.exit(__doc__)
 

@@ -233,7 +233,7 @@ class AnyWords(dict):
 
 
 def any_machine(number):
-    """A PDP-8 in any state, whose instruction is more often one that a fault is about."""
+    """A PDP-8 in any state. A third of the instructions are of group 2, a third IOTs, and a third any word."""
     instruction = random.choice([lambda: random.getrandbits(12), lambda: 0o7400 | random.getrandbits(8) & ~1,
                                  lambda: 0o6000 | random.getrandbits(9)])()
     pc, ac = random.getrandbits(12), random.choice([0, 0o4000, 0o7777, random.getrandbits(12)])
