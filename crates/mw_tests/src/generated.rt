@@ -1,5 +1,5 @@
-// What is generated of two numbers. The words are those that tools/generate.py prints.
-use mw_cases::{Made, generate};
+// What is generated of two numbers, and which faults there are. The words are those that tools/generate.py prints.
+use mw_cases::{Made, Texts, generate, pdp8, pdp8_fault};
 use std::alloc::Global;
 use std::test::Fail;
 
@@ -23,4 +23,25 @@ fn generated_word(rt: HostRuntime) -> Result<(), Fail> {
     assert_eq!(rt; word_of(&seventh, 16), 0x38_24F1);
     assert_eq!(rt; word_of(&seventh, 20), 0x4_000E_02C9);
     Ok(())
+}
+
+/// The microprogram of texts.
+fn micro_of(texts: Texts) -> &'static [u8] {
+    let Texts {
+        board: _board,
+        micro,
+        machine: _machine,
+        relation: _relation,
+    } = texts;
+    micro
+}
+
+#[test]
+fn twelve_faults(rt: HostRuntime) {
+    let without = Some(micro_of(pdp8()));
+    for number in 0..=255 {
+        let micro = pdp8_fault(number).map(micro_of);
+        assert_eq!(rt; micro.is_some(), (1..=12).contains(&number), "{number}");
+        assert_ne!(rt; micro, without, "{number}");
+    }
 }
