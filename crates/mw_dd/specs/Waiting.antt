@@ -85,15 +85,16 @@ unfoldable pub most_steps : ℕ → ℕ
 most_steps zero = 2
 most_steps (suc n) = most_steps n + most_steps n + 2
 
--- those that are left where operations wait
+-- the most that are left of an operation that waits, once the result that it waits for is there
 abbrev pub steps_of : Waiting → ℕ
 steps_of w = if w.has_low then 1 else most_steps (size w.at_high) + 1
 
+-- the most that are left of all that wait
 abbrev pub all_steps : List Waiting → ℕ
 all_steps [] = 0
 all_steps (w ∷ ws) = steps_of w + all_steps ws
 
--- and those that are left at all
+-- the most that are left, with those of what is next
 abbrev pub steps_left : List Waiting → Next → ℕ
 steps_left waiting (Next.Enter t) = all_steps waiting + most_steps (size t)
 steps_left waiting (Next.Return r) = all_steps waiting + 1
