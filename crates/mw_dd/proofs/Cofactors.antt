@@ -16,7 +16,7 @@ use Rattle.mw_term.specs.Functions as functions
 use Rattle.mw_dd.specs.declared.nodes.Node.{Node}
 use Rattle.mw_dd.specs.declared.nodes.Triple.{Triple}
 use Rattle.mw_dd.specs.Nodes.{value_at, IsDd, IsFrom, IsReduced, after}
-use Rattle.mw_dd.specs.Steps.{Grows, AreDds, AreFrom, IsTop, meaning, ends, IsEnd, IsLeft, IsAmong, AreAmong}
+use Rattle.mw_dd.specs.Steps.{Grows, AreDds, AreFrom, IsTop, IsSide, meaning, ends, IsEnd, IsLeft, IsAmong, AreAmong}
 use Rattle.mw_dd.proofs.Order.{not_before_first}
 use Rattle.mw_dd.proofs.Values.{value-zero, value-one}
 use Rattle.mw_dd.proofs.From.{from-trans, same_from, same_fixed, fixed_later, fixed_before, only, fixed_only}
@@ -119,14 +119,6 @@ end_among nodes triples t r (inr (inr third)) u is =
     ∙ ap (value_at (with_fixed is.place is.fixed given) nodes) third.0 ∙ sym (is.left.h given)))
 
 -- ---- halves
-
--- a triple where a variable has a value
-pub record IsSide (nodes : List Node) (t : Triple) (v : Variable) (b : Bool) (s : Triple) : Type 0 where
-  pub f : (given : Given) → value_of v given ≡ b → value_at given nodes s.f ≡ value_at given nodes t.f
-  pub g : (given : Given) → value_of v given ≡ b → value_at given nodes s.g ≡ value_at given nodes t.g
-  pub h : (given : Given) → value_of v given ≡ b → value_at given nodes s.h ≡ value_at given nodes t.h
-  pub from : AreFrom nodes (after v) s
-  pub there : AreDds nodes s
 
 -- the first variable of a triple isn't before the place that it is from
 top_place : (nodes : List Node) (t : Triple) (v place : Variable) → IsTop nodes t v → AreFrom nodes place t

@@ -12,7 +12,6 @@ use Rattle.mw_dd.specs.Steps.{Grows, AreDds, IsResult, IsEnd, meaning}
 use Rattle.mw_dd.proofs.Below.{bounds-grow}
 use Rattle.mw_dd.proofs.Cofactors.{dds-grows, meaning-grows, most-same, end_among, at_most, same_back}
 use Rattle.mw_dd.proofs.Memos.{end_result, result-grows, IsStep, step_result}
-use Rattle.mw_dd.proofs.Values.{grows-trans}
 
 -- ---- slots
 
@@ -87,14 +86,15 @@ made-adds nodes old new own made are is adds t value kept = elim (adds t value k
 ]
 
 -- the result of a step is kept
-pub step-kept : (n1 n2 n3 n4 : List Node) (t lo hi : Triple) (v : Variable) (low high made : ℕ)
-    → IsStep n1 n2 n3 n4 t lo hi v low high made → (old new : List Slot) (value : ℕ) → value ≡ made → AreMade n3 old
-    → Adds old new t value → AreMade n4 new
-step-kept n1 n2 n3 n4 t lo hi v low high made step old new value same are adds =
-    let is = step_result n1 n2 n3 n4 t lo hi v low high made step in
-    let grows = grows-trans n1 n3 n4 (grows-trans n1 n2 n3 step.first step.second) step.third in
-    made-adds n4 old new t value (made-grow n3 n4 old step.third are)
-    (record { there = dds-grows n1 n4 t grows step.there; is = subst (IsResult n4 t) (sym same) is }) adds
+pub step-kept : (old new : List Node) (t lo hi : Triple) (v : Variable) (low high made : ℕ)
+    → IsStep old new t lo hi v low high made → (before now : List Slot) → AreMade old before → Adds before now t made
+    → AreMade new now
+step-kept old new t lo hi v low high made step before now are adds =
+    made-adds new before now t made (made-grow old new before step.grows are)
+    (record {
+      there = dds-grows old new t step.grows step.there;
+      is = step_result old new t lo hi v low high made step;
+    }) adds
 
 -- ---- counts
 

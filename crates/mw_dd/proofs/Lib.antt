@@ -13,3 +13,4 @@ pub mod Somewhere
 pub mod Below
 pub mod Products
 pub mod Keeping
+pub mod Waiting

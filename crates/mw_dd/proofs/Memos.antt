@@ -1,9 +1,8 @@
 -- What one call has met, step by step.
-use Rattle.std.proofs.Common.{◌≡◌, ◌⊎◌, inl, inr, ℕ, zero, suc, ◌+◌, ◌<◌, ◌≤◌, List, [], ◌∷◌, ◌++◌, length, set, arith}
+use Rattle.std.proofs.Common.{◌≡◌, ◌⊎◌, inl, inr, ℕ, zero, suc, ◌+◌, ◌≤◌, List, [], ◌∷◌, length, arith}
 use Rattle.std.proofs.Common.{refl, ap}
 use Rattle.std.proofs.Common.{◌∙◌, sym, subst}
 use Rattle.std.specs.Prelude.{Bool, true, false, if◌then◌else◌, slice_get, Some}
-use Rattle.std.proofs.lemmas.Bool.{cases_eq}
 use Rattle.std.proofs.lemmas.List.{length-append, length-set}
 use Rattle.std.proofs.lemmas.Option.{slice_get_within}
 use Rattle.mw_term.specs.Assigned.{Given}
@@ -13,13 +12,13 @@ use Rattle.mw_dd.specs.declared.nodes.Triple.{Triple}
 use Rattle.mw_dd.specs.declared.memo.Memo.{Memo}
 use Rattle.mw_dd.specs.Links.{IsAbsent}
 use Rattle.mw_dd.specs.Nodes.{value_at, IsDd, IsFrom, IsReduced}
-use Rattle.mw_dd.specs.Steps.{Grows, AreDds, AreFrom, IsTop, IsResult, IsEnd, IsLeft, AreAmong, meaning, ends, size}
-use Rattle.mw_dd.specs.Memos.{IsMet, AreKeys, IsDone, AreSettled, Settles, AreLeft}
+use Rattle.mw_dd.specs.Steps.{Grows, AreDds, AreFrom, IsTop, IsSide, IsResult, IsEnd, IsLeft, AreAmong, meaning, ends}
+use Rattle.mw_dd.specs.Memos.{IsMet, AreKeys, IsDone, IsBegun, IsEnded, AreLeft}
 use Rattle.mw_dd.proofs.Lists.{get-push, get-push_old, get-push_new, get-set_same, get-set_other}
-use Rattle.mw_dd.proofs.Values.{value-zero, value-one, grows-trans}
+use Rattle.mw_dd.proofs.Values.{value-zero, value-one}
 use Rattle.mw_dd.proofs.From.{from-trans, from-grows, from-shrinks}
-use Rattle.mw_dd.proofs.Cofactors.{Stay, IsSide, dds-grows, meaning-grows, are_among-grows, among-grows, cofactor-same}
-use Rattle.mw_dd.proofs.Cofactors.{cofactor_cases, same_then, same_back, top-before, more_cofactors}
+use Rattle.mw_dd.proofs.Cofactors.{Stay, dds-grows, meaning-grows, are_among-grows}
+use Rattle.mw_dd.proofs.Cofactors.{cofactor_cases, top-before, more_cofactors}
 
 -- ---- results
 
@@ -74,155 +73,78 @@ result-grows old new t r grows are is = record {
       from-grows old new place r grows is.there (is.from place (are_from-shrinks old new place t grows from));
 }
 
--- ---- one step, from nodes n1 over n2 and n3 to n4
+-- ---- one step
 
-pub record IsStep (n1 n2 n3 n4 : List Node) (t lo hi : Triple) (v : Variable) (low high made : ℕ) : Type 0 where
-  pub first : Grows n1 n2
-  pub second : Grows n2 n3
-  pub third : Grows n3 n4
-  pub there : AreDds n1 t
-  pub top : IsTop n1 t v
-  pub low_side : IsSide n1 t v false lo
-  pub high_side : IsSide n1 t v true hi
-  pub low_is : IsResult n2 lo low
-  pub high_is : IsResult n3 hi high
-  pub made_there : IsDd n4 made
-  pub made_value : (given : Given) → value_at given n4 made
-      ≡ (if value_of v given then value_at given n3 high else value_at given n3 low)
-  pub made_from : IsFrom n4 v made
+pub record IsStep (old new : List Node) (t lo hi : Triple) (v : Variable) (low high made : ℕ) : Type 0 where
+  pub grows : Grows old new
+  pub there : AreDds old t
+  pub top : IsTop old t v
+  pub low_side : IsSide old t v false lo
+  pub high_side : IsSide old t v true hi
+  pub low_is : IsResult old lo low
+  pub high_is : IsResult old hi high
+  pub made_there : IsDd new made
+  pub made_value : (given : Given) → value_at given new made
+      ≡ (if value_of v given then value_at given old high else value_at given old low)
+  pub made_from : IsFrom new v made
 
-module _ (n1 n2 n3 n4 : List Node) (t lo hi : Triple) (v : Variable) (low high made : ℕ)
-    (step : IsStep n1 n2 n3 n4 t lo hi v low high made) where
-  to_third : Grows n1 n3
-  to_third = grows-trans n1 n2 n3 step.first step.second
-
-  to_last : Grows n1 n4
-  to_last = grows-trans n1 n3 n4 to_third step.third
-
+module _ (old new : List Node) (t lo hi : Triple) (v : Variable) (low high made : ℕ)
+    (step : IsStep old new t lo hi v low high made) where
   abbrev Chosen : Given → Type 0
-  Chosen given = value_at given n4 made
-      ≡ (if value_at given n1 t.f then value_at given n1 t.g else value_at given n1 t.h)
+  Chosen given = value_at given new made
+      ≡ (if value_at given old t.f then value_at given old t.g else value_at given old t.h)
 
   value_case : (given : Given) (b : Bool) → value_of v given ≡ b
-      → value_at given n4 made ≡ (if b then value_at given n3 high else value_at given n3 low) → Chosen given
+      → value_at given new made ≡ (if b then value_at given old high else value_at given old low) → Chosen given
   value_case given true is value =
       value ∙ step.high_is.value given
-      ∙ rw (
-        to_third.same given hi.f step.high_side.there.f,
-        to_third.same given hi.g step.high_side.there.g,
-        to_third.same given hi.h step.high_side.there.h,
-        step.high_side.f given is,
-        step.high_side.g given is,
-        step.high_side.h given is,
-      ) refl
+      ∙ rw (step.high_side.f given is, step.high_side.g given is, step.high_side.h given is) refl
   value_case given false is value =
-      value ∙ step.second.same given low step.low_is.there ∙ step.low_is.value given
-      ∙ rw (
-        step.first.same given lo.f step.low_side.there.f,
-        step.first.same given lo.g step.low_side.there.g,
-        step.first.same given lo.h step.low_side.there.h,
-        step.low_side.f given is,
-        step.low_side.g given is,
-        step.low_side.h given is,
-      ) refl
+      value ∙ step.low_is.value given
+      ∙ rw (step.low_side.f given is, step.low_side.g given is, step.low_side.h given is) refl
 
   -- the node over both halves is the result
-  pub step_result : IsResult n4 t made
+  pub step_result : IsResult new t made
   step_result = record {
     there = step.made_there;
     value = λ given. rw (
-      to_last.same given t.f step.there.f,
-      to_last.same given t.g step.there.g,
-      to_last.same given t.h step.there.h,
+      step.grows.same given t.f step.there.f,
+      step.grows.same given t.g step.there.g,
+      step.grows.same given t.h step.there.h,
     )
         (value_case given (value_of v given) refl (step.made_value given));
-    from = λ place from. from-trans n4 v place made step.made_from
-        (top-before n1 t v place step.top (are_from-shrinks n1 n4 place t to_last from));
+    from = λ place from. from-trans new v place made step.made_from
+        (top-before old t v place step.top (are_from-shrinks old new place t step.grows from));
   }
 
   -- all joint cofactors were met
-  pub step_among : (second third : List Triple) (place : ℕ) → IsReduced n1 → Stay second third
-      → slice_get third place ≡ Some t → AreAmong n2 second lo → AreAmong n3 third hi → AreAmong n4 third t
-  step_among second third place r stay at low_among high_among u is =
-      let was = cofactor-same (meaning n4 t) (meaning n1 t) u (meaning-grows n1 n4 t to_last step.there) is in
-      elim (cofactor_cases n1 r t step.there v step.top lo hi step.low_side step.high_side u was) [
-        | inl whole ↦ (
-          place,
-          t,
-          at,
-          dds-grows n1 n4 t to_last step.there,
-          same_then u (meaning n1 t) (meaning n4 t) whole
-              (same_back (meaning n4 t) (meaning n1 t) (meaning-grows n1 n4 t to_last step.there)),
-        )
-        | inr half ↦ elim half [
-          | inl one ↦ among-grows n2 n4 second third u (grows-trans n2 n3 n4 step.second step.third) stay
-              (low_among u (cofactor-same (meaning n1 lo) (meaning n2 lo) u
-              (same_back (meaning n2 lo) (meaning n1 lo) (meaning-grows n1 n2 lo step.first step.low_side.there)) one))
-          | inr one ↦ among-grows n3 n4 third third u step.third (λ i s h. h)
-              (high_among u (cofactor-same (meaning n1 hi) (meaning n3 hi) u
-              (same_back (meaning n3 hi) (meaning n1 hi) (meaning-grows n1 n3 hi to_third step.high_side.there)) one))
-        ]
-      ]
+  pub step_among : (triples : List Triple) (place : ℕ) → IsReduced old → slice_get triples place ≡ Some t
+      → AreAmong old triples lo → AreAmong old triples hi → AreAmong new triples t
+  step_among triples place r at low_among high_among =
+      are_among-grows old new triples triples t step.grows (λ i s h. h) step.there (λ u is.
+      elim (cofactor_cases old r t step.there v step.top lo hi step.low_side step.high_side u is) [
+        | inl whole ↦ (place, t, at, step.there, whole)
+        | inr half ↦ elim half [ inl one ↦ low_among u one | inr one ↦ high_among u one ]
+      ])
 
 -- ---- what was met
 
-some_triple : (t u : Triple) → Some t ≡ Some u → t ≡ u
+pub some_triple : (t u : Triple) → Some t ≡ Some u → t ≡ u
 some_triple t u e = cc
-
-done-grows : (old new : List Node) (before now : Memo) (i : ℕ) (t : Triple) → Grows old new → AreDds old t
-    → Stay before.triples now.triples
-    → ((r : ℕ) → slice_get before.results.items i ≡ Some r → slice_get now.results.items i ≡ Some r)
-    → IsDone old before i t → IsDone new now i t
-done-grows old new before now i t grows there stay results is = record {
-  result = is.result;
-  at = results is.result is.at;
-  is = result-grows old new t is.result grows there is.is;
-  among = are_among-grows old new before.triples now.triples t grows stay there is.among;
-}
-
-pub settles-trans : (a b c : List Node) (k l m : Memo) → Settles a k b l → Settles b l c m → Settles a k c m
-settles-trans a b c k l m first second = record {
-  stay = λ i t at. second.stay i t (first.stay i t at);
-  done = λ i t at is. second.done i t (first.stay i t at) (first.done i t at is);
-  since = λ i t at. elim (second.since i t at) [
-    | inl is ↦ inl is
-    | inr old ↦ elim (first.since i t old) [
-      | inl is ↦ inl (second.done i t old is)
-      | inr older ↦ inr older
-    ]
-  ];
-}
-
-pub settles-none : (a : List Node) (k : Memo) → Settles a k a k
-settles-none a k = record { stay = λ i t at. at; done = λ i t at is. is; since = λ i t at. inr at }
-
-pub settled-settles : (a b : List Node) (k l : Memo) (bound : ℕ) → Settles a k b l → AreSettled a k bound
-    → AreSettled b l bound
-settled-settles a b k l bound settles settled i t at = elim (settles.since i t at) [
-  | inl is ↦ inl is
-  | inr old ↦ elim (settled i t old) [
-    | inl is ↦ inl (settles.done i t old is)
-    | inr more ↦ inr more
-  ]
-]
 
 -- ---- a triple is begun
 
-pub record IsBegun (before now : Memo) (t : Triple) : Type 0 where
-  pub triples : now.triples ≡ before.triples ++ t ∷ []
-  pub results : now.results.items ≡ before.results.items ++ 0 ∷ []
-
-module _ (nodes : List Node) (before now : Memo) (t : Triple) (begun : IsBegun before now t)
+module _ (nodes : List Node) (before now : Memo) (t : Triple) (place : ℕ) (begun : IsBegun before now t place)
     (keys : AreKeys nodes before) where
-  begun_stay : Stay before.triples now.triples
+  pub begun_stay : Stay before.triples now.triples
   begun_stay i s at = rw begun.triples (get-push_old before.triples t i s at)
 
-  begun_cases : (i : ℕ) (s : Triple) → IsMet now i s → IsMet before i s ⊎ ((i ≡ length before.triples) × (t ≡ s))
+  pub begun_cases : (i : ℕ) (s : Triple) → IsMet now i s → IsMet before i s ⊎ ((i ≡ length before.triples) × (t ≡ s))
   begun_cases i s at =
       get-push before.triples t i s (sym (ap (λ (ts : List Triple). slice_get ts i) begun.triples) ∙ at)
 
-  pub begun_at : IsMet now (length before.triples) t
-  begun_at = rw begun.triples (get-push_new before.triples t)
+  pub begun_at : IsMet now place t
+  begun_at = rw (begun.place, begun.triples) (get-push_new before.triples t)
 
   pub begun_keys : AreDds nodes t → ends t ≡ false → IsAbsent before.triples t → AreKeys nodes now
   begun_keys there counts absent = record {
@@ -249,7 +171,7 @@ module _ (nodes : List Node) (before now : Memo) (t : Triple) (begun : IsBegun b
         ∙ sym (ap length begun.triples);
   }
 
-  begun_done : (i : ℕ) (s : Triple) → IsMet before i s → IsDone nodes before i s → IsDone nodes now i s
+  pub begun_done : (i : ℕ) (s : Triple) → IsMet before i s → IsDone nodes before i s → IsDone nodes now i s
   begun_done i s at is = record {
     result = is.result;
     at = rw begun.results (get-push_old before.results.items 0 i is.result is.at);
@@ -258,75 +180,11 @@ module _ (nodes : List Node) (before now : Memo) (t : Triple) (begun : IsBegun b
         (found.0, found.1, begun_stay found.0 found.1 found.2, found.3, found.4);
   }
 
-  pub begun_settled : (bound : ℕ) → bound < size t → AreSettled nodes before (size t) → AreSettled nodes now bound
-  begun_settled bound less settled i s at = elim (begun_cases i s at) [
-    | inl old ↦ elim (settled i s old) [
-      | inl is ↦ inl (begun_done i s old is)
-      | inr more ↦ inr (omega (arith, less, more))
-    ]
-    | inr new ↦ inr (subst (λ (x : Triple). bound < size x) new.1 less)
-  ]
-
   pub begun_left : (whole : Triple) → IsLeft nodes whole t → AreLeft nodes before whole → AreLeft nodes now whole
   begun_left whole is left i s at = elim (begun_cases i s at) [
     | inl old ↦ left i s old
     | inr new ↦ subst (IsLeft nodes whole) new.1 is
   ]
-
-  -- ---- and ended, where it was made
-
-  pub ended_settles : (n3 n4 : List Node) (third last : Memo) (place made : ℕ) → Settles nodes now n3 third
-      → AreKeys n3 third → Grows n3 n4 → place ≡ length before.triples → last.triples ≡ third.triples
-      → last.results.items ≡ set third.results.items place made → IsResult n4 t made → AreAmong n4 third.triples t
-      → Settles nodes before n4 last
-  ended_settles n3 n4 third last place made settles keys3 grows is_place triples results is among =
-      let at_place : IsMet third place t = rw is_place (settles.stay (length before.triples) t begun_at) in
-      let within : place < length third.results.items =
-      omega (arith, slice_get_within third.triples place t at_place, keys3.beside) in
-      let stay : Stay third.triples last.triples = λ i s at. rw triples at in
-      let back : (i : ℕ) (s : Triple) → IsMet last i s → IsMet third i s = λ i s at. rw triples at at in
-      let own : IsDone n4 last place t = record {
-        result = made;
-        at = rw results (get-set_same third.results.items place made within);
-        is = is;
-        among = rw triples among;
-      } in
-      let other : (i : ℕ) (s : Triple) → ¬ (i ≡ place) → IsMet third i s → IsDone n3 third i s → IsDone n4 last i s =
-      λ i s differ at is. done-grows n3 n4 third last i s grows (keys3.there i s at) stay
-      (λ r h. rw results (get-set_other third.results.items place i made differ ∙ h)) is in
-      let old_place : (i : ℕ) (s : Triple) → IsMet before i s → ¬ (i ≡ place) =
-      λ i s at same. let w = slice_get_within before.triples i s at in omega (arith, same, is_place, w) in
-      record {
-        stay = λ i s at. stay i s (settles.stay i s (begun_stay i s at));
-        done = λ i s at is. other i s (old_place i s at) (settles.stay i s (begun_stay i s at))
-            (settles.done i s (begun_stay i s at) (begun_done i s at is));
-        since = λ i s at.
-            let met = back i s at in
-            elim (cases_eq i place) [
-              | inl same ↦
-                  let one : t ≡ s = some_triple t s (sym at_place ∙ ap (slice_get third.triples) (sym same) ∙ met) in
-                  inl (subst (λ (x : Triple). IsDone n4 last i x) one
-                  (subst (λ (j : ℕ). IsDone n4 last j t) (sym same) own))
-              | inr differ ↦ elim (settles.since i s met) [
-                | inl is ↦ inl (other i s differ met is)
-                | inr old ↦ elim (begun_cases i s old) [
-                  | inl older ↦ inr older
-                  | inr new ↦ absurd (differ (new.0 ∙ sym is_place))
-                ]
-              ]
-            ];
-      }
-
-pub ended_keys : (n3 n4 : List Node) (third last : Memo) (place made : ℕ) → AreKeys n3 third → Grows n3 n4
-    → last.triples ≡ third.triples → last.results.items ≡ set third.results.items place made → AreKeys n4 last
-ended_keys n3 n4 third last place made keys grows triples results =
-    let back : (i : ℕ) (s : Triple) → IsMet last i s → IsMet third i s = λ i s at. rw triples at at in
-    record {
-      there = λ i s at. dds-grows n3 n4 s grows (keys.there i s (back i s at));
-      counted = λ i s at. keys.counted i s (back i s at);
-      once = λ i j s at of. keys.once i j s (back i s at) (back j s of);
-      beside = ap length results ∙ length-set third.results.items place made ∙ keys.beside ∙ sym (ap length triples);
-    }
 
 -- ---- what is left
 
@@ -346,11 +204,50 @@ left-grows old new whole t grows all there is =
       from = are_from-grows old new is.place t grows there is.from;
     }
 
-pub ended_left : (n3 n4 : List Node) (third last : Memo) (whole : Triple) → AreKeys n3 third → Grows n3 n4
-    → AreDds n3 whole → last.triples ≡ third.triples → AreLeft n3 third whole → AreLeft n4 last whole
-ended_left n3 n4 third last whole keys grows all triples left i s at =
-    let met : IsMet third i s = rw triples at at in
-    left-grows n3 n4 whole s grows all (keys.there i s met) (left i s met)
+-- ---- and ended, where it was made
+
+module _ (old new : List Node) (before now : Memo) (place made : ℕ) (ended : IsEnded before now place made)
+    (grows : Grows old new) (keys : AreKeys old before) where
+  pub ended_back : (i : ℕ) (s : Triple) → IsMet now i s → IsMet before i s
+  ended_back i s at = rw ended.triples at at
+
+  pub ended_keys : AreKeys new now
+  ended_keys = record {
+    there = λ i s at. dds-grows old new s grows (keys.there i s (ended_back i s at));
+    counted = λ i s at. keys.counted i s (ended_back i s at);
+    once = λ i j s at of. keys.once i j s (ended_back i s at) (ended_back j s of);
+    beside = ap length ended.results ∙ length-set before.results.items place made ∙ keys.beside
+        ∙ sym (ap length ended.triples);
+  }
+
+  pub ended_left : (whole : Triple) → AreDds old whole → AreLeft old before whole → AreLeft new now whole
+  ended_left whole all left i s at =
+      let met = ended_back i s at in
+      left-grows old new whole s grows all (keys.there i s met) (left i s met)
+
+  stay : Stay before.triples now.triples
+  stay i s at = rw ended.triples at
+
+  -- what was done stays so
+  pub ended_done : (i : ℕ) (s : Triple) → ¬ (i ≡ place) → IsMet before i s → IsDone old before i s
+      → IsDone new now i s
+  ended_done i s differ at is = record {
+    result = is.result;
+    at = rw ended.results (get-set_other before.results.items place i made differ ∙ is.at);
+    is = result-grows old new s is.result grows (keys.there i s at) is.is;
+    among = are_among-grows old new before.triples now.triples s grows stay (keys.there i s at) is.among;
+  }
+
+  -- and what is ended is done
+  pub ended_own : (t : Triple) → IsMet before place t → IsResult new t made → AreAmong new before.triples t
+      → IsDone new now place t
+  ended_own t at is among = record {
+    result = made;
+    at = rw ended.results (get-set_same before.results.items place made
+        (omega (arith, slice_get_within before.triples place t at, keys.beside)));
+    is = is;
+    among = rw ended.triples among;
+  }
 
 -- ---- over the budget
 
@@ -381,14 +278,6 @@ module _ (nodes : List Node) (r : IsReduced nodes) (memo : Memo) (keys : AreKeys
   over_here budget many =
       more_cofactors nodes r whole all (t ∷ memo.triples) budget
       (record { there = each_there; counted = each_counts; left = each_left; once = each_once }) (omega (arith, many))
-
--- a triple that is met again is done
-pub found_done : (nodes : List Node) (memo : Memo) (place : ℕ) (t : Triple) → AreSettled nodes memo (size t)
-    → IsMet memo place t → IsDone nodes memo place t
-found_done nodes memo place t settled at = elim (settled place t at) [
-  | inl done ↦ done
-  | inr more ↦ absurd (omega (arith, more))
-]
 
 pub left_none : (nodes : List Node) (memo : Memo) (whole : Triple) → memo.triples ≡ [] → AreLeft nodes memo whole
 left_none nodes memo whole none i t at =

@@ -7,3 +7,4 @@ pub mod Memos
 pub mod Nodes
 pub mod Steps
 pub mod Walks
+pub mod Waiting

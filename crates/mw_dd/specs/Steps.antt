@@ -1,12 +1,12 @@
 -- What a step of an operation on nodes leaves.
-use Rattle.std.specs.Prelude.{◌≡◌, ◌⊎◌, ℕ, ◌+◌, ◌≤◌, List, length, slice_get, Some, if◌then◌else◌}
+use Rattle.std.specs.Prelude.{◌≡◌, ◌⊎◌, ℕ, ◌+◌, ◌<◌, ◌≤◌, List, length, slice_get, Some, if◌then◌else◌}
 use Rattle.std.specs.Prelude.{nat_lt, ◌==◌, ◌||◌, Bool}
 use Rattle.mw_term.specs.Assigned.{Given}
-use Rattle.mw_term.specs.Cofactors.{Variable, AreSame, left_of, IsCofactor}
+use Rattle.mw_term.specs.Cofactors.{Variable, value_of, AreSame, left_of, IsCofactor}
 use Rattle.mw_term.specs.Functions as functions
 use Rattle.mw_dd.specs.declared.nodes.Node.{Node}
 use Rattle.mw_dd.specs.declared.nodes.Triple.{Triple}
-use Rattle.mw_dd.specs.Nodes.{value_at, IsDd, IsFrom}
+use Rattle.mw_dd.specs.Nodes.{value_at, IsDd, IsFrom, after}
 use Rattle.mw_dd.specs.Diagrams.{functions_of}
 
 -- nodes stay at their places and keep their values
@@ -39,6 +39,15 @@ pub record IsTop (nodes : List Node) (t : Triple) (v : Variable) : Type 0 where
 -- how far the nodes of a triple are from none
 abbrev pub size : Triple → ℕ
 size t = t.f + t.g + t.h
+
+-- a triple where its first variable has a value
+pub record IsSide (nodes : List Node) (t : Triple) (v : Variable) (b : Bool) (s : Triple) : Type 0 where
+  pub f : (given : Given) → value_of v given ≡ b → value_at given nodes s.f ≡ value_at given nodes t.f
+  pub g : (given : Given) → value_of v given ≡ b → value_at given nodes s.g ≡ value_at given nodes t.g
+  pub h : (given : Given) → value_of v given ≡ b → value_at given nodes s.h ≡ value_at given nodes t.h
+  pub from : AreFrom nodes (after v) s
+  pub there : AreDds nodes s
+  pub earlier : size s < size t
 
 -- the functions of a triple
 abbrev pub meaning : List Node → Triple → functions.Triple

@@ -13,8 +13,8 @@ use crate::bounds::Bounds;
 use crate::dd::{Dd, DdFault};
 use crate::first::first_assignment;
 use crate::kept::Kept;
-use crate::memo::Memo;
 use crate::nodes::{Node, Triple, make};
+use crate::notes::Notes;
 use crate::operate::operate;
 use crate::table::Table;
 use crate::variable::Variable;
@@ -28,8 +28,7 @@ use std::marker::Model;
 #[derive(Drop)]
 pub struct Diagrams {
     nodes: Table<Node>,
-    memo: Memo,
-    results: Kept,
+    notes: Notes,
     counts: Kept,
     bounds: Bounds,
 }
@@ -43,7 +42,7 @@ impl Model for Diagrams {
 
     ghost view = { λ d. d.nodes };
 
-    ghost invariant = { λ d. AreRight d.nodes d.results d.counts d.bounds };
+    ghost invariant = { λ d. AreRight d.nodes d.notes.results d.counts d.bounds };
 }
 
 impl Diagrams {
@@ -57,8 +56,7 @@ impl Diagrams {
     {
         Ok(Diagrams {
             nodes: Table::new(alloc)?,
-            memo: Memo::new(alloc)?,
-            results: Kept::new(alloc)?,
+            notes: Notes::new(alloc)?,
             counts: Kept::new(alloc)?,
             bounds: Bounds::new(alloc),
         })
@@ -97,7 +95,7 @@ impl Diagrams {
     }
 
     /// The function that is the second where the first holds, and else the third. Earlier functions stay as they are,
-    /// also after a refusal. It goes as deep into the stack as the three have different variables.
+    /// also after a refusal. The stack that it needs doesn't grow with the three.
     ///
     /// # Errors
     ///
@@ -117,8 +115,7 @@ impl Diagrams {
     {
         operate(
             &mut self.nodes,
-            &mut self.memo,
-            &mut self.results,
+            &mut self.notes,
             &mut self.counts,
             &mut self.bounds,
             alloc,

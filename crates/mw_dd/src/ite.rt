@@ -1,16 +1,18 @@
 // If-then-else over nodes.
-ghost use Rattle.std.specs.Prelude.{◌≡◌, ◌≤◌, length, true, false, None, IfOk, IfSome, OnOk, IsErrOf};
+ghost use Rattle.std.specs.Prelude.{◌≡◌, ◌<◌, ◌≤◌, ℕ, [], Option, Some, None, true, false, length, IfOk, IfSome, OnOk};
+ghost use Rattle.std.specs.Prelude.{IsErrOf};
 ghost use Rattle.mw_term.specs.Cofactors.{HasMoreCofactors};
 ghost use Rattle.mw_dd.specs.declared.nodes.Triple as declared;
+ghost use Rattle.mw_dd.specs.declared.ite.Next as next;
 ghost use Rattle.mw_dd.specs.Nodes.{IsReduced};
-ghost use Rattle.mw_dd.specs.Steps.{Grows, AreDds, IsResult, IsEnd, IsLeft, AreAmong, ends, size, meaning};
+ghost use Rattle.mw_dd.specs.Steps.{Grows, AreDds, IsEnd, ends, meaning};
 ghost use Rattle.mw_dd.specs.Kept.{AreMade};
-ghost use Rattle.mw_dd.specs.Memos.{AreKeys, AreSettled, Settles, AreLeft};
+ghost use Rattle.mw_dd.specs.Memos.{IsCleared};
+ghost use Rattle.mw_dd.specs.Waiting.{AreWaiting, AreNoted, HasEnded, StandsAt, steps_left};
 
 use crate::dd::{Dd, DdFault};
-use crate::kept::Kept;
-use crate::memo::Memo;
 use crate::nodes::{Node, Triple, make, side, top};
+use crate::notes::{Notes, Waiting};
 use crate::table::Table;
 use mw_base::NoMemory;
 use std::alloc::Global;
@@ -29,108 +31,136 @@ pub(crate) fn end(t: Triple) -> Option<Dd>
     None
 }
 
-/// The function that is the second where the first holds, and else the third. Each different triple that is met
-/// counts once, and at most as many are met as the budget.
-pub(crate) fn choose(
-    nodes: &mut Table<Node>,
-    memo: &mut Memo,
+/// What comes next on the way through an operation.
+#[derive(Clone, Copy)]
+pub(crate) enum Next {
+    /// An operation, whose result isn't known yet.
+    Enter(Triple),
+    /// The result of an operation, for the one that waits for it.
+    Return(Dd),
+    /// The result of the whole.
+    Done(Dd),
+}
+
+/// Goes into an operation: where its result isn't known, it waits for that of its low half.
+fn enter(
+    nodes: &Table<Node>,
+    notes: &mut Notes,
     alloc: Global,
     t: Triple,
-    budget: u32,
+    budget: Option<u32>,
+) -> Result<Next, DdFault>
+    requires noted { (whole : declared.Triple) × AreNoted nodes.now notes.old budget whole
+        × AreWaiting nodes.now notes.old.memo.triples budget whole notes.old.waiting.items t }
+    ensures results { notes.new.results ≡ notes.old.results }
+    ensures noted { (whole : declared.Triple) → AreNoted nodes.now notes.old budget whole
+        → AreWaiting nodes.now notes.old.memo.triples budget whole notes.old.waiting.items t
+        → IfOk result (λ after. AreNoted nodes.now notes.new budget whole
+        × StandsAt nodes.now notes.new budget whole after) }
+    ensures nearer { IfOk result (λ after.
+        steps_left notes.new.waiting.items after < steps_left notes.old.waiting.items (next.Next.Enter t)) }
+    ensures over { IsErrOf result DdFault.OverBudget → (whole : declared.Triple)
+        → AreNoted nodes.now notes.old budget whole
+        → AreWaiting nodes.now notes.old.memo.triples budget whole notes.old.waiting.items t
+        → (b : ℕ) × (budget ≡ Some b) × HasMoreCofactors (meaning nodes.now whole) b }
+{
+    if let Some(result) = end(t) {
+        return Ok(Next::Return(result));
+    }
+    if let Some(result) = notes.result(&t, budget) {
+        return Ok(Next::Return(result));
+    }
+    let place = match notes.begin(alloc, t, budget) {
+        Ok(place) => place,
+        Err(e) => return Err(e),
+    };
+    let variable = top(nodes, t);
+    let at_high = side(nodes, t, variable, true);
+    notes.wait(Waiting {
+        triple: t,
+        place,
+        variable,
+        at_high,
+        has_low: false,
+        low: Dd::at(0),
+    })?;
+    Ok(Next::Enter(side(nodes, t, variable, false)))
+}
+
+/// Hands a result to the operation that waits for it. Where that is its low half's, it goes on with the high one; else
+/// it has a result too.
+fn go_on(
+    nodes: &mut Table<Node>,
+    notes: &mut Notes,
+    alloc: Global,
+    made: Dd,
+    budget: Option<u32>,
+) -> Result<Next, NoMemory>
+    requires noted { (whole : declared.Triple) × AreNoted nodes.old notes.old budget whole
+        × StandsAt nodes.old notes.old budget whole (next.Next.Return made) }
+    ensures reduced { IsReduced nodes.new }
+    ensures grows { Grows nodes.old nodes.new }
+    ensures made { AreMade nodes.new notes.new.results }
+    ensures noted { (whole : declared.Triple) → AreNoted nodes.old notes.old budget whole
+        → StandsAt nodes.old notes.old budget whole (next.Next.Return made)
+        → IfOk result (λ after. AreNoted nodes.new notes.new budget whole
+        × StandsAt nodes.new notes.new budget whole after) }
+    ensures nearer { IfOk result (λ after.
+        steps_left notes.new.waiting.items after < steps_left notes.old.waiting.items (next.Next.Return made)) }
+{
+    let Some(waiting) = notes.last() else {
+        return Ok(Next::Done(made));
+    };
+    if waiting.has_low {
+        let node = Node {
+            variable: waiting.variable,
+            low: waiting.low,
+            high: made,
+        };
+        let joined = make(nodes, alloc, node)?;
+        notes.end(alloc, &waiting, joined, nodes.len(), budget)?;
+        return Ok(Next::Return(joined));
+    }
+    notes.wait(Waiting {
+        has_low: true,
+        low: made,
+        ..waiting
+    })?;
+    Ok(Next::Enter(waiting.at_high))
+}
+
+/// The function that is the second where the first holds, and else the third. Where there is a budget, each different
+/// triple that is met counts once, and at most as many are met; else results of earlier operations serve. Operations
+/// wait in the notes, so that the stack needn't be as deep as there are variables.
+pub(crate) fn choose(
+    nodes: &mut Table<Node>,
+    notes: &mut Notes,
+    alloc: Global,
+    t: Triple,
+    budget: Option<u32>,
 ) -> Result<Dd, DdFault>
     requires reduced { IsReduced nodes.old }
     requires there { AreDds nodes.old t }
-    requires keys { AreKeys nodes.old memo.old }
-    requires settled { AreSettled nodes.old memo.old (size t) }
-    requires within { length memo.old.triples ≤ budget }
+    requires made { AreMade nodes.old notes.old.results }
+    requires none { (b : ℕ) → budget ≡ Some b → IsCleared notes.old.memo }
     ensures reduced { IsReduced nodes.new }
     ensures grows { Grows nodes.old nodes.new }
-    ensures value { IfOk result (λ r. IsResult nodes.new t r) }
-    ensures keys { OnOk result (AreKeys nodes.new memo.new) }
-    ensures settles { OnOk result (Settles nodes.old memo.old nodes.new memo.new) }
-    ensures within { OnOk result (length memo.new.triples ≤ budget) }
-    ensures among { OnOk result (AreAmong nodes.new memo.new.triples t) }
-    ensures left { OnOk result ((whole : declared.Triple) → AreDds nodes.old whole → IsLeft nodes.old whole t
-        → AreLeft nodes.old memo.old whole → AreLeft nodes.new memo.new whole) }
-    ensures over { IsErrOf result DdFault.OverBudget → (whole : declared.Triple) → AreDds nodes.old whole
-        → IsLeft nodes.old whole t → AreLeft nodes.old memo.old whole
-        → HasMoreCofactors (meaning nodes.old whole) budget }
+    ensures made { AreMade nodes.new notes.new.results }
+    ensures ended { IfOk result (HasEnded nodes.new notes.new.memo.triples budget t) }
+    ensures within { OnOk result ((b : ℕ) → budget ≡ Some b → length notes.new.memo.triples ≤ b) }
+    ensures over { IsErrOf result DdFault.OverBudget
+        → (b : ℕ) × (budget ≡ Some b) × HasMoreCofactors (meaning nodes.old t) b }
 {
-    if let Some(result) = end(t) {
-        return Ok(result);
+    notes.waiting.clear();
+    let mut next = Next::Enter(t);
+    loop {
+        match next {
+            Next::Enter(t) => match enter(nodes, notes, alloc, t, budget) {
+                Ok(after) => next = after,
+                Err(e) => return Err(e),
+            },
+            Next::Return(made) => next = go_on(nodes, notes, alloc, made, budget)?,
+            Next::Done(result) => return Ok(result),
+        }
     }
-    if let Some(place) = memo.triples.find(&t) {
-        return Ok(memo.results[place as usize]);
-    }
-    if memo.triples.len() >= budget as usize {
-        return Err(DdFault::OverBudget);
-    }
-    let place = memo.begin(alloc, t)?;
-    let variable = top(nodes, t);
-    let at_low = side(nodes, t, variable, false);
-    let at_high = side(nodes, t, variable, true);
-    let low = match choose(nodes, memo, alloc, at_low, budget) {
-        Ok(low) => low,
-        Err(e) => return Err(e),
-    };
-    let high = match choose(nodes, memo, alloc, at_high, budget) {
-        Ok(high) => high,
-        Err(e) => return Err(e),
-    };
-    let made = make(
-        nodes,
-        alloc,
-        Node {
-            variable,
-            low,
-            high,
-        },
-    )?;
-    memo.end(place, made);
-    Ok(made)
-}
-
-/// The same where nothing has to be counted, so that results of earlier operations serve.
-pub(crate) fn choose_freely(
-    nodes: &mut Table<Node>,
-    results: &mut Kept,
-    alloc: Global,
-    t: Triple,
-) -> Result<Dd, NoMemory>
-    requires reduced { IsReduced nodes.old }
-    requires there { AreDds nodes.old t }
-    requires made { AreMade nodes.old results.old }
-    ensures reduced { IsReduced nodes.new }
-    ensures grows { Grows nodes.old nodes.new }
-    ensures made { AreMade nodes.new results.new }
-    ensures value { IfOk result (λ r. IsResult nodes.new t r) }
-{
-    if let Some(result) = end(t) {
-        return Ok(result);
-    }
-    if let Some(result) = results.get(&t) {
-        return Ok(Dd::at(result));
-    }
-    let variable = top(nodes, t);
-    let at_low = side(nodes, t, variable, false);
-    let at_high = side(nodes, t, variable, true);
-    let low = match choose_freely(nodes, results, alloc, at_low) {
-        Ok(low) => low,
-        Err(e) => return Err(e),
-    };
-    let high = match choose_freely(nodes, results, alloc, at_high) {
-        Ok(high) => high,
-        Err(e) => return Err(e),
-    };
-    let made = make(
-        nodes,
-        alloc,
-        Node {
-            variable,
-            low,
-            high,
-        },
-    )?;
-    results.keep(alloc, t, made.position(), nodes.len())?;
-    Ok(made)
 }

@@ -10,6 +10,7 @@ mod ite;
 mod kept;
 mod memo;
 mod nodes;
+mod notes;
 mod operate;
 mod table;
 mod variable;

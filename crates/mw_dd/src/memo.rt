@@ -1,5 +1,7 @@
 // The operations that one call has met, and their results.
-ghost use Rattle.std.specs.Prelude.{◌≡◌, ◌<◌, [], ◌∷◌, ◌++◌, length, slice_set, IfOk, OnOk};
+ghost use Rattle.std.specs.Prelude.{◌≡◌, ◌<◌, None, length, IfOk, IfSome};
+ghost use Rattle.mw_dd.specs.Links.{IsAbsent};
+ghost use Rattle.mw_dd.specs.Memos.{IsCleared, AreBeside, HasResult, IsBegun, IsEnded};
 
 use crate::dd::Dd;
 use crate::nodes::Triple;
@@ -25,18 +27,27 @@ impl Memo {
 
     /// Forgets all that was met.
     pub(crate) fn clear(&mut self)
-        ensures triples { self.new.triples ≡ [] }
-        ensures results { self.new.results.items ≡ [] }
+        ensures { IsCleared self.new }
     {
         self.triples.clear();
         self.results.clear();
     }
 
+    /// What stands as the result of one that was met.
+    pub(crate) fn get(&self, t: &Triple) -> Option<Dd>
+        requires { AreBeside self.now }
+        ensures met { IfSome result (HasResult self.now t.now) }
+        ensures absent { result ≡ None → IsAbsent self.now.triples t.now }
+    {
+        match self.triples.find(t) {
+            Some(place) => Some(self.results[place as usize]),
+            None => None,
+        }
+    }
+
     /// One more, whose result isn't made yet, and its place.
     pub(crate) fn begin(&mut self, alloc: Global, t: Triple) -> Result<u32, NoMemory>
-        ensures place { IfOk result (λ place. place ≡ length self.old.triples) }
-        ensures triples { OnOk result (self.new.triples ≡ self.old.triples ++ t ∷ []) }
-        ensures results { OnOk result (self.new.results.items ≡ self.old.results.items ++ 0 ∷ []) }
+        ensures { IfOk result (IsBegun self.old self.new t) }
     {
         let place = self.triples.add(alloc, t)?;
         self.results.push(Dd::at(0))?;
@@ -46,8 +57,7 @@ impl Memo {
     /// The result of one.
     pub(crate) fn end(&mut self, place: u32, made: Dd)
         requires { place < length self.old.results.items }
-        ensures triples { self.new.triples ≡ self.old.triples }
-        ensures results { self.new.results.items ≡ slice_set self.old.results.items place made }
+        ensures { IsEnded self.old self.new place made }
     {
         self.results[place as usize] = made;
     }

@@ -6,10 +6,10 @@ ghost use Rattle.mw_dd.specs.Steps.{Grows, AreDds, IsResult, meaning};
 
 use crate::bounds::{Bounds, is_within};
 use crate::dd::{Dd, DdFault};
-use crate::ite::{choose, choose_freely, end};
+use crate::ite::{choose, end};
 use crate::kept::{Kept, Slot};
-use crate::memo::Memo;
 use crate::nodes::{Node, Triple};
+use crate::notes::Notes;
 use crate::table::Table;
 use std::alloc::Global;
 
@@ -17,17 +17,16 @@ use std::alloc::Global;
 /// budget, nothing is counted.
 pub(crate) fn operate(
     nodes: &mut Table<Node>,
-    memo: &mut Memo,
-    results: &mut Kept,
+    notes: &mut Notes,
     counts: &mut Kept,
     bounds: &mut Bounds,
     alloc: Global,
     t: Triple,
     budget: u32,
 ) -> Result<Dd, DdFault>
-    requires right { AreRight nodes.old results.old counts.old bounds.old }
+    requires right { AreRight nodes.old notes.old.results counts.old bounds.old }
     requires there { AreDds nodes.old t }
-    ensures right { AreRight nodes.new results.new counts.new bounds.new }
+    ensures right { AreRight nodes.new notes.new.results counts.new bounds.new }
     ensures grows { Grows nodes.old nodes.new }
     ensures value { IfOk result (λ r. IsResult nodes.new t r) }
     ensures within { OnOk result (HasAtMostCofactors (meaning nodes.old t) budget) }
@@ -38,20 +37,20 @@ pub(crate) fn operate(
     }
     let known = is_within(nodes, counts, bounds, &t, budget)?;
     if known {
-        return Ok(choose_freely(nodes, results, alloc, t)?);
+        return choose(nodes, notes, alloc, t, None);
     }
     // The budget counts what this call meets, and nothing of earlier ones.
-    memo.clear();
-    let result = match choose(nodes, memo, alloc, t, budget) {
+    notes.memo.clear();
+    let result = match choose(nodes, notes, alloc, t, Some(budget)) {
         Ok(result) => result,
         Err(e) => return Err(e),
     };
-    let count = memo.triples.len() as u32;
+    let count = notes.memo.triples.len() as u32;
     counts.put(Slot {
         triple: t,
         value: count,
     });
-    results.put(Slot {
+    notes.results.put(Slot {
         triple: t,
         value: result.position(),
     });

@@ -19,5 +19,5 @@ returns-clause-canonical c = canonical c.make.new.nodes c.make.ensures.reduced
 
 pub invariant_of-self : goal.invariant_of-self
 invariant_of-self c =
-    right-grows c.self.inside.nodes c.make.new.nodes c.self.inside.results c.self.inside.counts c.self.inside.bounds
+    right-grows c.self.inside.nodes c.make.new.nodes c.self.inside.notes.results c.self.inside.counts c.self.inside.bounds
     c.make.ensures.grows c.make.ensures.reduced c.self.invariant
