@@ -48,4 +48,8 @@ fn main(rt: HostRuntime) -> ExitCode {
 }
 
 #[cfg(test)]
+mod fault_tests;
+#[cfg(test)]
 mod pdp8_tests;
+#[cfg(test)]
+mod small;

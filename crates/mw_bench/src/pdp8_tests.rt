@@ -1,23 +1,8 @@
-// The texts of the PDP-8, certified.
+use crate::small::call;
 use mw_cases::{Texts, pdp8};
 use mw_outside::{MemoryShelf, MemorySink};
-use mw_top::bench;
 use std::alloc::Global;
 use std::test::Fail;
-
-/// The number of the status with which a call with these words ends.
-fn call(
-    alloc: Global,
-    words: &[&str],
-    shelf: &mut MemoryShelf,
-    out: &mut MemorySink,
-) -> Result<u8, Fail> {
-    let mut owned = Vec::new(alloc);
-    for &word in words {
-        owned.push(String::from_str(alloc, word)?)?;
-    }
-    Ok(bench(alloc, &owned, shelf, out).number())
-}
 
 /// The texts of the PDP-8, with the names b, m, k and r.
 fn texts(alloc: Global) -> Result<MemoryShelf, Fail> {
