@@ -2,36 +2,57 @@
 //! docs/CONTRIBUTING.md has the form of a file of rows.
 #![tactic(auto)]
 
-ghost use Rattle.std.specs.Prelude.{◌<◌};
+mod outside;
 
-use mw_outside::{MemoryShelf, MemorySink};
 use mw_rowfile::{End, Fault, File, Work, Worker, run, wrong};
-use mw_top::bench;
+use mw_top::Status;
+use outside::{Outside, bench_over, steady_status};
 use std::alloc::Global;
 use std::process::ExitCode;
 
 /// Runs commands.
 struct Commands;
 
-/// How the bench ends with these words over these files.
-fn benched(alloc: Global, words: &[String], files: &[File]) -> Result<End, Fault> {
-    let mut shelf = MemoryShelf::new(alloc, 4096, &[])?;
-    let mut out = MemorySink::new(alloc, 4096, &[])?;
-    for file in files {
-        shelf.set(alloc, &file.name, &file.contents)?;
+/// How a command ends over these files. It has to end so, too, where a call moves one byte, and, unless a file is
+/// missing, where nothing can fail.
+fn commanded(alloc: Global, words: &[String], files: &[File]) -> Result<End, Fault> {
+    let end = bench_over(alloc, Outside::moving(4096), words, files)?;
+    let bytewise = bench_over(alloc, Outside::moving(1), words, files)?;
+    if bytewise.status != end.status || bytewise.report.as_slice() != end.report.as_slice() {
+        return Err(wrong("with one byte a call it ends otherwise"));
     }
-    let status = bench(alloc, words, &mut shelf, &mut out);
-    Ok(End {
-        status: status.number(),
-        report: Vec::from_slice(alloc, out.bytes())?,
-    })
+    if end.status != Status::ReadFault.number() {
+        let steady = steady_status(alloc, words, files)?;
+        if steady.number() != end.status {
+            return Err(wrong("where nothing can fail it ends otherwise"));
+        }
+    }
+    Ok(end)
+}
+
+/// How `fetch N MOST WORDS` and `put N MOST WORDS` end: the words over an outside that moves at most so many bytes a
+/// call, and whose fetch or put of this number fails.
+fn failing(alloc: Global, words: &[String], files: &[File]) -> Result<End, Fault> {
+    let [call, number, most, command @ ..] = words else {
+        return Err(wrong("`call` has a call, its number, a number of bytes, and words"));
+    };
+    let (Ok(number), Ok(most)) = (number.parse::<u64>(), most.parse::<usize>()) else {
+        return Err(wrong("no number"));
+    };
+    let mut outside = Outside::moving(most);
+    match call.as_str() {
+        "fetch" => outside.fetch = number,
+        "put" => outside.put = number,
+        _ => return Err(wrong("a call of the outside is `fetch` or `put`")),
+    }
+    bench_over(alloc, outside, command, files)
 }
 
 impl Worker for Commands {
     fn ended(&self, alloc: Global, work: &Work, files: &[File]) -> Result<End, Fault> {
         match work {
-            Work::Bench(words) => benched(alloc, words, files),
-            Work::Call(_) => Err(wrong("a row of a command begins with $")),
+            Work::Bench(words) => commanded(alloc, words, files),
+            Work::Call(words) => failing(alloc, words, files),
         }
     }
 }

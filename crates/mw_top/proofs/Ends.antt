@@ -11,6 +11,7 @@ use Rattle.mw_top.specs.declared.status.Status.TheVariants.{WriteFault, NoMemory
 use Rattle.mw_top.specs.Answer.{AreAccepted, AreRefused, IsWorked, IsRefusal, IsEnd, IsWorkEnd, is_worked}
 use Rattle.mw_top.specs.Call.{Call, NothingFailed}
 use Rattle.mw_top.specs.Commands.Table.{plan_of}
+use Rattle.mw_top.specs.Laws.{IsWithoutFault}
 use Rattle.mw_top.specs.Request.{RequestData, request_of, files_of, task_of}
 
 -- contents that are told and refused are not answered
@@ -84,6 +85,16 @@ end_refused call Differs end request contents requested told refuses =
 end_refused call Unknown end request contents requested told refuses =
     absurd (not_answered call Unknown end.0 request contents requested told refuses end.1)
 
+-- nothing failed, so there is neither fault
+pub without_fault : (call : Call) → NothingFailed call → IsWithoutFault call
+without_fault call still = record {
+  no_read_fault = λ end.
+      let file = next_is_among _ _ end.1.file end.1.next.name_is in
+      still.shelf end.1.request end.1.requested end.1.file file end.1.failed;
+  no_write_fault = λ end. still.sink end.0;
+  nothing_failed = still;
+}
+
 -- nothing failed
 pub end_complete : (call : Call) (status : Status) → IsEnd call status → NothingFailed call
     → Contains (Done ∷ Differs ∷ Unknown ∷ Usage ∷ Refused ∷ NoMemory ∷ []) status
@@ -93,7 +104,5 @@ end_complete call Unknown end still = (2, omega arith, refl)
 end_complete call Usage end still = (3, omega arith, refl)
 end_complete call Refused end still = (4, omega arith, refl)
 end_complete call NoMemory end still = (5, omega arith, refl)
-end_complete call ReadFault end still =
-    let file = next_is_among _ _ end.1.file end.1.next.name_is in
-    absurd (still.shelf end.1.request end.1.requested end.1.file file end.1.failed)
-end_complete call WriteFault end still = absurd (still.sink end.0)
+end_complete call ReadFault end still = absurd ((without_fault call still).no_read_fault end)
+end_complete call WriteFault end still = absurd ((without_fault call still).no_write_fault end)

@@ -1,5 +1,7 @@
-// The laws of options and of differences.
-ghost use Rattle.mw_top.specs.Laws.{PartsChangeNothing, DifferencesMayFollow};
+// The laws of options, of differences and of an outside that never fails.
+ghost use Rattle.mw_top.specs.Laws.{PartsChangeNothing, DifferencesMayFollow, NeverFail};
+
+use mw_outside::{Shelf, Sink, SteadyShelf, SteadySink};
 
 /// The law of `--parts`: two calls of a command whose answer is determined, whose requests differ in it alone, and for
 /// which the same was read, have one status and one report.
@@ -11,4 +13,10 @@ pub fn parts_change_nothing()
 /// a report from which a counter is read back.
 pub fn differences_may_follow()
     ensures { DifferencesMayFollow }
+{}
+
+/// The law of an outside that never fails: a call of `bench` over a `SteadyShelf` and a `SteadySink` ends neither with
+/// `ReadFault` nor with `WriteFault`, and only memory keeps its work from its end.
+pub fn steady_calls_never_fail()
+    ensures { NeverFail ⟦<SteadyShelf as Shelf>⟧ ⟦<SteadySink as Sink>⟧ }
 {}

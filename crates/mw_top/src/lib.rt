@@ -12,7 +12,7 @@ mod state_text;
 mod status;
 mod top_call;
 
-pub use laws::{differences_may_follow, parts_change_nothing};
+pub use laws::{differences_may_follow, parts_change_nothing, steady_calls_never_fail};
 pub use request::{Command, Request, read_words};
 pub use status::Status;
 pub use top_call::bench;
