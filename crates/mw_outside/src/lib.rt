@@ -3,6 +3,7 @@
 
 mod calls;
 mod edge;
+mod files;
 mod memory;
 mod read;
 mod shelf;

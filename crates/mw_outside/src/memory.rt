@@ -6,16 +6,16 @@ ghost use Rattle.mw_outside.specs.Causes.{Rose};
 ghost use Rattle.mw_outside.specs.Contents.{Gives};
 
 use crate::calls::Calls;
+use crate::files::Files;
 use crate::shelf::{Failed, Shelf};
 use crate::sink::Sink;
 use mw_base::NoMemory;
 use std::alloc::Global;
-use std::collections::BTreeMap;
 
 /// Files in memory. Its one count of faults is the count of every name.
 #[derive(Drop)]
 pub struct MemoryShelf {
-    files: BTreeMap<String, Vec<u8>>,
+    files: Files,
     calls: Calls,
 }
 
@@ -30,7 +30,7 @@ impl MemoryShelf {
         ensures calls { IfOk result (λ shelf. calls_of shelf ≡ no_calls most fails.now) }
     {
         Ok(MemoryShelf {
-            files: BTreeMap::new(alloc),
+            files: Files::new(alloc),
             calls: Calls::new(alloc, most, fails)?,
         })
     }
@@ -42,10 +42,7 @@ impl MemoryShelf {
         ensures err { OnErr result ((other : List ℕ) → contents self.new other ≡ contents self.old other) }
         ensures calls { calls_of self.new ≡ calls_of self.old }
     {
-        let key = String::from_str(alloc, name)?;
-        let copy = Vec::from_slice(alloc, bytes)?;
-        self.files.insert(key, copy)?;
-        Ok(())
+        self.files.set(alloc, name, bytes)
     }
 }
 
@@ -77,7 +74,7 @@ impl Shelf for MemoryShelf {
             return Err(Failed);
         }
         match self.files.get(name) {
-            Some(bytes) => Ok(copy_from(bytes.as_slice(), at, self.calls.most(), into)),
+            Some(bytes) => Ok(copy_from(bytes, at, self.calls.most(), into)),
             None => {
                 self.calls.fail();
                 Err(Failed)

@@ -50,7 +50,7 @@ impl<T: Drop> From<AllocFailed<T>> for ReadRefusal {
 
 /// The contents of a name, fetched in pieces until a fetch gives nothing.
 ///
-/// - `Fault`: a fetch failed, so the count of this name rose. No fetch is made after it.
+/// - `Fault`: a fetch failed, so the count of this name rose; where it became greater, this is the answer.
 /// - `TooLong`: more than `MOST_BYTES` bytes came.
 /// - `NoMemory`: memory ran out.
 pub fn read_whole<S: Shelf>(
@@ -62,7 +62,7 @@ pub fn read_whole<S: Shelf>(
     ensures short { IfOk result (λ v. length v.items ≤ 1048576) }
     ensures fault { IsErrOf result ReadRefusal.Fault
         → Rose (S.faults shelf.old name.now) (S.faults shelf.new name.now) }
-    ensures rose { S.faults shelf.old name.now < S.faults shelf.new name.now → IsErrOf result ReadRefusal.Fault }
+    ensures due { S.faults shelf.old name.now < S.faults shelf.new name.now → IsErrOf result ReadRefusal.Fault }
     ensures too_long { IsErrOf result ReadRefusal.TooLong
         → IfSome (S.told shelf.old name.now) (λ bytes. 1048576 < length bytes) }
     ensures long { IfSome (S.told shelf.old name.now) (λ bytes. 1048576 < length bytes → IsErr result) }
@@ -86,14 +86,14 @@ pub fn read_whole<S: Shelf>(
     Err(ReadRefusal::TooLong)
 }
 
-/// Puts out all of the bytes. `Failed`: the count rose, and a front part of the bytes was taken. Nothing is put out
-/// after it.
+/// Puts out all of the bytes. `Failed`: the count rose, and a front part of the bytes was taken; where the count became
+/// greater, this is the answer.
 pub fn write_all<K: Sink>(sink: &mut K, bytes: &[u8]) -> Result<(), Failed>
     ensures all { OnOk result (K.taken sink.new ≡ with_more (K.taken sink.old) bytes.now) }
     ensures part { OnErr result (TookFront (K.taken sink.old) (K.taken sink.new) bytes.now) }
     ensures later { K.faults sink.old ≤ K.faults sink.new }
     ensures cause { OnErr result (Rose (K.faults sink.old) (K.faults sink.new)) }
-    ensures rose { K.faults sink.old < K.faults sink.new → IsErr result }
+    ensures due { K.faults sink.old < K.faults sink.new → IsErr result }
 {
     let mut place = 0;
     while place < bytes.len() {

@@ -1,20 +1,21 @@
-// Files and a sink that never fail.
+// Files and a sink that never fail, for callers who hold all contents: for them no call ends with a fault of the
+// outside, and want of memory is all that can go wrong.
 ghost use Rattle.std.specs.Prelude.{◌≡◌, ◌≢◌, ◌<◌, ◌≤◌, ◌-◌, [], List, ℕ, Some, None, min, take, length};
 ghost use Rattle.std.specs.Prelude.{IsOk, IfOk, IfSome, OnOk, OnErr};
 ghost use Rattle.mw_outside.specs.Causes.{Rose, no_faults};
 ghost use Rattle.mw_outside.specs.Contents.{Gives, with_more};
 
+use crate::files::Files;
 use crate::memory::copy_from;
 use crate::shelf::{Failed, Shelf};
 use crate::sink::Sink;
 use mw_base::NoMemory;
 use std::alloc::Global;
-use std::collections::BTreeMap;
 
 /// Files in memory, which never fail: a name that wasn't set has no bytes. The count of every name is 0.
 #[derive(Drop)]
 pub struct SteadyShelf {
-    files: BTreeMap<String, Vec<u8>>,
+    files: Files,
 }
 
 impl SteadyShelf {
@@ -25,7 +26,7 @@ impl SteadyShelf {
         ensures { (name : List ℕ) → contents result name ≡ [] }
     {
         SteadyShelf {
-            files: BTreeMap::new(alloc),
+            files: Files::new(alloc),
         }
     }
 
@@ -35,10 +36,7 @@ impl SteadyShelf {
         ensures others { (other : List ℕ) → other ≢ name.now → contents self.new other ≡ contents self.old other }
         ensures err { OnErr result ((other : List ℕ) → contents self.new other ≡ contents self.old other) }
     {
-        let key = String::from_str(alloc, name)?;
-        let copy = Vec::from_slice(alloc, bytes)?;
-        self.files.insert(key, copy)?;
-        Ok(())
+        self.files.set(alloc, name, bytes)
     }
 }
 
@@ -62,7 +60,7 @@ impl Shelf for SteadyShelf {
         ensures count { IfOk result (λ n. n ≡ min (length (contents self.old name.now) - at) (length into.old)) }
     {
         match self.files.get(name) {
-            Some(bytes) => Ok(copy_from(bytes.as_slice(), at, usize::MAX, into)),
+            Some(bytes) => Ok(copy_from(bytes, at, usize::MAX, into)),
             None => Ok(0),
         }
     }

@@ -1,6 +1,6 @@
 use Rattle.std.proofs.Common.{arith}
 use Rattle.std.proofs.lemmas.Map.Text.{text_keys}
-use Rattle.mw_outside.proofs.memory.MemoryShelf.set.Goals as goal
+use Rattle.mw_outside.proofs.files.Files.set.Goals as goal
 
 pub returns-clause-others : goal.returns-clause-others
 returns-clause-others c = λ other apart. grind (arith, text_keys)
