@@ -1,4 +1,7 @@
-"""Board files, which are taken as right: their fields, control points, lists and flip-flops, and microwords by settings."""
+"""Board files, which are taken as right: their fields, control points, lists and flip-flops, and microwords by settings.
+
+Of refusals it knows those of a right file that is cut: what is left is no TOML, or lacks a key.
+"""
 import tomllib
 
 from model.am2901 import DESTINATIONS, FUNCTIONS, SOURCES
@@ -7,6 +10,8 @@ from model.lines import number_of
 
 # The lists, and the points that choose in them.
 LISTS = {"carry_in": "carry_in", "condition": "condition", "ram_link": "link", "q_link": "link", "d": "d"}
+# The keys that a file has to have, in the order in which they are asked for.
+REQUIRED = ("version", "width", "microword", "address", "fill")
 
 
 def board_elements(width, address, flipflops):
@@ -14,6 +19,16 @@ def board_elements(width, address, flipflops):
     named = [(f"r{number}", width) for number in range(16)] + [("q", width), ("mar", address), ("ir", width)]
     named += [(name, 1) for name in flipflops] + [("upc", 12), ("count", 12)]
     return named + [(f"stack{number}", 12) for number in range(DEPTH)]
+
+
+def missing_key(text):
+    """Of a right file that is cut the key and the cause of its refusal; None where what is left is right. TOML lets nothing
+    be cut but the end of a number, and whatever number `microword` then has, a key behind it is missing."""
+    try:
+        file = tomllib.loads(text.decode())
+    except tomllib.TOMLDecodeError:
+        return "- cause 20"
+    return next((f"{key} cause 21" for key in REQUIRED if key not in file), None)
 
 
 def settings_of(text):

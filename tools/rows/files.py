@@ -2,20 +2,27 @@
 """Writes and reads files of rows, as docs/CONTRIBUTING.md has them and the crates mw_rows and mw_callrows run them.
 
     files.py cases FILE..    the rows of cases that are JSON, one a line: name, words, files, stdout, status. What is a
-                             file of several of them is a set
+                             file of several of them is a set. Left out are cases in which a folder stands in a file's
+                             place, or words aren't text
+    files.py back FILE CASES..   no row: the rows of FILE have the words, the files, the end and the report of these cases
     files.py count FILE..    how many rows these files have
 
-Where the stdout of a case is null, its `lines` are what the report's first lines are; the last one may go on.
+Where the stdout of a case is null, its `lines` are what the report's first lines are; the last one may go on. A file of a
+case is a text, bytes in base64, texts that stand so many times each, or the name of a file of the folder `bench` beside
+that of the cases.
 """
 import json
 import re
 import sys
 from base64 import b64decode
 from collections import Counter
+from pathlib import Path
 
 ESCAPES = {"n": "\n", "t": "\t", "r": "\r", "\\": "\\"}
 # A byte that stands so many times and more is written with a count.
 LONG = 100
+# Up to so many bytes that stand in turn are written with a count too, where this leaves out so many.
+TURN, LEFT_OUT = 40, 60
 
 
 def spelled(data):
@@ -98,15 +105,46 @@ def row_lines(name, given, end, report):
     return [f"row {name}"] + given + [end] + text_lines(report)
 
 
-def contents_of(text):
-    return b64decode(text[7:]) if text.startswith("base64:") else text.encode()
+def pieces_of(contents):
+    """A file of a case: bytes, and how often they stand."""
+    if isinstance(contents, str):
+        return [(b64decode(contents[7:]) if contents.startswith("base64:") else contents.encode(), 1)]
+    return [(data * times, count) for part, count in contents["repeat"] for data, times in pieces_of(part)]
+
+
+def contents_of(contents):
+    return b"".join(data * times for data, times in pieces_of(contents))
+
+
+def turned_lines(data):
+    """The lines that spell some bytes, where what stands often in turn has a count."""
+    for turn in re.finditer(rb"(?s)(.{1,%d}?)\1{3,}" % TURN, data):
+        once, count = turn[1], len(turn[0]) // len(turn[1])
+        if len(turn[0]) - len(once) >= LEFT_OUT:
+            before, behind = data[:turn.start()], data[turn.end():]
+            return text_lines(before) + [f"* {count} {spelled(once)}"] + turned_lines(behind)
+    return text_lines(data)
+
+
+def contents_lines(name, contents):
+    """The lines of a file of a case."""
+    lines = [f"file {name}"]
+    for data, times in pieces_of(contents):
+        lines += turned_lines(data) if times == 1 else [f"* {times} {spelled(data)}"]
+    return lines
+
+
+def hashed(name, contents):
+    """A file of a case as a key: equal ones have the same."""
+    return name, json.dumps(contents)
 
 
 def case_lines(case, sets):
     """The row of a case, where some files are sets: names of sets by file and contents."""
     given = [words_line(case["words"])]
     for file in case["files"].items():
-        given += [f"with {sets[file]}"] if file in sets else file_lines(file[0], contents_of(file[1]))
+        key = hashed(*file)
+        given += [f"with {sets[key]}"] if key in sets else contents_lines(*file)
     if case["stdout"] is None:
         return row_lines(case["name"], given, f"begins {case['status']}", "\n".join(case["lines"]).encode())
     return row_lines(case["name"], given, f"status {case['status']}", case["stdout"].encode())
@@ -114,15 +152,36 @@ def case_lines(case, sets):
 
 def sets_of(cases):
     """A name for each file that several cases have."""
-    counts = Counter(file for case in cases for file in case["files"].items())
+    counts = Counter(hashed(*file) for case in cases for file in case["files"].items())
     shared = (file for file, count in counts.items() if count > 1)
     return {file: f"{file[0]} {number}" for number, file in enumerate(shared, 1)}
+
+
+def with_bench(case, bench):
+    """A case whose files are its own."""
+    files = {name: (bench / contents["bench"]).read_text() if isinstance(contents, dict) and "bench" in contents else contents
+             for name, contents in case["files"].items()}
+    return case | {"files": files}
+
+
+def is_row(case):
+    """Whether a row can have the files and the words of a case."""
+    texts = all(word.isprintable() or word.isascii() for word in case["words"])
+    return texts and None not in case["files"].values()
+
+
+def cases_of(paths):
+    """The cases of files of JSON that rows can have."""
+    for path in paths:
+        bench = Path(path).resolve().parent.parent / "bench"
+        with open(path, encoding="utf-8") as lines:
+            yield from (with_bench(case, bench) for case in map(json.loads, lines) if is_row(case))
 
 
 def print_cases(cases):
     sets = sets_of(cases)
     for (file, text), name in sets.items():
-        print("\n".join([f"set {name}"] + file_lines(file, contents_of(text))) + "\n")
+        print("\n".join([f"set {name}"] + contents_lines(file, json.loads(text))) + "\n")
     for case in cases:
         print("\n".join(case_lines(case, sets)) + "\n")
 
@@ -178,6 +237,17 @@ def read(path):
     return rows
 
 
+def check_back(rows, cases):
+    """That rows have what these cases have."""
+    assert len(rows) == len(cases), (len(rows), len(cases))
+    for row, case in zip(rows, cases):
+        wanted = {name: contents_of(contents) for name, contents in case["files"].items()}
+        assert row["files"] == wanted and row["$"] == words_line(case["words"]).partition(" ")[2], row["name"]
+        if case["stdout"] is not None:
+            assert row["status"] == str(case["status"]) and row["report"] == case["stdout"].encode(), row["name"]
+    print(f"{len(rows)} rows have what their cases have")
+
+
 def right(row, report):
     return report.startswith(row["report"]) if "begins" in row else report == row["report"]
 
@@ -202,11 +272,9 @@ def read_anew(paths, given, is_right=right):
 def main():
     match sys.argv[1:]:
         case ["cases", *paths]:
-            cases = []
-            for path in paths:
-                with open(path, encoding="utf-8") as lines:
-                    cases += [json.loads(line) for line in lines]
-            print_cases(cases)
+            print_cases(list(cases_of(paths)))
+        case ["back", path, *paths]:
+            check_back(read(path), list(cases_of(paths)))
         case ["count", *paths]:
             for path in paths:
                 print(f"{path}: {len(read(path))} rows")
