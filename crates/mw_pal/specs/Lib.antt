@@ -1,0 +1,4 @@
+pub mod Joins
+pub mod Opcodes
+pub mod Operations
+pub mod Views
