@@ -136,7 +136,8 @@ fn ored(words: &[Spelled]) -> u16
 
 /// The code of a statement of these words.
 pub(crate) fn joined_code(words: &[Spelled]) -> u16
-    ensures { result ≡ joined_code words.now }
+    ensures exact { result ≡ joined_code words.now }
+    ensures low { result < 4096 }
 {
     if are_clear(words) {
         0o7200
