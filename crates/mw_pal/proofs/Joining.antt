@@ -1,7 +1,6 @@
 -- One word of a statement after those before it.
-use Rattle.std.proofs.Common.{◌≡◌, ℕ, ◌+◌, ◌≤◌, List, ◌∷◌, Bool, true, false, Result, Ok, Err, refl, drop, length}
+use Rattle.std.proofs.Common.{◌≡◌, ℕ, ◌+◌, ◌≤◌, List, ◌∷◌, Bool, true, false, Ok, Err, refl, drop, length}
 use Rattle.mw_base.specs.declared.cause.Cause.TheVariants.{MixedWords}
-use Rattle.mw_base.specs.declared.refusal.TextFault.{TextFault}
 use Rattle.mw_base.specs.Steps.{steps}
 use Rattle.mw_base.specs.TokenLines.{fault_on}
 use Rattle.mw_base.proofs.Steps.{goes_on, fails, done}

@@ -5,14 +5,13 @@ use Rattle.std.specs.Str.{bytes_eq}
 use Rattle.mw_base.specs.declared.refusal.TextFault.{TextFault}
 use Rattle.mw_base.specs.declared.sign.Sign.TheVariants.{Colon}
 use Rattle.mw_base.specs.declared.token.Token.{Token}
-use Rattle.mw_base.specs.Cursors.{Cursor, after, misplaced, has_name, has_sign, name_at, number_at, place_at, token_at}
+use Rattle.mw_base.specs.Cursors.{Cursor, after, misplaced, has_name, has_sign, number_at, place_at, token_at}
 use Rattle.mw_base.specs.Cursors.{end_at}
 use Rattle.mw_base.specs.Reading.{◌>>=◌}
 use Rattle.mw_base.specs.Steps.{steps}
 use Rattle.mw_base.specs.Symbols.{spelled}
 use Rattle.mw_pal.specs.declared.joins.Spelled.{Spelled}
 use Rattle.mw_pal.specs.declared.opcode.Opcode.{Opcode}
-use Rattle.mw_pal.specs.declared.operation.Operation.{Operation}
 use Rattle.mw_pal.specs.declared.statement.Entry.{Entry}
 use Rattle.mw_pal.specs.declared.statement.Entry.TheVariants as entries
 use Rattle.mw_pal.specs.declared.statement.Instruction.{Instruction}
