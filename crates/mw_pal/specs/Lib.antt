@@ -1,4 +1,5 @@
 pub mod Codes
+pub mod Examples
 pub mod FirstPass
 pub mod Joins
 pub mod Opcodes

@@ -139,7 +139,12 @@ impl<'a> Known<'a> {
         if self.next >= WORDS {
             return Err(Refused::At(fault_on(statement.first, Cause::StoreFull)));
         }
-        if self.used.get(usize::from(self.next)).copied().unwrap_or(false) {
+        if self
+            .used
+            .get(usize::from(self.next))
+            .copied()
+            .unwrap_or(false)
+        {
             return Err(Refused::At(fault_on(statement.first, Cause::Overlap)));
         }
         self.add_cell(statement)

@@ -2,6 +2,7 @@
 #![tactic(auto)]
 
 mod codes;
+mod examples;
 mod first_pass;
 mod joins;
 mod opcode;

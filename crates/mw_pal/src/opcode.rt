@@ -65,5 +65,8 @@ impl Opcode {
 pub(crate) fn opcode_named(bytes: &[u8]) -> Option<Opcode>
     ensures { result ≡ opcode_named bytes.now }
 {
-    OPCODES.iter().copied().find(|opcode| opcode.bytes() == bytes)
+    OPCODES
+        .iter()
+        .copied()
+        .find(|opcode| opcode.bytes() == bytes)
 }

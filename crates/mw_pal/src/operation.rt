@@ -215,13 +215,24 @@ impl Operation {
     {
         match self {
             Operation::Cla => Kind::Clear,
-            Operation::Nop | Operation::Cll | Operation::Cma | Operation::Cml | Operation::Iac => Kind::First,
-            Operation::Rar | Operation::Ral | Operation::Rtr | Operation::Rtl | Operation::Bsw => Kind::Rotate,
+            Operation::Nop | Operation::Cll | Operation::Cma | Operation::Cml | Operation::Iac =>
+                Kind::First,
+            Operation::Rar | Operation::Ral | Operation::Rtr | Operation::Rtl | Operation::Bsw =>
+                Kind::Rotate,
             Operation::Osr | Operation::Hlt => Kind::Second,
             Operation::Sma | Operation::Sza | Operation::Snl => Kind::AnyTest,
             Operation::Spa | Operation::Sna | Operation::Szl | Operation::Skp => Kind::AllTest,
             Operation::Mqa | Operation::Mql => Kind::Third,
-            Operation::Ion | Operation::Iof | Operation::Ksf | Operation::Kcc | Operation::Krs | Operation::Krb | Operation::Tsf | Operation::Tcf | Operation::Tpc | Operation::Tls => Kind::Alone,
+            Operation::Ion
+            | Operation::Iof
+            | Operation::Ksf
+            | Operation::Kcc
+            | Operation::Krs
+            | Operation::Krb
+            | Operation::Tsf
+            | Operation::Tcf
+            | Operation::Tpc
+            | Operation::Tls => Kind::Alone,
         }
     }
 
@@ -248,5 +259,8 @@ impl Operation {
 pub(crate) fn operation_named(bytes: &[u8]) -> Option<Operation>
     ensures { result ≡ operation_named bytes.now }
 {
-    OPERATIONS.iter().copied().find(|operation| operation.bytes() == bytes)
+    OPERATIONS
+        .iter()
+        .copied()
+        .find(|operation| operation.bytes() == bytes)
 }
