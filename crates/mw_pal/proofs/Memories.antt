@@ -26,7 +26,8 @@ ored_from : (words : List Spelled) (code : ℕ) → code < 2 ^ 12
     → fold (λ code (word : Spelled). bit_or code (added word.operation)) code words < 2 ^ 12
 ored_from [] code low = low
 ored_from (word ∷ rest) code low =
-    ored_from rest (bit_or code (added word.operation)) (or_lt 12 code (added word.operation) low (added_low word.operation))
+    let more = or_lt 12 code (added word.operation) low (added_low word.operation) in
+    ored_from rest (bit_or code (added word.operation)) more
 
 -- what words add together has 12 bits
 pub ored_low : (words : List Spelled) → ored words < 4096
