@@ -8,7 +8,8 @@ use Rattle.mw_base.specs.declared.cause.Cause.TheVariants.{UnknownName, Twice, F
 use Rattle.mw_base.specs.declared.cause.Cause.TheVariants.{Overlap, BadLine, UnknownElement, WidthsDiffer, TooDeep}
 use Rattle.mw_base.specs.declared.cause.Cause.TheVariants.{LeftTwice, LeftUsedOnRight, NoStackPointer, NoBoundary}
 use Rattle.mw_base.specs.declared.cause.Cause.TheVariants.{BadBound, ShapesDiffer, NotFree, BadSyntax, BadCommand}
-use Rattle.mw_base.specs.declared.cause.Cause.TheVariants.{NoSuchElement, NothingToUndo}
+use Rattle.mw_base.specs.declared.cause.Cause.TheVariants.{NoSuchElement, NothingToUndo, NotPdp8}
+use Rattle.mw_base.specs.declared.cause.Cause.TheVariants.{OffPage, MixedWords}
 
 -- the number of a cause, which its reports print
 abbrev pub cause_number : Cause → ℕ
@@ -48,3 +49,6 @@ cause_number BadSyntax = 60
 cause_number BadCommand = 70
 cause_number NoSuchElement = 71
 cause_number NothingToUndo = 72
+cause_number NotPdp8 = 83
+cause_number OffPage = 84
+cause_number MixedWords = 85

@@ -78,6 +78,12 @@ pub enum Cause {
     NoSuchElement,
     /// 72: more is taken back than was done.
     NothingToUndo,
+    /// 83: a machine isn't one that a PDP-8 program runs on.
+    NotPdp8,
+    /// 84: an address of a PDP-8 source is on another page than its statement.
+    OffPage,
+    /// 85: words of a PDP-8 source can't stand in one statement.
+    MixedWords,
 }
 
 impl Cause {
@@ -122,6 +128,9 @@ impl Cause {
             Cause::BadCommand => 70,
             Cause::NoSuchElement => 71,
             Cause::NothingToUndo => 72,
+            Cause::NotPdp8 => 83,
+            Cause::OffPage => 84,
+            Cause::MixedWords => 85,
         }
     }
 }

@@ -1,0 +1,198 @@
+// The first pass, over the lines of a source.
+ghost use Rattle.std.specs.Prelude.{◌≡◌, ◌<◌, IfOk, slice_set, false};
+ghost use Rattle.mw_base.specs.Reading.{Gives};
+ghost use Rattle.mw_pal.specs.FirstPass.{everywhere, at_first, with_next, with_label, with_optional_label, can_stand};
+ghost use Rattle.mw_pal.specs.FirstPass.{with_cell, with_statement, with_optional_statement, with_entry, with_line};
+ghost use Rattle.mw_pal.specs.FirstPass.{first_pass};
+ghost use Rattle.mw_pal.specs.Views.{known_seen};
+
+use crate::joins::check_joins;
+use crate::statement::{Entry, Instruction, Statement, entry_of, is_reserved};
+use mw_base::{
+    Cause, Cursor, Line, Names, NoMemory, Numeral, Refusal, Refused, TextFault, Token, fault_on,
+    low_address, spelled,
+};
+use std::alloc::Global;
+
+/// How many words a memory has.
+pub(crate) const WORDS: u16 = 4096;
+
+/// The first address.
+const FIRST: u16 = 0o200;
+
+/// A statement that puts a word into memory.
+#[derive(Drop)]
+pub(crate) struct Cell {
+    /// Its address.
+    pub address: u16,
+    /// What it says.
+    pub says: Instruction,
+}
+
+/// What is known after some lines.
+#[derive(Drop)]
+pub(crate) struct Known<'a> {
+    /// The addresses of the labels.
+    pub labels: Names<'a, u16>,
+    /// The next statement's address.
+    pub next: u16,
+    /// For each address whether a statement stands there.
+    pub used: Vec<bool>,
+    /// The statements, in file order.
+    pub cells: Vec<Cell>,
+}
+
+/// No address where a statement stands.
+#[tactic(auto, unfolding(crate::specs::FirstPass::everywhere))]
+fn none_used(alloc: Global) -> Result<Vec<bool>, NoMemory>
+    ensures { IfOk result (λ used. used.items ≡ everywhere false) }
+{
+    Ok(vec![in alloc; false; usize::from(WORDS)]?)
+}
+
+/// Puts a value at an address; past the list's end nothing.
+#[tactic(auto, using(std::proofs::lemmas::List::set_past))]
+pub(crate) fn put<T: Copy>(values: &mut [T], address: u16, value: T)
+    ensures { values.new ≡ slice_set values.old address value }
+{
+    let place = usize::from(address);
+    if place < values.len() {
+        values[place] = value;
+    }
+}
+
+/// Whether the words of a statement can stand together: cause 85.
+fn check_stands(says: &Instruction) -> Result<(), TextFault>
+    ensures { result ≡ can_stand says.now }
+{
+    match says {
+        Instruction::Operate(words) => check_joins(words.as_slice()),
+        _ => Ok(()),
+    }
+}
+
+impl<'a> Known<'a> {
+    /// Before the first line.
+    fn new(alloc: Global) -> Result<Known<'a>, NoMemory>
+        ensures { IfOk result (λ known. known_seen known ≡ at_first) }
+    {
+        Ok(Known {
+            labels: Names::new(alloc),
+            next: FIRST,
+            used: none_used(alloc)?,
+            cells: Vec::new(alloc),
+        })
+    }
+
+    /// org N: cause 33.
+    #[tactic(auto, unfolding(crate::specs::FirstPass::with_next))]
+    fn go_to(&mut self, number: Numeral) -> Result<(), Refusal>
+        ensures { Gives (λ done. known_seen self.new) result (with_next number (known_seen self.old)) }
+    {
+        self.next = low_address(number.token, number.value).map_err(Refused::At)?;
+        Ok(())
+    }
+
+    /// A label of the next statement's address: cause 31 or 33.
+    #[tactic(auto, unfolding(crate::specs::FirstPass::with_label))]
+    fn add_label(&mut self, text: &'a [u8], name: Token) -> Result<(), Refusal>
+        ensures { Gives (λ done. known_seen self.new) result (with_label text.now name (known_seen self.old)) }
+    {
+        let is_reserved = is_reserved(spelled(text, name));
+        self.labels
+            .check_new(text, name, is_reserved)
+            .map_err(Refused::At)?;
+        self.labels.insert(spelled(text, name), self.next)?;
+        Ok(())
+    }
+
+    fn add_optional_label(&mut self, text: &'a [u8], name: Option<Token>) -> Result<(), Refusal>
+        ensures { Gives (λ done. known_seen self.new) result (with_optional_label text.now name (known_seen self.old)) }
+    {
+        match name {
+            Some(name) => self.add_label(text, name),
+            None => Ok(()),
+        }
+    }
+
+    /// A statement at the next address, where none stands yet: cause 85.
+    #[tactic(auto, unfolding(crate::specs::FirstPass::with_cell))]
+    fn add_cell(&mut self, statement: Statement) -> Result<(), Refusal>
+        requires { self.now.next < 4096 }
+        ensures { Gives (λ done. known_seen self.new) result (with_cell statement (known_seen self.old)) }
+    {
+        check_stands(&statement.says).map_err(Refused::At)?;
+        self.cells.push(Cell {
+            address: self.next,
+            says: statement.says,
+        })?;
+        put(&mut self.used, self.next, true);
+        self.next += 1;
+        Ok(())
+    }
+
+    /// A statement at the next address: cause 34 or 35, then 85.
+    #[tactic(auto, unfolding(crate::specs::FirstPass::with_statement))]
+    fn add_statement(&mut self, statement: Statement) -> Result<(), Refusal>
+        ensures { Gives (λ done. known_seen self.new) result (with_statement statement (known_seen self.old)) }
+    {
+        if self.next >= WORDS {
+            return Err(Refused::At(fault_on(statement.first, Cause::StoreFull)));
+        }
+        if self
+            .used
+            .get(usize::from(self.next))
+            .copied()
+            .unwrap_or(false)
+        {
+            return Err(Refused::At(fault_on(statement.first, Cause::Overlap)));
+        }
+        self.add_cell(statement)
+    }
+
+    fn add_optional_statement(&mut self, statement: Option<Statement>) -> Result<(), Refusal>
+        ensures { Gives (λ done. known_seen self.new) result (with_optional_statement statement (known_seen self.old)) }
+    {
+        match statement {
+            Some(statement) => self.add_statement(statement),
+            None => Ok(()),
+        }
+    }
+
+    /// What a line says: its causes but 60.
+    fn add_entry(&mut self, text: &'a [u8], entry: Entry) -> Result<(), Refusal>
+        ensures { Gives (λ done. known_seen self.new) result (with_entry text.now (known_seen self.old) entry) }
+    {
+        match entry {
+            Entry::Org(address) => self.go_to(address),
+            Entry::Words(label, statement) => {
+                self.add_optional_label(text, label)?;
+                self.add_optional_statement(statement)
+            }
+        }
+    }
+
+    /// A line: cause 60, then its other causes by place.
+    #[tactic(auto, unfolding(crate::specs::FirstPass::with_line))]
+    fn add_line(&mut self, alloc: Global, text: &'a [u8], line: &Line) -> Result<(), Refusal>
+        ensures { Gives (λ done. known_seen self.new) result (with_line text.now (known_seen self.old) line.now) }
+    {
+        let entry = entry_of(alloc, &Cursor::new(text, line, Cause::BadSyntax))?;
+        self.add_entry(text, entry)
+    }
+}
+
+/// The first pass over these lines of a source.
+pub(crate) fn first_pass<'a>(
+    alloc: Global,
+    text: &'a [u8],
+    lines: &[Line],
+) -> Result<Known<'a>, Refusal>
+    ensures { Gives (λ known. known_seen known) result (first_pass text.now at_first lines.now) }
+{
+    let mut known = Known::new(alloc)?;
+    for line in lines {
+        known.add_line(alloc, text, line)?;
+    }
+    Ok(known)
+}

@@ -1,0 +1,13 @@
+//! PDP-8 programs: their source and the memory that it spells.
+#![tactic(auto)]
+
+mod codes;
+mod examples;
+mod first_pass;
+mod joins;
+mod opcode;
+mod operation;
+mod source;
+mod statement;
+
+pub use source::read_pal;
