@@ -33,7 +33,7 @@ none_beyond : (job : Job) (number : ℕ) (side : Side) (lasts : Length) (o : Opt
     → is_extreme side lasts o ≡ true → IsExtreme job number side o cases
     → All (NoneGoesBeyond job number side lasts) cases
 none_beyond job number side lasts None cases beyond none =
-    subst (All (NoneGoesBeyond job number side lasts)) (sym none) All-nil
+    subst (All (NoneGoesBeyond job number side lasts)) (sym none) (All-nil (NoneGoesBeyond job number side lasts))
 none_beyond job number side lasts (Some shown) cases beyond is = λ k d inside start starts of.
     not_beyond side lasts shown.length (length_of job start) beyond (is.none_beyond k d inside start starts of)
 
@@ -42,7 +42,7 @@ none_has : (job : Job) (number : ℕ) (side : Side) (lasts : Length) (bits : Lis
     (cases : List (List Decided)) → is_extreme side lasts o ≡ true → IsExtreme job number side o cases
     → All (ComesLater job number lasts bits) cases
 none_has job number side lasts bits None cases beyond none =
-    subst (All (ComesLater job number lasts bits)) (sym none) All-nil
+    subst (All (ComesLater job number lasts bits)) (sym none) (All-nil (ComesLater job number lasts bits))
 none_has job number side lasts bits (Some shown) cases beyond is = λ k d inside start starts of same.
     let not = is.none_beyond k d inside start starts of in
     let both : false ≡ true =
@@ -60,9 +60,11 @@ taken job number side lasts begin o cases bits beyond is has of_case first = rec
   of_case = of_case;
   first = first;
   has = has;
-  none_beyond = All-push cases bits (none_beyond job number side lasts o cases beyond is) (λ start starts of.
+  none_beyond = All-push (NoneGoesBeyond job number side lasts) cases bits
+      (none_beyond job number side lasts o cases beyond is) (λ start starts of.
       ap (λ (l : Length). goes_beyond side l lasts) (has start starts of) ∙ not_beyond_itself side lasts);
-  first_case = All-push cases bits (none_has job number side lasts bits o cases beyond is) (λ start starts of same other.
+  first_case = All-push (ComesLater job number lasts bits) cases bits
+      (none_has job number side lasts bits o cases beyond is) (λ start starts of same other.
       absurd (other refl));
 }
 
@@ -78,9 +80,9 @@ left job number side lasts shown cases bits not is has next = record {
   of_case = is.of_case;
   first = is.first;
   has = is.has;
-  none_beyond = All-push cases bits is.none_beyond (λ start starts of.
+  none_beyond = All-push (NoneGoesBeyond job number side shown.length) cases bits is.none_beyond (λ start starts of.
       ap (λ (l : Length). goes_beyond side l shown.length) (has start starts of) ∙ not);
-  first_case = All-push cases bits is.first_case (λ start starts of same other.
+  first_case = All-push (ComesLater job number shown.length is.bits) cases bits is.first_case (λ start starts of same other.
       All-contains (λ earlier. IsBefore earlier bits) cases is.bits next.behind is.among);
 }
 

@@ -13,8 +13,8 @@ use Rattle.mw_fork.specs.declared.fault.Over.{Over}
 use Rattle.mw_fork.specs.declared.fault.Over.TheVariants.{Nodes, Paths}
 use Rattle.mw_fork.specs.Begins.{IsFirstOfCase, IsOfCase}
 use Rattle.mw_fork.specs.Walks.{AreAllCases}
-use Rattle.mw_bounds.specs.declared.bounds.Bounds.{Bounds}
-use Rattle.mw_bounds.specs.declared.bounds.Bounds.TheVariants.{Found, Unknown}
+use Rattle.mw_bounds.specs.declared.range.Bounds.{Bounds}
+use Rattle.mw_bounds.specs.declared.range.Bounds.TheVariants.{Found, Unknown}
 use Rattle.mw_bounds.specs.declared.length.Length.{Length}
 use Rattle.mw_bounds.specs.declared.range.Range.{Range}
 use Rattle.mw_bounds.specs.Lengths.{IsUpTo, length_of}
@@ -49,10 +49,15 @@ pub record IsFoundAt (job : Job) (number : ℕ) (budget : Budget) (range : Range
   pub range_is : IsRange job number range
   pub within : IsWithinBudget job budget number
 
+-- ranges are those of the first boundaries, in their order
+abbrev pub AreOfFirst : Job → Budget → List Range → Type 0
+AreOfFirst job budget ranges =
+    (number : ℕ) (range : Range) → slice_get ranges number ≡ Some range → IsFoundAt job number budget range
+
 -- there is a range of each boundary, in their order
 pub record AreFound (job : Job) (budget : Budget) (ranges : List Range) : Type 0 where
   pub count : length ranges ≡ length job.relation.boundaries
-  pub each : (number : ℕ) (range : Range) → slice_get ranges number ≡ Some range → IsFoundAt job number budget range
+  pub each : AreOfFirst job budget ranges
 
 -- An operation at the word and bit, in the list of the prefix, is over the budget's nodes; or a boundary has more cases
 -- than the budget's paths, which is the limit.

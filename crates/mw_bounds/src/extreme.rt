@@ -70,10 +70,11 @@ fn take(
     ensures fault { IfErr result (λ e. e ≡ faults.NoMemory) }
 {
     let length = Length::in_case(case);
-    if is_extreme(side, length, shown) {
-        let begin = fork.begin(alloc, job)?;
-        *shown = Some(Shown { length, begin });
+    if !is_extreme(side, length, shown) {
+        return Ok(());
     }
+    let begin = fork.begin(alloc, job)?;
+    *shown = Some(Shown { length, begin });
     Ok(())
 }
 
@@ -87,7 +88,6 @@ pub(crate) struct Extremes {
 }
 
 impl Visitor for Extremes {
-    ghost use Rattle.std.specs.Prelude.{⊥};
     ghost use Rattle.mw_bounds.specs.Extremes.{AreExtremes};
 
     /// It goes through all cases.

@@ -2,11 +2,11 @@
 //! shows it.
 #![tactic(auto)]
 
-mod bounds;
 mod extreme;
 mod length;
 mod range;
+mod search;
 
-pub use bounds::{Bounds, bounds};
 pub use length::Length;
-pub use range::Range;
+pub use range::{Bounds, Range};
+pub use search::bounds;

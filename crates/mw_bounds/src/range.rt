@@ -1,5 +1,7 @@
-// What is found of a boundary.
+// What is found of a boundary, and of a job.
 use crate::length::Length;
+use mw_base::Items;
+use mw_fork::Over;
 use mw_rel::Begin;
 
 /// The least and the greatest length of a boundary's starts, each with the start that shows it: what the first
@@ -14,4 +16,13 @@ pub struct Range {
     pub greatest: Length,
     /// A start that has it.
     pub greatest_begin: Begin,
+}
+
+/// How long the segments of a job last.
+#[derive(Debug, Drop)]
+pub enum Bounds {
+    /// There is a range of each boundary, in the order of the relation.
+    Found(Items<Range>),
+    /// This is over the budget.
+    Unknown(Over),
 }

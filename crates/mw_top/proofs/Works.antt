@@ -6,8 +6,8 @@ use Rattle.mw_asm.specs.Microprogram.{store_of}
 use Rattle.mw_boardfile.specs.Board.{board_of}
 use Rattle.mw_cases.specs.Operations.{all_operations}
 use Rattle.mw_cases.proofs.Unique.{jobs_are_one}
-use Rattle.mw_bounds.specs.declared.bounds.Bounds.{Bounds}
-use Rattle.mw_bounds.specs.declared.bounds.Bounds.TheVariants as bounds
+use Rattle.mw_bounds.specs.declared.range.Bounds.{Bounds}
+use Rattle.mw_bounds.specs.declared.range.Bounds.TheVariants as bounds
 use Rattle.mw_check.specs.declared.comparison.Compared.{Compared}
 use Rattle.mw_check.specs.declared.comparison.Compared.TheVariants as compared
 use Rattle.mw_check.specs.declared.equality.Equality.{Equality}

@@ -1,6 +1,6 @@
 -- What a call ends with that asks how long the segments of a job last.
 use Rattle.std.specs.Prelude.{◌≡◌, ℕ, List, Some}
-use Rattle.mw_bounds.specs.declared.bounds.Bounds.{Bounds}
+use Rattle.mw_bounds.specs.declared.range.Bounds.{Bounds}
 use Rattle.mw_bounds.specs.Answers.{IsAnswer}
 use Rattle.mw_plan.specs.Files.{IsLeft}
 use Rattle.mw_plan.specs.Plan.{done}

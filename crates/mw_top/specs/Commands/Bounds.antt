@@ -2,8 +2,8 @@
 use Rattle.std.specs.Prelude.{◌≡◌, ℕ, [], ◌++◌, List, codes, length, slice_index_or}
 use Rattle.std.specs.List.{flat_map, range_with_len}
 use Rattle.mw_base.specs.Numbers.{decimal}
-use Rattle.mw_bounds.specs.declared.bounds.Bounds.{Bounds}
-use Rattle.mw_bounds.specs.declared.bounds.Bounds.TheVariants.{Found, Unknown}
+use Rattle.mw_bounds.specs.declared.range.Bounds.{Bounds}
+use Rattle.mw_bounds.specs.declared.range.Bounds.TheVariants.{Found, Unknown}
 use Rattle.mw_bounds.specs.declared.length.Length.{Length}
 use Rattle.mw_bounds.specs.declared.length.Length.TheVariants.{Cycles, Late}
 use Rattle.mw_bounds.specs.declared.range.Range.{Range}

@@ -4,29 +4,15 @@ ghost use Rattle.mw_rel.specs.Views.{job_of};
 ghost use Rattle.mw_bounds.specs.Answers.{IsAnswer, IsFoundAt, StopsBy};
 
 use crate::extreme::Extremes;
-use crate::range::Range;
+use crate::range::{Bounds, Range};
 use mw_base::{Items, NoMemory};
-use mw_fork::{Budget, Fork, ForkFault, Over};
+use mw_fork::{Budget, Fork, ForkFault};
 use mw_rel::Job;
 use std::alloc::Global;
 use std::ops::ControlFlow;
 
-/// How long the segments of a job last.
-#[derive(Debug, Drop)]
-pub enum Bounds {
-    /// There is a range of each boundary, in the order of the relation.
-    Found(Items<Range>),
-    /// This is over the budget.
-    Unknown(Over),
-}
-
 /// Goes through the cases of a boundary.
-fn range(
-    alloc: Global,
-    job: &Job,
-    boundary: usize,
-    budget: Budget,
-) -> Result<Range, ForkFault>
+fn range(alloc: Global, job: &Job, boundary: usize, budget: Budget) -> Result<Range, ForkFault>
     requires there { boundary < length (job_of job.now).relation.boundaries }
     ensures found { IfOk result (IsFoundAt (job_of job.now) boundary budget) }
     ensures stops { IfErr result (StopsBy (job_of job.now) budget) }
@@ -39,9 +25,9 @@ fn range(
         unreachable!()
     };
     // Each boundary has a case.
-    let (Some(least), Some(greatest)) = (extremes.least, extremes.greatest) else {
-        unreachable!()
-    };
+    let Extremes { least, greatest } = extremes;
+    let Some(least) = least else { unreachable!() };
+    let Some(greatest) = greatest else { unreachable!() };
     Ok(Range {
         least: least.length,
         least_begin: least.begin,
