@@ -25,7 +25,6 @@ use Rattle.mw_top.specs.Commands.Certify.{boundary_over_budget, boundary_text}
 use Rattle.mw_top.specs.Commands.Table.{IsAnswer, plan_of}
 use Rattle.mw_top.specs.Request.{RequestData, files_of, task_of}
 use Rattle.mw_top.proofs.Ends.{end_worked}
-use Rattle.mw_top.proofs.Lines.{three_behind}
 use Rattle.mw_top.proofs.Made.{MakesOnly, made_so, makes_of_job}
 use Rattle.mw_top.proofs.Noes.{nodes_there, paths_there}
 
@@ -47,10 +46,14 @@ line_behind t job number range =
     let a = boundary_text job number in
     let b = length_text range.least in
     let c = length_text range.greatest in
+    let front : (((t ++ a) ++ codes " least ") ++ b) ++ codes " greatest "
+    ≡ t ++ (((a ++ codes " least ") ++ b) ++ codes " greatest ") =
+    ap (λ (x : List ℕ). (x ++ b) ++ codes " greatest ") (append_assoc t a (codes " least "))
+    ∙ ap (λ (x : List ℕ). x ++ codes " greatest ") (append_assoc t (a ++ codes " least ") b)
+    ∙ append_assoc t ((a ++ codes " least ") ++ b) (codes " greatest ") in
     append_assoc ((((t ++ a) ++ codes " least ") ++ b) ++ codes " greatest ") c (line [])
-    ∙ append_assoc (((t ++ a) ++ codes " least ") ++ b) (codes " greatest ") (line c)
-    ∙ append_assoc ((t ++ a) ++ codes " least ") b (codes " greatest " ++ line c)
-    ∙ three_behind t a (codes " least ") (b ++ (codes " greatest " ++ line c))
+    ∙ ap (λ (x : List ℕ). x ++ line c) front
+    ∙ append_assoc t (((a ++ codes " least ") ++ b) ++ codes " greatest ") (line c)
 
 -- ---- what is over a budget
 

@@ -15,6 +15,7 @@ use Rattle.mw_rel.specs.Differs.{difference_of}
 use Rattle.mw_rel.specs.Free.{no_boundary}
 use Rattle.mw_rel.specs.Job.{Job, IsJob}
 use Rattle.mw_rel.specs.OverBudget.{AreNodesOver, ArePathsOver}
+use Rattle.mw_term.specs.declared.decided.Decided.{Decided}
 use Rattle.mw_rel.specs.Start.{Start}
 use Rattle.mw_replay.specs.Counter.{Counter, IsStartOf}
 use Rattle.mw_replay.specs.CounterPrinted.{AreShort, MayFollow, counter_text, in_short, no_lines}

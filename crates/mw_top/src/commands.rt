@@ -23,7 +23,7 @@ mod run;
 
 use self::compare::Comparison;
 use self::equal::Asked;
-use self::job::Given;
+use self::job::FileJob;
 use self::prepared::Prepared;
 use crate::fault::Fault;
 use crate::outcome::Outcome;
@@ -50,7 +50,7 @@ pub(crate) enum Task {
     Question,
     /// Certifies the job of files.
     Certification,
-    /// Says how long the segments of the job of files last.
+    /// Says how long the segments of the job of four files last.
     Bounds,
     /// Certifies the job that is generated of a number.
     Generation,
@@ -70,9 +70,9 @@ pub(crate) enum Work {
     /// A question.
     Question(Asked),
     /// A job that is to be certified.
-    Certification(Given),
-    /// A job of whose segments is said how long they last.
-    Bounds(Given),
+    Certification(FileJob),
+    /// A job that is asked how long its segments last.
+    Bounds(FileJob),
     /// No file: the job that is to be certified is made of the request's number.
     Generation,
 }

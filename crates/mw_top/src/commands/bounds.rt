@@ -1,5 +1,5 @@
 // bounds: a board file, a microprogram for its board, a described machine, and a relation between both.
-ghost use Rattle.std.specs.Prelude.{◌≡◌, ◌<◌, ◌++◌, [], ℕ, IfOk, OnOk, Some, length, slice_get};
+ghost use Rattle.std.specs.Prelude.{◌≡◌, ◌<◌, ◌++◌, [], ℕ, IfOk, OnOk, Some, length, slice_get, slice_index_or};
 ghost use Rattle.mw_bounds.specs.declared.range.Range.{Range as RangeOf};
 ghost use Rattle.mw_bounds.specs.Answers.{IsAnswer, IsRange};
 ghost use Rattle.mw_outside.specs.Views.{IsLater, shelf_shown};
@@ -7,11 +7,11 @@ ghost use Rattle.mw_plan.specs.Steps.{Ends};
 ghost use Rattle.mw_rel.specs.Views.{job_of};
 ghost use Rattle.mw_replay.specs.Counter.{IsCounter, counter_at};
 ghost use Rattle.mw_top.specs.Commands.Bounds.{IsBounding, bounds_plan, bounds_report, bounds_status, length_text};
-ghost use Rattle.mw_top.specs.Commands.Bounds.{range_line, range_text, range_texts, shown_text};
+ghost use Rattle.mw_top.specs.Commands.Bounds.{no_range, range_line, range_text, range_texts, shown_text};
 
 use super::Work;
 use super::certify::{append_boundary, append_unknown};
-use super::job::{Given, read_job};
+use super::job::{FileJob, read_job};
 use crate::fault::Fault;
 use crate::outcome::Outcome;
 use crate::status::Status;
@@ -39,7 +39,7 @@ pub(super) fn read<S: Shelf>(
     ensures later { IsLater (shelf_shown S.Shelf shelf.old) (shelf_shown S.Shelf shelf.new) }
 {
     let labelled = read_job(alloc, shelf, files)?;
-    Ok(Work::Bounds(Given { job: labelled.job }))
+    Ok(Work::Bounds(FileJob { job: labelled.job }))
 }
 
 /// Appends a length.
@@ -113,6 +113,15 @@ fn append_range(
     append_shown(alloc, report, job, number, b"greatest", &range.greatest_begin)
 }
 
+/// The range of the boundary of this number.
+fn range_at(ranges: &[Range], number: usize) -> &Range
+    requires { number < length ranges.now }
+    ensures exact { result.now ≡ slice_index_or ranges.now number no_range }
+    ensures there { slice_get ranges.now number ≡ Some result.now }
+{
+    &ranges[number]
+}
+
 /// Appends what was found of all boundaries.
 fn append_ranges(
     alloc: Global,
@@ -126,7 +135,7 @@ fn append_ranges(
     ensures { OnOk result (report.new.items ≡ report.old.items ++ range_texts (job_of job.now) ranges.now) }
 {
     for number in 0..ranges.len() {
-        append_range(alloc, report, job, number, &ranges[number])?;
+        append_range(alloc, report, job, number, range_at(ranges, number))?;
     }
     Ok(())
 }

@@ -17,7 +17,7 @@ ghost use Rattle.mw_top.specs.Report.{difference_text};
 
 use super::Work;
 use super::equal::append_word;
-use super::job::{Given, read_job};
+use super::job::{FileJob, read_job};
 use crate::fault::Fault;
 use crate::outcome::Outcome;
 use crate::prefix_text::append_prefix;
@@ -47,7 +47,7 @@ pub(super) fn read<S: Shelf>(
     ensures later { IsLater (shelf_shown S.Shelf shelf.old) (shelf_shown S.Shelf shelf.new) }
 {
     let labelled = read_job(alloc, shelf, files)?;
-    Ok(Work::Certification(Given { job: labelled.job }))
+    Ok(Work::Certification(FileJob { job: labelled.job }))
 }
 
 /// The status of a verdict.

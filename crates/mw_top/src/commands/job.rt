@@ -66,14 +66,14 @@ impl Model for Related {
     ghost view = { λ r. relation_of r.relation };
 }
 
-/// A job that files give.
+/// The job of four files, seen as `job_of` shows it.
 #[derive(Drop)]
-pub(crate) struct Given {
+pub(crate) struct FileJob {
     /// The job.
     pub(super) job: Job,
 }
 
-impl Model for Given {
+impl Model for FileJob {
     ghost use Rattle.mw_rel.specs.Job.{Job as JobOf};
     ghost use Rattle.mw_rel.specs.Views.{job_of};
     ghost use Rattle.mw_top.specs.Codes.{coded_acts, coded_tree};
