@@ -14,7 +14,8 @@ use Rattle.mw_rel.specs.InRelation.{InRelation, Pair, values_of}
 use Rattle.mw_rel.specs.Job.{Job, IsJob, shape_of}
 use Rattle.mw_rel.specs.Relation.{Boundary}
 use Rattle.mw_rel.proofs.Elements.{pair_words}
-use Rattle.mw_fork.specs.Begins.{IsDiffering}
+use Rattle.mw_rel.specs.Start.{Start}
+use Rattle.mw_fork.specs.Begins.{IsChosen, IsDiffering}
 use Rattle.mw_replay.specs.Counter.{IsCounter}
 
 -- ---- the values of a pair's free elements are words of these
@@ -65,14 +66,18 @@ begins job number begin pair is completed =
       };
     }
 
--- ---- the counter of a start that differs
+-- ---- the counter of a start
 
+pub counter_of_chosen : (job : Job) (number : ℕ) (begin : Begin) (start : Start) → IsJob job
+    → IsChosen job number begin start → IsCounter job (record { boundary = number; begin = begin })
+counter_of_chosen job number begin start is chosen = record {
+  there = slice_get_within job.relation.boundaries number start.boundary chosen.starts.there;
+  begin = begins job number begin start.pair is chosen.pair;
+  env = subst (IsEnvironment job.board) chosen.env chosen.starts.begins.env;
+}
+
+-- of one that differs
 pub counter_of_start : (job : Job) (number : ℕ) (bits : List Decided) (begin : Begin) → IsJob job
     → IsDiffering job number bits begin → IsCounter job (record { boundary = number; begin = begin })
 counter_of_start job number bits begin is differing =
-    let chosen = differing.chosen in
-    record {
-      there = slice_get_within job.relation.boundaries number differing.start.boundary chosen.starts.there;
-      begin = begins job number begin differing.start.pair is chosen.pair;
-      env = subst (IsEnvironment job.board) chosen.env chosen.starts.begins.env;
-    }
+    counter_of_chosen job number begin differing.start is differing.chosen

@@ -133,7 +133,7 @@ left_at_boundary job number bits space registers o named comes = λ further.
 pub left_at_end : (job : Job) (number : ℕ) (bits : List Decided) (space : Space) (registers : List ℕ) (o : Symbolic)
     → (numbered job number).bound - o.place.cycle ≡ 0
     → ComesTo job number bits (left_of_cycles job space registers o ((numbered job number).bound - o.place.cycle))
-    → case_words job number bits ≡ whole (compared_in (list_of_space space) [])
+    → case_words job number bits ≡ whole (list_of_space space) (compared_in (list_of_space space) [])
 left_at_end job number bits space registers o none comes =
     comes_here job number bits
     (left_of_cycles job space registers o ((numbered job number).bound - o.place.cycle)) comes

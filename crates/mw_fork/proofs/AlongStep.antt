@@ -18,6 +18,7 @@ use Rattle.mw_term.specs.WordList.{term_of}
 use Rattle.mw_symboard.specs.Turns.{Symbolic}
 use Rattle.mw_symmem.specs.declared.turn.Turn.{Turn}
 use Rattle.mw_symmem.specs.declared.turn.Turn.TheVariants.{Ask, Finished}
+use Rattle.mw_symmem.specs.Listed.{list_in}
 use Rattle.mw_symmem.specs.Memory.{Memory}
 use Rattle.mw_symmach.specs.Along.{AsksAlong, IsAlong, IsDoneAlong}
 use Rattle.mw_symmach.specs.Turns.{IsSaid, Stepping, is_asked, left_in}
@@ -87,7 +88,8 @@ pub ends_listed : (job : Job) (number : ℕ) (segment all : List Decided) (bits 
     → all ≡ segment ++ map (decided Branch) bits
     → ComesTo job number segment (left_behind_segment job standing begun)
     → IsDoneAlong (said_from job.machine begun) bits t words m o
-    → case_words job number all ≡ whole (with_comparisons job standing (underway_in t words m o.parts))
+    → case_words job number all
+    ≡ whole (list_in t words m) (with_comparisons job standing (underway_in t words m o.parts))
 ends_listed job number segment all bits standing begun t words m o met listed done =
     ap (λ values. words_along job number values) (ap bit_values met ∙ values_behind segment bits)
     ∙ listed bits ∙ ap (behind_come job standing) done

@@ -305,12 +305,12 @@ path_there path true is = absurd cc
 path_there path false is = is
 
 -- the first comparison that fails
-pub found_apart : (job : Job) (number : ℕ) (elements : List ℕ) (bits : List Decided) (cycles : ℕ) (old new : Space)
+pub found_apart : {uncompared : WordList} (job : Job) (number : ℕ) (elements : List ℕ) (bits : List Decided) (cycles : ℕ) (old new : Space)
     (path : Function) (board : Symbolic) (step : Stepping) (reached : Boundary)
     (compared : Compared) (numbers : Numbers)
     → IsJob job → IsEnded job number elements bits cycles old path board step → GoesComparing old new
     → HaveOwnKinds new.words → All (IsLineOf job.relation.shape) reached.lines
-    → boundary_at job board.place.at ≡ Some reached → case_words job number bits ≡ whole compared
+    → boundary_at job board.place.at ≡ Some reached → case_words job number bits ≡ whole uncompared compared
     → FailsFirst old.terms.map new path compared numbers
     → AreApart job.relation.shape new (given_by numbers) (terms_at_end job board step) reached.lines board.events
     step.parts.events → IsFound job number elements bits new numbers
@@ -339,7 +339,8 @@ found_apart job number elements bits cycles old new path board step reached comp
 pub found_on_path : (job : Job) (number : ℕ) (elements : List ℕ) (bits : List Decided) (space : Space) (path : Function)
     (numbers : Numbers) → IsGround job number (ground_in space elements) → Agree path (path_of job number bits)
     → HasCase job number (ground_in space elements) path bits
-    → case_words job number bits ≡ whole (compared_in (list_of_space space) []) → IsFirst path numbers
+    → case_words job number bits ≡ whole (list_of_space space) (compared_in (list_of_space space) [])
+    → IsFirst path numbers
     → ((start : Start) → StandsForStart job number (ground_in space elements) (given_by numbers) start
     → path (given_by numbers) ≡ true → difference_of job start ≢ None)
     → IsFound job number elements bits space numbers

@@ -25,7 +25,9 @@ use Rattle.mw_fork.proofs.CaseCompared.{found_on_path, late_differs, nowhere_non
 ends_late : (job : Job) (number : ℕ) (elements : List ℕ) (from : List Kept) (cycles : ℕ) (late : Bool) (way : Way)
     (run : Run) (step : Option Stepping) → step ≡ None
     → HasMetCase job number elements from cycles late way run step
-    → (late ≡ true) × (case_words job number (met_of way) ≡ whole (compared_in (list_of_space run.space) []))
+    → (late ≡ true)
+    × (case_words job number (met_of way)
+    ≡ whole (list_of_space run.space) (compared_in (list_of_space run.space) []))
 ends_late job number elements from cycles late way run step none met =
     subst
     (EndsBy job number (ground_in run.space elements) (met_of way) cycles late run (path_in run.paths)) none met.ends

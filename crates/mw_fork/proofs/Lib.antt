@@ -16,6 +16,7 @@ pub mod EachCompared
 pub mod EventsCompared
 pub mod Failings
 pub mod FirstListed
+pub mod FirstStarts
 pub mod FreeValues
 pub mod GoingOn
 pub mod Grounds

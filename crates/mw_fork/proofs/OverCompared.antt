@@ -100,10 +100,10 @@ over_by job number nodes bits space path c term j law is among list same table w
     (comparison_over job number nodes bits path c is.front some among written feasible more))
 
 -- where the comparison stops, an operation of the case's list is over the budget
-pub over_compared : (job : Job) (number nodes : ℕ) (bits : List Decided) (map : List ℕ)
+pub over_compared : {uncompared : WordList} (job : Job) (number nodes : ℕ) (bits : List Decided) (map : List ℕ)
     (space : Space) (path : Function)
     (compared : Compared) (word j : ℕ) → OverHaveNumbers → AreNumbered → map ≡ job.board.map_entries
-    → case_words job number bits ≡ whole compared → Agree path (path_of job number bits)
+    → case_words job number bits ≡ whole uncompared compared → Agree path (path_of job number bits)
     → IsFeasiblePrefix job number bits → StopsComparing map nodes space path compared word j
     → AreNodesOver job number nodes bits word j
 over_compared job number nodes bits map space path compared word j law laws entries words written feasible stops =
@@ -124,10 +124,10 @@ over_compared job number nodes bits map space path compared word j law laws entr
     written feasible over)
 
 -- so it is whatever it stops by
-pub stops_comparing : (job : Job) (number nodes : ℕ) (bits : List Decided) (map : List ℕ)
+pub stops_comparing : {uncompared : WordList} (job : Job) (number nodes : ℕ) (bits : List Decided) (map : List ℕ)
     (space : Space) (path : Function)
     (compared : Compared) (stop : RunStop) → OverHaveNumbers → AreNumbered → map ≡ job.board.map_entries
-    → case_words job number bits ≡ whole compared → Agree path (path_of job number bits)
+    → case_words job number bits ≡ whole uncompared compared → Agree path (path_of job number bits)
     → IsFeasiblePrefix job number bits
     → ((place : Place) → stop ≡ Over place → StopsComparing map nodes space path compared place.word place.bit)
     → ComparisonStops job number nodes bits stop
@@ -141,8 +141,8 @@ stops_comparing job number nodes bits map space path compared NoMemory law laws 
 -- ---- within a budget
 
 -- where all comparisons were made, each is within the budget
-pub within_all : (job : Job) (number nodes : ℕ) (bits : List Decided) (map : List ℕ) (space : Space) (path : Function)
-    (compared : Compared) → map ≡ job.board.map_entries → case_words job number bits ≡ whole compared
+pub within_all : {uncompared : WordList} (job : Job) (number nodes : ℕ) (bits : List Decided) (map : List ℕ) (space : Space) (path : Function)
+    (compared : Compared) → map ≡ job.board.map_entries → case_words job number bits ≡ whole uncompared compared
     → Agree path (path_of job number bits) → HaveCompared map nodes space path compared
     → ComparisonsAreWithin job number nodes bits
 within_all job number nodes bits map space path compared entries words written have c among =
@@ -175,9 +175,9 @@ never_fails : (job : Job) (number : ℕ) (bits : List Decided) (path : Function)
 never_fails job number bits path c written none given =
     sym (made_same _ _ (compared_same job number bits path c written) given) ∙ none given
 
-pub sought_by : (job : Job) (number : ℕ) (bits : List Decided) (map : List ℕ) (space : Space) (path : Function)
+pub sought_by : {uncompared : WordList} (job : Job) (number : ℕ) (bits : List Decided) (map : List ℕ) (space : Space) (path : Function)
     (compared : Compared) (numbers : Numbers) → map ≡ job.board.map_entries
-    → case_words job number bits ≡ whole compared
+    → case_words job number bits ≡ whole uncompared compared
     → Agree path (path_of job number bits) → FailsFirst map space path compared numbers
     → IsSoughtBy job number bits space numbers
 sought_by job number bits map space path compared numbers entries words written fails =

@@ -82,11 +82,11 @@ pub words_at_end : (job : Job) (number : ℕ) (elements : List ℕ) (bits : List
     → IsEnded job number elements bits cycles space path board step → boundary_at job board.place.at ≡ Some reached
     → is_unlike reached (ends_of job space board step) ≡ test
     → case_words job number bits
-    ≡ whole (if test then compared_in (list_of_space space) []
+    ≡ whole (list_of_space space) (if test then compared_in (list_of_space space) []
     else all_compared job.relation.shape reached (ends_of job space board step) (list_of_space space))
 words_at_end job number elements bits cycles space path board step reached test is there unlike =
     is.ended.listed
-    ∙ ap whole (words_compared job (standing_on space board)
+    ∙ ap (whole (list_of_space space)) (words_compared job (standing_on space board)
     (underway_in space.terms space.words space.memory step.parts) reached test there unlike)
 
 -- ---- where they are unlike

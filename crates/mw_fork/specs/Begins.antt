@@ -7,9 +7,11 @@ use Rattle.mw_cycle.specs.Series.{kind_of}
 use Rattle.mw_cycle.specs.Trimmed.{IsTrimmed}
 use Rattle.mw_rel.specs.Begin.{Begin, IsCompleted, free_elements}
 use Rattle.mw_rel.specs.Case.{IsStartAt, case_of}
+use Rattle.mw_rel.specs.CaseWords.{case_words}
 use Rattle.mw_rel.specs.Differs.{difference_of}
 use Rattle.mw_rel.specs.Free.{numbered}
 use Rattle.mw_rel.specs.Job.{Job}
+use Rattle.mw_rel.specs.PathWords.{path_of}
 use Rattle.mw_rel.specs.Sought.{IsSought}
 use Rattle.mw_rel.specs.Start.{Start}
 use Rattle.mw_term.specs.declared.kinds.WordKind.{WordKind}
@@ -49,6 +51,18 @@ pub record IsChosen (job : Job) (number : ℕ) (begin : Begin) (start : Start) :
   pub starts : IsStartAt job number start
   pub pair : IsCompleted job (numbered job number) begin start.pair
   pub env : start.env ≡ begin.env
+
+-- It gives a start with this case.
+pub record IsOfCase (job : Job) (number : ℕ) (bits : List Decided) (begin : Begin) : Type 0 where
+  pub start : Start
+  pub chosen : IsChosen job number begin start
+  pub of_case : case_of job start ≡ bits
+
+-- It is what the first assignment gives that takes the path of a case, in the case's list before anything is compared.
+pub record IsFirstOfCase (job : Job) (number : ℕ) (bits : List Decided) (begin : Begin) : Type 0 where
+  pub numbers : Numbers
+  pub first : IsFirst (path_of job number bits) numbers
+  pub assigned : IsAssigned job number (case_words job number bits).uncompared (given_by numbers) begin
 
 -- It gives a start with this case, which differs.
 pub record IsDiffering (job : Job) (number : ℕ) (bits : List Decided) (begin : Begin) : Type 0 where

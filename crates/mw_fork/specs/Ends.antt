@@ -48,13 +48,14 @@ pub record HaveEnded (job : Job) (number : ℕ) (g : Ground) (bits : List Decide
   pub made : board.place.cycle ≡ cycles
   pub of_step : IsStepOf job number g space path step
   pub listed : case_words job number bits
-      ≡ whole
+      ≡ whole (list_of_space space)
       (with_comparisons job (standing_on space board) (underway_in space.terms space.words space.memory step.parts))
 
 -- A case is late, and has no words behind its cycles; or it isn't, and both sides have ended.
 abbrev pub EndsBy : Job → (number : ℕ) → Ground → (bits : List Decided) → (cycles : ℕ) → (late : Bool) → Run
     → (path : Function) → Option Stepping → Type 0
 EndsBy job number g bits cycles late run path None =
-    (late ≡ true) × (case_words job number bits ≡ whole (compared_in (list_of_space run.space) []))
+    (late ≡ true)
+    × (case_words job number bits ≡ whole (list_of_space run.space) (compared_in (list_of_space run.space) []))
 EndsBy job number g bits cycles late run path (Some step) =
     (late ≡ false) × HaveEnded job number g bits cycles run.space path run.board step

@@ -134,7 +134,7 @@ pub record HasMetSegment (job : Job) (number : ℕ) (elements : List ℕ) (from 
   pub listed : late ≡ false
       → ComesTo job number (met_of way) (left_of_step job run.space run.registers.items run.board)
   pub late_listed : late ≡ true
-      → case_words job number (met_of way) ≡ whole (compared_in (list_of_space run.space) [])
+      → case_words job number (met_of way) ≡ whole (list_of_space run.space) (compared_in (list_of_space run.space) [])
   pub of_board : IsBoardOf job number (ground_in run.space elements) run.space (path_in run.paths) run.board
   pub made : run.board.place.cycle ≡ cycles
 

@@ -1,14 +1,15 @@
 // The feasible cases of a boundary, one after another.
 ghost use Rattle.std.specs.Prelude.{◌≡◌, ◌≢◌, ◌+◌, ◌<◌, ◌≤◌, ℕ, List, [], length, IfOk, IfErr, IfSome, IsOk, OnOk};
-ghost use Rattle.std.specs.Prelude.{None, true, false};
+ghost use Rattle.std.specs.Prelude.{Bool, None, Option, true, false};
 ghost use Rattle.mw_term.specs.declared.decided.Decided.{Decided};
 ghost use Rattle.mw_term.specs.declared.kinds.WordKind.TheVariants.{Probe};
 ghost use Rattle.mw_term.specs.WordList.{term_of};
 ghost use Rattle.mw_rel.specs.Case.{IsBefore, IsCase};
-ghost use Rattle.mw_fork.specs.Begins.{IsDiffering, IsLeast};
+ghost use Rattle.mw_fork.specs.Begins.{IsDiffering, IsFirstOfCase, IsLeast, IsOfCase};
 ghost use Rattle.mw_fork.specs.Failing.{ComparisonStops, ComparisonsAreWithin, NoneDiffersOf};
 ghost use Rattle.mw_rel.specs.OverBudget.{AreNodesOver};
 ghost use Rattle.mw_rel.specs.Views.{job_of};
+ghost use Rattle.mw_symmach.specs.Turns.{Stepping};
 ghost use Rattle.mw_fork.specs.declared.fault.Fault.TheVariants as faults;
 ghost use Rattle.mw_fork.specs.declared.fault.Over.TheVariants as overs;
 ghost use Rattle.mw_fork.specs.declared.fork.Stage.TheVariants as stages;
@@ -158,6 +159,56 @@ fn trace(
         late,
         step,
     })
+}
+
+/// Runs the case of which all bits are kept once more.
+fn trace_again(
+    alloc: Global,
+    job: &Job,
+    boundary: usize,
+    way: &mut Way,
+) -> Result<Traced, NoMemory>
+    requires boundary { boundary < length (job_of job.now).relation.boundaries }
+    ensures case { IfOk result (λ traced. AreKeptBits (job_of job.now) boundary [] way.old.kept
+        → (elements : List ℕ)
+        × HasMetCase (job_of job.now) boundary elements way.old.kept traced.cycles traced.late way.new traced.run
+        traced.step) }
+    ensures few { IfOk result (λ traced. length traced.run.space.memory.reads ≤ 1024) }
+    ensures fresh { IfOk result (λ traced. term_of traced.run.space.words Probe ≡ None) }
+    ensures paths { IfOk result (λ traced. HavePaths traced.run.space traced.run.paths) }
+{
+    way.begin_anew();
+    // The case was run before within its budget; this time no budget is asked that could be passed.
+    match trace(alloc, job, boundary, way, u32::MAX) {
+        Ok(traced) => Ok(traced),
+        Err(_) => Err(NoMemory),
+    }
+}
+
+/// The start of a case that was run which the first assignment gives that takes its path.
+fn first_start(
+    alloc: Global,
+    job: &Job,
+    boundary: usize,
+    run: &Run,
+) -> Result<Begin, NoMemory>
+    requires met { (cycles : ℕ) × (elements : List ℕ) × (from : List Kept) × (late : Bool) × (way : WayOf)
+        × (step : Option Stepping) × HasMetCase (job_of job.now) boundary elements from cycles late way run.now step }
+    requires paths { HavePaths run.now.space run.now.paths }
+    ensures of_case { IfOk result (λ begin. (cycles : ℕ) (elements : List ℕ) (from : List Kept) (late : Bool)
+        (way : WayOf) (step : Option Stepping)
+        → HasMetCase (job_of job.now) boundary elements from cycles late way run.now step
+        → IsOfCase (job_of job.now) boundary (met_of way) begin) }
+    ensures first { IfOk result (λ begin. (cycles : ℕ) (elements : List ℕ) (from : List Kept) (late : Bool)
+        (way : WayOf) (step : Option Stepping)
+        → HasMetCase (job_of job.now) boundary elements from cycles late way run.now step
+        → IsFirstOfCase (job_of job.now) boundary (met_of way) begin) }
+{
+    let Some(given) = run.paths.first_assignment(alloc)? else {
+        // The case is feasible, so an assignment takes its path.
+        unreachable!()
+    };
+    begin_of(alloc, job, boundary, &run.space, &given)
 }
 
 /// How many cycles the segment of a run has, and whether it is late; the run is dropped.
@@ -373,11 +424,7 @@ impl Fork {
             × AreNodesOver (job_of job.now) boundary self.old.budget.nodes prefix word bit) }
         ensures paths { IfErr result (λ e. (boundary limit : ℕ) → e ≢ faults.Over (overs.Paths boundary limit)) }
     {
-        self.way.begin_anew();
-        // The case was run before within its budget; this time no budget is asked that could be passed.
-        let Ok(mut traced) = trace(alloc, job, self.boundary, &mut self.way, u32::MAX) else {
-            return Err(ForkFault::NoMemory);
-        };
+        let mut traced = trace_again(alloc, job, self.boundary, &mut self.way)?;
         let begin = match differing(alloc, job, self.boundary, &mut traced, self.budget.nodes) {
             Ok(begin) => begin,
             Err(stop) => {
@@ -385,6 +432,27 @@ impl Fork {
                 return Err(fault_of(alloc, self.boundary, &self.way, stop));
             }
         };
+        drop(traced);
+        Ok(begin)
+    }
+
+    /// The start of the case given last that the first assignment gives which takes its path. A case was given last.
+    ///
+    /// # Errors
+    ///
+    /// Memory ran out. It may only be dropped then.
+    pub fn begin(&mut self, alloc: Global, job: &Job) -> Result<Begin, ForkFault>
+        requires of { IsForkOf (job_of job.now) self.old }
+        requires given { (last : List Decided) × (self.old.at ≡ At last) }
+        ensures same { OnOk result (self.new ≡ self.old) }
+        ensures of_case { IfOk result (λ begin. (last : List Decided) → self.old.at ≡ At last
+            → IsOfCase (job_of job.now) self.old.boundary last begin) }
+        ensures first { IfOk result (λ begin. (last : List Decided) → self.old.at ≡ At last
+            → IsFirstOfCase (job_of job.now) self.old.boundary last begin) }
+        ensures fault { IfErr result (λ e. e ≡ faults.NoMemory) }
+    {
+        let traced = trace_again(alloc, job, self.boundary, &mut self.way)?;
+        let begin = first_start(alloc, job, self.boundary, &traced.run)?;
         drop(traced);
         Ok(begin)
     }

@@ -23,20 +23,22 @@ use Rattle.mw_rel.specs.StartWords.{start_words}
 use Rattle.mw_term.specs.declared.kinds.WordKind.TheVariants.{Line}
 use Rattle.mw_term.specs.WordList.{WordList, term_of}
 
--- How far a case has come: the list; where it wants another decided bit, the term of that; and where it is whole, what
--- is compared.
+-- How far a case has come: the list; where it wants another decided bit, the term of that; the list before anything is
+-- compared; and where it is whole, what is compared.
 pub record CaseWords : Type 0 where
   pub list : WordList
   pub asked : Option ℕ
+  pub uncompared : WordList
   pub comparisons : List Comparison
 
 -- it stops at a bit
 abbrev pub stopped : (term : ℕ) → WordList → CaseWords
-stopped term l = record { list = l; asked = Some term; comparisons = [] }
+stopped term l = record { list = l; asked = Some term; uncompared = l; comparisons = [] }
 
--- it is whole
-abbrev pub whole : Compared → CaseWords
-whole c = record { list = c.list; asked = None; comparisons = c.comparisons }
+-- it is whole, with this list before its comparison
+abbrev pub whole : (uncompared : WordList) → Compared → CaseWords
+whole uncompared c =
+    record { list = c.list; asked = None; uncompared = uncompared; comparisons = c.comparisons }
 
 -- ---- where it begins
 
@@ -95,7 +97,7 @@ with_comparisons job s u =
 -- behind the step, or at the bit that it wants
 abbrev pub behind_step : Job → Standing → (asked : Option ℕ) → Underway → CaseWords
 behind_step job s (Some term) u = stopped term u.list
-behind_step job s None u = whole (with_comparisons job s u)
+behind_step job s None u = whole u.list (with_comparisons job s u)
 
 -- the described step from the terms of the registers at the start: the request is the line of the first cycle
 abbrev pub along_step : Job → (registers : List ℕ) → Standing → List Bool → WordList → CaseWords
@@ -115,7 +117,7 @@ behind_cycle job registers None come further =
 
 -- so many cycles, where no boundary comes before; a late case has no words behind them
 abbrev pub along_cycles : Job → (registers : List ℕ) → (count : ℕ) → Standing → List Bool → WordList → CaseWords
-along_cycles job registers zero s bits l = whole (compared_in l [])
+along_cycles job registers zero s bits l = whole l (compared_in l [])
 along_cycles job registers (suc count) s bits l =
     let come = cycle_words job.board job.store s bits l in
     behind_cycle job registers come.asked come (along_cycles job registers count)

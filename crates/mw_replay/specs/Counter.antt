@@ -11,6 +11,10 @@ pub record Counter : Type 0 where
   pub boundary : ℕ
   pub begin : Begin
 
+-- the counter of a choice at a boundary
+abbrev pub counter_at : (boundary : ℕ) → Begin → Counter
+counter_at boundary begin = record { boundary = boundary; begin = begin }
+
 -- the boundary is one of the job's, what is chosen is in range there, and the environment is one of the board
 pub record IsCounter (job : Job) (counter : Counter) : Type 0 where
   pub there : counter.boundary < length job.relation.boundaries

@@ -9,7 +9,7 @@ ghost use Rattle.mw_rel.specs.Completed.{free_before, free_value};
 ghost use Rattle.mw_rel.specs.Free.{is_free, numbered};
 ghost use Rattle.mw_rel.specs.Views.{job_of};
 ghost use Rattle.mw_sim.specs.Settings.{owner_text};
-ghost use Rattle.mw_replay.specs.Counter.{IsCounter};
+ghost use Rattle.mw_replay.specs.Counter.{IsCounter, counter_at};
 ghost use Rattle.mw_replay.specs.CounterText.{counter_of, owner_of};
 ghost use Rattle.mw_asm.specs.declared.assembled.Label.{Label};
 ghost use Rattle.mw_replay.specs.CounterPrinted.{AreShort, MayFollow, in_short, no_lines, boundary_line};
@@ -21,7 +21,7 @@ use crate::counter::Counter;
 use crate::elements::{name_of, owner_of};
 use mw_base::{NoMemory, append_hex};
 use mw_cycle::{Env, Series};
-use mw_rel::{Job, free};
+use mw_rel::{Begin, Job, free};
 use mw_sim::{Owner, append_hex_line, append_line, append_memory};
 use std::alloc::Global;
 
@@ -197,17 +197,25 @@ fn append_environment(alloc: Global, text: &mut Vec<u8>, env: &Env) -> Result<()
     Ok(())
 }
 
-/// The text of a counter of a job.
+/// The text of the counter of a start at the boundary of this number, as `print_counter` gives it.
+///
+/// # Errors
+///
+/// Memory ran out.
 #[tactic(auto, unfolding(crate::specs::CounterPrinted::counter_text))]
-fn counter_text(alloc: Global, job: &Job, counter: &Counter) -> Result<Vec<u8>, NoMemory>
-    requires { IsCounter (job_of job.now) counter.now }
-    ensures { IfOk result (λ text. text.items ≡ counter_text (job_of job.now) counter.now) }
+pub fn print_start(
+    alloc: Global,
+    job: &Job,
+    boundary: usize,
+    begin: &Begin,
+) -> Result<Vec<u8>, NoMemory>
+    requires { IsCounter (job_of job.now) (counter_at boundary begin.now) }
+    ensures { IfOk result (λ text. text.items ≡ counter_text (job_of job.now) (counter_at boundary begin.now)) }
 {
-    let Counter { boundary, begin } = counter;
     let mut text = Vec::new(alloc);
-    let address = job.boundary(*boundary).address;
+    let address = job.boundary(boundary).address;
     append_hex_line(alloc, &mut text, b"boundary ", u32::from(address))?;
-    append_sets(alloc, &mut text, job, *boundary, &begin.values)?;
+    append_sets(alloc, &mut text, job, boundary, &begin.values)?;
     append_memory(alloc, &mut text, &begin.memory)?;
     append_environment(alloc, &mut text, &begin.env)?;
     Ok(text)
@@ -233,6 +241,7 @@ pub fn print_counter(alloc: Global, job: &Job, counter: &Counter) -> Result<Vec<
 {
     // A call for the proof: its clause `kept` says what holds of every board.
     let _ = job.board.parts();
-    let text = counter_text(alloc, job, counter)?;
+    let Counter { boundary, begin } = counter;
+    let text = print_start(alloc, job, *boundary, begin)?;
     Ok(text)
 }

@@ -13,19 +13,16 @@ use std::process::ExitCode;
 /// Runs commands.
 struct Commands;
 
-/// How a command ends over these files. It has to end so, too, where a call moves one byte, and, unless a file is
-/// missing, where nothing can fail.
+/// How a command ends over these files, where each call moves one byte. Unless a file is missing, it has to end so, too,
+/// where nothing can fail.
 fn commanded(alloc: Global, words: &[String], files: &[File]) -> Result<End, Fault> {
-    let end = bench_over(alloc, Outside::moving(4096), words, files)?;
-    let bytewise = bench_over(alloc, Outside::moving(1), words, files)?;
-    if bytewise.status != end.status || bytewise.report.as_slice() != end.report.as_slice() {
-        return Err(wrong("with one byte a call it ends otherwise"));
+    let end = bench_over(alloc, Outside::moving(1), words, files)?;
+    if end.status == Status::ReadFault.number() {
+        return Ok(end);
     }
-    if end.status != Status::ReadFault.number() {
-        let steady = steady_status(alloc, words, files)?;
-        if steady.number() != end.status {
-            return Err(wrong("where nothing can fail it ends otherwise"));
-        }
+    let steady = steady_status(alloc, words, files)?;
+    if steady.number() != end.status {
+        return Err(wrong("where nothing can fail it ends otherwise"));
     }
     Ok(end)
 }

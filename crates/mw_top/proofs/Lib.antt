@@ -1,4 +1,5 @@
 pub mod Alike
+pub mod Bounded
 pub mod Cycles
 pub mod Ends
 pub mod Followed

@@ -14,6 +14,8 @@ use Rattle.mw_rel.specs.declared.difference.Difference.TheVariants.{Late, Event,
 use Rattle.mw_rel.specs.Differs.{difference_of}
 use Rattle.mw_rel.specs.Free.{no_boundary}
 use Rattle.mw_rel.specs.Job.{Job, IsJob}
+use Rattle.mw_rel.specs.OverBudget.{AreNodesOver, ArePathsOver}
+use Rattle.mw_term.specs.declared.decided.Decided.{Decided}
 use Rattle.mw_rel.specs.Start.{Start}
 use Rattle.mw_replay.specs.Counter.{Counter, IsStartOf}
 use Rattle.mw_replay.specs.CounterPrinted.{AreShort, MayFollow, counter_text, in_short, no_lines}
@@ -89,11 +91,19 @@ is_no_report job counter difference text report valid board is shows few same be
 -- ---- where something is over the budget
 
 -- the boundary is one of the job's
+pub nodes_there : (job : Job) (number nodes : ℕ) (prefix : List Decided) (word j : ℕ)
+    → AreNodesOver job number nodes prefix word j → number < length job.relation.boundaries
+nodes_there job number nodes prefix word j over =
+    slice_get_within job.relation.boundaries number over.feasible.start.boundary over.feasible.starts.there
+
+pub paths_there : (job : Job) (number limit : ℕ) → ArePathsOver job number limit
+    → number < length job.relation.boundaries
+paths_there job number limit over =
+    let feasible = over.feasible 0 [] (omega (arith, over.more)) in
+    slice_get_within job.relation.boundaries number feasible.start.boundary feasible.starts.there
+
 pub over_is_there : (job : Job) (budget : Budget) (over : Over) → IsUnknown job budget over
     → boundary_over_budget over < length job.relation.boundaries
 over_is_there job budget (overs.Nodes number prefix word j) is =
-    let feasible = is.over.feasible in
-    slice_get_within job.relation.boundaries number feasible.start.boundary feasible.starts.there
-over_is_there job budget (overs.Paths number limit) is =
-    let feasible = is.over.feasible 0 [] (omega (arith, is.over.more)) in
-    slice_get_within job.relation.boundaries number feasible.start.boundary feasible.starts.there
+    nodes_there job number budget.nodes prefix word j is.over
+over_is_there job budget (overs.Paths number limit) is = paths_there job number limit is.over

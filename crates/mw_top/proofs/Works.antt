@@ -6,6 +6,8 @@ use Rattle.mw_asm.specs.Microprogram.{store_of}
 use Rattle.mw_boardfile.specs.Board.{board_of}
 use Rattle.mw_cases.specs.Operations.{all_operations}
 use Rattle.mw_cases.proofs.Unique.{jobs_are_one}
+use Rattle.mw_bounds.specs.declared.range.Bounds.{Bounds}
+use Rattle.mw_bounds.specs.declared.range.Bounds.TheVariants as bounds
 use Rattle.mw_check.specs.declared.comparison.Compared.{Compared}
 use Rattle.mw_check.specs.declared.comparison.Compared.TheVariants as compared
 use Rattle.mw_check.specs.declared.equality.Equality.{Equality}
@@ -32,6 +34,7 @@ use Rattle.mw_top.specs.declared.status.Status.TheVariants.{Done, Differs, Unkno
 use Rattle.mw_top.specs.declared.status.Status.TheVariants.{WriteFault, NoMemory}
 use Rattle.mw_top.specs.Answer.{is_worked}
 use Rattle.mw_top.specs.Commands.Asm.{asm_plan}
+use Rattle.mw_top.specs.Commands.Bounds.{bounds_status}
 use Rattle.mw_top.specs.Commands.Certify.{IsCertification, certify_plan, verdict_status}
 use Rattle.mw_top.specs.Commands.Compare.{IsComparison, compare_plan, compare_report, compare_status}
 use Rattle.mw_top.specs.Commands.Debug.{debug_plan, traced}
@@ -60,6 +63,10 @@ verdict_is_worked (verdicts.Yes summaries) = refl
 verdict_is_worked (verdicts.No counter) = refl
 verdict_is_worked (verdicts.Unknown over) = refl
 
+bounds_are_worked : (answer : Bounds) → is_worked (bounds_status answer) ≡ true
+bounds_are_worked (bounds.Found ranges) = refl
+bounds_are_worked (bounds.Unknown over) = refl
+
 pub answer_is_worked : (request : RequestData) (work : Work) (status : Status) (report : List ℕ)
     → IsAnswer request work status report → is_worked status ≡ true
 answer_is_worked request (works.Comparison comparison) status report answer =
@@ -71,6 +78,8 @@ answer_is_worked request (works.Question question) status report answer =
     rw answer.status_is (equality_is_worked answer.equality)
 answer_is_worked request (works.Certification job) status report answer =
     rw answer.status_is (verdict_is_worked answer.verdict)
+answer_is_worked request (works.Bounds job) status report answer =
+    rw answer.status_is (bounds_are_worked answer.bounds)
 answer_is_worked request works.Generation status report answer =
     rw answer.certified.status_is (verdict_is_worked answer.certified.verdict)
 
@@ -80,6 +89,7 @@ answer_is_worked request works.Generation status report answer =
 abbrev pub IsDetermined : Work → Type 0
 IsDetermined (works.Question question) = ⊥
 IsDetermined (works.Certification job) = ⊥
+IsDetermined (works.Bounds job) = ⊥
 IsDetermined works.Generation = ⊥
 IsDetermined other = Unit {0}
 
@@ -110,6 +120,7 @@ determined tasks.Trace is =
     (λ trace. tt))))
 determined tasks.Question is = absurd cc
 determined tasks.Certification is = absurd cc
+determined tasks.Bounds is = absurd cc
 determined tasks.Generation is = absurd cc
 
 -- a comparison has one answer
@@ -141,6 +152,7 @@ answer_once request parts (works.Trace trace) status other report text only firs
     (second.status_is ∙ sym first.status_is, second.report_is ∙ sym first.report_is)
 answer_once request parts (works.Question question) status other report text only first second = absurd only
 answer_once request parts (works.Certification job) status other report text only first second = absurd only
+answer_once request parts (works.Bounds job) status other report text only first second = absurd only
 answer_once request parts works.Generation status other report text only first second = absurd only
 
 -- ---- the job that it is on
@@ -161,6 +173,7 @@ certifies tasks.Assembly is = absurd cc
 certifies tasks.Run is = absurd cc
 certifies tasks.Trace is = absurd cc
 certifies tasks.Question is = absurd cc
+certifies tasks.Bounds is = absurd cc
 
 -- no number of operations follows another answer than yes
 none_after : (status : Status) → status ≢ Done → operations_text status all_operations ≡ []
@@ -207,6 +220,7 @@ certified_work request (works.Assembly program) status report is answer = absurd
 certified_work request (works.Run prepared) status report is answer = absurd is
 certified_work request (works.Trace trace) status report is answer = absurd is
 certified_work request (works.Question question) status report is answer = absurd is
+certified_work request (works.Bounds job) status report is answer = absurd is
 
 -- it is on one job
 pub one_job : (request : RequestData) (work : Work) (job other : Job) → IsJobOf request work job
@@ -218,3 +232,4 @@ one_job request (works.Assembly program) job other is also = absurd is
 one_job request (works.Run prepared) job other is also = absurd is
 one_job request (works.Trace trace) job other is also = absurd is
 one_job request (works.Question question) job other is also = absurd is
+one_job request (works.Bounds given) job other is also = absurd is

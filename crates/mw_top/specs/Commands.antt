@@ -1,5 +1,6 @@
 -- The commands: what each makes of its files, and what is answered then.
 pub mod Asm
+pub mod Bounds
 pub mod Certify
 pub mod Compare
 pub mod Debug

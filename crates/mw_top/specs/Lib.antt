@@ -1,4 +1,5 @@
 pub mod Answer
+pub mod Bounded
 pub mod Call
 pub mod Codes
 pub mod Commands

@@ -9,8 +9,8 @@ use Rattle.mw_plan.specs.Files.{FilesRead}
 use Rattle.mw_top.specs.declared.commands.Task.{Task}
 use Rattle.mw_top.specs.declared.commands.Task.TheVariants as tasks
 use Rattle.mw_top.specs.declared.request.Command.{Command}
-use Rattle.mw_top.specs.declared.request.Command.TheVariants.{Asm, Certify, Compare, Debug, Equal, Generate, Replay}
-use Rattle.mw_top.specs.declared.request.Command.TheVariants.{Run}
+use Rattle.mw_top.specs.declared.request.Command.TheVariants.{Asm, Bounds, Certify, Compare, Debug, Equal, Generate}
+use Rattle.mw_top.specs.declared.request.Command.TheVariants.{Replay, Run}
 use Rattle.mw_top.specs.declared.request.Request.{Request}
 use Rattle.mw_top.specs.declared.request.operands.Expected.{Expected}
 use Rattle.mw_top.specs.declared.request.operands.Expected.TheVariants.{Files, JobNumber}
@@ -66,6 +66,7 @@ row_of Debug = record { word = codes "debug"; task = tasks.Trace; numbers = []; 
 row_of Equal = record { word = codes "equal"; task = tasks.Question; numbers = Nodes ∷ []; parts = false }
 row_of Certify =
     record { word = codes "certify"; task = tasks.Certification; numbers = Nodes ∷ Paths ∷ []; parts = false }
+row_of Bounds = record { word = codes "bounds"; task = tasks.Bounds; numbers = Nodes ∷ Paths ∷ []; parts = false }
 row_of Replay = record { word = codes "replay"; task = tasks.Comparison; numbers = []; parts = false }
 row_of Generate =
     record { word = codes "generate"; task = tasks.Generation; numbers = Nodes ∷ Paths ∷ []; parts = false }
@@ -82,11 +83,12 @@ expected_by tasks.Run = Files 3
 expected_by tasks.Trace = Files 4
 expected_by tasks.Question = Files 1
 expected_by tasks.Certification = Files 4
+expected_by tasks.Bounds = Files 4
 expected_by tasks.Generation = JobNumber
 
 -- the commands
 abbrev pub commands : List Command
-commands = Compare ∷ Asm ∷ Run ∷ Debug ∷ Equal ∷ Certify ∷ Replay ∷ Generate ∷ []
+commands = Compare ∷ Asm ∷ Run ∷ Debug ∷ Equal ∷ Certify ∷ Bounds ∷ Replay ∷ Generate ∷ []
 
 -- the command of a word
 abbrev pub command_of : List ℕ → Option Command

@@ -10,6 +10,7 @@ ghost use Rattle.mw_top.specs.Operands.{file_count};
 ghost use Rattle.mw_top.specs.Request.{data_of, expected_by};
 
 mod asm;
+mod bounds;
 mod certify;
 mod compare;
 mod debug;
@@ -20,9 +21,9 @@ mod microprogram;
 mod prepared;
 mod run;
 
-use self::certify::Certification;
 use self::compare::Comparison;
 use self::equal::Asked;
+use self::job::FileJob;
 use self::prepared::Prepared;
 use crate::fault::Fault;
 use crate::outcome::Outcome;
@@ -49,6 +50,8 @@ pub(crate) enum Task {
     Question,
     /// Certifies the job of files.
     Certification,
+    /// Says how long the segments of the job of four files last.
+    Bounds,
     /// Certifies the job that is generated of a number.
     Generation,
 }
@@ -67,7 +70,9 @@ pub(crate) enum Work {
     /// A question.
     Question(Asked),
     /// A job that is to be certified.
-    Certification(Certification),
+    Certification(FileJob),
+    /// A job that is asked how long its segments last.
+    Bounds(FileJob),
     /// No file: the job that is to be certified is made of the request's number.
     Generation,
 }
@@ -93,11 +98,12 @@ pub(crate) fn read_files<S: Shelf>(
         Task::Trace => debug::read(alloc, shelf, files),
         Task::Question => equal::read(alloc, shelf, files),
         Task::Certification => certify::read(alloc, shelf, files),
+        Task::Bounds => bounds::read(alloc, shelf, files),
         Task::Generation => Ok(Work::Generation),
     }
 }
 
-/// What the certification that is asked may cost.
+/// What the answer that is asked may cost.
 fn budget_of(request: &Request) -> Budget
     ensures { result ≡ budget_of (data_of request.now) }
 {
@@ -129,9 +135,14 @@ pub(crate) fn answer_with(alloc: Global, request: &Request, work: Work) -> Resul
             drop(asked);
             outcome
         }
-        Work::Certification(certification) => {
-            let outcome = certify::report(alloc, &certification.job, budget_of(request));
-            drop(certification);
+        Work::Certification(given) => {
+            let outcome = certify::report(alloc, &given.job, budget_of(request));
+            drop(given);
+            outcome
+        }
+        Work::Bounds(given) => {
+            let outcome = bounds::report(alloc, &given.job, budget_of(request));
+            drop(given);
             outcome
         }
         Work::Generation => generate::report(alloc, request.number, budget_of(request)),

@@ -34,6 +34,8 @@ pub enum Command {
     Equal,
     /// Certifies a job: a board file, a microprogram for its board, a described machine, and a relation.
     Certify,
+    /// Says how long the segments of a job last: the files of `Certify`.
+    Bounds,
     /// Compares one step of a start that a report gives: the files of `Compare`.
     Replay,
     /// Certifies the job that the generator makes of a number.
@@ -84,6 +86,7 @@ impl Command {
         Command::Debug,
         Command::Equal,
         Command::Certify,
+        Command::Bounds,
         Command::Replay,
         Command::Generate,
     ];
@@ -132,6 +135,12 @@ impl Command {
                 numbers: &[Number::Nodes, Number::Paths],
                 parts: false,
             },
+            Command::Bounds => Row {
+                word: "bounds",
+                task: Task::Bounds,
+                numbers: &[Number::Nodes, Number::Paths],
+                parts: false,
+            },
             Command::Replay => Row {
                 word: "replay",
                 task: Task::Comparison,
@@ -166,6 +175,7 @@ fn expected_by(task: Task) -> Expected
         Task::Trace => Expected::Files(4),
         Task::Question => Expected::Files(1),
         Task::Certification => Expected::Files(4),
+        Task::Bounds => Expected::Files(4),
         Task::Generation => Expected::JobNumber,
     }
 }

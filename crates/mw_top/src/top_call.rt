@@ -9,6 +9,7 @@ ghost use Rattle.mw_top.specs.declared.commands.Task.{Task};
 ghost use Rattle.mw_top.specs.Answer.{AreAccepted, AreRefused, IsEnd, IsReport, is_worked};
 ghost use Rattle.mw_top.specs.Answer.{IsMemoryEnd, IsReadFaultEnd, IsRefusalEnd, IsUsageEnd, IsWorkEnd};
 ghost use Rattle.mw_top.specs.Answer.{IsWriteFaultEnd};
+ghost use Rattle.mw_top.specs.Bounded.{AsksForBounds, IsBoundsEnd};
 ghost use Rattle.mw_top.specs.Call.{Call, NothingFailed, call_of};
 ghost use Rattle.mw_top.specs.Headline.{AreToCertify, AsksToCertify, IsNoEnd, IsSettled, IsUnknownEnd, IsYesEnd};
 ghost use Rattle.mw_top.specs.Headline.{NothingIsOver};
@@ -133,6 +134,12 @@ pub fn bench<S: Shelf, K: Sink>(
         → NothingIsOver job budget
         → NothingFailed (call_of S.Shelf K.Sink words.now shelf.old shelf.new out.old out.new)
         → IsSettled job result }
+
+    // Where the words ask how long the segments of a job last: every start's length lies in the range of its boundary, and
+    // the two starts of the report have the least and the greatest; or what the report names is over the budget.
+    ensures bounds { AsksForBounds (call_of S.Shelf K.Sink words.now shelf.old shelf.new out.old out.new)
+        → is_worked result ≡ true
+        → IsBoundsEnd (call_of S.Shelf K.Sink words.now shelf.old shelf.new out.old out.new) result }
 
     // A job of a number has no file, so none is refused, and none can't be read.
     ensures without_files { (request : RequestData) → request_of (map string_bytes words.now) ≡ Some request

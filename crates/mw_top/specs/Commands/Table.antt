@@ -9,6 +9,7 @@ use Rattle.mw_top.specs.declared.commands.Work.TheVariants as works
 use Rattle.mw_top.specs.declared.fault.Fault.{Fault}
 use Rattle.mw_top.specs.declared.status.Status.{Status}
 use Rattle.mw_top.specs.Commands.Asm.{asm_plan, IsListing}
+use Rattle.mw_top.specs.Commands.Bounds.{bounds_plan, IsBounding}
 use Rattle.mw_top.specs.Commands.Certify.{certify_plan, IsCertification}
 use Rattle.mw_top.specs.Commands.Compare.{compare_plan, IsComparison}
 use Rattle.mw_top.specs.Commands.Debug.{debug_plan, IsTrace}
@@ -32,6 +33,7 @@ task_row tasks.Run = record { plan = run_plan; is_determined = true; is_certifyi
 task_row tasks.Trace = record { plan = debug_plan; is_determined = true; is_certifying = false }
 task_row tasks.Question = record { plan = equal_plan; is_determined = false; is_certifying = false }
 task_row tasks.Certification = record { plan = certify_plan; is_determined = false; is_certifying = true }
+task_row tasks.Bounds = record { plan = bounds_plan; is_determined = false; is_certifying = false }
 task_row tasks.Generation = record { plan = generate_plan; is_determined = false; is_certifying = true }
 
 -- what a task makes of its files
@@ -50,4 +52,5 @@ IsAnswer request (works.Run prepared) status report = IsRun request.cycles prepa
 IsAnswer request (works.Trace trace) status report = IsTrace trace status report
 IsAnswer request (works.Question question) status report = IsEquality request.nodes question status report
 IsAnswer request (works.Certification job) status report = IsCertification (budget_of request) job status report
+IsAnswer request (works.Bounds job) status report = IsBounding (budget_of request) job status report
 IsAnswer request works.Generation status report = IsGeneration (budget_of request) request.number status report

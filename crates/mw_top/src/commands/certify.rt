@@ -17,7 +17,7 @@ ghost use Rattle.mw_top.specs.Report.{difference_text};
 
 use super::Work;
 use super::equal::append_word;
-use super::job::read_job;
+use super::job::{FileJob, read_job};
 use crate::fault::Fault;
 use crate::outcome::Outcome;
 use crate::prefix_text::append_prefix;
@@ -32,27 +32,6 @@ use mw_rel::{Boundary, Difference, Job, Line};
 use mw_replay::{Counter, print_counter, replay};
 use mw_sim::append_line;
 use std::alloc::Global;
-use std::marker::Model;
-
-/// A job that is to be certified.
-#[derive(Drop)]
-pub(crate) struct Certification {
-    /// The job of its files.
-    pub(super) job: Job,
-}
-
-impl Model for Certification {
-    ghost use Rattle.mw_rel.specs.Job.{Job as JobOf};
-    ghost use Rattle.mw_rel.specs.Views.{job_of};
-    ghost use Rattle.mw_top.specs.Codes.{coded_acts, coded_tree};
-    ghost use Rattle.std.specs.Coded.{codes};
-
-    ghost Value = { JobOf };
-
-    ghost coded = { Prim.hlevel (codes, coded_acts, coded_tree) };
-
-    ghost view = { λ c. job_of c.job };
-}
 
 /// Reads the job.
 #[tactic(auto, unfolding(crate::specs::Commands::Certify::certify_plan))]
@@ -68,7 +47,7 @@ pub(super) fn read<S: Shelf>(
     ensures later { IsLater (shelf_shown S.Shelf shelf.old) (shelf_shown S.Shelf shelf.new) }
 {
     let labelled = read_job(alloc, shelf, files)?;
-    Ok(Work::Certification(Certification { job: labelled.job }))
+    Ok(Work::Certification(FileJob { job: labelled.job }))
 }
 
 /// The status of a verdict.
@@ -84,7 +63,7 @@ fn status_of(verdict: &Verdict) -> Status
 
 /// Appends a boundary, by its control address.
 #[tactic(auto, unfolding(crate::specs::Commands::Certify::boundary_text))]
-fn append_boundary(
+pub(super) fn append_boundary(
     alloc: Global,
     report: &mut Vec<u8>,
     job: &Job,
@@ -204,7 +183,7 @@ fn append_operation(
 
 /// Appends that something is over the budget.
 #[tactic(auto, unfolding(crate::specs::Commands::Certify::unknown_report))]
-fn append_unknown(
+pub(super) fn append_unknown(
     alloc: Global,
     report: &mut Vec<u8>,
     job: &Job,

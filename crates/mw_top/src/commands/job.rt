@@ -66,6 +66,26 @@ impl Model for Related {
     ghost view = { λ r. relation_of r.relation };
 }
 
+/// The job of four files, seen as `job_of` shows it.
+#[derive(Drop)]
+pub(crate) struct FileJob {
+    /// The job.
+    pub(super) job: Job,
+}
+
+impl Model for FileJob {
+    ghost use Rattle.mw_rel.specs.Job.{Job as JobOf};
+    ghost use Rattle.mw_rel.specs.Views.{job_of};
+    ghost use Rattle.mw_top.specs.Codes.{coded_acts, coded_tree};
+    ghost use Rattle.std.specs.Coded.{codes};
+
+    ghost Value = { JobOf };
+
+    ghost coded = { Prim.hlevel (codes, coded_acts, coded_tree) };
+
+    ghost view = { λ g. job_of g.job };
+}
+
 /// A job, and the labels of its microprogram.
 #[derive(Drop)]
 pub(super) struct Labelled {

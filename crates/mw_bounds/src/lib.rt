@@ -1,0 +1,12 @@
+//! How long the segments from each boundary of a job last: the least and the greatest length, each with a start that
+//! shows it.
+#![tactic(auto)]
+
+mod extreme;
+mod length;
+mod range;
+mod search;
+
+pub use length::Length;
+pub use range::{Bounds, Range};
+pub use search::bounds;
