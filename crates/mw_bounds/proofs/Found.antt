@@ -19,7 +19,7 @@ use Rattle.mw_bounds.specs.declared.extreme.Shown.{Shown}
 use Rattle.mw_bounds.specs.declared.range.Range.{Range}
 use Rattle.mw_bounds.specs.declared.extreme.Side.{Side}
 use Rattle.mw_bounds.specs.declared.extreme.Side.TheVariants.{Least, Greatest}
-use Rattle.mw_bounds.specs.Answers.{AreOfFirst, IsFoundAt, Shows, StopsBy}
+use Rattle.mw_bounds.specs.Answers.{AreOfFirst, IsFoundAt, IsShownBy, StopsSearch}
 use Rattle.mw_bounds.specs.Extremes.{AreExtremes, ComesLater, IsExtreme, IsExtremeOf, NoneGoesBeyond}
 
 -- what is said of some cases of a boundary
@@ -45,7 +45,7 @@ not_none job number side o cases is inside all extreme none =
 -- the extreme of all cases is shown
 shows : (job : Job) (number : ℕ) (side : Side) (shown : Shown) (cases : List (List Decided))
     → AreAllCases job number cases → IsExtremeOf job number side shown cases
-    → Shows job number shown.length shown.begin
+    → IsShownBy job number shown.length shown.begin
 shows job number side shown cases all is = record {
   bits = is.bits;
   of_case = is.of_case;
@@ -94,12 +94,12 @@ found job number budget extremes least greatest walked least_is greatest_is =
 -- where something is over the budget
 pub stops : (job : Job) (number : ℕ) (budget : Budget) (fault : ForkFault)
     → StopsWalk job number budget (λ cases. (extremes : Extremes) × said job number budget extremes cases) fault
-    → StopsBy job budget fault
+    → StopsSearch job budget fault
 stops job number budget faults.NoMemory is = tt
 stops job number budget (faults.Over (Nodes boundary prefix word j)) is =
-    subst (λ n. StopsBy job budget (faults.Over (Nodes n prefix word j))) (sym is.0) is.1.over
+    subst (λ n. StopsSearch job budget (faults.Over (Nodes n prefix word j))) (sym is.0) is.1.over
 stops job number budget (faults.Over (Paths boundary limit)) is =
-    subst (λ n. StopsBy job budget (faults.Over (Paths n limit))) (sym is.0) (is.1.limit_is, is.1.over)
+    subst (λ n. StopsSearch job budget (faults.Over (Paths n limit))) (sym is.0) (is.1.limit_is, is.1.over)
 
 -- ---- one boundary more
 

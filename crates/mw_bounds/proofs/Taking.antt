@@ -15,7 +15,7 @@ use Rattle.mw_bounds.specs.declared.extreme.Shown.{Shown}
 use Rattle.mw_bounds.specs.declared.extreme.Side.{Side}
 use Rattle.mw_bounds.specs.declared.length.Length.{Length}
 use Rattle.mw_bounds.specs.Extremes.{ComesLater, HasLength, IsExtreme, IsExtremeOf, NoneGoesBeyond, goes_beyond}
-use Rattle.mw_bounds.specs.Extremes.{is_extreme}
+use Rattle.mw_bounds.specs.Extremes.{goes_beyond_shown}
 use Rattle.mw_bounds.specs.Lengths.{length_in, length_of}
 use Rattle.mw_bounds.proofs.Order.{length_is, not_beyond, not_beyond_itself}
 
@@ -30,7 +30,7 @@ has_length job number bits cycles late ends start starts of =
 
 -- where the new one is the extreme, no start of the cases before goes beyond it
 none_beyond : (job : Job) (number : ℕ) (side : Side) (lasts : Length) (o : Option Shown) (cases : List (List Decided))
-    → is_extreme side lasts o ≡ true → IsExtreme job number side o cases
+    → goes_beyond_shown side lasts o ≡ true → IsExtreme job number side o cases
     → All (NoneGoesBeyond job number side lasts) cases
 none_beyond job number side lasts None cases beyond none =
     subst (All (NoneGoesBeyond job number side lasts)) (sym none) (All-nil (NoneGoesBeyond job number side lasts))
@@ -39,7 +39,7 @@ none_beyond job number side lasts (Some shown) cases beyond is = λ k d inside s
 
 -- nor has one of them its length
 none_has : (job : Job) (number : ℕ) (side : Side) (lasts : Length) (bits : List Decided) (o : Option Shown)
-    (cases : List (List Decided)) → is_extreme side lasts o ≡ true → IsExtreme job number side o cases
+    (cases : List (List Decided)) → goes_beyond_shown side lasts o ≡ true → IsExtreme job number side o cases
     → All (ComesLater job number lasts bits) cases
 none_has job number side lasts bits None cases beyond none =
     subst (All (ComesLater job number lasts bits)) (sym none) (All-nil (ComesLater job number lasts bits))
@@ -50,7 +50,7 @@ none_has job number side lasts bits (Some shown) cases beyond is = λ k d inside
     absurd cc
 
 pub taken : (job : Job) (number : ℕ) (side : Side) (lasts : Length) (begin : Begin) (o : Option Shown)
-    (cases : List (List Decided)) (bits : List Decided) → is_extreme side lasts o ≡ true
+    (cases : List (List Decided)) (bits : List Decided) → goes_beyond_shown side lasts o ≡ true
     → IsExtreme job number side o cases → HasLength job number lasts bits → IsOfCase job number bits begin
     → IsFirstOfCase job number bits begin
     → IsExtremeOf job number side (record { length = lasts; begin = begin }) (cases ++ bits ∷ [])
@@ -88,7 +88,7 @@ left job number side lasts shown cases bits not is has next = record {
 
 -- so it stays where the new one isn't the extreme
 pub stays : (job : Job) (number : ℕ) (side : Side) (lasts : Length) (o : Option Shown) (cases : List (List Decided))
-    (bits : List Decided) → is_extreme side lasts o ≡ false → IsExtreme job number side o cases
+    (bits : List Decided) → goes_beyond_shown side lasts o ≡ false → IsExtreme job number side o cases
     → HasLength job number lasts bits → IsNextBehind job number cases bits
     → IsExtreme job number side o (cases ++ bits ∷ [])
 stays job number side lasts None cases bits not is has next = absurd cc

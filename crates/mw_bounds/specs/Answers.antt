@@ -21,7 +21,7 @@ use Rattle.mw_bounds.specs.Lengths.{IsUpTo, length_of}
 
 -- A choice shows a length: its start has it, and is what the first assignment gives that takes the path of the first
 -- case, in the order of their bits, that has a start of this length.
-pub record Shows (job : Job) (number : ℕ) (lasts : Length) (begin : Begin) : Type 0 where
+pub record IsShownBy (job : Job) (number : ℕ) (lasts : Length) (begin : Begin) : Type 0 where
   pub bits : List Decided
   pub of_case : IsOfCase job number bits begin
   pub has : length_of job of_case.start ≡ lasts
@@ -33,8 +33,8 @@ pub record Shows (job : Job) (number : ℕ) (lasts : Length) (begin : Begin) : T
 pub record IsRange (job : Job) (number : ℕ) (range : Range) : Type 0 where
   pub above_least : (start : Start) → IsStartAt job number start → IsUpTo range.least (length_of job start)
   pub below_greatest : (start : Start) → IsStartAt job number start → IsUpTo (length_of job start) range.greatest
-  pub least : Shows job number range.least range.least_begin
-  pub greatest : Shows job number range.greatest range.greatest_begin
+  pub least : IsShownBy job number range.least range.least_begin
+  pub greatest : IsShownBy job number range.greatest range.greatest_begin
 
 -- A boundary is within a budget: it has no more cases than the budget's paths, and no path operation of a decided bit
 -- has more joint cofactors than the budget's nodes.
@@ -71,6 +71,6 @@ IsAnswer job budget (Found ranges) = AreFound job budget ranges
 IsAnswer job budget (Unknown over) = IsOver job budget over
 
 -- why there is no answer
-abbrev pub StopsBy : Job → Budget → ForkFault → Type 0
-StopsBy job budget (faults.Over over) = IsOver job budget over
-StopsBy job budget faults.NoMemory = Unit {0}
+abbrev pub StopsSearch : Job → Budget → ForkFault → Type 0
+StopsSearch job budget (faults.Over over) = IsOver job budget over
+StopsSearch job budget faults.NoMemory = Unit {0}

@@ -18,10 +18,10 @@ abbrev pub goes_beyond : Side → (length other : Length) → Bool
 goes_beyond Least length other = is_less length other
 goes_beyond Greatest length other = is_less other length
 
--- it goes beyond the one so far, if there is one
-abbrev pub is_extreme : Side → Length → Option Shown → Bool
-is_extreme side length None = true
-is_extreme side length (Some shown) = goes_beyond side length shown.length
+-- it goes beyond the one that is shown so far, or none is
+abbrev pub goes_beyond_shown : Side → Length → Option Shown → Bool
+goes_beyond_shown side length None = true
+goes_beyond_shown side length (Some shown) = goes_beyond side length shown.length
 
 -- each start with a case has this length
 abbrev pub HasLength : Job → (number : ℕ) → Length → List Decided → Type 0

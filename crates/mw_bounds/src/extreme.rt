@@ -4,7 +4,7 @@ ghost use Rattle.mw_term.specs.declared.decided.Decided.{Decided};
 ghost use Rattle.mw_rel.specs.Views.{job_of};
 ghost use Rattle.mw_fork.specs.declared.fault.Fault.TheVariants as faults;
 ghost use Rattle.mw_fork.specs.Walks.{IsAtCase, IsNextBehind};
-ghost use Rattle.mw_bounds.specs.Extremes.{IsExtreme, goes_beyond, is_extreme};
+ghost use Rattle.mw_bounds.specs.Extremes.{IsExtreme, goes_beyond, goes_beyond_shown};
 
 use crate::length::Length;
 use mw_fork::{Case, Fork, ForkFault, Visitor};
@@ -12,7 +12,7 @@ use mw_rel::{Begin, Job};
 use std::alloc::Global;
 use std::ops::ControlFlow;
 
-/// On which side of all lengths one is sought.
+/// Which extreme length is sought.
 #[derive(Clone, Copy)]
 pub(crate) enum Side {
     /// The least.
@@ -33,18 +33,18 @@ impl Side {
     }
 }
 
-/// A length, and a start that shows it.
+/// A length, and the choice whose start shows it.
 #[derive(Drop)]
 pub(crate) struct Shown {
     /// The length.
     pub length: Length,
-    /// A start that has it.
+    /// What gives a start that has it.
     pub begin: Begin,
 }
 
-/// Whether a length is the extreme one beside the one so far, if there is one.
-fn is_extreme(side: Side, length: Length, shown: &Option<Shown>) -> bool
-    ensures { result ≡ is_extreme side length shown.now }
+/// Whether a length goes beyond the one that is shown so far, or none is.
+fn goes_beyond_shown(side: Side, length: Length, shown: &Option<Shown>) -> bool
+    ensures { result ≡ goes_beyond_shown side length shown.now }
 {
     match shown {
         Some(shown) => side.goes_beyond(length, shown.length),
@@ -52,7 +52,8 @@ fn is_extreme(side: Side, length: Length, shown: &Option<Shown>) -> bool
     }
 }
 
-/// Takes the case at which a fork stands: its start takes the place of the one so far where its length goes beyond.
+/// Takes in the case at which a fork stands: where its length goes beyond the one that is shown so far, or none is, it is
+/// shown from now on, with the case's first start.
 fn take(
     alloc: Global,
     job: &Job,
@@ -70,7 +71,7 @@ fn take(
     ensures fault { IfErr result (λ e. e ≡ faults.NoMemory) }
 {
     let length = Length::in_case(case);
-    if !is_extreme(side, length, shown) {
+    if !goes_beyond_shown(side, length, shown) {
         return Ok(());
     }
     let begin = fork.begin(alloc, job)?;

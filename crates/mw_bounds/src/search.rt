@@ -1,7 +1,7 @@
 // The lengths of the segments of a job.
 ghost use Rattle.std.specs.Prelude.{◌≡◌, ◌<◌, length, IfOk, IfErr};
 ghost use Rattle.mw_rel.specs.Views.{job_of};
-ghost use Rattle.mw_bounds.specs.Answers.{IsAnswer, IsFoundAt, StopsBy};
+ghost use Rattle.mw_bounds.specs.Answers.{IsAnswer, IsFoundAt, StopsSearch};
 
 use crate::extreme::Extremes;
 use crate::range::{Bounds, Range};
@@ -11,20 +11,21 @@ use mw_rel::Job;
 use std::alloc::Global;
 use std::ops::ControlFlow;
 
-/// Goes through the cases of a boundary.
+/// The range of the boundary of this number, from 0.
 fn range(alloc: Global, job: &Job, boundary: usize, budget: Budget) -> Result<Range, ForkFault>
     requires there { boundary < length (job_of job.now).relation.boundaries }
     ensures found { IfOk result (IsFoundAt (job_of job.now) boundary budget) }
-    ensures stops { IfErr result (StopsBy (job_of job.now) budget) }
+    ensures stops { IfErr result (StopsSearch (job_of job.now) budget) }
 {
     let mut extremes = Extremes {
         least: None,
         greatest: None,
     };
     let ControlFlow::Continue(()) = Fork::walk(alloc, job, boundary, budget, &mut extremes)? else {
+        // The visitor stops no walk.
         unreachable!()
     };
-    // Each boundary has a case.
+    // Each boundary has a case, so there are both.
     let Extremes { least, greatest } = extremes;
     let Some(least) = least else { unreachable!() };
     let Some(greatest) = greatest else { unreachable!() };
@@ -39,7 +40,7 @@ fn range(alloc: Global, job: &Job, boundary: usize, budget: Budget) -> Result<Ra
 /// Goes through the boundaries, in the order of the relation.
 fn ranges(alloc: Global, job: &Job, budget: Budget) -> Result<Bounds, ForkFault>
     ensures found { IfOk result (IsAnswer (job_of job.now) budget) }
-    ensures stops { IfErr result (StopsBy (job_of job.now) budget) }
+    ensures stops { IfErr result (StopsSearch (job_of job.now) budget) }
 {
     let mut ranges = Vec::new(alloc);
     for boundary in 0..job.relation.boundaries().len() {
@@ -52,8 +53,8 @@ fn ranges(alloc: Global, job: &Job, budget: Budget) -> Result<Bounds, ForkFault>
 /// order of the relation, and through the cases of each in the order of their bits; nothing is compared.
 ///
 /// - `Found`: the range of each boundary. Every start of it, whatever its memory, inputs, interrupt line and undefined
-///   bits, has a length from the least to the greatest, and the two starts have these. All feasible cases of each
-///   boundary are within the budget.
+///   bits, has a length from the least to the greatest. The two starts have these: each is the first start of the first
+///   case that has one of this length. All feasible cases of each boundary are within the budget.
 /// - `Unknown`: an operation at that word and bit, in the word list of that prefix of a case, has more joint cofactors
 ///   than the budget's nodes; or that boundary has more feasible cases than the budget's paths. So where nothing is over
 ///   the budget, the ranges are found.

@@ -161,7 +161,7 @@ fn trace(
     })
 }
 
-/// Runs the case of which all bits are kept once more.
+/// Runs the case given last once more, along its bits, all of which are kept.
 fn trace_again(
     alloc: Global,
     job: &Job,
@@ -178,14 +178,15 @@ fn trace_again(
     ensures paths { IfOk result (λ traced. HavePaths traced.run.space traced.run.paths) }
 {
     way.begin_anew();
-    // The case was run before within its budget; this time no budget is asked that could be passed.
+    // The case was run within its budget before. Now the limit is above what a table of nodes holds, so that only
+    // memory can run out.
     match trace(alloc, job, boundary, way, u32::MAX) {
         Ok(traced) => Ok(traced),
         Err(_) => Err(NoMemory),
     }
 }
 
-/// The start of a case that was run which the first assignment gives that takes its path.
+/// The first start of a case that was run: what the first assignment gives under which its path holds.
 fn first_start(
     alloc: Global,
     job: &Job,
@@ -436,7 +437,8 @@ impl Fork {
         Ok(begin)
     }
 
-    /// The start of the case given last that the first assignment gives which takes its path. A case was given last.
+    /// The first start of the case given last: what the first assignment gives under which the case's path holds. A case
+    /// was given last.
     ///
     /// # Errors
     ///

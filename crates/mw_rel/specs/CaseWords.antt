@@ -23,8 +23,8 @@ use Rattle.mw_rel.specs.StartWords.{start_words}
 use Rattle.mw_term.specs.declared.kinds.WordKind.TheVariants.{Line}
 use Rattle.mw_term.specs.WordList.{WordList, term_of}
 
--- How far a case has come: the list; where it wants another decided bit, the term of that; the list before anything is
--- compared; and where it is whole, what is compared.
+-- How far a case has come: the words so far, and of a whole case those of its comparison too; where it wants another
+-- decided bit, the term of that; the words without those of the comparison; and where it is whole, what is compared.
 pub record CaseWords : Type 0 where
   pub list : WordList
   pub asked : Option ℕ
@@ -35,7 +35,7 @@ pub record CaseWords : Type 0 where
 abbrev pub stopped : (term : ℕ) → WordList → CaseWords
 stopped term l = record { list = l; asked = Some term; uncompared = l; comparisons = [] }
 
--- it is whole, with this list before its comparison
+-- it is whole: its list before the comparison, and what the comparison comes to
 abbrev pub whole : (uncompared : WordList) → Compared → CaseWords
 whole uncompared c =
     record { list = c.list; asked = None; uncompared = uncompared; comparisons = c.comparisons }

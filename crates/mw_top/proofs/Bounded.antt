@@ -3,7 +3,7 @@ use Rattle.std.proofs.Common.{◌≡◌, ℕ, ◌<◌, List, ◌++◌, append_as
 use Rattle.std.specs.Prelude.{◌∷◌, [], codes}
 use Rattle.mw_bounds.specs.declared.length.Length.{Length}
 use Rattle.mw_bounds.specs.declared.range.Range.{Range}
-use Rattle.mw_bounds.specs.Answers.{IsOver, Shows}
+use Rattle.mw_bounds.specs.Answers.{IsOver, IsShownBy}
 use Rattle.mw_check.proofs.Counters.{counter_of_chosen}
 use Rattle.mw_fork.specs.declared.budget.Budget.{Budget}
 use Rattle.mw_fork.specs.declared.fault.Over.{Over}
@@ -32,7 +32,7 @@ use Rattle.mw_top.proofs.Noes.{nodes_there, paths_there}
 
 -- the start that shows a length is that of a counter
 pub counter_shown : (job : Job) (number : ℕ) (lasts : Length) (begin : Begin) → IsJob job
-    → Shows job number lasts begin → IsCounter job (counter_at number begin)
+    → IsShownBy job number lasts begin → IsCounter job (counter_at number begin)
 counter_shown job number lasts begin is shows =
     counter_of_chosen job number begin shows.of_case.start is shows.of_case.chosen
 

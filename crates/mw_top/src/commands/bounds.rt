@@ -75,7 +75,7 @@ fn append_range_line(
     append_line(report, b"")
 }
 
-/// Appends a start, behind what it shows.
+/// Appends the counter of a start, behind what it shows.
 #[tactic(auto, unfolding(crate::specs::Commands::Bounds::shown_text))]
 fn append_shown(
     alloc: Global,
