@@ -416,9 +416,10 @@ class Step(Nodes):
 # ---- a whole case
 
 class CaseWords:
-    """The words of a whole case of a boundary: what its decided bits ask for, with their values, and what is compared."""
+    """The words of a whole case of a boundary: what its decided bits ask for, with their values, and what is compared,
+    where that is looked at."""
 
-    def __init__(self, job, boundary, case):
+    def __init__(self, job, boundary, case, compared=True):
         self.job, self.words, self.memory = job, Words(), Memory(job.word)
         _, _, self.sp, lines = job.blocks[boundary]
         self.at, self.asked, self.events, self.compared = boundary, [], [], []
@@ -430,7 +431,8 @@ class CaseWords:
             branches = [value for _, value in case.branches]
             step = Step(self.words, job.machine, registers, self.words.found["line", 0], memory, branches)
             self.asked += step.asked
-            self.compare(step)
+            if compared:
+                self.compare(step)
 
     def start(self, lines):
         """The variables of free elements, and the right sides of the rest."""

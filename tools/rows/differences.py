@@ -51,7 +51,7 @@ class First(Values):
 class Assigned:
     """The values of a list's variables that give a start, where the address compared last is this one."""
 
-    def __init__(self, listed, start, address):
+    def __init__(self, listed, start, address=0):
         names = {name: number for number, name in enumerate(listed.job.widths)}
         given = {("element", names[name]): value for name, value in start.values.items()}
         given |= {(kind, number): value for kind, name in IN_LISTS.items()
