@@ -28,7 +28,9 @@ fn range(alloc: Global, job: &Job, boundary: usize, budget: Budget) -> Result<Ra
     // Each boundary has a case, so there are both.
     let Extremes { least, greatest } = extremes;
     let Some(least) = least else { unreachable!() };
-    let Some(greatest) = greatest else { unreachable!() };
+    let Some(greatest) = greatest else {
+        unreachable!()
+    };
     Ok(Range {
         least: least.length,
         least_begin: least.begin,

@@ -162,12 +162,7 @@ fn trace(
 }
 
 /// Runs the case given last once more, along its bits, all of which are kept.
-fn trace_again(
-    alloc: Global,
-    job: &Job,
-    boundary: usize,
-    way: &mut Way,
-) -> Result<Traced, NoMemory>
+fn trace_again(alloc: Global, job: &Job, boundary: usize, way: &mut Way) -> Result<Traced, NoMemory>
     requires boundary { boundary < length (job_of job.now).relation.boundaries }
     ensures case { IfOk result (λ traced. AreKeptBits (job_of job.now) boundary [] way.old.kept
         → (elements : List ℕ)
@@ -187,12 +182,7 @@ fn trace_again(
 }
 
 /// The first start of a case that was run: what the first assignment gives under which its path holds.
-fn first_start(
-    alloc: Global,
-    job: &Job,
-    boundary: usize,
-    run: &Run,
-) -> Result<Begin, NoMemory>
+fn first_start(alloc: Global, job: &Job, boundary: usize, run: &Run) -> Result<Begin, NoMemory>
     requires met { (cycles : ℕ) × (elements : List ℕ) × (from : List Kept) × (late : Bool) × (way : WayOf)
         × (step : Option Stepping) × HasMetCase (job_of job.now) boundary elements from cycles late way run.now step }
     requires paths { HavePaths run.now.space run.now.paths }

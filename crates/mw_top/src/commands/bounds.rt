@@ -110,7 +110,14 @@ fn append_range(
 {
     append_range_line(alloc, report, job, number, range)?;
     append_shown(alloc, report, job, number, b"least", &range.least_begin)?;
-    append_shown(alloc, report, job, number, b"greatest", &range.greatest_begin)
+    append_shown(
+        alloc,
+        report,
+        job,
+        number,
+        b"greatest",
+        &range.greatest_begin,
+    )
 }
 
 /// The range of the boundary of this number.
