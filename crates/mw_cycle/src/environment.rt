@@ -146,7 +146,7 @@ impl Env {
     ///
     /// # Errors
     ///
-    /// Memory ran out.
+    /// Memory ran out: the environment may only be dropped then.
     pub fn push(&mut self, series: Series, value: u32) -> Result<(), NoMemory>
         requires { value < 2 ^ width_of 32 series }
         ensures { OnOk result (self.new ≡ with_values series (value ∷ []) self.old) }

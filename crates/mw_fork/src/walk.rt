@@ -67,6 +67,8 @@ impl Fork {
     ///   `Nodes`, only where an operation at that word and bit, in the word list of that prefix, has more joint
     ///   cofactors than the budget has nodes. Each case before the prefix was handed over.
     /// - `NoMemory`: memory ran out.
+    ///
+    /// After an error the visitor may only be dropped.
     pub fn walk<V: Visitor>(
         alloc: Global,
         job: &Job,

@@ -19,7 +19,7 @@ pub trait Shelf {
     ghost faults: { Self → List ℕ → ℕ };
 
     /// Reads bytes of the name, from a place in bytes from 0, into the front of a buffer, and answers how
-    /// many. `Failed`: the count of this name rose. Else it stands.
+    /// many. `Failed`: the count of this name rose, and the buffer may hold anything. Else the count stands.
     fn fetch(&mut self, name: &str, at: u64, into: &mut [u8]) -> Result<usize, Failed>
         ensures bound { IfOk result (λ n. n ≤ length into.old) }
         ensures bytes { IfOk result

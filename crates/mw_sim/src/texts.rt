@@ -10,7 +10,7 @@ use std::alloc::Global;
 ///
 /// # Errors
 ///
-/// Memory ran out.
+/// Memory ran out: the text may only be dropped then.
 pub fn append_line(report: &mut Vec<u8>, text: &[u8]) -> Result<(), NoMemory>
     ensures { OnOk result (report.new.items ≡ report.old.items ++ line text.now) }
 {
@@ -23,7 +23,7 @@ pub fn append_line(report: &mut Vec<u8>, text: &[u8]) -> Result<(), NoMemory>
 ///
 /// # Errors
 ///
-/// Memory ran out.
+/// Memory ran out: the text may only be dropped then.
 pub fn append_hex_line(
     alloc: Global,
     report: &mut Vec<u8>,
@@ -41,7 +41,7 @@ pub fn append_hex_line(
 ///
 /// # Errors
 ///
-/// Memory ran out.
+/// Memory ran out: the text may only be dropped then.
 pub fn append_event(alloc: Global, report: &mut Vec<u8>, event: Event) -> Result<(), NoMemory>
     ensures { OnOk result (report.new.items ≡ report.old.items ++ event_line event) }
 {
@@ -75,7 +75,7 @@ fn append_word(
 ///
 /// # Errors
 ///
-/// Memory ran out.
+/// Memory ran out: the text may only be dropped then.
 pub fn append_memory(alloc: Global, report: &mut Vec<u8>, words: &[u32]) -> Result<(), NoMemory>
     ensures { OnOk result (report.new.items ≡ report.old.items ++ memory_lines words.now) }
 {

@@ -601,7 +601,7 @@ impl SymBoard {
     ///
     /// # Errors
     ///
-    /// Memory ran out: the board, the words and the memory may only be dropped.
+    /// Memory ran out: the board, the terms, the words and the memory may only be dropped.
     pub fn sym_cycle(
         &mut self,
         alloc: Global,

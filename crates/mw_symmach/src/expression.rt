@@ -22,7 +22,7 @@ use std::alloc::Global;
 ///
 /// # Errors
 ///
-/// Memory ran out: the words and the memory may only be dropped.
+/// Memory ran out: the terms, the words and the memory may only be dropped.
 #[cycle(expressions)]
 pub fn expr_term(
     alloc: Global,

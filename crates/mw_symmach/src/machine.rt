@@ -218,7 +218,7 @@ impl SymMach {
     ///
     /// # Errors
     ///
-    /// Memory ran out: the step, the words and the memory may only be dropped.
+    /// Memory ran out: the step, the terms, the words and the memory may only be dropped.
     pub fn sym_step(
         &mut self,
         alloc: Global,

@@ -107,7 +107,7 @@ impl SymMemory {
     ///
     /// # Errors
     ///
-    /// Memory ran out: the memory and the words may only be dropped.
+    /// Memory ran out: the terms, the memory and the words may only be dropped.
     pub fn read(
         &mut self,
         alloc: Global,
