@@ -3,6 +3,9 @@
  * REFUSED_KIND  m: memory, i: what is read or written, s: the same, but the call moves one byte and doesn't fail
  * REFUSED       the number of the request that is refused, from 1; 0: none
  * REFUSED_NOTES a file that takes a letter for each call: m memory, o open, r read, w write
+ *
+ * Of the calls for memory malloc and realloc are refused: the program makes no others. An open moves no bytes, so it is
+ * none of those that move one.
  */
 #define _GNU_SOURCE
 #include <errno.h>
@@ -53,8 +56,7 @@ void *realloc(void *old, size_t size) {
 
 /* Whether a file is not to be opened. */
 static int is_shut(void) {
-    char how = 0;
-    if (!is_moved('o', &how) || how != 'i') return 0;
+    if (!is_refused('i', 'o')) return 0;
     errno = EIO;
     return 1;
 }
