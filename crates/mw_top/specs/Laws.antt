@@ -30,7 +30,7 @@ abbrev pub DifferencesMayFollow : Type 0
 DifferencesMayFollow = (job : Job) (difference : Difference) → IsJob job → check_of job.board ≡ Ok tt
     → IsDifferenceOf job difference → MayFollow (difference_text job difference)
 
--- the call ends neither with a read fault nor with a write fault, and nothing failed in it
+-- the call ends neither with a read fault nor with a write fault, which both follow from that nothing failed in it
 pub record IsWithoutFault (call : Call) : Type 0 where
   pub no_read_fault : ¬ IsReadFaultEnd call
   pub no_write_fault : ¬ IsWriteFaultEnd call

@@ -16,7 +16,7 @@ pub fn differences_may_follow()
 {}
 
 /// The law of an outside that never fails: a call of `bench` over a `SteadyShelf` and a `SteadySink` ends neither with
-/// `ReadFault` nor with `WriteFault`, and only memory keeps its work from its end.
+/// `ReadFault` nor with `WriteFault`, and nothing failed in it, as the clauses `complete` and `settled` of `bench` ask.
 pub fn steady_calls_never_fail()
     ensures { NeverFail ⟦<SteadyShelf as Shelf>⟧ ⟦<SteadySink as Sink>⟧ }
 {}
