@@ -15,8 +15,9 @@ pub fn differences_may_follow()
     ensures { DifferencesMayFollow }
 {}
 
-/// The law of an outside that never fails: a call of `bench` over a `SteadyShelf` and a `SteadySink` ends neither with
-/// `ReadFault` nor with `WriteFault`, and nothing failed in it, as the clauses `complete` and `settled` of `bench` ask.
+/// The law of an outside that never fails: of no call over a `SteadyShelf` and a `SteadySink` is so what the clauses
+/// `read_in_order` and `write_fault` of `bench` say of `ReadFault` and `WriteFault`, so it never ends with these; and
+/// nothing failed in it, as `complete` and `settled` ask.
 pub fn steady_calls_never_fail()
     ensures { NeverFail ⟦<SteadyShelf as Shelf>⟧ ⟦<SteadySink as Sink>⟧ }
 {}
