@@ -35,3 +35,8 @@ returns-clause-first c = λ last here.
     c.self.view_is c.requires.of c.requires.given.1 refl c.in_ok-traced.ensures.case in
     said_again (λ number bits. IsFirstOfCase job number bits c.in_ok-begin.begin) job _ _ _ _ last again.1 here
     (c.in_ok-begin.ensures.first _ again.0.0 _ _ _ _ again.0.1))
+
+pub returns-in_err-begin-clause-fault : goal.returns-in_err-begin-clause-fault
+returns-in_err-begin-clause-fault c =
+    let error = err_from_is_err_and c.from_residual-in_err-begin.result c.from_residual-in_err-begin.ensures.1 in
+    rw error.1 error.2
