@@ -44,7 +44,7 @@ pub enum Cause {
     FieldConflict,
     /// 33: a value doesn't fit its field, element or range.
     ValueTooWide,
-    /// 34: a word would stand past the end of the control store.
+    /// 34: a word would stand past the end of the control store, or of the memory.
     StoreFull,
     /// 35: a word stands there already.
     Overlap,

@@ -1,4 +1,4 @@
-// Control addresses in texts.
+// Addresses of microwords, and of words of a PDP-8, in texts.
 ghost use Rattle.std.specs.Prelude.{◌≡◌, ◌<◌, IfOk};
 ghost use Rattle.mw_base.specs.Named.{names_seen};
 ghost use Rattle.mw_base.specs.Places.{low_address, address_of};
@@ -11,7 +11,7 @@ use crate::refusal::TextFault;
 use crate::symbol::spelled;
 use crate::token::Token;
 
-/// A control address in a text: a PLACE.
+/// An address below 4,096 in a text: a PLACE.
 #[derive(Clone, Copy)]
 pub enum Place {
     /// That of the label of this name.
@@ -20,7 +20,7 @@ pub enum Place {
     Address(Numeral),
 }
 
-/// A control address, which is below 4,096.
+/// An address, which is below 4,096.
 ///
 /// # Errors
 ///

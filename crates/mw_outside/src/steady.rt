@@ -1,5 +1,5 @@
-// Files and a sink that never fail, for callers who hold all contents: for them no call ends with a fault of the
-// outside, and want of memory is all that can go wrong.
+// Files and a sink that never fail, for callers who hold all contents: no call over them ends with a fault of the
+// outside, as a law of the top call says.
 ghost use Rattle.std.specs.Prelude.{◌≡◌, ◌≢◌, ◌<◌, ◌≤◌, ◌-◌, [], List, ℕ, Some, None, min, take, length};
 ghost use Rattle.std.specs.Prelude.{IsOk, IfOk, IfSome, OnOk, OnErr};
 ghost use Rattle.mw_outside.specs.Causes.{Rose, no_faults};

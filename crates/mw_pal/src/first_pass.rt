@@ -34,7 +34,7 @@ pub(crate) struct Cell {
 pub(crate) struct Known<'a> {
     /// The addresses of the labels.
     pub labels: Names<'a, u16>,
-    /// The next statement's address.
+    /// The next statement's address, 0 to 4,096; at 4,096 there is no more room.
     pub next: u16,
     /// For each address whether a statement stands there.
     pub used: Vec<bool>,
@@ -84,7 +84,7 @@ impl<'a> Known<'a> {
         })
     }
 
-    /// org N: cause 33.
+    /// Takes `org N`: cause 33 where no address is so great.
     #[tactic(auto, unfolding(crate::specs::FirstPass::with_next))]
     fn go_to(&mut self, number: Numeral) -> Result<(), Refusal>
         ensures { Gives (λ done. known_seen self.new) result (with_next number (known_seen self.old)) }
@@ -93,7 +93,7 @@ impl<'a> Known<'a> {
         Ok(())
     }
 
-    /// A label of the next statement's address: cause 31 or 33.
+    /// Takes a label of the next statement's address: cause 31 where its name isn't free, 33 where it is too long.
     #[tactic(auto, unfolding(crate::specs::FirstPass::with_label))]
     fn add_label(&mut self, text: &'a [u8], name: Token) -> Result<(), Refusal>
         ensures { Gives (λ done. known_seen self.new) result (with_label text.now name (known_seen self.old)) }
@@ -106,6 +106,7 @@ impl<'a> Known<'a> {
         Ok(())
     }
 
+    /// Takes the label of a line that has one.
     fn add_optional_label(&mut self, text: &'a [u8], name: Option<Token>) -> Result<(), Refusal>
         ensures { Gives (λ done. known_seen self.new) result (with_optional_label text.now name (known_seen self.old)) }
     {
@@ -115,7 +116,7 @@ impl<'a> Known<'a> {
         }
     }
 
-    /// A statement at the next address, where none stands yet: cause 85.
+    /// Puts a statement at the next address: cause 85 where its words can't stand together.
     #[tactic(auto, unfolding(crate::specs::FirstPass::with_cell))]
     fn add_cell(&mut self, statement: Statement) -> Result<(), Refusal>
         requires { self.now.next < 4096 }
@@ -131,7 +132,7 @@ impl<'a> Known<'a> {
         Ok(())
     }
 
-    /// A statement at the next address: cause 34 or 35, then 85.
+    /// Takes a statement: cause 34 where the memory is full, 35 where one stands at the next address, then 85.
     #[tactic(auto, unfolding(crate::specs::FirstPass::with_statement))]
     fn add_statement(&mut self, statement: Statement) -> Result<(), Refusal>
         ensures { Gives (λ done. known_seen self.new) result (with_statement statement (known_seen self.old)) }
@@ -150,6 +151,7 @@ impl<'a> Known<'a> {
         self.add_cell(statement)
     }
 
+    /// Takes the statement of a line that has one.
     fn add_optional_statement(&mut self, statement: Option<Statement>) -> Result<(), Refusal>
         ensures { Gives (λ done. known_seen self.new) result (with_optional_statement statement (known_seen self.old)) }
     {
@@ -159,7 +161,7 @@ impl<'a> Known<'a> {
         }
     }
 
-    /// What a line says: its causes but 60.
+    /// Takes what a line says.
     fn add_entry(&mut self, text: &'a [u8], entry: Entry) -> Result<(), Refusal>
         ensures { Gives (λ done. known_seen self.new) result (with_entry text.now (known_seen self.old) entry) }
     {
@@ -172,7 +174,7 @@ impl<'a> Known<'a> {
         }
     }
 
-    /// A line: cause 60, then its other causes by place.
+    /// Takes a line: cause 60, then its other causes by place.
     #[tactic(auto, unfolding(crate::specs::FirstPass::with_line))]
     fn add_line(&mut self, alloc: Global, text: &'a [u8], line: &Line) -> Result<(), Refusal>
         ensures { Gives (λ done. known_seen self.new) result (with_line text.now (known_seen self.old) line.now) }

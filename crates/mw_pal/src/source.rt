@@ -56,10 +56,10 @@ fn second_pass(
 
 /// The memory that a PDP-8 source spells: 4,096 words of 12 bits, 0 where no statement stands.
 ///
-/// A line of a source is `org N`, or a label and a colon, and then a statement or nothing, or a statement alone. A
-/// statement is `word` and a value; or `and`, `tad`, `isz`, `dca`, `jms` or `jmp`, optionally `i`, and an address; or
-/// words of the operate groups, or of the interrupts, the keyboard and the printer, whose codes are ored. The first
-/// address is octal 200. The codes are those of DEC's Small Computer Handbook.
+/// A line of a source is blank, or `org N`, or a label and a colon, and then a statement or nothing, or a statement
+/// alone. A statement is `word` and a value; or `and`, `tad`, `isz`, `dca`, `jms` or `jmp`, optionally `i`, and an
+/// address; or words of one operate group, whose codes are ored; or one word of the interrupts, the keyboard or the
+/// printer. The first address is octal 200. The codes are those of DEC's Small Computer Handbook.
 ///
 /// The text has fewer than 2^32 bytes.
 ///
