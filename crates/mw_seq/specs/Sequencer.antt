@@ -1,5 +1,6 @@
--- The state of an Am2910 and one step of it, with a stack of depth words (AMD Am2900 Family Data Book, Am2910).
-use Rattle.std.specs.Prelude.{◌≡◌, ℕ, ◌+◌, ◌-◌, ◌%◌, ◌^◌, ◌<◌, ◌≤◌, List, Bool, if◌then◌else◌, ◌==◌, nat_lt, length}
+-- The state of an Am2910 or an Am2910A, and one step of it, with a stack of depth words (AMD Am2900 Family Data Book,
+-- Am2910 and Am2910A).
+use Rattle.std.specs.Prelude.{◌≡◌, ◌⊎◌, ℕ, ◌+◌, ◌-◌, ◌%◌, ◌^◌, ◌<◌, ◌≤◌, List, Bool, if◌then◌else◌, ◌==◌, nat_lt, length}
 use Rattle.std.specs.Prelude.{replicate, slice_index, slice_set}
 use Rattle.mw_base.specs.Words.{num}
 use Rattle.mw_seq.specs.declared.instruction.AddressFrom.{AddressFrom}
@@ -10,6 +11,10 @@ use Rattle.mw_seq.specs.declared.instruction.CounterMove.{CounterMove}
 use Rattle.mw_seq.specs.declared.instruction.CounterMove.TheVariants.{Same, Loaded, Counted}
 use Rattle.mw_seq.specs.declared.instruction.Effect.{Effect}
 use Rattle.mw_seq.specs.Instruction.{instruction_of, effect_of}
+
+-- a stack has five words, as that of an Am2910, or nine, as that of an Am2910A
+abbrev pub IsDepth : ℕ → Type 0
+IsDepth depth = (depth ≡ 5) ⊎ (depth ≡ 9)
 
 -- the microprogram counter, the register/counter, the stack's words from the oldest, and the stack pointer, which
 -- counts the words on the stack

@@ -1,8 +1,8 @@
-//! The sequencer of the board: an Am2910.
+//! The sequencer of the board: an Am2910, or an Am2910A.
 #![tactic(auto)]
 
 mod instruction;
 mod sequencer;
 
 pub use instruction::{AddressFrom, CounterMove, Effect, Instruction, StackMove};
-pub use sequencer::{DEPTH, Seq};
+pub use sequencer::{Seq, is_depth};

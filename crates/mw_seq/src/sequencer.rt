@@ -1,39 +1,58 @@
 // The state of the sequencer, and one step of it.
-ghost use Rattle.std.specs.Prelude.{◌≡◌, ◌+◌, ◌-◌, ◌<◌, ◌^◌, ◌==◌, length, slice_index, slice_set};
-ghost use Rattle.mw_seq.specs.declared.sequencer.TheConstants.{DEPTH};
-ghost use Rattle.mw_seq.specs.Sequencer.{IsSequencer, is_full, cleared_sequencer, top, pushed, popped, emptied};
-ghost use Rattle.mw_seq.specs.Sequencer.{stack_after, counter_after, address, next_of, step_of};
+ghost use Rattle.std.specs.Prelude.{◌≡◌, ◌+◌, ◌-◌, ◌<◌, ◌^◌, ◌==◌, ◌↔◌, IsTrue, length, slice_index, slice_set};
+ghost use Rattle.mw_seq.specs.Sequencer.{IsDepth, IsSequencer, is_full, cleared_sequencer, top, pushed, popped};
+ghost use Rattle.mw_seq.specs.Sequencer.{emptied, stack_after, counter_after, address, next_of, step_of};
 
 use crate::instruction::{AddressFrom, CounterMove, Instruction, StackMove};
 use std::marker::Model;
 
-/// How many words the stack has.
-pub const DEPTH: u8 = 5;
+/// How many words the deepest stack has, that of an Am2910A.
+const WORDS: usize = 9;
 
-/// The state of an Am2910. Addresses have 12 bits.
+/// Whether a stack can have so many words: five, as that of an Am2910, or nine, as that of an Am2910A.
+pub fn is_depth(depth: u64) -> bool
+    ensures { IsTrue result ↔ IsDepth depth }
+{
+    depth == 5 || depth == 9
+}
+
+/// The state of an Am2910, or of an Am2910A. Addresses have 12 bits.
 #[derive(Clone, Copy, Debug, PartialEq, Eq)]
 pub struct Seq {
     /// The microprogram counter.
     pub pc: u16,
     /// The register/counter.
     pub r: u16,
-    /// The stack's words, the oldest first.
-    pub stack: [u16; DEPTH as usize],
+    /// The stack's words, the oldest first; from `depth` on each is 0.
+    pub stack: [u16; WORDS],
     /// The stack pointer: how many of the words are on the stack. The top is word `sp - 1`.
     pub sp: u8,
+    /// How many words the stack has: 5 or 9.
+    pub depth: u8,
 }
 
 impl Model for Seq {
-    ghost use Rattle.mw_seq.specs.declared.sequencer.TheConstants.{DEPTH};
-    ghost use Rattle.mw_seq.specs.Sequencer.{Sequencer, IsSequencer};
+    ghost use Rattle.std.specs.Prelude.{length, take};
+    ghost use Rattle.mw_seq.specs.Sequencer.{Sequencer};
+    ghost use Rattle.mw_seq.specs.Kept.{IsKept, nine_words};
+    ghost use Rattle.std.proofs.Common.{refl, sym};
 
     ghost Value = { Sequencer };
 
-    ghost view = { λ s. record { pc = s.pc; r = s.r; stack = s.stack; sp = s.sp } };
+    ghost view = { λ s. record { pc = s.pc; r = s.r; stack = take s.depth s.stack; sp = s.sp } };
 
-    ghost invariant = { λ s. IsSequencer DEPTH (record { pc = s.pc; r = s.r; stack = s.stack; sp = s.sp }) };
+    ghost invariant = { λ s.
+        IsKept s.depth s.stack (record { pc = s.pc; r = s.r; stack = take s.depth s.stack; sp = s.sp }) };
 
-    ghost inverse = { λ s. record { pc = s.pc; r = s.r; stack = s.stack; sp = s.sp } };
+    ghost inverse = { λ s. record {
+      pc = s.pc;
+      r = s.r;
+      stack = nine_words s.stack;
+      sp = s.sp;
+      depth = length s.stack;
+    } };
+
+    ghost inverse_ok = { λ a h. rw (sym h.zeros, h.valid.size) refl };
 }
 
 /// What R holds after a move of it.
@@ -51,26 +70,35 @@ fn counted(counter: CounterMove, d: u16, r: u16) -> u16
 }
 
 impl Seq {
-    /// The state in which everything is 0, with a stack of `depth` words: so many as each stack has, [`DEPTH`].
+    /// The state in which everything is 0, with a stack of `depth` words, 5 or 9.
     pub fn cleared(depth: u8) -> Seq
-        requires known { depth ≡ 5 }
+        requires known { IsDepth depth }
         ensures exact { result ≡ cleared_sequencer depth }
         ensures fits { IsSequencer depth result }
     {
         Seq {
             pc: 0,
             r: 0,
-            stack: [0; DEPTH as usize],
+            stack: [0; WORDS],
             sp: 0,
+            depth,
         }
+    }
+
+    /// How many words the stack has, 5 or 9.
+    pub fn depth(&self) -> u8
+        ensures exact { result ≡ length self.now.stack }
+        ensures known { IsDepth result }
+        ensures valid { IsSequencer result self.now }
+    {
+        self.depth
     }
 
     /// Whether each word of the stack is on it.
     pub fn full(&self) -> bool
-        ensures exact { result ≡ is_full 5 self.now }
-        ensures valid { IsSequencer 5 self.now }
+        ensures { result ≡ is_full (length self.now.stack) self.now }
     {
-        self.sp == DEPTH
+        self.sp == self.depth
     }
 
     /// The word of the stack at a place, from the oldest.
@@ -101,20 +129,21 @@ impl Seq {
         if self.sp == 0 {
             noise % 4096
         } else {
-            self.stack[usize::from(self.sp) - 1]
+            self.word(self.sp - 1)
         }
     }
 
     /// Pushes PC; on a full stack it overwrites the top.
     #[tactic(auto, unfolding(crate::specs::Sequencer::pushed))]
     fn push(&mut self)
-        ensures { self.new ≡ pushed DEPTH self.old }
+        ensures exact { self.new ≡ pushed (length self.old.stack) self.old }
+        ensures size { length self.new.stack ≡ length self.old.stack }
     {
-        if self.sp < DEPTH {
-            self.stack[usize::from(self.sp)] = self.pc;
+        if self.sp < self.depth {
+            self.set_word(self.sp, self.pc);
             self.sp += 1;
         } else {
-            self.stack[usize::from(DEPTH) - 1] = self.pc;
+            self.set_word(self.depth - 1, self.pc);
         }
     }
 
@@ -134,7 +163,8 @@ impl Seq {
 
     #[tactic(auto, unfolding(crate::specs::Sequencer::stack_after))]
     fn move_stack(&mut self, stack: StackMove)
-        ensures { self.new ≡ stack_after stack DEPTH self.old }
+        ensures exact { self.new ≡ stack_after stack (length self.old.stack) self.old }
+        ensures size { length self.new.stack ≡ length self.old.stack }
     {
         match stack {
             StackMove::Held => {}
@@ -169,7 +199,7 @@ impl Seq {
         ensures below { result < 2 ^ 12 }
         ensures exact { self.new ≡ step_of (length self.old.stack) ins pass d ci rld noise self.old }
         ensures fits { IsSequencer (length self.old.stack) self.new }
-        ensures valid { IsSequencer 5 self.old }
+        ensures valid { IsSequencer (length self.old.stack) self.old }
     {
         let effect = Instruction::of(ins).effect(pass, self.r == 0);
         let next = self.address(effect.next, d, noise);
