@@ -4,8 +4,8 @@ use Rattle.std.proofs.Common.{sym, ap, ◌∙◌}
 use Rattle.std.proofs.lemmas.List.{drop_all, take_more}
 use Rattle.mw_base.proofs.Lists.{next}
 use Rattle.mw_board.specs.declared.fault.PartFault.{PartFault}
-use Rattle.mw_board.specs.declared.field.NamedField.{NamedField}
 use Rattle.mw_board.specs.declared.flipflop.FlipFlop.{FlipFlop}
+use Rattle.mw_board.specs.declared.parts.BoardParts.{BoardParts}
 use Rattle.mw_board.specs.Rules.{all_of}
 use Rattle.mw_board.specs.Check.{Checked, each_from, flipflop_check, flipflops_from}
 
@@ -49,38 +49,38 @@ front_grows flipflops i f within is =
     take_more flipflops i f within ∙ ap (λ (x : FlipFlop). take i flipflops ++ x ∷ []) (sym is)
 
 -- a flip-flop that breaks a rule ends them
-pub flipflop_fails : (width : ℕ) (fields : List NamedField) (count : ℕ) (fault : PartFault) (flipflops : List FlipFlop)
+pub flipflop_fails : (p : BoardParts) (fault : PartFault) (flipflops : List FlipFlop)
     (i : ℕ) (f : FlipFlop) (total : Checked)
     → i < length flipflops → f ≡ get_or flipflops i f
-    → flipflop_check width fields count (take i flipflops) i f ≡ Err fault
-    → flipflops_from width fields count (take i flipflops) i (drop i flipflops) ≡ total → Err fault ≡ total
+    → flipflop_check p (take i flipflops) i f ≡ Err fault
+    → flipflops_from p (take i flipflops) i (drop i flipflops) ≡ total → Err fault ≡ total
 unfolding flipflops_from
-flipflop_fails width fields count fault flipflops i f total within is fails so_far =
-    let one : flipflops_from width fields count (take i flipflops) i (drop i flipflops) ≡ Err fault =
+flipflop_fails p fault flipflops i f total within is fails so_far =
+    let one : flipflops_from p (take i flipflops) i (drop i flipflops) ≡ Err fault =
     rw (next flipflops i f within is, fails) refl in
     sym one ∙ so_far
 
 -- one more flip-flop keeps them
-pub flipflop_goes_on : (width : ℕ) (fields : List NamedField) (count : ℕ) (flipflops : List FlipFlop) (i : ℕ)
+pub flipflop_goes_on : (p : BoardParts) (flipflops : List FlipFlop) (i : ℕ)
     (f : FlipFlop) (total : Checked)
-    → i < length flipflops → f ≡ get_or flipflops i f → flipflop_check width fields count (take i flipflops) i f ≡ Ok tt
-    → flipflops_from width fields count (take i flipflops) i (drop i flipflops) ≡ total
-    → flipflops_from width fields count (take (i + 1) flipflops) (i + 1) (drop (i + 1) flipflops) ≡ total
+    → i < length flipflops → f ≡ get_or flipflops i f → flipflop_check p (take i flipflops) i f ≡ Ok tt
+    → flipflops_from p (take i flipflops) i (drop i flipflops) ≡ total
+    → flipflops_from p (take (i + 1) flipflops) (i + 1) (drop (i + 1) flipflops) ≡ total
 unfolding flipflops_from
-flipflop_goes_on width fields count flipflops i f total within is holds so_far =
-    let one : flipflops_from width fields count (take i flipflops) i (drop i flipflops)
-    ≡ flipflops_from width fields count (take (i + 1) flipflops) (i + 1) (drop (i + 1) flipflops) =
+flipflop_goes_on p flipflops i f total within is holds so_far =
+    let one : flipflops_from p (take i flipflops) i (drop i flipflops)
+    ≡ flipflops_from p (take (i + 1) flipflops) (i + 1) (drop (i + 1) flipflops) =
     rw (next flipflops i f within is, holds, front_grows flipflops i f within is)
-    (alone (flipflops_from width fields count (take i flipflops ++ f ∷ []) (i + 1) (drop (i + 1) flipflops))) in
+    (alone (flipflops_from p (take i flipflops ++ f ∷ []) (i + 1) (drop (i + 1) flipflops))) in
     sym one ∙ so_far
 
 -- all flip-flops keep them
-pub flipflops_done : (width : ℕ) (fields : List NamedField) (count : ℕ) (flipflops : List FlipFlop) (i : ℕ)
+pub flipflops_done : (p : BoardParts) (flipflops : List FlipFlop) (i : ℕ)
     (total : Checked) → length flipflops ≤ i
-    → flipflops_from width fields count (take i flipflops) i (drop i flipflops) ≡ total → Ok tt ≡ total
+    → flipflops_from p (take i flipflops) i (drop i flipflops) ≡ total → Ok tt ≡ total
 unfolding flipflops_from
-flipflops_done width fields count flipflops i total past so_far =
-    let one : flipflops_from width fields count (take i flipflops) i (drop i flipflops) ≡ Ok tt =
+flipflops_done p flipflops i total past so_far =
+    let one : flipflops_from p (take i flipflops) i (drop i flipflops) ≡ Ok tt =
     rw (drop_all i flipflops past) refl in
     sym one ∙ so_far
 

@@ -1,18 +1,19 @@
 -- The elements of a board by number and by name.
 use Rattle.std.proofs.Common.{◌≡◌, ℕ, zero, suc, ◌+◌, ◌-◌, ◌<◌, ◌≤◌, ◌≢◌, List, [], ◌∷◌, ◌++◌, map, length, Bool, true}
 use Rattle.std.proofs.Common.{false, cond, append-nil, Option, Some, None, slice_get, option_map, refl, sym, ap, ◌∙◌}
-use Rattle.std.proofs.Common.{arith, inl, inr}
+use Rattle.std.proofs.Common.{arith, inl, inr, min, take}
 use Rattle.std.specs.List.{position, position_from}
 use Rattle.std.specs.Str.{bytes_eq}
 use Rattle.std.proofs.lemmas.Bool.{cases_lt}
 use Rattle.std.proofs.lemmas.Iterator.Adapters.{position_from-zero}
-use Rattle.std.proofs.lemmas.List.{length-append, length-map}
+use Rattle.std.proofs.lemmas.List.{length-append, length-map, take_all}
 use Rattle.std.proofs.lemmas.Option.{slice_get-map, slice_get_past}
 use Rattle.mw_board.specs.declared.flipflop.FlipFlop.{FlipFlop}
 use Rattle.mw_board.specs.declared.parts.BoardParts.{BoardParts}
+use Rattle.mw_seq.specs.Sequencer.{IsDepth}
 use Rattle.mw_board.specs.Depth.{depth_of}
 use Rattle.mw_board.specs.Elements.{Element, register_names, address_register_name, instruction_register_name}
-use Rattle.mw_board.specs.Elements.{names_before, names_behind, names_behind_of, of_width, elements_of, element_count}
+use Rattle.mw_board.specs.Elements.{names_before, names_behind_of, stack_names, of_width, elements_of, element_count}
 use Rattle.mw_board.specs.Elements.{element_name, element_width, element_number}
 
 -- ---- lists one after the other
@@ -37,14 +38,20 @@ named : (width : ℕ) (names : List (List ℕ)) (rest : List Element)
 named width [] rest = refl
 named width (name ∷ names) rest = ap (λ (others : List (List ℕ)). name ∷ others) (named width names rest)
 
+named_alone : (width : ℕ) (names : List (List ℕ)) → map (λ (e : Element). e.name) (of_width width names) ≡ names
+named_alone width [] = refl
+named_alone width (name ∷ names) = ap (λ (others : List (List ℕ)). name ∷ others) (named_alone width names)
+
 -- the names of a board's elements
 pub names_are : (board : BoardParts)
     → map (λ (e : Element). e.name) (elements_of board)
     ≡ names_before ++ (map (λ (f : FlipFlop). f.name) board.flipflop ++ names_behind_of board)
-unfolding elements_of depth_of
+unfolding elements_of
 names_are board =
+    let flipflops = map (λ (f : FlipFlop). f.name) board.flipflop in
     ap (λ (others : List (List ℕ)). names_before ++ others)
-    (named 1 (map (λ (f : FlipFlop). f.name) board.flipflop) (of_width 12 (names_behind_of board)))
+    (named 1 flipflops (of_width 12 (names_behind_of board))
+    ∙ ap (λ (others : List (List ℕ)). flipflops ++ others) (named_alone 12 (names_behind_of board)))
 
 pub name_is : (board : BoardParts) (number : ℕ)
     → element_name board number
@@ -94,28 +101,31 @@ count_is board =
     omega (arith, all, both, before, whole)
 
 -- the least and the most words that a stack has
-pub words_least : (board : BoardParts) → 5 ≤ depth_of board
-unfolding depth_of
-words_least board = omega arith
+pub words_least : (depth : ℕ) → IsDepth depth → 5 ≤ depth
+words_least depth (inl five) = omega (arith, five)
+words_least depth (inr nine) = omega (arith, nine)
 
-pub words_few : (board : BoardParts) → depth_of board ≤ 5
-unfolding depth_of
-words_few board = omega arith
+pub words_few : (depth : ℕ) → IsDepth depth → depth ≤ 9
+words_few depth (inl five) = omega (arith, five)
+words_few depth (inr nine) = omega (arith, nine)
 
 -- behind the flip-flops are two counters, and each word of the stack
-pub behind_count : (board : BoardParts) → length (names_behind_of board) ≡ 2 + depth_of board
-unfolding depth_of
-behind_count board = refl
-
--- a name there stands in the table of such names
-pub behind_listed : (board : BoardParts) (n : ℕ) (name : List ℕ) → slice_get (names_behind_of board) n ≡ Some name
-    → slice_get names_behind n ≡ Some name
-unfolding depth_of
-behind_listed board n name at = at
+pub behind_count : (board : BoardParts) → IsDepth (depth_of board)
+    → length (names_behind_of board) ≡ 2 + depth_of board
+behind_count board (inl five) = rw five refl
+behind_count board (inr nine) = rw nine refl
 
 -- how many elements there are
-pub count_of : (board : BoardParts) → element_count board ≡ 21 + length board.flipflop + depth_of board
-count_of board = omega (arith, count_is board, behind_count board)
+pub count_of : (board : BoardParts) → IsDepth (depth_of board)
+    → element_count board ≡ 21 + length board.flipflop + depth_of board
+count_of board known = omega (arith, count_is board, behind_count board known)
+
+-- no stack has more words than there are names for
+pub take_some : (depth : ℕ) → take (min depth 9) stack_names ≡ take depth stack_names
+take_some depth = elim (cases_lt depth 9) [
+  | inl few ↦ let e : min depth 9 ≡ depth = omega arith in rw e refl
+  | inr many ↦ let e : min depth 9 ≡ 9 = omega arith in rw (e, take_all depth stack_names many) refl
+]
 
 -- ---- widths
 

@@ -1,6 +1,6 @@
 -- Parts that break no rule are a board.
 use Rattle.std.proofs.Common.{◌≡◌, ℕ, ◌+◌, ◌%◌, ◌^◌, ◌<◌, ◌≤◌, List, [], ◌∷◌, ◌++◌, length, slice_get, Bool, true}
-use Rattle.std.proofs.Common.{false, Ok, Err, Option, Some, None, Result, refl, nat_lt, nat_le, ◌&&◌, ◌==◌, arith}
+use Rattle.std.proofs.Common.{false, Ok, Err, Option, Some, None, Result, refl, nat_lt, nat_le, ◌&&◌, ◌||◌, ◌==◌, arith}
 use Rattle.std.specs.List.{All, AllByRecursion}
 use Rattle.std.proofs.lemmas.Bool.{eqb-true}
 use Rattle.std.proofs.lemmas.List.Elements.{All-nil, All-cons, recursion_from_All}
@@ -21,12 +21,12 @@ use Rattle.mw_board.specs.declared.field.NamedField.{NamedField}
 use Rattle.mw_board.specs.declared.flipflop.FlipFlop.{FlipFlop}
 use Rattle.mw_board.specs.declared.parts.BoardParts.{BoardParts}
 use Rattle.mw_board.specs.declared.point.Point.{Point}
-use Rattle.mw_board.specs.Keys.{width_key, microword_key, address_key, fill_key, unset_key, vector_key, fields_key}
-use Rattle.mw_board.specs.Keys.{flipflop_key, name_key, control_key, load_key, first_point_key, carry_in_key}
+use Rattle.mw_board.specs.Keys.{width_key, microword_key, address_key, fill_key, unset_key, vector_key, stack_key}
+use Rattle.mw_board.specs.Keys.{fields_key, flipflop_key, name_key, control_key, load_key, first_point_key, carry_in_key}
 use Rattle.mw_board.specs.Keys.{condition_key, ram_link_key, q_link_key, d_key, map_bits_key, map_entries_key}
 use Rattle.mw_board.specs.Points.{all_points, driver_of}
 use Rattle.mw_board.specs.Rules.{Verdict, ask, all_of, width_rule, microword_rule, address_rule, word_rule, vector_rule}
-use Rattle.mw_board.specs.Rules.{fields_rule, name_rule, field_rule, flipflops_rule, flipflop_name_rule, control_rule}
+use Rattle.mw_board.specs.Rules.{stack_rule, fields_rule, name_rule, field_rule, flipflops_rule, flipflop_name_rule, control_rule}
 use Rattle.mw_board.specs.Rules.{point_rule, driver_rule, chosen_rule, list_rule, bit_rule, carry_in_rule, load_rule}
 use Rattle.mw_board.specs.Rules.{source_rule, mask_rule, d_source_rule, map_bits_rule, map_entry_rule, map_entries_rule}
 use Rattle.mw_board.specs.Rules.{width_of, map_size}
@@ -34,6 +34,8 @@ use Rattle.mw_board.specs.Check.{Checked, placed, number_16, at_key, at_flipflop
 use Rattle.mw_board.specs.Check.{list_check, sizes_tests, sizes_check, field_check, fields_check, flipflop_check}
 use Rattle.mw_board.specs.Check.{flipflops_from, flipflops_check, point_check, points_check, lists_tests, lists_check}
 use Rattle.mw_board.specs.Check.{map_check, check_of}
+use Rattle.mw_seq.specs.Sequencer.{IsDepth}
+use Rattle.mw_board.specs.Depth.{depth_of}
 use Rattle.mw_board.specs.Valid.{AreSizes, IsField, IsControl, IsPoint, ArePoints, IsBit, IsLoad, IsFrom, IsMask}
 use Rattle.mw_board.specs.Valid.{IsSource, IsList, IsFlipFlop, AreLists, IsMap, IsBoard}
 
@@ -84,6 +86,12 @@ vector_kept : (vector : ℕ) → vector_rule vector ≡ Ok tt → vector < 2 ^ 1
 unfolding vector_rule
 vector_kept vector e =
     let h = asked (nat_lt vector 4096) BadValue e in
+    grind (arith, nat_tests)
+
+stack_kept : (stack : ℕ) → stack_rule stack ≡ Ok tt → IsDepth stack
+unfolding stack_rule
+stack_kept stack e =
+    let h = asked (stack == 5 || stack == 9) BadValue e in
     grind (arith, nat_tests)
 
 fields_kept : (count : ℕ) → fields_rule count ≡ Ok tt → count ≤ 64
@@ -215,7 +223,7 @@ map_entries_kept bits entries e = eqb-true entries (map_size bits) (asked (entri
 -- ---- the keys
 
 sizes_are : (p : BoardParts) → sizes_check p ≡ Ok tt → AreSizes p
-unfolding sizes_check
+unfolding sizes_check depth_of
 sizes_are p e =
     let kept = all_kept (sizes_tests p) e in
     let width = width_kept p.width (at_place width_key 0 0 (width_rule p.width) kept.0) in
@@ -234,6 +242,7 @@ sizes_are p e =
       fill = word_kept p.microword p.fill (at_place fill_key 0 0 (word_rule p.microword p.fill) kept.1.1.1.0);
       unset = word_kept p.microword p.unset (at_place unset_key 0 0 (word_rule p.microword p.unset) kept.1.1.1.1.0);
       vector = vector_kept p.vector (at_place vector_key 0 0 (vector_rule p.vector) kept.1.1.1.1.1.0);
+      stack = stack_kept p.stack (at_place stack_key 0 0 (stack_rule p.stack) kept.1.1.1.1.1.1.0);
     }
 
 -- one rule on each entry, which makes each what it is
@@ -269,10 +278,10 @@ list_is Is place at fields control rule keeps xs chooser e =
     }
 
 flipflop_is : (p : BoardParts) (earlier : List FlipFlop) (i : ℕ) (f : FlipFlop)
-    → flipflop_check p.width p.fields (length p.flipflop) earlier i f ≡ Ok tt → IsFlipFlop p f
+    → flipflop_check p earlier i f ≡ Ok tt → IsFlipFlop p f
 unfolding flipflop_check
 flipflop_is p earlier i f e =
-    let kept = all_kept (at_flipflop name_key i (flipflop_name_rule earlier f.name)
+    let kept = all_kept (at_flipflop name_key i (flipflop_name_rule p.stack earlier f.name)
     ∷ at_flipflop control_key i (control_rule p.fields f.control)
     ∷ list_check (in_load i) p.fields f.control (load_rule p.width (length p.flipflop)) f.load ∷ []) e in
     list_is (IsLoad p.width (length p.flipflop)) (in_load i)
@@ -281,12 +290,12 @@ flipflop_is p earlier i f e =
     (at_place control_key (number_16 i) 0 (control_rule p.fields f.control) kept.1.0) kept.1.1.0
 
 flipflops_are : (p : BoardParts) (earlier : List FlipFlop) (i : ℕ) (fs : List FlipFlop)
-    → flipflops_from p.width p.fields (length p.flipflop) earlier i fs ≡ Ok tt → All (IsFlipFlop p) fs
+    → flipflops_from p earlier i fs ≡ Ok tt → All (IsFlipFlop p) fs
 unfolding flipflops_from
 flipflops_are p earlier i [] e = All-nil (IsFlipFlop p)
 flipflops_are p earlier i (f ∷ rest) e =
-    let kept = all_kept (flipflop_check p.width p.fields (length p.flipflop) earlier i f
-    ∷ flipflops_from p.width p.fields (length p.flipflop) (earlier ++ f ∷ []) (i + 1) rest ∷ []) e in
+    let kept = all_kept
+    (flipflop_check p earlier i f ∷ flipflops_from p (earlier ++ f ∷ []) (i + 1) rest ∷ []) e in
     All-cons (IsFlipFlop p) f rest (flipflop_is p earlier i f kept.0)
     (flipflops_are p (earlier ++ f ∷ []) (i + 1) rest kept.1.0)
 
@@ -374,7 +383,7 @@ is_board p e =
     all_kept (at_key fields_key (fields_rule (length p.fields)) ∷ each_from (field_check p.microword) 0 p.fields ∷ [])
     kept.1.0 in
     let flipflops = all_kept (at_key flipflop_key (flipflops_rule (length p.flipflop))
-    ∷ flipflops_from p.width p.fields (length p.flipflop) [] 0 p.flipflop ∷ []) kept.1.1.0 in
+    ∷ flipflops_from p [] 0 p.flipflop ∷ []) kept.1.1.0 in
     record {
       sizes = sizes_are p kept.0;
       few_fields = fields_kept (length p.fields) (at_place fields_key 0 0 (fields_rule (length p.fields)) fields.0);

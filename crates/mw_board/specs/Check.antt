@@ -8,11 +8,12 @@ use Rattle.mw_board.specs.declared.flipflop.FlipFlop.{FlipFlop}
 use Rattle.mw_board.specs.declared.control.Points.{Points}
 use Rattle.mw_board.specs.declared.parts.BoardParts.{BoardParts}
 use Rattle.mw_board.specs.declared.point.Point.{Point}
-use Rattle.mw_board.specs.Keys.{width_key, microword_key, address_key, fill_key, unset_key, vector_key, fields_key}
-use Rattle.mw_board.specs.Keys.{flipflop_key, name_key, control_key, load_key, first_point_key, carry_in_key}
+use Rattle.mw_board.specs.Keys.{width_key, microword_key, address_key, fill_key, unset_key, vector_key, stack_key}
+use Rattle.mw_board.specs.Keys.{fields_key, flipflop_key, name_key, control_key, load_key, first_point_key, carry_in_key}
 use Rattle.mw_board.specs.Keys.{condition_key, ram_link_key, q_link_key, d_key, map_bits_key, map_entries_key}
 use Rattle.mw_board.specs.Points.{all_points, driver_of}
 use Rattle.mw_board.specs.Rules.{Verdict, all_of, width_rule, microword_rule, address_rule, word_rule, vector_rule}
+use Rattle.mw_board.specs.Rules.{stack_rule}
 use Rattle.mw_board.specs.Rules.{fields_rule, name_rule, field_rule, flipflops_rule, flipflop_name_rule, control_rule}
 use Rattle.mw_board.specs.Rules.{driver_rule, chosen_rule, list_rule, bit_rule, carry_in_rule, load_rule, d_source_rule}
 use Rattle.mw_board.specs.Rules.{map_bits_rule, map_entry_rule, map_entries_rule}
@@ -60,7 +61,7 @@ list_check place fields control rule entries = all_of (
     ∷ place 0 (list_rule fields control (length entries))
     ∷ [])
 
--- version is no part. The sizes, and the words: width, microword, address, fill, unset, vector
+-- version is no part. The sizes, and the words: width, microword, address, fill, unset, vector, stack
 abbrev pub sizes_tests : BoardParts → List Checked
 sizes_tests p =
     at_key width_key (width_rule p.width)
@@ -69,6 +70,7 @@ sizes_tests p =
     ∷ at_key fill_key (word_rule p.microword p.fill)
     ∷ at_key unset_key (word_rule p.microword p.unset)
     ∷ at_key vector_key (vector_rule p.vector)
+    ∷ at_key stack_key (stack_rule p.stack)
     ∷ []
 
 -- the sizes and the words
@@ -87,27 +89,25 @@ unfoldable pub fields_check : BoardParts → Checked
 fields_check p =
     all_of (at_key fields_key (fields_rule (length p.fields)) ∷ each_from (field_check p.microword) 0 p.fields ∷ [])
 
--- a flip-flop's name, control and load, on a board of this width, of these fields and of so many flip-flops
-unfoldable pub flipflop_check : ℕ → List NamedField → ℕ → List FlipFlop → ℕ → FlipFlop → Checked
-flipflop_check width fields flipflops earlier i f = all_of (
-    at_flipflop name_key i (flipflop_name_rule earlier f.name)
-    ∷ at_flipflop control_key i (control_rule fields f.control)
-    ∷ list_check (in_load i) fields f.control (load_rule width flipflops) f.load
+-- a flip-flop's name, control and load
+unfoldable pub flipflop_check : BoardParts → List FlipFlop → ℕ → FlipFlop → Checked
+flipflop_check p earlier i f = all_of (
+    at_flipflop name_key i (flipflop_name_rule p.stack earlier f.name)
+    ∷ at_flipflop control_key i (control_rule p.fields f.control)
+    ∷ list_check (in_load i) p.fields f.control (load_rule p.width (length p.flipflop)) f.load
     ∷ [])
 
 -- each flip-flop, after the earlier ones
-unfoldable pub flipflops_from : ℕ → List NamedField → ℕ → List FlipFlop → ℕ → List FlipFlop → Checked
-flipflops_from width fields flipflops earlier i [] = Ok tt
-flipflops_from width fields flipflops earlier i (first ∷ rest) = all_of (
-    flipflop_check width fields flipflops earlier i first
-    ∷ flipflops_from width fields flipflops (earlier ++ first ∷ []) (i + 1) rest
-    ∷ [])
+unfoldable pub flipflops_from : BoardParts → List FlipFlop → ℕ → List FlipFlop → Checked
+flipflops_from p earlier i [] = Ok tt
+flipflops_from p earlier i (first ∷ rest) =
+    all_of (flipflop_check p earlier i first ∷ flipflops_from p (earlier ++ first ∷ []) (i + 1) rest ∷ [])
 
 -- flipflop
 unfoldable pub flipflops_check : BoardParts → Checked
 flipflops_check p = all_of (
     at_key flipflop_key (flipflops_rule (length p.flipflop))
-    ∷ flipflops_from p.width p.fields (length p.flipflop) [] 0 p.flipflop
+    ∷ flipflops_from p [] 0 p.flipflop
     ∷ [])
 
 -- control.POINT, in the order of the table

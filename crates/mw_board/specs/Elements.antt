@@ -30,9 +30,11 @@ instruction_register_name = codes "ir"
 abbrev pub counter_names : List (List ℕ)
 counter_names = codes "upc" ∷ codes "count" ∷ []
 
--- the words of the stack
+-- the words of the deepest stack
 abbrev pub stack_names : List (List ℕ)
-stack_names = codes "stack0" ∷ codes "stack1" ∷ codes "stack2" ∷ codes "stack3" ∷ codes "stack4" ∷ []
+stack_names =
+    codes "stack0" ∷ codes "stack1" ∷ codes "stack2" ∷ codes "stack3" ∷ codes "stack4" ∷ codes "stack5"
+    ∷ codes "stack6" ∷ codes "stack7" ∷ codes "stack8" ∷ []
 
 -- the stack pointer, which has no number among the elements
 abbrev pub stack_pointer_name : List ℕ
@@ -42,13 +44,13 @@ stack_pointer_name = codes "sp"
 abbrev pub names_before : List (List ℕ)
 names_before = register_names ++ address_register_name ∷ instruction_register_name ∷ []
 
--- the names behind them
-abbrev pub names_behind : List (List ℕ)
-names_behind = counter_names ++ stack_names
+-- the names behind them, where the stack has so many words
+abbrev pub names_behind : ℕ → List (List ℕ)
+names_behind stack = counter_names ++ take stack stack_names
 
--- those that a board has, which has so many words of the stack
+-- those that a board has
 abbrev pub names_behind_of : BoardParts → List (List ℕ)
-names_behind_of board = counter_names ++ take (depth_of board) stack_names
+names_behind_of board = names_behind (depth_of board)
 
 -- elements of these names, all of one width
 abbrev pub of_width : ℕ → List (List ℕ) → List Element
@@ -81,7 +83,8 @@ element_width board number = option_map (λ element. element.width) (slice_get (
 abbrev pub element_number : BoardParts → List ℕ → Option ℕ
 element_number board name = position (bytes_eq name) (map (λ element. element.name) (elements_of board))
 
--- an element of each board has the name
-abbrev pub is_reserved : List ℕ → Bool
-is_reserved name =
-    list_any (bytes_eq name) names_before || (list_any (bytes_eq name) names_behind || bytes_eq name stack_pointer_name)
+-- an element of each board whose stack has so many words has the name
+abbrev pub is_reserved : ℕ → List ℕ → Bool
+is_reserved stack name =
+    list_any (bytes_eq name) names_before
+    || (list_any (bytes_eq name) (names_behind stack) || bytes_eq name stack_pointer_name)

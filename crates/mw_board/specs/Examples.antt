@@ -60,6 +60,7 @@ small_board = record {
   fill = 0;
   unset = 0;
   vector = 0;
+  stack = 5;
   fields = small_fields;
   flipflop = [];
   control = small_points;

@@ -1,6 +1,6 @@
 -- The rules of a board's parts, a definition each. A rule answers nothing, or why the part breaks it.
 use Rattle.std.specs.Prelude.{◌≡◌, ℕ, ◌+◌, ◌%◌, ◌^◌, List, [], ◌∷◌, length, slice_get, Bool, not, nat_lt, nat_le, ◌==◌}
-use Rattle.std.specs.Prelude.{◌&&◌, if◌then◌else◌, Option, Some, None, Result, Ok, Err}
+use Rattle.std.specs.Prelude.{◌&&◌, ◌||◌, if◌then◌else◌, Option, Some, None, Result, Ok, Err}
 use Rattle.std.specs.List.{list_any}
 use Rattle.std.specs.Str.{bytes_eq}
 use Rattle.mw_base.specs.declared.cause.Cause.{Cause}
@@ -59,6 +59,10 @@ word_rule microword word = ask (nat_lt word (2 ^ microword)) BadValue
 unfoldable pub vector_rule : ℕ → Verdict
 vector_rule vector = ask (nat_lt vector 4096) BadValue
 
+-- the words of a stack, as many as that of an Am2910 or of an Am2910A
+unfoldable pub stack_rule : ℕ → Verdict
+stack_rule stack = ask (stack == 5 || stack == 9) BadValue
+
 -- ---- fields and flip-flops
 
 -- at most 64 fields
@@ -84,11 +88,12 @@ flipflops_rule count = ask (nat_le count 16) TooMany
 abbrev pub is_flipflop_name : List FlipFlop → List ℕ → Bool
 is_flipflop_name flipflops name = list_any (λ f. bytes_eq name f.name) flipflops
 
--- the name of a flip-flop: no other element's, and none of the flip-flops before it
-unfoldable pub flipflop_name_rule : List FlipFlop → List ℕ → Verdict
-flipflop_name_rule earlier name = all_of (
+-- the name of a flip-flop, on a board whose stack has so many words: no other element's, and none of the flip-flops
+-- before it
+unfoldable pub flipflop_name_rule : ℕ → List FlipFlop → List ℕ → Verdict
+flipflop_name_rule stack earlier name = all_of (
     ask (is_name name) BadValue
-    ∷ ask (not (is_reserved name)) Twice
+    ∷ ask (not (is_reserved stack name)) Twice
     ∷ ask (not (is_flipflop_name earlier name)) Twice
     ∷ [])
 

@@ -4,6 +4,7 @@ ghost use Rattle.mw_board.specs.Check.{check_of};
 ghost use Rattle.mw_board.specs.Depth.{depth_of};
 ghost use Rattle.mw_board.specs.Order.{AreInOrder};
 ghost use Rattle.mw_board.specs.Valid.{IsBoard};
+ghost use Rattle.mw_seq.specs.Sequencer.{IsDepth};
 
 use crate::check::check_parts;
 use crate::fault::PartFault;
@@ -76,12 +77,12 @@ impl Board {
         Width::new(self.parts().width).unwrap()
     }
 
-    /// How many words the sequencer's stack has.
+    /// How many words the sequencer's stack has, 5 or 9.
     #[tactic(auto, unfolding(crate::specs::Depth::depth_of))]
     pub fn depth(&self) -> u8
         ensures exact { result ≡ depth_of self.now }
-        ensures known { result ≡ 5 }
+        ensures known { IsDepth result }
     {
-        5
+        self.parts().stack
     }
 }

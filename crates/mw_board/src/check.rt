@@ -193,7 +193,8 @@ fn check_sizes(parts: &BoardParts) -> Result<(), PartFault>
     )?;
     at_key(key::FILL, rules::word_rule(parts.microword, parts.fill))?;
     at_key(key::UNSET, rules::word_rule(parts.microword, parts.unset))?;
-    at_key(key::VECTOR, rules::vector_rule(u64::from(parts.vector)))
+    at_key(key::VECTOR, rules::vector_rule(u64::from(parts.vector)))?;
+    at_key(key::STACK, rules::stack_rule(u64::from(parts.stack)))
 }
 
 fn check_field(microword: u8, n: usize, named: &NamedField) -> Result<(), PartFault>
@@ -237,8 +238,7 @@ fn check_flipflop(
     i: usize,
     flipflop: &FlipFlop,
 ) -> Result<(), PartFault>
-    ensures { result
-        ≡ flipflop_check parts.now.width parts.now.fields (length parts.now.flipflop) earlier.now i flipflop.now }
+    ensures { result ≡ flipflop_check parts.now earlier.now i flipflop.now }
 {
     let fields = parts.fields.as_slice();
     let count = parts.flipflop.as_slice().len();
@@ -248,7 +248,7 @@ fn check_flipflop(
         key::NAME,
         number,
         0,
-        rules::flipflop_name_rule(earlier, flipflop.name.as_slice()),
+        rules::flipflop_name_rule(parts.stack, earlier, flipflop.name.as_slice()),
     )?;
     placed(
         key::CONTROL,
@@ -267,7 +267,7 @@ fn check_flipflop(
 }
 
 fn check_each_flipflop(parts: &BoardParts, flipflops: &[FlipFlop]) -> Result<(), PartFault>
-    ensures { result ≡ flipflops_from parts.now.width parts.now.fields (length parts.now.flipflop) [] 0 flipflops.now }
+    ensures { result ≡ flipflops_from parts.now [] 0 flipflops.now }
 {
     for (i, flipflop) in flipflops.iter().enumerate() {
         check_flipflop(parts, &flipflops[..i], i, flipflop)?;

@@ -3,7 +3,7 @@ ghost use Rattle.std.specs.Prelude.{◌≡◌, map, slice_get, option_map};
 ghost use Rattle.std.specs.List.{position};
 ghost use Rattle.std.specs.Str.{bytes_eq};
 ghost use Rattle.mw_board.specs.Elements.{is_reserved, element_count, element_name, element_width, element_number};
-ghost use Rattle.mw_board.specs.Elements.{names_behind_of, stack_pointer_name};
+ghost use Rattle.mw_board.specs.Elements.{names_behind, names_behind_of, stack_pointer_name};
 
 use crate::board::Board;
 use crate::flipflop::FlipFlop;
@@ -18,19 +18,29 @@ const BEFORE: [&[u8]; 19] = [
 /// The number of the address register.
 const MAR: usize = 17;
 
-/// Those behind them: the microprogram counter, the register/counter, and the words of the stack.
-const BEHIND: [&[u8]; 7] = [
-    b"upc", b"count", b"stack0", b"stack1", b"stack2", b"stack3", b"stack4",
+/// Those behind them: the microprogram counter, the register/counter, and the words of the deepest stack.
+const BEHIND: [&[u8]; 11] = [
+    b"upc", b"count", b"stack0", b"stack1", b"stack2", b"stack3", b"stack4", b"stack5", b"stack6",
+    b"stack7", b"stack8",
 ];
 
 /// The stack pointer, which has no number among the elements.
 const STACK_POINTER: [&[u8]; 1] = [b"sp"];
 
-/// Whether an element of each board has the name.
-pub(crate) fn is_reserved(name: &[u8]) -> bool
-    ensures { result ≡ is_reserved name.now }
+/// The names behind the flip-flops', where the stack has so many words: nine at most.
+fn names_behind(stack: u8) -> &'static [&'static [u8]]
+    ensures { map (λ name. name.now) result.now ≡ names_behind stack }
 {
-    is_one_of(&BEFORE, name) || is_one_of(&BEHIND, name) || is_one_of(&STACK_POINTER, name)
+    &BEHIND[..2 + usize::from(stack.min(9))]
+}
+
+/// Whether an element of each board whose stack has so many words has the name.
+pub(crate) fn is_reserved(stack: u8, name: &[u8]) -> bool
+    ensures { result ≡ is_reserved stack name.now }
+{
+    is_one_of(&BEFORE, name)
+        || is_one_of(names_behind(stack), name)
+        || is_one_of(&STACK_POINTER, name)
 }
 
 /// The name at a place, if there is one.
@@ -65,12 +75,11 @@ fn flipflop_of(flipflops: &[FlipFlop], name: &[u8]) -> Option<usize>
 }
 
 impl Board {
-    /// The names behind the flip-flops'.
-    #[tactic(auto, unfolding(crate::specs::Depth::depth_of))]
+    /// The names behind its flip-flops'.
     fn names_behind(&self) -> &'static [&'static [u8]]
         ensures { map (λ name. name.now) result.now ≡ names_behind_of self.now }
     {
-        &BEHIND[..2 + usize::from(self.depth())]
+        names_behind(self.depth())
     }
 
     /// The name of the stack pointer, which has no number among the elements.
@@ -82,7 +91,7 @@ impl Board {
 
     /// How many elements it has: what a name of a relation, an environment or a script can stand for. Each has a
     /// number, from 0: the registers `r0` to `r15`, `q`, `mar`, `ir`, the flip-flops in their order, `upc`, `count`,
-    /// and the words of the stack, `stack0` to `stack4`.
+    /// and the words of the stack from `stack0` on.
     pub fn element_count(&self) -> usize
         ensures { result ≡ element_count self.now }
     {

@@ -14,18 +14,20 @@ pub const FILL: u8 = 4;
 pub const UNSET: u8 = 5;
 /// vector.
 pub const VECTOR: u8 = 6;
+/// stack.
+pub const STACK: u8 = 7;
 /// fields.
-pub const FIELDS: u8 = 7;
+pub const FIELDS: u8 = 8;
 /// flipflop.
-pub const FLIPFLOP: u8 = 8;
+pub const FLIPFLOP: u8 = 9;
 /// flipflop.N.name.
-pub const NAME: u8 = 9;
+pub const NAME: u8 = 10;
 /// flipflop.N.control.
-pub const CONTROL: u8 = 10;
+pub const CONTROL: u8 = 11;
 /// flipflop.N.load.
-pub const LOAD: u8 = 11;
+pub const LOAD: u8 = 12;
 /// control.alu_source, behind which the other points stand.
-pub const FIRST_POINT: u8 = 12;
+pub const FIRST_POINT: u8 = 13;
 /// select.carry_in, behind the points.
 pub const CARRY_IN: u8 = FIRST_POINT + Point::ALL.len() as u8;
 /// select.condition.

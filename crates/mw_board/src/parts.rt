@@ -20,6 +20,8 @@ pub struct BoardParts {
     pub unset: u128,
     /// The address that the vector gives, of 12 bits.
     pub vector: u16,
+    /// How many words the sequencer's stack has: 5, as that of an Am2910, or 9, as that of an Am2910A.
+    pub stack: u8,
     /// The fields, at most 64, in byte order of their names.
     pub fields: Items<NamedField>,
     /// The flip-flops, at most 16.

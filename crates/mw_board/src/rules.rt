@@ -3,11 +3,12 @@ ghost use Rattle.std.specs.Prelude.{◌≡◌, ◌+◌, ◌^◌, ◌<◌, ◌≤
 ghost use Rattle.std.specs.List.{list_any};
 ghost use Rattle.std.specs.Str.{bytes_eq};
 ghost use Rattle.mw_board.specs.Rules.{ask, all_of, width_rule, microword_rule, address_rule, word_rule};
-ghost use Rattle.mw_board.specs.Rules.{vector_rule, fields_rule, name_rule, field_rule, flipflops_rule};
+ghost use Rattle.mw_board.specs.Rules.{vector_rule, stack_rule, fields_rule, name_rule, field_rule, flipflops_rule};
 ghost use Rattle.mw_board.specs.Rules.{is_flipflop_name, flipflop_name_rule, width_of};
 ghost use Rattle.mw_board.specs.Rules.{control_rule, point_rule, driver_rule, chosen_rule, list_rule, bit_rule};
 ghost use Rattle.mw_board.specs.Rules.{carry_in_rule, load_rule, source_rule, mask_rule, d_source_rule};
 ghost use Rattle.mw_board.specs.Rules.{map_bits_rule, map_entry_rule, map_size, map_entries_rule};
+ghost use Rattle.mw_seq.specs.Sequencer.{IsDepth};
 
 use crate::bit::{Bit, DFrom, DSource, Load};
 use crate::control::Control;
@@ -16,6 +17,7 @@ use crate::field::NamedField;
 use crate::flipflop::FlipFlop;
 use crate::point::Point;
 use mw_base::{Cause, is_name};
+use mw_seq::is_depth;
 
 /// The cause, where the test doesn't hold.
 fn ask(test: bool, cause: Cause) -> Result<(), Cause>
@@ -79,6 +81,15 @@ pub fn vector_rule(vector: u64) -> Result<(), Cause>
     ask(vector < 4096, Cause::BadValue)
 }
 
+/// Cause 24 where a stack has neither 5 nor 9 words.
+#[tactic(auto, unfolding(crate::specs::Rules::stack_rule))]
+pub fn stack_rule(stack: u64) -> Result<(), Cause>
+    ensures exact { result ≡ stack_rule stack }
+    ensures kept { OnOk result (IsDepth stack) }
+{
+    ask(is_depth(stack), Cause::BadValue)
+}
+
 /// Cause 14 where there are more than 64 fields.
 #[tactic(auto, unfolding(crate::specs::Rules::fields_rule))]
 pub fn fields_rule(count: usize) -> Result<(), Cause>
@@ -124,14 +135,14 @@ fn is_flipflop_name(flipflops: &[FlipFlop], name: &[u8]) -> bool
     flipflops.iter().any(|f| name == f.name.as_slice())
 }
 
-/// Cause 24 where the text is no name, then cause 31 where another element of the board, or a flip-flop before this
-/// one, has it.
+/// Cause 24 where the text is no name, then cause 31 where another element of the board, whose stack has `stack` words,
+/// or a flip-flop before this one, has it.
 #[tactic(auto, unfolding(crate::specs::Rules::flipflop_name_rule))]
-pub fn flipflop_name_rule(earlier: &[FlipFlop], name: &[u8]) -> Result<(), Cause>
-    ensures { result ≡ flipflop_name_rule earlier.now name.now }
+pub fn flipflop_name_rule(stack: u8, earlier: &[FlipFlop], name: &[u8]) -> Result<(), Cause>
+    ensures { result ≡ flipflop_name_rule stack earlier.now name.now }
 {
     ask(is_name(name), Cause::BadValue)?;
-    ask(!is_reserved(name), Cause::Twice)?;
+    ask(!is_reserved(stack, name), Cause::Twice)?;
     ask(!is_flipflop_name(earlier, name), Cause::Twice)
 }
 
