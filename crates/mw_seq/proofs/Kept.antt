@@ -1,6 +1,7 @@
 -- A word of a stack that is kept in nine words takes a value.
 use Rattle.std.proofs.Common.{◌≡◌, ℕ, zero, suc, ◌-◌, ◌<◌, ◌^◌, List, [], ◌∷◌, ◌++◌, length, replicate, take, slice_index}
 use Rattle.std.proofs.Common.{slice_set, refl, sym, ap, subst, ◌∙◌, arith}
+use Rattle.std.proofs.lemmas.Grind.{common_steps}
 use Rattle.std.proofs.lemmas.List.{length-set}
 use Rattle.mw_seq.specs.Sequencer.{Sequencer, IsSequencer}
 use Rattle.mw_seq.specs.Kept.{nine_words, IsKept}
@@ -19,13 +20,9 @@ take_set (suc d) (x ∷ xs) zero v = refl
 take_set (suc d) (x ∷ xs) (suc n) v = ap (λ (rest : List ℕ). x ∷ rest) (take_set d xs n v)
 
 -- each word is below a bound, also behind the end
-set_below : (b v : ℕ) → v < b → (xs : List ℕ) (n : ℕ) → ((i : ℕ) → slice_index xs i < b)
-    → (i : ℕ) → slice_index (slice_set xs n v) i < b
-set_below b v h [] n below i = below i
-set_below b v h (x ∷ xs) zero below zero = h
-set_below b v h (x ∷ xs) zero below (suc i) = below (suc i)
-set_below b v h (x ∷ xs) (suc n) below zero = below 0
-set_below b v h (x ∷ xs) (suc n) below (suc i) = set_below b v h xs n (λ k. below (suc k)) i
+set_below : (b v : ℕ) (words : List ℕ) (n i : ℕ) → v < b → slice_index words i < b
+    → slice_index (slice_set words n v) i < b
+set_below b v words n i h below = grind (arith, common_steps, below)
 
 -- a word of a sequencer's stack takes a value
 pub set_fits : (d n v : ℕ) (s : Sequencer) → IsSequencer d s → v < 2 ^ 12
@@ -33,7 +30,7 @@ pub set_fits : (d n v : ℕ) (s : Sequencer) → IsSequencer d s → v < 2 ^ 12
 set_fits d n v s fits h = record {
   pc = fits.pc;
   r = fits.r;
-  words = set_below (2 ^ 12) v h s.stack n fits.words;
+  words = λ i. set_below (2 ^ 12) v s.stack n i h (fits.words i);
   size = length-set s.stack n v ∙ fits.size;
   sp = fits.sp;
 }
