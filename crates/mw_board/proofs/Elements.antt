@@ -1,7 +1,7 @@
 -- The elements of a board by number and by name.
 use Rattle.std.proofs.Common.{◌≡◌, ℕ, zero, suc, ◌+◌, ◌-◌, ◌<◌, ◌≤◌, ◌≢◌, List, [], ◌∷◌, ◌++◌, map, length, Bool, true}
 use Rattle.std.proofs.Common.{false, cond, append-nil, Option, Some, None, slice_get, option_map, refl, sym, ap, ◌∙◌}
-use Rattle.std.proofs.Common.{arith, inl, inr, min, take}
+use Rattle.std.proofs.Common.{arith, inl, inr, min, take, if◌then◌else◌, ◌==◌}
 use Rattle.std.specs.List.{position, position_from}
 use Rattle.std.specs.Str.{bytes_eq}
 use Rattle.std.proofs.lemmas.Bool.{cases_lt}
@@ -100,25 +100,38 @@ count_is board =
     ∙ length-append names_before (flipflops ++ names_behind_of board) in
     omega (arith, all, both, before, whole)
 
--- the least and the most words that a stack has
-pub words_least : (depth : ℕ) → IsDepth depth → 5 ≤ depth
-words_least depth (inl five) = omega (arith, five)
-words_least depth (inr nine) = omega (arith, nine)
+five_or_nine : (nine : Bool) → IsDepth (if nine then 9 else 5)
+five_or_nine true = inr refl
+five_or_nine false = inl refl
 
-pub words_few : (depth : ℕ) → IsDepth depth → depth ≤ 9
-words_few depth (inl five) = omega (arith, five)
-words_few depth (inr nine) = omega (arith, nine)
+-- a board's stack has five words or nine
+pub depth_known : (board : BoardParts) → IsDepth (depth_of board)
+unfolding depth_of
+depth_known board = five_or_nine (board.stack == 9)
+
+-- the least and the most words that a stack has
+pub words_least : (board : BoardParts) → 5 ≤ depth_of board
+words_least board = elim (depth_known board) [
+  | inl five ↦ omega (arith, five)
+  | inr nine ↦ omega (arith, nine)
+]
+
+pub words_few : (board : BoardParts) → depth_of board ≤ 9
+words_few board = elim (depth_known board) [
+  | inl five ↦ omega (arith, five)
+  | inr nine ↦ omega (arith, nine)
+]
 
 -- behind the flip-flops are two counters, and each word of the stack
-pub behind_count : (board : BoardParts) → IsDepth (depth_of board)
-    → length (names_behind_of board) ≡ 2 + depth_of board
-behind_count board (inl five) = rw five refl
-behind_count board (inr nine) = rw nine refl
+pub behind_count : (board : BoardParts) → length (names_behind_of board) ≡ 2 + depth_of board
+behind_count board = elim (depth_known board) [
+  | inl five ↦ rw five refl
+  | inr nine ↦ rw nine refl
+]
 
 -- how many elements there are
-pub count_of : (board : BoardParts) → IsDepth (depth_of board)
-    → element_count board ≡ 21 + length board.flipflop + depth_of board
-count_of board known = omega (arith, count_is board, behind_count board known)
+pub count_of : (board : BoardParts) → element_count board ≡ 21 + length board.flipflop + depth_of board
+count_of board = omega (arith, count_is board, behind_count board)
 
 -- no stack has more words than there are names for
 pub take_some : (depth : ℕ) → take (min depth 9) stack_names ≡ take depth stack_names

@@ -223,7 +223,7 @@ map_entries_kept bits entries e = eqb-true entries (map_size bits) (asked (entri
 -- ---- the keys
 
 sizes_are : (p : BoardParts) → sizes_check p ≡ Ok tt → AreSizes p
-unfolding sizes_check depth_of
+unfolding sizes_check
 sizes_are p e =
     let kept = all_kept (sizes_tests p) e in
     let width = width_kept p.width (at_place width_key 0 0 (width_rule p.width) kept.0) in
@@ -281,7 +281,7 @@ flipflop_is : (p : BoardParts) (earlier : List FlipFlop) (i : ℕ) (f : FlipFlop
     → flipflop_check p earlier i f ≡ Ok tt → IsFlipFlop p f
 unfolding flipflop_check
 flipflop_is p earlier i f e =
-    let kept = all_kept (at_flipflop name_key i (flipflop_name_rule p.stack earlier f.name)
+    let kept = all_kept (at_flipflop name_key i (flipflop_name_rule (depth_of p) earlier f.name)
     ∷ at_flipflop control_key i (control_rule p.fields f.control)
     ∷ list_check (in_load i) p.fields f.control (load_rule p.width (length p.flipflop)) f.load ∷ []) e in
     list_is (IsLoad p.width (length p.flipflop)) (in_load i)

@@ -8,6 +8,7 @@ use Rattle.mw_board.specs.declared.flipflop.FlipFlop.{FlipFlop}
 use Rattle.mw_board.specs.declared.control.Points.{Points}
 use Rattle.mw_board.specs.declared.parts.BoardParts.{BoardParts}
 use Rattle.mw_board.specs.declared.point.Point.{Point}
+use Rattle.mw_board.specs.Depth.{depth_of}
 use Rattle.mw_board.specs.Keys.{width_key, microword_key, address_key, fill_key, unset_key, vector_key, stack_key}
 use Rattle.mw_board.specs.Keys.{fields_key, flipflop_key, name_key, control_key, load_key, first_point_key, carry_in_key}
 use Rattle.mw_board.specs.Keys.{condition_key, ram_link_key, q_link_key, d_key, map_bits_key, map_entries_key}
@@ -92,7 +93,7 @@ fields_check p =
 -- a flip-flop's name, control and load
 unfoldable pub flipflop_check : BoardParts → List FlipFlop → ℕ → FlipFlop → Checked
 flipflop_check p earlier i f = all_of (
-    at_flipflop name_key i (flipflop_name_rule p.stack earlier f.name)
+    at_flipflop name_key i (flipflop_name_rule (depth_of p) earlier f.name)
     ∷ at_flipflop control_key i (control_rule p.fields f.control)
     ∷ list_check (in_load i) p.fields f.control (load_rule p.width (length p.flipflop)) f.load
     ∷ [])

@@ -46,7 +46,7 @@ names_before = register_names ++ address_register_name ∷ instruction_register_
 
 -- the names behind them, where the stack has so many words
 abbrev pub names_behind : ℕ → List (List ℕ)
-names_behind stack = counter_names ++ take stack stack_names
+names_behind depth = counter_names ++ take depth stack_names
 
 -- those that a board has
 abbrev pub names_behind_of : BoardParts → List (List ℕ)
@@ -85,6 +85,6 @@ element_number board name = position (bytes_eq name) (map (λ element. element.n
 
 -- an element of each board whose stack has so many words has the name
 abbrev pub is_reserved : ℕ → List ℕ → Bool
-is_reserved stack name =
+is_reserved depth name =
     list_any (bytes_eq name) names_before
-    || (list_any (bytes_eq name) (names_behind stack) || bytes_eq name stack_pointer_name)
+    || (list_any (bytes_eq name) (names_behind depth) || bytes_eq name stack_pointer_name)

@@ -91,9 +91,9 @@ is_flipflop_name flipflops name = list_any (λ f. bytes_eq name f.name) flipflop
 -- the name of a flip-flop, on a board whose stack has so many words: no other element's, and none of the flip-flops
 -- before it
 unfoldable pub flipflop_name_rule : ℕ → List FlipFlop → List ℕ → Verdict
-flipflop_name_rule stack earlier name = all_of (
+flipflop_name_rule depth earlier name = all_of (
     ask (is_name name) BadValue
-    ∷ ask (not (is_reserved stack name)) Twice
+    ∷ ask (not (is_reserved depth name)) Twice
     ∷ ask (not (is_flipflop_name earlier name)) Twice
     ∷ [])
 

@@ -78,11 +78,10 @@ impl Board {
     }
 
     /// How many words the sequencer's stack has, 5 or 9.
-    #[tactic(auto, unfolding(crate::specs::Depth::depth_of))]
     pub fn depth(&self) -> u8
         ensures exact { result ≡ depth_of self.now }
         ensures known { IsDepth result }
     {
-        self.parts().stack
+        self.parts().depth()
     }
 }

@@ -248,7 +248,7 @@ fn check_flipflop(
         key::NAME,
         number,
         0,
-        rules::flipflop_name_rule(parts.stack, earlier, flipflop.name.as_slice()),
+        rules::flipflop_name_rule(parts.depth(), earlier, flipflop.name.as_slice()),
     )?;
     placed(
         key::CONTROL,

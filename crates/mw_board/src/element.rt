@@ -28,18 +28,18 @@ const BEHIND: [&[u8]; 11] = [
 const STACK_POINTER: [&[u8]; 1] = [b"sp"];
 
 /// The names behind the flip-flops', where the stack has so many words: nine at most.
-fn names_behind(stack: u8) -> &'static [&'static [u8]]
-    ensures { map (λ name. name.now) result.now ≡ names_behind stack }
+fn names_behind(depth: u8) -> &'static [&'static [u8]]
+    ensures { map (λ name. name.now) result.now ≡ names_behind depth }
 {
-    &BEHIND[..2 + usize::from(stack.min(9))]
+    &BEHIND[..2 + usize::from(depth.min(9))]
 }
 
 /// Whether an element of each board whose stack has so many words has the name.
-pub(crate) fn is_reserved(stack: u8, name: &[u8]) -> bool
-    ensures { result ≡ is_reserved stack name.now }
+pub(crate) fn is_reserved(depth: u8, name: &[u8]) -> bool
+    ensures { result ≡ is_reserved depth name.now }
 {
     is_one_of(&BEFORE, name)
-        || is_one_of(names_behind(stack), name)
+        || is_one_of(names_behind(depth), name)
         || is_one_of(&STACK_POINTER, name)
 }
 

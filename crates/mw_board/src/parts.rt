@@ -1,4 +1,8 @@
 // The parts of a board.
+ghost use Rattle.std.specs.Prelude.{◌≡◌};
+ghost use Rattle.mw_seq.specs.Sequencer.{IsDepth};
+ghost use Rattle.mw_board.specs.Depth.{depth_of};
+
 use crate::bit::{Bit, DSource};
 use crate::control::Points;
 use crate::field::NamedField;
@@ -44,4 +48,15 @@ pub struct BoardParts {
     pub map_bits: u8,
     /// The address, of 12 bits, that it gives for each of their values. Without bits there is none, and it gives 0.
     pub map_entries: Items<u16>,
+}
+
+impl BoardParts {
+    /// How many words the sequencer's stack has: 9 as that of an Am2910A, else 5.
+    #[tactic(auto, unfolding(crate::specs::Depth::depth_of))]
+    pub fn depth(&self) -> u8
+        ensures exact { result ≡ depth_of self.now }
+        ensures known { IsDepth result }
+    {
+        if self.stack == 9 { 9 } else { 5 }
+    }
 }

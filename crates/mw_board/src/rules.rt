@@ -135,14 +135,14 @@ fn is_flipflop_name(flipflops: &[FlipFlop], name: &[u8]) -> bool
     flipflops.iter().any(|f| name == f.name.as_slice())
 }
 
-/// Cause 24 where the text is no name, then cause 31 where another element of the board, whose stack has `stack` words,
+/// Cause 24 where the text is no name, then cause 31 where another element of the board, whose stack has `depth` words,
 /// or a flip-flop before this one, has it.
 #[tactic(auto, unfolding(crate::specs::Rules::flipflop_name_rule))]
-pub fn flipflop_name_rule(stack: u8, earlier: &[FlipFlop], name: &[u8]) -> Result<(), Cause>
-    ensures { result ≡ flipflop_name_rule stack earlier.now name.now }
+pub fn flipflop_name_rule(depth: u8, earlier: &[FlipFlop], name: &[u8]) -> Result<(), Cause>
+    ensures { result ≡ flipflop_name_rule depth earlier.now name.now }
 {
     ask(is_name(name), Cause::BadValue)?;
-    ask(!is_reserved(stack, name), Cause::Twice)?;
+    ask(!is_reserved(depth, name), Cause::Twice)?;
     ask(!is_flipflop_name(earlier, name), Cause::Twice)
 }
 

@@ -1,6 +1,6 @@
 -- States that fit a board: the cleared one, and those that the tests of each part find.
 use Rattle.std.proofs.Common.{◌≡◌, ℕ, ◌+◌, ◌-◌, ◌*◌, ◌%◌, ◌^◌, ◌<◌, ◌≤◌, List, length, get_or, slice_index, replicate}
-use Rattle.std.proofs.Common.{Bool, true, false, ◌&&◌, nat_le, nat_lt, ◌==◌, inl, inr, refl, sym, arith}
+use Rattle.std.proofs.Common.{Bool, true, false, ◌&&◌, nat_le, nat_lt, ◌==◌, inl, inr, refl, subst, sym, arith}
 use Rattle.std.specs.List.{All, list_all}
 use Rattle.std.proofs.lemmas.Bool.{cases_lt, eqb-true, eq-eqb, ltb-true, lt-ltb}
 use Rattle.std.proofs.lemmas.List.{get_or-replicate, get_or_past}
@@ -82,7 +82,8 @@ both true b e = (refl, e)
 both false b e = absurd cc
 
 -- a state in range fits
-pub in_range_fits : (board : BoardParts) (s : BoardState) → IsSequencer (depth_of board) s.seq → length s.regs ≡ 16
+pub in_range_fits : (board : BoardParts) (s : BoardState) → IsSequencer (length s.seq.stack) s.seq
+    → length s.regs ≡ 16
     → (are_words board s && is_sized board s) ≡ true → Fits board s
 unfolding are_words is_sized
 in_range_fits board s seq sixteen e =
@@ -93,11 +94,14 @@ in_range_fits board s seq sixteen e =
     let ir_in = nat_lt s.ir (2 ^ board.width) in
     let flips_in = nat_lt s.flips (2 ^ length board.flipflop) in
     let size_is = length s.memory == 2 ^ board.address in
-    let all = both (words s.regs && q_in && ir_in && words s.memory) (at_in && mar_in && flips_in && size_is) e in
+    let depth_is = length s.seq.stack == depth_of board in
+    let all = both (words s.regs && q_in && ir_in && words s.memory)
+    (at_in && mar_in && flips_in && size_is && depth_is) e in
     let memory = both (words s.regs && q_in && ir_in) (words s.memory) all.0 in
     let ir = both (words s.regs && q_in) ir_in memory.0 in
     let q = both (words s.regs) q_in ir.0 in
-    let size = both (at_in && mar_in && flips_in) size_is all.1 in
+    let depth = both (at_in && mar_in && flips_in && size_is) depth_is all.1 in
+    let size = both (at_in && mar_in && flips_in) size_is depth.0 in
     let flips = both (at_in && mar_in) flips_in size.0 in
     let mar = both at_in mar_in flips.0 in
     record {
@@ -108,7 +112,7 @@ in_range_fits board s seq sixteen e =
       mar = ltb-true s.mar (2 ^ board.address) mar.1;
       ir = ltb-true s.ir (2 ^ board.width) ir.1;
       flips = ltb-true s.flips (2 ^ length board.flipflop) flips.1;
-      seq = seq;
+      seq = subst (λ (d : ℕ). IsSequencer d s.seq) (eqb-true (length s.seq.stack) (depth_of board) depth.1) seq;
       size = eqb-true (length s.memory) (2 ^ board.address) size.1;
       memory = words_are board.width s.memory memory.1;
     }
@@ -127,4 +131,5 @@ fits_in_range board s fits =
       lt-ltb s.mar (2 ^ board.address) fits.mar,
       lt-ltb s.flips (2 ^ length board.flipflop) fits.flips,
       eq-eqb (length s.memory) (2 ^ board.address) fits.size,
+      eq-eqb (length s.seq.stack) (depth_of board) fits.seq.size,
     ) refl

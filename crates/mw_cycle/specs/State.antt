@@ -6,7 +6,7 @@ use Rattle.mw_board.specs.declared.parts.BoardParts.{BoardParts}
 use Rattle.mw_board.specs.Depth.{depth_of}
 
 -- the control address in the pipeline register, the Am2901's registers and Q, the memory address register, the
--- instruction register, the flip-flops (flip-flop n is bit n), the Am2910, and the memory image
+-- instruction register, the flip-flops (flip-flop n is bit n), the sequencer, and the memory image
 pub record BoardState : Type 0 where
   pub at : ℕ
   pub regs : List ℕ
@@ -17,7 +17,7 @@ pub record BoardState : Type 0 where
   pub seq : Sequencer
   pub memory : List ℕ
 
--- each part is in range, and the memory has each of its words
+-- each part is in range, the sequencer's depth is the board's, and the memory has each of its words
 pub record Fits (board : BoardParts) (s : BoardState) : Type 0 where
   pub at : s.at < 2 ^ 12
   pub sixteen : length s.regs ≡ 16
@@ -38,13 +38,14 @@ are_words board s =
     && nat_lt s.ir (2 ^ board.width)
     && list_all (λ word. nat_lt word (2 ^ board.width)) s.memory
 
--- the addresses and the flip-flops are in range, and the memory has each of its words
+-- the addresses and the flip-flops are in range, and the memory and the stack have each of their words
 unfoldable pub is_sized : BoardParts → BoardState → Bool
 is_sized board s =
     nat_lt s.at (2 ^ 12)
     && nat_lt s.mar (2 ^ board.address)
     && nat_lt s.flips (2 ^ length board.flipflop)
     && (length s.memory == 2 ^ board.address)
+    && (length s.seq.stack == depth_of board)
 
 -- everything is 0
 unfoldable pub cleared : BoardParts → BoardState

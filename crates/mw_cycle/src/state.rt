@@ -23,20 +23,20 @@ pub struct State {
     pub ir: u32,
     /// The flip-flops: flip-flop n is bit n.
     pub flips: u16,
-    /// The Am2910.
+    /// The sequencer.
     pub seq: Seq,
     /// The memory's words, by address.
     pub memory: Vec<u32>,
 }
 
 impl Model for State {
-    ghost use Rattle.mw_seq.specs.declared.sequencer.TheConstants.{DEPTH};
+    ghost use Rattle.std.specs.Prelude.{length};
     ghost use Rattle.mw_seq.specs.Sequencer.{IsSequencer};
     ghost use Rattle.mw_cycle.specs.State.{BoardState};
 
     ghost Value = { BoardState };
 
-    ghost invariant = { λ s. IsSequencer DEPTH s.seq };
+    ghost invariant = { λ s. IsSequencer (length s.seq.stack) s.seq };
 
     ghost view = { λ s. record {
       at = s.at;
@@ -78,7 +78,6 @@ fn have_bits(words: &[u32], bits: u8) -> bool
 
 impl State {
     ghost use Rattle.mw_seq.specs.Sequencer.{IsSequencer};
-    ghost use Rattle.mw_board.specs.Depth.{depth_of};
     ghost use Rattle.mw_cycle.specs.State.{Fits, are_words, is_sized, cleared};
 
     #[tactic(auto, unfolding(crate::specs::State::cleared))]
@@ -139,23 +138,24 @@ impl State {
             & have_bits(&self.memory, width)
     }
 
-    /// Whether the addresses and the flip-flops are in their ranges, and the memory has each of its words.
+    /// Whether the addresses and the flip-flops are in their ranges, and the memory and the stack have each of their
+    /// words.
     #[tactic(auto, unfolding(crate::specs::State::is_sized))]
     fn is_sized(&self, board: &Board) -> bool
         ensures exact { result ≡ is_sized board.now self.now }
-        ensures sequencer { IsSequencer (depth_of board.now) self.now.seq }
+        ensures sequencer { IsSequencer (length self.now.seq.stack) self.now.seq }
     {
-        // A call for the proof: its clause `known` says that a board's stack has as many words as a sequencer's.
-        let _ = board.depth();
         let parts = board.parts();
         let flipflops = parts.flipflop.as_slice().len() as u8;
         has_bits(u32::from(self.at), 12)
             & has_bits(self.mar, parts.address)
             & has_bits(u32::from(self.flips), flipflops)
             & is_two_to(self.memory.len(), parts.address)
+            & (self.seq.depth() == board.depth())
     }
 
-    /// Whether the state fits a board: each part is in its range, and the memory has each of its words.
+    /// Whether the state fits a board: each part is in its range, the memory has each of its words, and the stack as many
+    /// as the board's.
     pub fn fits(&self, board: &Board) -> bool
         ensures { IsTrue result ↔ Fits board.now self.now }
     {
