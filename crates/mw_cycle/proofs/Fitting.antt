@@ -1,7 +1,7 @@
 -- States that fit a board: the cleared one, and those that the tests of each part find.
-use Rattle.std.proofs.Common.{◌≡◌, ℕ, ◌+◌, ◌-◌, ◌*◌, ◌%◌, ◌^◌, ◌<◌, ◌≤◌, List, length, get_or, slice_index, replicate}
-use Rattle.std.proofs.Common.{Bool, true, false, ◌&&◌, nat_le, nat_lt, ◌==◌, inl, inr, refl, subst, sym, arith}
-use Rattle.std.specs.List.{All, list_all}
+use Rattle.std.proofs.Common.{◌≡◌, ℕ, ◌^◌, ◌<◌, List, length, get_or, slice_index, replicate}
+use Rattle.std.proofs.Common.{Bool, true, false, ◌&&◌, nat_lt, ◌==◌, inl, inr, refl, subst, arith}
+use Rattle.std.specs.List.{list_all}
 use Rattle.std.proofs.lemmas.Bool.{cases_lt, eqb-true, eq-eqb, ltb-true, lt-ltb}
 use Rattle.std.proofs.lemmas.List.{get_or-replicate, get_or_past}
 use Rattle.std.proofs.lemmas.List.Sums.{AllPass-from_list_all, list_all-from_AllPass}

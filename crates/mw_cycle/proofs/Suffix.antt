@@ -1,6 +1,6 @@
 -- Runs and boundaries go on from the place that they have reached.
-use Rattle.std.proofs.Common.{◌≡◌, ℕ, zero, suc, ◌+◌, ◌<◌, ◌≤◌, List, [], ◌∷◌, ◌++◌, drop, Option, Some, None}
-use Rattle.std.proofs.Common.{slice_index, slice_index_or, Bool, true, false, refl, ap, sym, ◌∙◌, subst, add-one}
+use Rattle.std.proofs.Common.{◌≡◌, ℕ, zero, suc, ◌+◌, List, [], ◌++◌, Option, Some, None}
+use Rattle.std.proofs.Common.{false, refl, ap, sym, ◌∙◌, subst}
 use Rattle.std.proofs.Common.{add-zero, add_assoc, ◌-◌, append_assoc, arith}
 use Rattle.std.specs.Option.{option_to_list}
 use Rattle.std.proofs.lemmas.List.{get_or-drop, append-nil}

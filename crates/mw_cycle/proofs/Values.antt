@@ -1,19 +1,16 @@
 -- The elements of a board's state: what has a number, and what stays when one of them takes a value.
-use Rattle.std.proofs.Common.{◌≡◌, ◌≢◌, ℕ, zero, suc, ◌+◌, ◌-◌, ◌*◌, ◌/◌, ◌%◌, ◌^◌, ◌<◌, ◌≤◌, List, length, slice_index}
-use Rattle.std.proofs.Common.{slice_set, Bool, true, false, cond, ◌==◌, nat_lt, bit_and, bit_or, Some, inl, inr, refl}
-use Rattle.std.proofs.Common.{sym, ap, ◌∙◌, subst, arith, get_or-set_same, get_or-set_other}
+use Rattle.std.proofs.Common.{◌≡◌, ◌≢◌, ℕ, zero, suc, ◌+◌, ◌-◌, ◌^◌, ◌<◌, ◌≤◌, length}
+use Rattle.std.proofs.Common.{Bool, true, false, cond, ◌==◌, nat_lt, bit_and, bit_or, Some, refl}
+use Rattle.std.proofs.Common.{sym, ap, ◌∙◌, arith, get_or-set_same, get_or-set_other}
 use Rattle.std.specs.Int.{bit_at, w16}
-use Rattle.std.proofs.lemmas.Bool.{cases_lt, cases_order, lt-ltb, le-ltb, eq-eqb}
 use Rattle.std.proofs.lemmas.Bool.Decides.{nat_tests}
-use Rattle.std.proofs.lemmas.Grind.{common_steps}
-use Rattle.std.proofs.lemmas.Nat.{one_shl, or_lt, and_le_l, pow_pos, pow_below}
+use Rattle.std.proofs.lemmas.Nat.{one_shl, or_lt, and_le_l, pow_below}
 use Rattle.std.proofs.lemmas.Nat.Bits.{bit_at-lt, bit_at_set_same, bit_at_set_other, bit_at_clear_same}
 use Rattle.std.proofs.lemmas.Nat.Bits.{bit_at_clear_other}
 use Rattle.mw_base.specs.Words.{bit_of, num, complement}
-use Rattle.mw_seq.specs.Sequencer.{Sequencer, IsSequencer}
 use Rattle.mw_board.specs.declared.parts.BoardParts.{BoardParts}
 use Rattle.mw_board.specs.Depth.{depth_of}
-use Rattle.mw_board.specs.Elements.{element_count, element_width, names_behind_of}
+use Rattle.mw_board.specs.Elements.{element_count, element_width}
 use Rattle.mw_board.proofs.Elements.{count_of, width_of_address, width_before, width_of_flipflop, width_behind}
 use Rattle.mw_cycle.specs.declared.elements.Element.{Element}
 use Rattle.mw_cycle.specs.declared.elements.Element.TheVariants.{Register, Q, Mar, Ir, FlipFlop, Pc, R, StackWord}

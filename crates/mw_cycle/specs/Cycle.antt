@@ -1,6 +1,6 @@
 -- One cycle of a board (Mick and Brick: one pipeline register), in the seven points of its order. All that is read is
 -- read before the edge.
-use Rattle.std.specs.Prelude.{ℕ, ◌+◌, ◌-◌, ◌*◌, ◌%◌, ◌^◌, List, [], ◌∷◌, Bool, true, false, not, if◌then◌else◌, ◌==◌}
+use Rattle.std.specs.Prelude.{ℕ, ◌+◌, ◌-◌, ◌*◌, ◌%◌, ◌^◌, List, [], ◌∷◌, Bool, true, false, not, if◌then◌else◌}
 use Rattle.std.specs.Prelude.{◌||◌, slice_get, slice_index, slice_set, bit_and, Option, Some, None}
 use Rattle.mw_base.specs.Words.{bit_of, differ, num, part}
 use Rattle.mw_base.specs.declared.event.Event.{Event}

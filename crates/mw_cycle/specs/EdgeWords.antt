@@ -1,6 +1,6 @@
 -- The words of the edge, and where a board then is.
 use Rattle.std.specs.Prelude.{ℕ, ◌+◌, ◌-◌, ◌%◌, ◌^◌, List, [], ◌∷◌, ◌++◌, Bool, true, false, nat_lt, if◌then◌else◌}
-use Rattle.std.specs.Prelude.{slice_index, slice_set, Option, Some, None}
+use Rattle.std.specs.Prelude.{slice_set, Option, Some, None}
 use Rattle.mw_base.specs.Words.{num}
 use Rattle.mw_alu.specs.declared.instruction.Destination.{Destination}
 use Rattle.mw_alu.specs.declared.instruction.Destination.TheVariants as destinations
@@ -24,7 +24,7 @@ use Rattle.mw_seq.specs.declared.instruction.StackMove.{StackMove}
 use Rattle.mw_seq.specs.declared.instruction.StackMove.TheVariants as moves
 use Rattle.mw_term.specs.declared.event.SymEvent.{SymEvent}
 use Rattle.mw_term.specs.declared.event.SymEvent.TheVariants.{Out, Taken}
-use Rattle.mw_term.specs.declared.op.Op.TheVariants.{Not, Xor, Part, Join}
+use Rattle.mw_term.specs.declared.op.Op.TheVariants.{Xor, Part, Join}
 use Rattle.mw_term.specs.MemoryRead.{Held, held}
 use Rattle.mw_term.specs.WordList.{WordList, Ended, ended, with_constant, with_word, with_complement, with_part}
 

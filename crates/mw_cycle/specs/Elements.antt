@@ -1,6 +1,6 @@
 -- The values of a board's elements in a state, by the numbers of the table of elements.
-use Rattle.std.specs.Prelude.{ℕ, ◌+◌, ◌-◌, ◌<◌, ◌^◌, List, length, Bool, if◌then◌else◌, ◌==◌, nat_lt, slice_index}
-use Rattle.std.specs.Prelude.{slice_set, bit_and, bit_or, Option, IfSome}
+use Rattle.std.specs.Prelude.{ℕ, ◌+◌, ◌-◌, ◌<◌, ◌^◌, length, if◌then◌else◌, ◌==◌, nat_lt, slice_index}
+use Rattle.std.specs.Prelude.{slice_set, bit_and, bit_or, IfSome}
 use Rattle.mw_base.specs.Words.{bit_of, num, complement}
 use Rattle.mw_board.specs.declared.parts.BoardParts.{BoardParts}
 use Rattle.mw_board.specs.Depth.{depth_of}

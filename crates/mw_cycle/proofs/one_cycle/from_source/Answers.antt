@@ -1,4 +1,4 @@
-use Rattle.std.proofs.Common.{◌≡◌, ◌<◌, ◌≤◌, ◌^◌, arith}
+use Rattle.std.proofs.Common.{◌<◌, ◌≤◌, ◌^◌, arith}
 use Rattle.mw_base.specs.Words.{num}
 use Rattle.mw_cycle.proofs.Ranges.{short_below, bit_below}
 use Rattle.mw_cycle.proofs.one_cycle.from_source.Goals as goal

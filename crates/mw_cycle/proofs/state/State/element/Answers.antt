@@ -1,4 +1,4 @@
-use Rattle.std.proofs.Common.{◌≡◌, ◌<◌, ◌^◌, Some, sym, rules}
+use Rattle.std.proofs.Common.{◌<◌, ◌^◌}
 use Rattle.mw_cycle.specs.Elements.{bits_of, element_of}
 use Rattle.mw_cycle.proofs.Values.{is_element, width_is}
 use Rattle.mw_cycle.proofs.state.State.element.Goals as goal

@@ -1,6 +1,5 @@
-use Rattle.std.proofs.Common.{◌≡◌, ◌≤◌, ◌<◌, ◌^◌, length, ap, sym, ◌∙◌, rules}
-use Rattle.mw_cycle.specs.State.{BoardState, Fits}
-use Rattle.mw_cycle.specs.Elements.{IsElement, bits_of, element, element_of, value_of, with_element}
+use Rattle.std.proofs.Common.{◌<◌, ◌^◌}
+use Rattle.mw_cycle.specs.Elements.{bits_of, element_of}
 use Rattle.mw_cycle.proofs.Values.{apart, is_element, width_is, takes, leaves, still_fits}
 use Rattle.mw_cycle.proofs.state.State.set_element.Goals as goal
 
