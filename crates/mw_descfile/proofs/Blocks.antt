@@ -168,12 +168,13 @@ equation_kept text scope element sign value tokens before block next kept read i
           (All-nil (IsPlacedLine s)));
     })
 
-pub stack_pointer_kept : (s : Shape) (word : Token) (value : Numeral) (before : List Boundary) (block next : Block)
-    → IsOpen s before block → with_stack_pointer word value block ≡ Ok next → IsOpen s before next
+pub stack_pointer_kept : (s : Shape) (depth : ℕ) (word : Token) (value : Numeral) (before : List Boundary)
+    (block next : Block) → IsOpen s before block → with_stack_pointer depth word value block ≡ Ok next
+    → IsOpen s before next
 unfolding with_stack_pointer
-stack_pointer_kept s word value before block next is_open is =
+stack_pointer_kept s depth word value before block next is_open is =
     let one = bind_ok (allowed (is_none block.sp) (fault_on word Twice)) _ next is in
-    let two = bind_ok (ranged 0 5 value) _ next one.2 in
+    let two = bind_ok (ranged 0 depth value) _ next one.2 in
     subst (IsOpen s before) (ok_is {F = TextFault} (record block { sp = Some two.0 }) next two.2) (record {
       room = is_open.room;
       address = is_open.address;

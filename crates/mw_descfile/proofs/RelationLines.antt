@@ -28,6 +28,7 @@ use Rattle.mw_rel.specs.Rules.{addresses_are_once, are_even, lefts_are_once, rig
 use Rattle.mw_descfile.specs.declared.relation_line.Beginning.{Beginning}
 use Rattle.mw_descfile.specs.declared.relation_line.BlockWord.{BlockWord}
 use Rattle.mw_descfile.specs.declared.relation_line.BlockWord.TheVariants as words
+use Rattle.mw_descfile.specs.declared.relation.Sides.{Sides}
 use Rattle.mw_descfile.specs.declared.scope.Scope.{Scope}
 use Rattle.mw_descfile.specs.declared.uses.Use.{Use}
 use Rattle.mw_asm.specs.Labels.{label_named}
@@ -186,80 +187,80 @@ once_more (x ∷ rest) b once apart =
     turned true is = absurd cc
     turned false is = refl
 
-told_kept : (text : List ℕ) (scope : Scope) (known next : Known) (block : Block) (told : Told) → IsScope scope
-    → IsKnownRelation scope.shape known → IsOpen scope.shape known.boundaries block → WasTold text scope told
-    → with_told text scope known.boundaries block told ≡ Ok next → IsKnownRelation scope.shape next
+told_kept : (text : List ℕ) (sides : Sides) (known next : Known) (block : Block) (told : Told) → IsScope sides.scope
+    → IsKnownRelation sides.scope.shape known → IsOpen sides.scope.shape known.boundaries block → WasTold text sides.scope told
+    → with_told text sides known.boundaries block told ≡ Ok next → IsKnownRelation sides.scope.shape next
 unfolding with_told
-told_kept text scope known next block (sp_line word value) over kept is_open was is =
-    let one = bind_ok (with_stack_pointer word value block) _ next is in
-    subst (IsKnownRelation scope.shape)
+told_kept text sides known next block (sp_line word value) over kept is_open was is =
+    let one = bind_ok (with_stack_pointer sides.depth word value block) _ next is in
+    subst (IsKnownRelation sides.scope.shape)
     (ok_is {F = TextFault} (record { boundaries = known.boundaries; block = Some one.0 }) next
     one.2) (record {
       few = kept.few;
       once = kept.once;
       ended = kept.ended;
-      open_now = stack_pointer_kept scope.shape word value known.boundaries block one.0 is_open one.1;
+      open_now = stack_pointer_kept sides.scope.shape sides.depth word value known.boundaries block one.0 is_open one.1;
     })
-told_kept text scope known next block (equation_line element sign value uses) over kept is_open was is =
-    let one = bind_ok (with_equation text scope element sign value uses block) _ next is in
-    subst (IsKnownRelation scope.shape)
+told_kept text sides known next block (equation_line element sign value uses) over kept is_open was is =
+    let one = bind_ok (with_equation text sides.scope element sign value uses block) _ next is in
+    subst (IsKnownRelation sides.scope.shape)
     (ok_is {F = TextFault} (record { boundaries = known.boundaries; block = Some one.0 }) next
     one.2) (record {
       few = kept.few;
       once = kept.once;
       ended = kept.ended;
-      open_now = equation_kept text scope element sign value was.0 known.boundaries block one.0 over was.1 is_open
-          (subst (λ (all : List Use). with_equation text scope element sign value all block ≡ Ok one.0) was.2 one.1);
+      open_now = equation_kept text sides.scope element sign value was.0 known.boundaries block one.0 over was.1 is_open
+          (subst (λ (all : List Use). with_equation text sides.scope element sign value all block ≡ Ok one.0) was.2 one.1);
     })
-told_kept text scope known next block (end_line word) over kept is_open was is =
+told_kept text sides known next block (end_line word) over kept is_open was is =
     let one = bind_ok (closed_block block word) _ next is in
-    let ended = closed_kept scope.shape known.boundaries block word one.0 is_open one.1 in
+    let ended = closed_kept sides.scope.shape known.boundaries block word one.0 is_open one.1 in
     let room = is_open.room in
     let count = length-append known.boundaries (one.0 ∷ []) in
-    subst (IsKnownRelation scope.shape)
+    subst (IsKnownRelation sides.scope.shape)
     (ok_is {F = TextFault} (record { boundaries = known.boundaries ++ one.0 ∷ []; block = None })
     next one.2) (record {
       few = omega (arith, room, count);
       once = once_more known.boundaries one.0 kept.once (rw ended.1 is_open.apart);
-      ended = All-append (IsEnded scope.shape) known.boundaries (one.0 ∷ []) kept.ended
-          (All-cons (IsEnded scope.shape) one.0 [] ended.0 (All-nil (IsEnded scope.shape)));
+      ended = All-append (IsEnded sides.scope.shape) known.boundaries (one.0 ∷ []) kept.ended
+          (All-cons (IsEnded sides.scope.shape) one.0 [] ended.0 (All-nil (IsEnded sides.scope.shape)));
       open_now = tt;
     })
 
-tokens_kept : (text : List ℕ) (labels : List Label) (scope : Scope) (known next : Known) (block : Option Block)
-    (line : Line) → known.block ≡ block → IsScope scope → IsKnownRelation scope.shape known
-    → with_tokens text labels scope known.boundaries block line ≡ Ok next → IsKnownRelation scope.shape next
+tokens_kept : (text : List ℕ) (labels : List Label) (sides : Sides) (known next : Known) (block : Option Block)
+    (line : Line) → known.block ≡ block → IsScope sides.scope → IsKnownRelation sides.scope.shape known
+    → with_tokens text labels sides known.boundaries block line ≡ Ok next → IsKnownRelation sides.scope.shape next
 unfolding with_tokens
-tokens_kept text labels scope known next None line same over kept is =
+tokens_kept text labels sides known next None line same over kept is =
     let one = bind_ok (beginning_of (at_line text line BadSyntax)) _ next is in
     let two = bind_ok (block_of text labels known.boundaries one.0) _ next one.2 in
-    subst (IsKnownRelation scope.shape)
+    subst (IsKnownRelation sides.scope.shape)
     (ok_is {F = TextFault} (record { boundaries = known.boundaries; block = Some two.0 }) next
     two.2) (record {
       few = kept.few;
       once = kept.once;
       ended = kept.ended;
-      open_now = block_begun scope.shape text labels known.boundaries one.0 two.0 two.1;
+      open_now = block_begun sides.scope.shape text labels known.boundaries one.0 two.0 two.1;
     })
-tokens_kept text labels scope known next (Some block) line same over kept is =
+tokens_kept text labels sides known next (Some block) line same over kept is =
     let cursor = at_line text line BadSyntax in
-    let one = bind_ok (told_of scope cursor) (λ told. with_told text scope known.boundaries block told) next is in
-    told_kept text scope known next block one.0 over kept (rw same at kept.open_now)
-    (was_told scope cursor one.0 one.1) one.2
+    let one = bind_ok (told_of sides.scope cursor) (λ told. with_told text sides known.boundaries block told) next is in
+    told_kept text sides known next block one.0 over kept (rw same at kept.open_now)
+    (was_told sides.scope cursor one.0 one.1) one.2
 
-any_kept : (text : List ℕ) (labels : List Label) (scope : Scope) (known next : Known) (line : Line)
-    (tokens : List Token) → IsScope scope → IsKnownRelation scope.shape known
-    → with_any text labels scope known line tokens ≡ Ok next → IsKnownRelation scope.shape next
-any_kept text labels scope known next line [] over kept is =
-    subst (IsKnownRelation scope.shape) (ok_is {F = TextFault} known next is) kept
-any_kept text labels scope known next line (token ∷ rest) over kept is =
-    tokens_kept text labels scope known next known.block line refl over kept is
+any_kept : (text : List ℕ) (labels : List Label) (sides : Sides) (known next : Known) (line : Line)
+    (tokens : List Token) → IsScope sides.scope → IsKnownRelation sides.scope.shape known
+    → with_any text labels sides known line tokens ≡ Ok next → IsKnownRelation sides.scope.shape next
+any_kept text labels sides known next line [] over kept is =
+    subst (IsKnownRelation sides.scope.shape) (ok_is {F = TextFault} known next is) kept
+any_kept text labels sides known next line (token ∷ rest) over kept is =
+    tokens_kept text labels sides known next known.block line refl over kept is
 
-pub line_kept : (text : List ℕ) (labels : List Label) (scope : Scope) (known next : Known) (line : Line)
-    → IsScope scope → IsKnownRelation scope.shape known → with_line text labels scope known line ≡ Ok next
-    → IsKnownRelation scope.shape next
-line_kept text labels scope known next line over kept is =
-    any_kept text labels scope known next line line.tokens over kept is
+pub line_kept : (text : List ℕ) (labels : List Label) (sides : Sides) (known next : Known) (line : Line)
+    → IsScope sides.scope → IsKnownRelation sides.scope.shape known → with_line text labels sides known line ≡ Ok next
+    → IsKnownRelation sides.scope.shape next
+line_kept text labels sides known next line over kept is =
+    any_kept text labels sides known next line line.tokens over kept is
 
 -- ---- the relation is accepted
 

@@ -69,11 +69,11 @@ block_of text labels before said = do
 
 -- ---- its lines
 
--- sp N, once
-unfoldable pub with_stack_pointer : Token → Numeral → Block → Result Block TextFault
-with_stack_pointer word value block = do
+-- sp N, once, with no more words than the stack has
+unfoldable pub with_stack_pointer : ℕ → Token → Numeral → Block → Result Block TextFault
+with_stack_pointer depth word value block = do
   once ← allowed (is_none block.sp) (fault_on word Twice)
-  sp ← ranged 0 5 value
+  sp ← ranged 0 depth value
   Ok (record block { sp = Some sp })
 
 -- ELEMENT = E, of which 256 are the most

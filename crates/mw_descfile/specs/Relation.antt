@@ -11,11 +11,13 @@ use Rattle.mw_base.specs.Steps.{steps}
 use Rattle.mw_base.specs.TokenLines.{last_fault, text_end, token_lines}
 use Rattle.mw_asm.specs.declared.assembled.Label.{Label}
 use Rattle.mw_board.specs.declared.parts.BoardParts.{BoardParts}
+use Rattle.mw_board.specs.Depth.{depth_of}
 use Rattle.mw_board.specs.Elements.{elements_of}
 use Rattle.mw_expr.specs.declared.shape.Shape.{Shape}
 use Rattle.mw_macro.specs.Machine.{Description}
 use Rattle.mw_rel.specs.Job.{shape_of, memories_agree}
 use Rattle.mw_rel.specs.Relation.{Boundary, Relation, related}
+use Rattle.mw_descfile.specs.declared.relation.Sides.{Sides}
 use Rattle.mw_descfile.specs.declared.scope.Scope.{Scope}
 use Rattle.mw_descfile.specs.Boundaries.{Block, block_of, with_stack_pointer, with_equation, closed_block}
 use Rattle.mw_descfile.specs.RelationLines.{beginning_of, Told, sp_line, equation_line, end_line, told_of}
@@ -31,41 +33,45 @@ names_of board machine =
 abbrev pub scope_for : BoardParts → Description → Scope
 scope_for board machine = record { names = names_of board machine; shape = shape_of board machine }
 
+-- what its lines are over: what its expressions are over, and how many words the board's stack has
+abbrev pub sides_of : BoardParts → Description → Sides
+sides_of board machine = record { scope = scope_for board machine; depth = depth_of board }
+
 -- what is known after some lines: the boundaries that have ended, and the one that hasn't
 pub record Known : Type 0 where
   pub boundaries : List Boundary
   pub block : Option Block
 
 -- with the boundary that is open as it is after what a line of it says
-unfoldable pub with_told : List ℕ → Scope → List Boundary → Block → Told → Result Known TextFault
-with_told text scope boundaries block (sp_line word value) = do
-  more ← with_stack_pointer word value block
+unfoldable pub with_told : List ℕ → Sides → List Boundary → Block → Told → Result Known TextFault
+with_told text sides boundaries block (sp_line word value) = do
+  more ← with_stack_pointer sides.depth word value block
   Ok (record { boundaries = boundaries; block = Some more })
-with_told text scope boundaries block (equation_line element sign value uses) = do
-  more ← with_equation text scope element sign value uses block
+with_told text sides boundaries block (equation_line element sign value uses) = do
+  more ← with_equation text sides.scope element sign value uses block
   Ok (record { boundaries = boundaries; block = Some more })
-with_told text scope boundaries block (end_line word) = do
+with_told text sides boundaries block (end_line word) = do
   boundary ← closed_block block word
   Ok (record { boundaries = boundaries ++ boundary ∷ []; block = None })
 
 -- what is known after a line that isn't blank, where this boundary is open
-unfoldable pub with_tokens : List ℕ → List Label → Scope → List Boundary → Option Block → Line → Result Known TextFault
-with_tokens text labels scope boundaries None line = do
+unfoldable pub with_tokens : List ℕ → List Label → Sides → List Boundary → Option Block → Line → Result Known TextFault
+with_tokens text labels sides boundaries None line = do
   said ← beginning_of (at_line text line BadSyntax)
   block ← block_of text labels boundaries said
   Ok (record { boundaries = boundaries; block = Some block })
-with_tokens text labels scope boundaries (Some block) line = do
-  told ← told_of scope (at_line text line BadSyntax)
-  with_told text scope boundaries block told
+with_tokens text labels sides boundaries (Some block) line = do
+  told ← told_of sides.scope (at_line text line BadSyntax)
+  with_told text sides boundaries block told
 
 -- what is known after a line that has these tokens; blank lines say nothing
-abbrev pub with_any : List ℕ → List Label → Scope → Known → Line → List Token → Result Known TextFault
-with_any text labels scope known line [] = Ok known
-with_any text labels scope known line (token ∷ rest) = with_tokens text labels scope known.boundaries known.block line
+abbrev pub with_any : List ℕ → List Label → Sides → Known → Line → List Token → Result Known TextFault
+with_any text labels sides known line [] = Ok known
+with_any text labels sides known line (token ∷ rest) = with_tokens text labels sides known.boundaries known.block line
 
 -- what is known after a line
-abbrev pub with_line : List ℕ → List Label → Scope → Known → Line → Result Known TextFault
-with_line text labels scope known line = with_any text labels scope known line line.tokens
+abbrev pub with_line : List ℕ → List Label → Sides → Known → Line → Result Known TextFault
+with_line text labels sides known line = with_any text labels sides known line line.tokens
 
 -- the relation of some boundaries, of which there has to be one
 abbrev pub relation_with : List Boundary → Shape → Result Relation TextFault
@@ -83,5 +89,5 @@ unfoldable pub relation_of : BoardParts → List Label → Description → List 
 relation_of board labels machine text = do
   lines ← token_lines text
   same ← allowed (memories_agree board machine) (last_fault None ShapesDiffer)
-  known ← steps (with_line text labels (scope_for board machine)) (record { boundaries = []; block = None }) lines
+  known ← steps (with_line text labels (sides_of board machine)) (record { boundaries = []; block = None }) lines
   finished (shape_of board machine) (text_end lines BadSyntax) known.boundaries known.block

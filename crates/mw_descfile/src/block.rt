@@ -232,13 +232,19 @@ impl Block {
         })
     }
 
-    /// sp N: cause 31 at `sp`, 33 at the number.
+    /// sp N, on a stack of so many words: cause 31 at `sp`, 33 at the number.
     #[tactic(auto, unfolding(crate::specs::Boundaries::with_stack_pointer))]
-    pub(crate) fn set_stack_pointer(&mut self, word: Token, value: Numeral) -> Result<(), Refusal>
-        ensures { Gives (λ done. block_seen self.new) result (with_stack_pointer word value (block_seen self.old)) }
+    pub(crate) fn set_stack_pointer(
+        &mut self,
+        depth: u8,
+        word: Token,
+        value: Numeral,
+    ) -> Result<(), Refusal>
+        ensures { Gives (λ done. block_seen self.new) result
+            (with_stack_pointer depth word value (block_seen self.old)) }
     {
         check(self.sp.is_none(), fault_on(word, Cause::Twice)).map_err(Refused::At)?;
-        self.sp = Some(ranged(0, 5, value).map_err(Refused::At)?);
+        self.sp = Some(ranged(0, depth, value).map_err(Refused::At)?);
         Ok(())
     }
 

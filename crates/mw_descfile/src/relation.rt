@@ -11,7 +11,7 @@ ghost use Rattle.mw_rel.specs.Job.{AreForEachOther, memories_agree, shape_of};
 ghost use Rattle.mw_rel.specs.Seen.{boundaries_of};
 ghost use Rattle.mw_rel.specs.Views.{relation_of as relation_seen};
 ghost use Rattle.mw_descfile.specs.KeptRelation.{IsScope, IsKnownRelation};
-ghost use Rattle.mw_descfile.specs.Relation.{names_of, scope_for, with_told, with_tokens, with_line, relation_with};
+ghost use Rattle.mw_descfile.specs.Relation.{names_of, scope_for, sides_of, with_told, with_tokens, with_line, relation_with};
 ghost use Rattle.mw_descfile.specs.Relation.{finished, relation_of};
 ghost use Rattle.mw_descfile.specs.RelationViews.{told_seen, block_seen, known_seen};
 
@@ -35,6 +35,15 @@ pub(crate) struct Known {
     pub boundaries: Vec<Boundary>,
     /// The one that hasn't.
     pub block: Option<Block>,
+}
+
+/// What the lines of a relation are over.
+#[derive(Drop)]
+pub(crate) struct Sides {
+    /// What its expressions are over.
+    pub scope: Scope,
+    /// How many words the board's stack has.
+    pub depth: u8,
 }
 
 /// A name behind the letter of its side and a dot.
@@ -108,24 +117,35 @@ fn scope_for(alloc: Global, board: &Board, machine: &Machine) -> Result<Scope, N
     })
 }
 
+/// What the lines of a relation are over.
+fn sides_of(alloc: Global, board: &Board, machine: &Machine) -> Result<Sides, NoMemory>
+    ensures exact { IfOk result (λ sides. sides ≡ sides_of board.now (description_of machine.now)) }
+    ensures kept { IfOk result (λ sides. IsScope sides.scope) }
+{
+    Ok(Sides {
+        scope: scope_for(alloc, board, machine)?,
+        depth: board.depth(),
+    })
+}
+
 /// What is known after what a line of the open boundary says: its causes but 60, by place.
 #[tactic(auto, unfolding(crate::specs::Relation::with_told))]
 fn with_told(
     alloc: Global,
     line: &Cursor,
-    scope: &Scope,
+    sides: &Sides,
     mut boundaries: Vec<Boundary>,
     mut block: Block,
     told: Told,
 ) -> Result<Known, Refusal>
-    requires scope { IsScope scope.now }
-    ensures { Gives known_seen result (with_told line.now.text scope.now (boundaries_of boundaries.items)
+    requires scope { IsScope sides.now.scope }
+    ensures { Gives known_seen result (with_told line.now.text sides.now (boundaries_of boundaries.items)
         (block_seen block) (told_seen told)) }
 {
     match told {
-        Told::StackPointer(word, value) => block.set_stack_pointer(word, value)?,
+        Told::StackPointer(word, value) => block.set_stack_pointer(sides.depth, word, value)?,
         Told::Equation(element, sign, value, uses) => {
-            block.add_equation(alloc, scope, line, element, sign, &value, uses)?
+            block.add_equation(alloc, &sides.scope, line, element, sign, &value, uses)?
         }
         Told::End(word) => {
             boundaries.push(block.close(alloc, word)?)?;
@@ -147,12 +167,12 @@ fn with_tokens(
     alloc: Global,
     text: &[u8],
     labels: &[Label],
-    scope: &Scope,
+    sides: &Sides,
     known: Known,
     line: &Line,
 ) -> Result<Known, Refusal>
-    requires scope { IsScope scope.now }
-    ensures { Gives known_seen result (with_tokens text.now labels.now scope.now (known_seen known).boundaries
+    requires scope { IsScope sides.now.scope }
+    ensures { Gives known_seen result (with_tokens text.now labels.now sides.now (known_seen known).boundaries
         (known_seen known).block line.now) }
 {
     let cursor = Cursor::new(text, line, Cause::BadSyntax);
@@ -167,8 +187,8 @@ fn with_tokens(
             })
         }
         Some(block) => {
-            let told = told_of(alloc, scope, &cursor)?;
-            with_told(alloc, &cursor, scope, boundaries, block, told)
+            let told = told_of(alloc, &sides.scope, &cursor)?;
+            with_told(alloc, &cursor, sides, boundaries, block, told)
         }
     }
 }
@@ -178,16 +198,16 @@ fn with_line(
     alloc: Global,
     text: &[u8],
     labels: &[Label],
-    scope: &Scope,
+    sides: &Sides,
     known: Known,
     line: &Line,
 ) -> Result<Known, Refusal>
-    requires scope { IsScope scope.now }
-    ensures { Gives known_seen result (with_line text.now labels.now scope.now (known_seen known) line.now) }
+    requires scope { IsScope sides.now.scope }
+    ensures { Gives known_seen result (with_line text.now labels.now sides.now (known_seen known) line.now) }
 {
     match line.tokens.as_slice() {
         [] => Ok(known),
-        [_, ..] => with_tokens(alloc, text, labels, scope, known, line),
+        [_, ..] => with_tokens(alloc, text, labels, sides, known, line),
     }
 }
 
@@ -196,20 +216,20 @@ fn known_of(
     alloc: Global,
     text: &[u8],
     labels: &[Label],
-    scope: &Scope,
+    sides: &Sides,
     lines: &[Line],
 ) -> Result<Known, Refusal>
-    requires scope { IsScope scope.now }
-    ensures exact { Gives known_seen result (steps (with_line text.now labels.now scope.now)
+    requires scope { IsScope sides.now.scope }
+    ensures exact { Gives known_seen result (steps (with_line text.now labels.now sides.now)
         (record { boundaries = []; block = None }) lines.now) }
-    ensures kept { IfOk result (λ known. IsKnownRelation scope.now.shape (known_seen known)) }
+    ensures kept { IfOk result (λ known. IsKnownRelation sides.now.scope.shape (known_seen known)) }
 {
     let mut known = Known {
         boundaries: Vec::new(alloc),
         block: None,
     };
     for line in lines {
-        known = with_line(alloc, text, labels, scope, known, line)?;
+        known = with_line(alloc, text, labels, sides, known, line)?;
     }
     Ok(known)
 }
@@ -282,9 +302,9 @@ fn relation_in(
     let lines = lines(alloc, text)?;
     let agree = memories_agree(board, machine);
     check(agree, first_place(Cause::ShapesDiffer)).map_err(Refused::At)?;
-    let scope = scope_for(alloc, board, machine)?;
-    let known = known_of(alloc, text, made.labels.as_slice(), &scope, &lines)?;
-    finished(scope.shape, text_end(&lines, Cause::BadSyntax), known)
+    let sides = sides_of(alloc, board, machine)?;
+    let known = known_of(alloc, text, made.labels.as_slice(), &sides, &lines)?;
+    finished(sides.scope.shape, text_end(&lines, Cause::BadSyntax), known)
 }
 
 /// The relation that a text describes between a board with its assembled microprogram and a machine.
@@ -304,7 +324,7 @@ fn relation_in(
 ///   the read after 64 in a boundary;
 /// - 30 at a PLACE that is no label, 33 at one that isn't below 4,096, 31 at one that is another boundary's;
 /// - 54 at a bound that isn't 1 to 500;
-/// - 31 at a second `sp`, 33 at a stack pointer over 5;
+/// - 31 at a second `sp`, 33 at a stack pointer over as many words as the board's stack has;
 /// - 40 at the first token of an element that there isn't;
 /// - 41 at the `=` of a line whose sides aren't equally wide, and in an expression at the operator;
 /// - 42 at the first token of an expression at level 65;

@@ -19,7 +19,7 @@ loop-line-preserved c =
       told = goes_on _ (known_seen c.loop-line.known)
           (known_seen c.in_ok-known.known) c.args.lines.now c.loop-line.line-index c.line-item.result _ at
           c.in_ok-known.ensures c.loop-line.invariant.told;
-      kept = line_kept c.args.text.now c.args.labels.now c.args.scope.now (known_seen c.loop-line.known)
+      kept = line_kept c.args.text.now c.args.labels.now c.args.sides.now (known_seen c.loop-line.known)
           (known_seen c.in_ok-known.known) c.line-item.result c.requires.scope c.loop-line.invariant.kept
           c.in_ok-known.ensures;
     }

@@ -8,7 +8,7 @@ use Rattle.mw_descfile.proofs.relation.known_of.Given as goal
 
 abbrev pub invariant-loop-line : goal.invariant-loop-line
 invariant-loop-line l = record {
-  told : steps (with_line l.text l.labels l.scope) (known_seen l.known) (drop l.line-index l.lines)
-      ≡ steps (with_line l.text l.labels l.scope) (record { boundaries = []; block = None }) l.lines;
-  kept : IsKnownRelation l.scope.shape (known_seen l.known);
+  told : steps (with_line l.text l.labels l.sides) (known_seen l.known) (drop l.line-index l.lines)
+      ≡ steps (with_line l.text l.labels l.sides) (record { boundaries = []; block = None }) l.lines;
+  kept : IsKnownRelation l.sides.scope.shape (known_seen l.known);
 }
