@@ -74,6 +74,7 @@ generated_board = record {
   fill = 0;
   unset = 0;
   vector = 0;
+  stack = 5;
   fields = generated_fields;
   flipflop = [];
   control = generated_points;

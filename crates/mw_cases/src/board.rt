@@ -97,6 +97,7 @@ fn parts(alloc: Global) -> Result<BoardParts, NoMemory>
         fill: 0,
         unset: 0,
         vector: 0,
+        stack: 5,
         fields: fields(alloc)?,
         flipflop: Items::from_vec(Vec::new(alloc)),
         control: POINTS,

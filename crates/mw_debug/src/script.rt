@@ -11,8 +11,8 @@ pub enum Act {
     /// Cycles are made up to the first cycle start at this control address (below 4,096) after the present one: one at
     /// least, and so many at most.
     Until(u16, u32),
-    /// The element of this number gets this value, which has no more bits than the element, or is 0 to 5 for the stack
-    /// pointer.
+    /// The element of this number gets this value, which has no more bits than the element, or is at most the stack's
+    /// depth for the stack pointer.
     Set(u32, u32),
     /// The element of this number is printed.
     Show(u32),

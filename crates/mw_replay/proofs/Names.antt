@@ -1,6 +1,6 @@
 -- The names of the elements of both sides: each is spelled as one, and none stands twice on one side.
 use Rattle.std.proofs.Common.{◌≡◌, ◌≢◌, ℕ, zero, suc, ◌+◌, ◌<◌, List, [], ◌∷◌, ◌++◌, map, length, slice_get, Bool, true}
-use Rattle.std.proofs.Common.{false, not, Some, Result, Ok, Err, length-append, refl, sym, ◌∙◌, subst, arith}
+use Rattle.std.proofs.Common.{false, not, Some, Result, Ok, Err, length-append, refl, sym, ◌∙◌, subst, arith, inl, inr}
 use Rattle.std.specs.Prelude.{◌&&◌, ◌||◌}
 use Rattle.std.specs.List.{list_all, list_any}
 use Rattle.std.specs.Str.{bytes_eq}
@@ -11,18 +11,18 @@ use Rattle.std.proofs.lemmas.Slice.Eq.{bytes_eq-Decides}
 use Rattle.mw_base.specs.declared.cause.Cause.{Cause}
 use Rattle.mw_base.specs.declared.cause.Cause.TheVariants.{BadValue, Twice}
 use Rattle.mw_base.specs.Names.{is_name}
-use Rattle.mw_board.specs.declared.field.NamedField.{NamedField}
 use Rattle.mw_board.specs.declared.flipflop.FlipFlop.{FlipFlop}
 use Rattle.mw_board.specs.declared.parts.BoardParts.{BoardParts}
 use Rattle.mw_board.specs.Check.{at_flipflop, at_key, check_of, fields_check, flipflop_check, flipflops_check}
 use Rattle.mw_board.specs.Check.{flipflops_from, in_load, list_check, lists_check, map_check, number_16, placed}
 use Rattle.mw_board.specs.Check.{points_check, sizes_check}
+use Rattle.mw_board.specs.Depth.{depth_of}
 use Rattle.mw_board.specs.Elements.{element_count, element_name, is_reserved, names_before, names_behind}
 use Rattle.mw_board.specs.Elements.{names_behind_of}
 use Rattle.mw_board.specs.Keys.{control_key, flipflop_key, name_key}
 use Rattle.mw_board.specs.Rules.{Verdict, all_of, ask, control_rule, flipflop_name_rule, flipflops_rule}
 use Rattle.mw_board.specs.Rules.{is_flipflop_name, load_rule}
-use Rattle.mw_board.proofs.Elements.{behind_listed, count_is, name_is}
+use Rattle.mw_board.proofs.Elements.{count_is, depth_known, name_is}
 use Rattle.mw_macro.specs.Rules.{are_free, is_reserved as is_keyword}
 
 -- ---- lists of names
@@ -150,82 +150,84 @@ at_place row index entry (Ok done) is = refl
 at_place row index entry (Err cause) is = absurd cc
 
 -- a name that is one, isn't reserved, and is none of some others'
-record IsNew (earlier : List FlipFlop) (name : List ℕ) : Type 0 where
+record IsNew (depth : ℕ) (earlier : List FlipFlop) (name : List ℕ) : Type 0 where
   spelled : is_name name ≡ true
-  free : is_reserved name ≡ false
+  free : is_reserved depth name ≡ false
   new : is_flipflop_name earlier name ≡ false
 
-new_name : (earlier : List FlipFlop) (name : List ℕ) → flipflop_name_rule earlier name ≡ Ok tt → IsNew earlier name
+new_name : (depth : ℕ) (earlier : List FlipFlop) (name : List ℕ) → flipflop_name_rule depth earlier name ≡ Ok tt
+    → IsNew depth earlier name
 unfolding flipflop_name_rule
-new_name earlier name is =
+new_name depth earlier name is =
     let spells = ask (is_name name) BadValue in
-    let free = ask (not (is_reserved name)) Twice in
+    let free = ask (not (is_reserved depth name)) Twice in
     let new = ask (not (is_flipflop_name earlier name)) Twice in
     let one = first_kept spells (free ∷ new ∷ []) is in
     let others = both_kept free new one.1 in
     record {
       spelled = asked (is_name name) BadValue one.0;
-      free = not_true (is_reserved name) (asked (not (is_reserved name)) Twice others.0);
+      free = not_true (is_reserved depth name) (asked (not (is_reserved depth name)) Twice others.0);
       new = not_true (is_flipflop_name earlier name) (asked (not (is_flipflop_name earlier name)) Twice others.1);
     }
 
-new_of : (width : ℕ) (fields : List NamedField) (count : ℕ) (earlier : List FlipFlop) (i : ℕ) (f : FlipFlop)
-    → flipflop_check width fields count earlier i f ≡ Ok tt → IsNew earlier f.name
+new_of : (p : BoardParts) (earlier : List FlipFlop) (i : ℕ) (f : FlipFlop)
+    → flipflop_check p earlier i f ≡ Ok tt → IsNew (depth_of p) earlier f.name
 unfolding flipflop_check
-new_of width fields count earlier i f is =
-    let named = at_flipflop name_key i (flipflop_name_rule earlier f.name) in
-    let driven = at_flipflop control_key i (control_rule fields f.control) in
-    let loads = list_check (in_load i) fields f.control (load_rule width count) f.load in
-    new_name earlier f.name
-    (at_place name_key (number_16 i) 0 (flipflop_name_rule earlier f.name)
+new_of p earlier i f is =
+    let named = at_flipflop name_key i (flipflop_name_rule (depth_of p) earlier f.name) in
+    let driven = at_flipflop control_key i (control_rule p.fields f.control) in
+    let loads = list_check (in_load i) p.fields f.control (load_rule p.width (length p.flipflop)) f.load in
+    new_name (depth_of p) earlier f.name
+    (at_place name_key (number_16 i) 0 (flipflop_name_rule (depth_of p) earlier f.name)
     (first_kept named (driven ∷ loads ∷ []) is).0)
 
-flips_parts : (width : ℕ) (fields : List NamedField) (count : ℕ) (earlier : List FlipFlop) (i : ℕ) (f : FlipFlop)
-    (rest : List FlipFlop) → flipflops_from width fields count earlier i (f ∷ rest) ≡ Ok tt
-    → (flipflop_check width fields count earlier i f ≡ Ok tt)
-    × (flipflops_from width fields count (earlier ++ f ∷ []) (i + 1) rest ≡ Ok tt)
+flips_parts : (p : BoardParts) (earlier : List FlipFlop) (i : ℕ) (f : FlipFlop)
+    (rest : List FlipFlop) → flipflops_from p earlier i (f ∷ rest) ≡ Ok tt
+    → (flipflop_check p earlier i f ≡ Ok tt)
+    × (flipflops_from p (earlier ++ f ∷ []) (i + 1) rest ≡ Ok tt)
 unfolding flipflops_from
-flips_parts width fields count earlier i f rest is =
-    both_kept (flipflop_check width fields count earlier i f)
-    (flipflops_from width fields count (earlier ++ f ∷ []) (i + 1) rest) is
+flips_parts p earlier i f rest is =
+    both_kept (flipflop_check p earlier i f)
+    (flipflops_from p (earlier ++ f ∷ []) (i + 1) rest) is
 
-fewer : (earlier : List FlipFlop) (f : FlipFlop) (name : List ℕ) → IsNew (earlier ++ f ∷ []) name → IsNew earlier name
-fewer earlier f name is = record {
+fewer : (depth : ℕ) (earlier : List FlipFlop) (f : FlipFlop) (name : List ℕ) → IsNew depth (earlier ++ f ∷ []) name
+    → IsNew depth earlier name
+fewer depth earlier f name is = record {
   spelled = is.spelled;
   free = is.free;
   new = (or_none (is_flipflop_name earlier name) (is_flipflop_name (f ∷ []) name)
       (sym (list_any-append (λ (g : FlipFlop). bytes_eq name g.name) earlier (f ∷ [])) ∙ is.new)).0;
 }
 
-flips_new : (width : ℕ) (fields : List NamedField) (count : ℕ) (earlier : List FlipFlop) (i : ℕ) (fs : List FlipFlop)
-    → flipflops_from width fields count earlier i fs ≡ Ok tt → (j : ℕ) (name : List ℕ)
-    → slice_get (names_of fs) j ≡ Some name → IsNew earlier name
+flips_new : (p : BoardParts) (earlier : List FlipFlop) (i : ℕ) (fs : List FlipFlop)
+    → flipflops_from p earlier i fs ≡ Ok tt → (j : ℕ) (name : List ℕ)
+    → slice_get (names_of fs) j ≡ Some name → IsNew (depth_of p) earlier name
 unfolding names_of
-flips_new width fields count earlier i [] is j name at = absurd cc
-flips_new width fields count earlier i (f ∷ rest) is zero name at =
-    subst (IsNew earlier) (some_same f.name name at) (new_of width fields count earlier i f
-    (flips_parts width fields count earlier i f rest is).0)
-flips_new width fields count earlier i (f ∷ rest) is (suc j) name at =
-    fewer earlier f name (flips_new width fields count (earlier ++ f ∷ []) (i + 1) rest
-    (flips_parts width fields count earlier i f rest is).1 j name at)
+flips_new p earlier i [] is j name at = absurd cc
+flips_new p earlier i (f ∷ rest) is zero name at =
+    subst (IsNew (depth_of p) earlier) (some_same f.name name at) (new_of p earlier i f
+    (flips_parts p earlier i f rest is).0)
+flips_new p earlier i (f ∷ rest) is (suc j) name at =
+    fewer (depth_of p) earlier f name (flips_new p (earlier ++ f ∷ []) (i + 1) rest
+    (flips_parts p earlier i f rest is).1 j name at)
 
-flips_once : (width : ℕ) (fields : List NamedField) (count : ℕ) (earlier : List FlipFlop) (i : ℕ) (fs : List FlipFlop)
-    → flipflops_from width fields count earlier i fs ≡ Ok tt → Once (names_of fs)
+flips_once : (p : BoardParts) (earlier : List FlipFlop) (i : ℕ) (fs : List FlipFlop)
+    → flipflops_from p earlier i fs ≡ Ok tt → Once (names_of fs)
 unfolding names_of
-flips_once width fields count earlier i [] is a b name before first second = absurd cc
-flips_once width fields count earlier i (f ∷ rest) is a zero name before first second = absurd (omega arith)
-flips_once width fields count earlier i (f ∷ rest) is zero (suc b) name before first second =
-    let later = (flips_parts width fields count earlier i f rest is).1 in
-    let new = flips_new width fields count (earlier ++ f ∷ []) (i + 1) rest later b name second in
+flips_once p earlier i [] is a b name before first second = absurd cc
+flips_once p earlier i (f ∷ rest) is a zero name before first second = absurd (omega arith)
+flips_once p earlier i (f ∷ rest) is zero (suc b) name before first second =
+    let later = (flips_parts p earlier i f rest is).1 in
+    let new = flips_new p (earlier ++ f ∷ []) (i + 1) rest later b name second in
     let none = (or_none (is_flipflop_name earlier name) (is_flipflop_name (f ∷ []) name)
     (sym (list_any-append (λ (g : FlipFlop). bytes_eq name g.name) earlier (f ∷ [])) ∙ new.new)).1 in
     let other = (or_none (bytes_eq name f.name) false none).0 in
     let same : bytes_eq name f.name ≡ true = subst (λ (y : List ℕ). bytes_eq name y ≡ true)
     (sym (some_same f.name name first)) (same_bytes name) in
     cc
-flips_once width fields count earlier i (f ∷ rest) is (suc a) (suc b) name before first second =
-    flips_once width fields count (earlier ++ f ∷ []) (i + 1) rest
-    (flips_parts width fields count earlier i f rest is).1 a b name
+flips_once p earlier i (f ∷ rest) is (suc a) (suc b) name before first second =
+    flips_once p (earlier ++ f ∷ []) (i + 1) rest
+    (flips_parts p earlier i f rest is).1 a b name
     (omega arith) first second
 
 -- ---- a board
@@ -235,20 +237,33 @@ pub board_names : BoardParts → List (List ℕ)
 board_names board = names_before ++ (names_of board.flipflop ++ names_behind_of board)
 
 flips_kept : (board : BoardParts) → check_of board ≡ Ok tt
-    → flipflops_from board.width board.fields (length board.flipflop) [] 0 board.flipflop ≡ Ok tt
+    → flipflops_from board [] 0 board.flipflop ≡ Ok tt
 unfolding check_of flipflops_check
 flips_kept board is =
     let flips = third_kept (sizes_check board) (fields_check board) (flipflops_check board)
     (points_check board ∷ lists_check board ∷ map_check board ∷ []) is in
     (both_kept (at_key flipflop_key (flipflops_rule (length board.flipflop)))
-    (flipflops_from board.width board.fields (length board.flipflop) [] 0 board.flipflop) flips).1
+    (flipflops_from board [] 0 board.flipflop) flips).1
 
 -- what is reserved is in no list of flip-flops
-free_of : (name : List ℕ) → is_reserved name ≡ false
-    → (list_any (bytes_eq name) names_before ≡ false) × (list_any (bytes_eq name) names_behind ≡ false)
-free_of name free =
+free_of : (depth : ℕ) (name : List ℕ) → is_reserved depth name ≡ false
+    → (list_any (bytes_eq name) names_before ≡ false) × (list_any (bytes_eq name) (names_behind depth) ≡ false)
+free_of depth name free =
     let one = or_none (list_any (bytes_eq name) names_before) _ free in
-    (one.0, (or_none (list_any (bytes_eq name) names_behind) _ one.1).0)
+    (one.0, (or_none (list_any (bytes_eq name) (names_behind depth)) _ one.1).0)
+
+-- of the names behind the flip-flops' none stands twice, none is one of those before, and each is spelled as a name
+record AreBehind (behind : List (List ℕ)) : Type 0 where
+  once : are_free behind ≡ true
+  apart : list_all (λ name. not (list_any (bytes_eq name) behind)) names_before ≡ true
+  spelled : list_all is_name behind ≡ true
+
+are_behind : (board : BoardParts) → AreBehind (names_behind_of board)
+unfolding is_name
+are_behind board = elim (depth_known board) [
+  | inl five ↦ rw five (record { once = refl; apart = refl; spelled = refl })
+  | inr nine ↦ rw nine (record { once = refl; apart = refl; spelled = refl })
+]
 
 pub board_once : (board : BoardParts) → check_of board ≡ Ok tt → Once (board_names board)
 unfolding board_names
@@ -256,32 +271,26 @@ board_once board is =
     let from = flips_kept board is in
     let flips = names_of board.flipflop in
     let behind = names_behind_of board in
-    let new = flips_new board.width board.fields (length board.flipflop) [] 0 board.flipflop from in
+    let known = are_behind board in
+    let new = flips_new board [] 0 board.flipflop from in
     let before_flips : Apart flips names_before =
-    λ i j name at. nowhere names_before name (free_of name (new i name at).free).0 j in
+    λ i j name at. nowhere names_before name (free_of (depth_of board) name (new i name at).free).0 j in
     let flips_behind : Apart flips behind =
-    λ i j name at there. nowhere names_behind name (free_of name (new i name at).free).1 j
-    (behind_listed board j name there) in
+    λ i j name at. nowhere behind name (free_of (depth_of board) name (new i name at).free).1 j in
     let ends : Apart names_before behind =
-    λ i j name at there.
-    nowhere names_behind name
-    (not_true (list_any (bytes_eq name) names_behind)
-    (all_each (λ name. not (list_any (bytes_eq name) names_behind)) names_before refl i name at)) j
-    (behind_listed board j name there) in
-    let behind_once : Once behind =
-    λ i j name before first second. free_once names_behind refl i j name before (behind_listed board i name first)
-    (behind_listed board j name second) in
+    λ i j name at. nowhere behind name
+    (not_true (list_any (bytes_eq name) behind)
+    (all_each (λ name. not (list_any (bytes_eq name) behind)) names_before known.apart i name at)) j in
     once_both names_before (flips ++ behind) (free_once names_before refl)
-    (once_both flips behind (flips_once board.width board.fields (length board.flipflop) [] 0 board.flipflop from)
-    behind_once flips_behind)
+    (once_both flips behind (flips_once board [] 0 board.flipflop from) (free_once behind known.once) flips_behind)
     (apart_both names_before flips behind (turned flips names_before before_flips) ends)
 
 pub board_spelled : (board : BoardParts) → check_of board ≡ Ok tt → Each is_name (board_names board)
 unfolding board_names is_name
 board_spelled board is =
-    let new = flips_new board.width board.fields (length board.flipflop) [] 0 board.flipflop (flips_kept board is) in
+    let new = flips_new board [] 0 board.flipflop (flips_kept board is) in
     let behind : Each is_name (names_behind_of board) =
-    λ i name at. all_each is_name names_behind refl i name (behind_listed board i name at) in
+    all_each is_name (names_behind_of board) (are_behind board).spelled in
     each_both is_name names_before (names_of board.flipflop ++ names_behind_of board)
     (all_each is_name names_before refl)
     (each_both is_name (names_of board.flipflop) (names_behind_of board) (λ i name at. (new i name at).spelled) behind)

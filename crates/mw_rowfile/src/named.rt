@@ -1,9 +1,9 @@
 // Numbers by name, as `pc=200 sp=2`: hexadecimal.
 ghost use Rattle.std.specs.Prelude.{◌≡◌, ◌<◌, ◌≤◌, ◌^◌, IfOk};
+ghost use Rattle.mw_seq.specs.Sequencer.{IsDepth};
 
 use crate::fault::{Fault, wrong};
-pub use mw_seq::DEPTH;
-use mw_seq::Seq;
+use mw_seq::{Seq, is_depth};
 
 /// The text behind `NAME=` in the word of this name.
 pub fn text_of<'a>(words: &'a [String], name: &str) -> Result<&'a str, Fault> {
@@ -110,19 +110,27 @@ fn pointer_of(words: &[String], depth: u8) -> Result<u8, Fault>
     }
 }
 
-/// The sequencer of `pc=`, `r=`, `sp=` and `stack=`, whose `depth` words stand with commas between, the oldest first.
-pub fn sequencer_of(words: &[String], depth: u8) -> Result<Seq, Fault>
-    requires known { depth ≡ 5 }
+/// How many words the list of a stack has: 5 or 9.
+fn depth_of(text: &str) -> Result<u8, Fault>
+    ensures { IfOk result IsDepth }
 {
-    let mut seq = Seq::cleared(depth);
+    let depth = text.split(',').count();
+    if is_depth(depth as u64) {
+        Ok(depth as u8)
+    } else {
+        Err(wrong("a stack has 5 words or 9"))
+    }
+}
+
+/// The sequencer of `pc=`, `r=`, `sp=` and `stack=`, whose 5 or 9 words stand with commas between, the oldest first.
+pub fn sequencer_of(words: &[String]) -> Result<Seq, Fault> {
+    let text = text_of(words, "stack")?;
+    let mut seq = Seq::cleared(depth_of(text)?);
     seq.pc = address_of(words, "pc")?;
     seq.r = address_of(words, "r")?;
-    seq.sp = pointer_of(words, depth)?;
-    let text = text_of(words, "stack")?;
-    for place in 0..depth {
+    seq.sp = pointer_of(words, seq.depth())?;
+    for place in 0..seq.depth() {
         let word = listed(text, usize::from(place))?;
-        // A call for the proof: its clause `valid` says how many words each sequencer's stack has.
-        let _ = seq.full();
         seq.set_word(place, word);
     }
     Ok(seq)

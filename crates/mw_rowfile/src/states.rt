@@ -86,13 +86,15 @@ pub fn state_of(alloc: Global, board: &Board, files: &[File]) -> Result<State, F
             None => return Err(wrong("a part of a state is NAME=NUMBER")),
         }
     }
-    match sequencer_of(&words, board.depth()) {
-        Ok(seq) => {
-            state.seq = seq;
-            Ok(state)
-        }
-        Err(fault) => Err(fault),
+    let seq = match sequencer_of(&words) {
+        Ok(seq) => seq,
+        Err(fault) => return Err(fault),
+    };
+    if seq.depth() != board.depth() {
+        return Err(wrong("a stack has as many words as the board's"));
     }
+    state.seq = seq;
+    Ok(state)
 }
 
 /// What the outside has for the cycle.

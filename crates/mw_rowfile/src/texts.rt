@@ -38,8 +38,14 @@ fn addresses(alloc: Global, addresses: &[u16]) -> Result<String, AllocError> {
 ///
 /// Want of memory.
 pub fn sequencer(alloc: Global, seq: Seq) -> Result<String, AllocError> {
-    let Seq { pc, r, stack, sp } = seq;
-    let words = addresses(alloc, &stack)?;
+    let Seq {
+        pc,
+        r,
+        stack,
+        sp,
+        depth,
+    } = seq;
+    let words = addresses(alloc, &stack[..usize::from(depth)])?;
     format!(in alloc; "pc={pc:x} r={r:x} sp={sp} stack={words}")
 }
 

@@ -3,7 +3,7 @@ ghost use Rattle.std.specs.Prelude.{◌<◌, IfOk};
 
 use mw_alu::{AluOut, Pins, alu};
 use mw_base::{NoMemory, Width, append_padded};
-use mw_rowfile::named::{DEPTH, address_of, bit_of, hexadecimal_of, sequencer_of};
+use mw_rowfile::named::{address_of, bit_of, hexadecimal_of, sequencer_of};
 use mw_rowfile::texts::sequencer;
 use mw_rowfile::{Fault, wrong};
 use mw_slice::{Slice, SliceOut};
@@ -122,7 +122,7 @@ pub fn stepped(alloc: Global, given: &[String]) -> Result<Vec<u8>, Fault> {
     let ci = bit_of(given, "ci")?;
     let rld = bit_of(given, "rld")?;
     let noise = address_of(given, "noise")?;
-    let mut seq = match sequencer_of(given, DEPTH) {
+    let mut seq = match sequencer_of(given) {
         Ok(seq) => seq,
         Err(fault) => return Err(fault),
     };
