@@ -1,6 +1,6 @@
 -- Parts that break no rule are a board.
 use Rattle.std.proofs.Common.{◌≡◌, ℕ, ◌+◌, ◌%◌, ◌^◌, ◌<◌, ◌≤◌, List, [], ◌∷◌, ◌++◌, length, slice_get, Bool, true}
-use Rattle.std.proofs.Common.{false, Ok, Err, Option, Some, None, Result, refl, nat_lt, nat_le, ◌&&◌, ◌||◌, ◌==◌, arith}
+use Rattle.std.proofs.Common.{false, Ok, Err, Option, Some, None, Result, refl, nat_lt, nat_le, ◌&&◌, ◌||◌, ◌==◌, if◌then◌else◌, arith}
 use Rattle.std.specs.List.{All, AllByRecursion}
 use Rattle.std.proofs.lemmas.Bool.{eqb-true}
 use Rattle.std.proofs.lemmas.List.Elements.{All-nil, All-cons, recursion_from_All}
@@ -34,7 +34,6 @@ use Rattle.mw_board.specs.Check.{Checked, placed, number_16, at_key, at_flipflop
 use Rattle.mw_board.specs.Check.{list_check, sizes_tests, sizes_check, field_check, fields_check, flipflop_check}
 use Rattle.mw_board.specs.Check.{flipflops_from, flipflops_check, point_check, points_check, lists_tests, lists_check}
 use Rattle.mw_board.specs.Check.{map_check, check_of}
-use Rattle.mw_seq.specs.Sequencer.{IsDepth}
 use Rattle.mw_board.specs.Depth.{depth_of}
 use Rattle.mw_board.specs.Valid.{AreSizes, IsField, IsControl, IsPoint, ArePoints, IsBit, IsLoad, IsFrom, IsMask}
 use Rattle.mw_board.specs.Valid.{IsSource, IsList, IsFlipFlop, AreLists, IsMap, IsBoard}
@@ -88,11 +87,15 @@ vector_kept vector e =
     let h = asked (nat_lt vector 4096) BadValue e in
     grind (arith, nat_tests)
 
-stack_kept : (stack : ℕ) → stack_rule stack ≡ Ok tt → IsDepth stack
-unfolding stack_rule
-stack_kept stack e =
-    let h = asked (stack == 5 || stack == 9) BadValue e in
-    grind (arith, nat_tests)
+stack_kept : (p : BoardParts) → stack_rule p.stack ≡ Ok tt → p.stack ≡ depth_of p
+unfolding stack_rule depth_of
+stack_kept p e = five_or_nine (p.stack == 5) (p.stack == 9) refl refl (asked (p.stack == 5 || p.stack == 9) BadValue e)
+  where
+    five_or_nine : (five nine : Bool) → (p.stack == 5) ≡ five → (p.stack == 9) ≡ nine → (five || nine) ≡ true
+        → p.stack ≡ (if nine then 9 else 5)
+    five_or_nine five true one other either = eqb-true p.stack 9 other
+    five_or_nine true false one other either = eqb-true p.stack 5 one
+    five_or_nine false false one other either = absurd cc
 
 fields_kept : (count : ℕ) → fields_rule count ≡ Ok tt → count ≤ 64
 unfolding fields_rule
@@ -242,7 +245,7 @@ sizes_are p e =
       fill = word_kept p.microword p.fill (at_place fill_key 0 0 (word_rule p.microword p.fill) kept.1.1.1.0);
       unset = word_kept p.microword p.unset (at_place unset_key 0 0 (word_rule p.microword p.unset) kept.1.1.1.1.0);
       vector = vector_kept p.vector (at_place vector_key 0 0 (vector_rule p.vector) kept.1.1.1.1.1.0);
-      stack = stack_kept p.stack (at_place stack_key 0 0 (stack_rule p.stack) kept.1.1.1.1.1.1.0);
+      stack = stack_kept p (at_place stack_key 0 0 (stack_rule p.stack) kept.1.1.1.1.1.1.0);
     }
 
 -- one rule on each entry, which makes each what it is

@@ -14,7 +14,7 @@ use Rattle.mw_board.specs.declared.field.NamedField.{NamedField}
 use Rattle.mw_board.specs.declared.flipflop.FlipFlop.{FlipFlop}
 use Rattle.mw_board.specs.declared.parts.BoardParts.{BoardParts}
 use Rattle.mw_board.specs.Rules.{width_of, map_size}
-use Rattle.mw_seq.specs.Sequencer.{IsDepth}
+use Rattle.mw_board.specs.Depth.{depth_of}
 
 -- the sizes and the words
 pub record AreSizes (p : BoardParts) : Type 0 where
@@ -29,7 +29,7 @@ pub record AreSizes (p : BoardParts) : Type 0 where
   pub fill : p.fill < 2 ^ p.microword
   pub unset : p.unset < 2 ^ p.microword
   pub vector : p.vector < 2 ^ 12
-  pub stack : IsDepth p.stack
+  pub stack : p.stack ≡ depth_of p
 
 -- a field of 1 to 32 bits, all of them in the microword
 pub record IsField (microword : ℕ) (f : NamedField) : Type 0 where

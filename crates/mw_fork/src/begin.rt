@@ -56,7 +56,7 @@ fn push_free(
     values: &mut Vec<u32>,
 ) -> Result<(), NoMemory>
     requires there { boundary < length (job_of job.now).relation.boundaries }
-    requires few { number < 170 }
+    requires few { number < 174 }
     requires of { AreOf space.now.terms space.now.words }
     ensures { OnOk result (values.new.items ≡ values.old.items ++ map
         (λ e. value_or_zero space.now.terms (given_by given.now) (term_of space.now.words (Element e)))

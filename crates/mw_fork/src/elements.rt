@@ -108,7 +108,7 @@ fn push_own(
 ) -> Result<(), NoMemory>
     requires boundary { boundary < length (job_of job.now).relation.boundaries }
     requires there { number < length (job_of job.now).relation.shape.widths }
-    requires few { number < 170 }
+    requires few { number < 174 }
     requires count { length own.old.items ≡ number }
     requires so_far { AreWideSoFar space.old.terms (job_of job.now).relation.shape.widths number own.old.items }
     requires own { AreOwn (numbered (job_of job.now) boundary) number space.old.words own.old.items }

@@ -142,7 +142,7 @@ widths_count job is =
       length-take-le job.machine.registers job.machine.shape.widths (omega (arith, formed.elements, formed.registers)),
     )
 
-pub widths_few : (job : Job) → IsJob job → length job.relation.shape.widths ≤ 170
+pub widths_few : (job : Job) → IsJob job → length job.relation.shape.widths ≤ 174
 widths_few job is =
     omega (
       arith,

@@ -64,7 +64,7 @@ fn has_word(values: &[u32], place: usize, bits: u8) -> bool
 
 /// Whether the element of a number has one of the given values where it is free, which is a word of its width.
 fn is_given(at: &Boundary, given: &[u32], width: u8, number: usize, before: usize) -> bool
-    requires few { number < 170 }
+    requires few { number < 174 }
     requires before { before ≡ free_before (is_free (boundary_of at.now)) number }
     ensures { IsTrue result ↔ IsGiven (is_free (boundary_of at.now)) given.now width number }
 {
@@ -76,7 +76,7 @@ fn is_given(at: &Boundary, given: &[u32], width: u8, number: usize, before: usiz
 
 /// Whether each free element has one of the given values, which is a word of its width, and there are no more values.
 fn are_given(at: &Boundary, given: &[u32], widths: &[u8]) -> bool
-    requires few { length widths.now ≤ 170 }
+    requires few { length widths.now ≤ 174 }
     ensures { IsTrue result ↔ AreGiven (is_free (boundary_of at.now)) given.now widths.now }
 {
     let mut before = 0;

@@ -30,7 +30,7 @@ use std::alloc::Global;
 
 /// The value of an element that is free, which is the given one at its place among the free ones, and 0 of others.
 fn free_value(at: &Boundary, given: &[u32], number: usize, before: usize) -> u32
-    requires few { number < 170 }
+    requires few { number < 174 }
     requires before { before ≡ free_before (is_free (boundary_of at.now)) number }
     requires room { free_before (is_free (boundary_of at.now)) (number + 1) ≤ length given.now }
     ensures { result ≡ free_value (is_free (boundary_of at.now)) given.now number }
@@ -43,7 +43,7 @@ fn free_value(at: &Boundary, given: &[u32], number: usize, before: usize) -> u32
 
 /// Puts the values of the free elements, which are in the order of their numbers, at their places, and 0 at the others.
 fn place_free(at: &Boundary, given: &[u32], places: &mut [u32])
-    requires few { length places.old ≤ 170 }
+    requires few { length places.old ≤ 174 }
     requires count { length given.now ≡ free_before (is_free (boundary_of at.now)) (length places.old) }
     ensures size { length places.new ≡ length places.old }
     ensures placed { (e : ℕ) → e < length places.old
@@ -104,7 +104,7 @@ fn place_all(job: &Job, lines: &[Line], free: &[u32], memory: &[u32], values: &m
     requires words { AreWords (job_of job.now).relation.shape.widths free.now }
     requires image { IsImage (job_of job.now).relation.shape memory.now }
     requires size { length values.old ≡ length free.now }
-    requires few { length free.now ≤ 170 }
+    requires few { length free.now ≤ 174 }
     ensures size { length values.new ≡ length free.now }
     ensures each { (e : ℕ) → e < length values.new
         → slice_index values.new e
@@ -203,7 +203,7 @@ fn place_given(job: &Job, at: &Boundary, begin: &Begin, places: &mut [u32])
 fn place_values(job: &Job, at: &Boundary, begin: &Begin, values: &mut [u32])
     requires solved { IsSolved (job_of job.now).relation.shape (boundary_of at.now) }
     requires size { length values.old ≡ length (job_of job.now).relation.shape.widths }
-    requires few { length values.old ≤ 170 }
+    requires few { length values.old ≤ 174 }
     requires begins { IsBegin (job_of job.now) (boundary_of at.now) begin.now }
     ensures words { AreWords (job_of job.now).relation.shape.widths values.new }
     ensures lines { All (HoldsIn (job_of job.now).relation.shape values.new begin.now.memory)

@@ -32,7 +32,7 @@ pub(crate) fn is_free_at(at: &Boundary, number: usize) -> bool
 
 /// How many elements are free up to one, and with it.
 pub(crate) fn count_free(at: &Boundary, number: usize, before: usize) -> usize
-    requires few { number < 170 }
+    requires few { number < 174 }
     requires before { before ≡ free_before (is_free (boundary_of at.now)) number }
     requires room { before < 2 ^ 32 }
     ensures { result ≡ free_before (is_free (boundary_of at.now)) (number + 1) }

@@ -129,7 +129,7 @@ impl Job {
     pub fn element_count(&self) -> usize
         ensures exact { result ≡ length (job_of self.now).relation.shape.widths }
         ensures both { result ≡ element_count (job_of self.now).board + (job_of self.now).machine.registers }
-        ensures few { result ≤ 170 }
+        ensures few { result ≤ 174 }
     {
         self.shape().widths.as_slice().len()
     }

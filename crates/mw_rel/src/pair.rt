@@ -20,7 +20,7 @@ use std::marker::Model;
 
 /// The most elements of both sides: the board's 16 registers, Q, `mar`, `ir`, 16 flip-flops, the counters and the
 /// stack, and the machine's 128 registers.
-pub(crate) const MOST_ELEMENTS: usize = 170;
+pub(crate) const MOST_ELEMENTS: usize = 174;
 
 /// A state of the board and one of the described machine.
 #[derive(Debug, Drop)]

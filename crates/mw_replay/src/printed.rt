@@ -71,7 +71,7 @@ fn append_free(
 ) -> Result<usize, NoMemory>
     requires there { boundary < length (job_of job.now).relation.boundaries }
     requires element { number < length (job_of job.now).relation.shape.widths }
-    requires few { length (job_of job.now).relation.shape.widths ≤ 170 }
+    requires few { length (job_of job.now).relation.shape.widths ≤ 174 }
     requires before { before ≡ free_before (is_free (numbered (job_of job.now) boundary)) number }
     requires each { is_free (numbered (job_of job.now) boundary) number ≡ true → before < length values.now }
     ensures after { IfOk result

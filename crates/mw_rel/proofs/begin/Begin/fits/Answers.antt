@@ -17,7 +17,7 @@ are_given-given-requires c =
     let job = job_of c.args.job.now in
     let widths : c.as_slice-widths.result.now ≡ job.relation.shape.widths =
     c.as_slice-widths.ensures ∙ ap (λ (s : Shape). s.widths) c.shape.ensures in
-    record { few = subst (λ xs. length xs ≤ 170) (sym widths) (widths_few job c.args.job.now.is_job) }
+    record { few = subst (λ xs. length xs ≤ 174) (sym widths) (widths_few job c.args.job.now.is_job) }
 
 pub returns : goal.returns
 returns c =
