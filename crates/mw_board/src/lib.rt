@@ -28,6 +28,6 @@ pub use rules::{
     address_rule, bit_rule, carry_in_rule, chosen_rule, control_rule, d_source_rule, driver_rule,
     field_rule, fields_rule, flipflop_name_rule, flipflops_rule, list_rule, load_rule,
     map_bits_rule, map_entries_rule, map_entry_rule, microword_rule, name_rule, point_rule,
-    vector_rule, width_rule, word_rule,
+    stack_rule, vector_rule, width_rule, word_rule,
 };
 pub use store::Store;

@@ -21,6 +21,7 @@ use Rattle.mw_board.specs.Rules.{Verdict, all_of, word_rule, chosen_rule, list_r
 use Rattle.mw_board.specs.Rules.{flipflop_name_rule, load_rule, control_rule, point_rule, driver_rule, DriversKeep}
 use Rattle.mw_board.specs.Rules.{map_entry_rule}
 use Rattle.mw_boardfile.specs.declared.fault.Fault.{Fault}
+use Rattle.mw_boardfile.specs.declared.sizes.BoardSizes.{BoardSizes}
 use Rattle.mw_boardfile.specs.Fields.{count_of}
 use Rattle.mw_boardfile.specs.Kept.{Kept, AreChosen, names_of, FieldKeeps, FieldsKeep, FlipFlopKeeps, FlipFlopsKeep}
 use Rattle.mw_boardfile.specs.Kept.{ListKeeps, SizesKeep, ListsKeep, MapKeeps}
@@ -91,32 +92,43 @@ list_keeps place at rule fields control xs list =
     rw (at 0 _ list.whole.chosen, each, at 0 _ list.whole.right) refl
 
 -- a flip-flop
-pub flip_keeps : (width : ℕ) (fields : List NamedField) (count : ℕ) (earlier : List FlipFlop) (f : FlipFlop)
-    → flipflop_name_rule earlier f.name ≡ Ok tt → control_rule fields f.control ≡ Ok tt
-    → ListKeeps (load_rule width count) fields f.control f.load → FlipFlopKeeps width fields count earlier f
+pub flip_keeps : (sizes : BoardSizes) (fields : List NamedField) (count : ℕ) (earlier : List FlipFlop) (f : FlipFlop)
+    → flipflop_name_rule sizes.stack earlier f.name ≡ Ok tt → control_rule fields f.control ≡ Ok tt
+    → ListKeeps (load_rule sizes.width count) fields f.control f.load → FlipFlopKeeps sizes fields count earlier f
 unfolding flipflop_check
-flip_keeps width fields count earlier f name control load = λ i.
+flip_keeps sizes fields count earlier f name control load = λ p i has.
     let loads =
-    list_keeps (in_load i) (λ n verdict holds. rw holds refl) (load_rule width count) fields f.control f.load load in
-    rw (name, control, loads) refl
+    list_keeps (in_load i) (λ n verdict holds. rw holds refl) (load_rule sizes.width count) fields f.control f.load load in
+    rw (has.width, has.stack, has.named, has.count, name, control, loads) refl
 
 -- one more flip-flop
-pub flipflop_keeps : (width : ℕ) (fields : List NamedField) (count : ℕ) (earlier : List FlipFlop) (i : ℕ)
-    (fs : List FlipFlop) (f : FlipFlop)
-    → flipflops_from width fields count earlier i fs ≡ Ok tt → FlipFlopKeeps width fields count (earlier ++ fs) f
-    → flipflops_from width fields count earlier i (fs ++ f ∷ []) ≡ Ok tt
+pub flipflop_keeps : (p : BoardParts) (earlier : List FlipFlop) (i : ℕ) (fs : List FlipFlop) (f : FlipFlop)
+    → flipflops_from p earlier i fs ≡ Ok tt → ((n : ℕ) → flipflop_check p (earlier ++ fs) n f ≡ Ok tt)
+    → flipflops_from p earlier i (fs ++ f ∷ []) ≡ Ok tt
 unfolding flipflops_from
-flipflop_keeps width fields count earlier i [] f before keeps =
-    let here : flipflop_check width fields count earlier i f ≡ Ok tt =
-    subst (λ (es : List FlipFlop). flipflop_check width fields count es i f ≡ Ok tt) (append-nil earlier) (keeps i) in
+flipflop_keeps p earlier i [] f before keeps =
+    let here : flipflop_check p earlier i f ≡ Ok tt =
+    subst (λ (es : List FlipFlop). flipflop_check p es i f ≡ Ok tt) (append-nil earlier) (keeps i) in
     rw here refl
-flipflop_keeps width fields count earlier i (first ∷ rest) f before keeps =
-    let both = both_hold (flipflop_check width fields count earlier i first)
-    (flipflops_from width fields count (earlier ++ first ∷ []) (i + 1) rest) before in
-    let others = flipflop_keeps width fields count (earlier ++ first ∷ []) (i + 1) rest f both.1
-    (subst (λ (es : List FlipFlop). FlipFlopKeeps width fields count es f)
+flipflop_keeps p earlier i (first ∷ rest) f before keeps =
+    let both =
+    both_hold (flipflop_check p earlier i first) (flipflops_from p (earlier ++ first ∷ []) (i + 1) rest) before in
+    let others = flipflop_keeps p (earlier ++ first ∷ []) (i + 1) rest f both.1
+    (subst (λ (es : List FlipFlop). (n : ℕ) → flipflop_check p es n f ≡ Ok tt)
     (sym (append_assoc earlier (first ∷ []) rest)) keeps) in
     rw (both.0, others) refl
+
+-- one more flip-flop of each such board
+pub flipflops_grow : (sizes : BoardSizes) (fields : List NamedField) (count : ℕ) (fs : List FlipFlop) (f : FlipFlop)
+    → FlipFlopsKeep sizes fields count fs → FlipFlopKeeps sizes fields count fs f
+    → FlipFlopsKeep sizes fields count (fs ++ f ∷ [])
+flipflops_grow sizes fields count fs f before keeps = λ p has.
+    flipflop_keeps p [] 0 fs f (before p has) (λ n. keeps p n has)
+
+-- none
+pub no_flipflops_keep : (sizes : BoardSizes) (fields : List NamedField) (count : ℕ) → FlipFlopsKeep sizes fields count []
+unfolding flipflops_from
+no_flipflops_keep sizes fields count = λ p has. refl
 
 -- the names of a table's members are as many as these
 names_counted : (table : Members) → length (names_of table) ≡ count_of table
@@ -153,9 +165,10 @@ sizes_keep : (p : BoardParts) → SizesKeep (record {
   fill = p.fill;
   unset = p.unset;
   vector = p.vector;
+  stack = p.stack;
 }) → sizes_check p ≡ Ok tt
 unfolding sizes_check
-sizes_keep p keep = rw (keep.width, keep.microword, keep.address, keep.fill, keep.unset, keep.vector) refl
+sizes_keep p keep = rw (keep.width, keep.microword, keep.address, keep.fill, keep.unset, keep.vector, keep.stack) refl
 
 field_keeps : (microword n : ℕ) (f : NamedField) → FieldKeeps microword f → field_check microword n f ≡ Ok tt
 field_keeps microword n f keep = rw (keep.0, keep.1) refl
@@ -168,7 +181,7 @@ fields_keep p keep =
     rw (keep.few, each) refl
 
 flipflops_keep : (p : BoardParts) → Kept (flipflops_rule (length p.flipflop))
-    → FlipFlopsKeep p.width p.fields (length p.flipflop) p.flipflop → flipflops_check p ≡ Ok tt
+    → flipflops_from p [] 0 p.flipflop ≡ Ok tt → flipflops_check p ≡ Ok tt
 unfolding flipflops_check
 flipflops_keep p few keep = rw (few, keep) refl
 
@@ -214,8 +227,9 @@ pub parts_keep : (p : BoardParts) → SizesKeep (record {
   fill = p.fill;
   unset = p.unset;
   vector = p.vector;
+  stack = p.stack;
 }) → FieldsKeep p.microword p.fields → Kept (flipflops_rule (length p.flipflop))
-    → FlipFlopsKeep p.width p.fields (length p.flipflop) p.flipflop → DriversKeep p.fields p.control
+    → flipflops_from p [] 0 p.flipflop ≡ Ok tt → DriversKeep p.fields p.control
     → ListsKeep p.width p.fields (length p.flipflop) p.control (record {
       carry_in = p.carry_in;
       condition = p.condition;

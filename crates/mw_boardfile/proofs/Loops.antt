@@ -12,6 +12,7 @@ use Rattle.mw_boardfile.specs.Lists.{first_place, is_refused, none_refused, each
 use Rattle.mw_boardfile.specs.Views.{data_of}
 use Rattle.mw_boardfile.specs.FlipFlops.{flipflop_at, each_flipflop}
 use Rattle.mw_boardfile.specs.declared.fault.KeyFault.{KeyFault}
+use Rattle.mw_boardfile.specs.declared.sizes.BoardSizes.{BoardSizes}
 use Rattle.mw_board.specs.declared.field.NamedField.{NamedField}
 use Rattle.mw_board.specs.declared.flipflop.FlipFlop.{FlipFlop}
 use Rattle.mw_board.specs.declared.control.Points.{Points}
@@ -143,37 +144,37 @@ fails_at (At fault) read next h = rw h refl
 
 -- ---- each flip-flop
 
-pub flipflop_ends : (width : ℕ) (fields : List NamedField) (earlier : List FlipFlop) (e : Refused KeyFault)
+pub flipflop_ends : (sizes : BoardSizes) (fields : List NamedField) (earlier : List FlipFlop) (e : Refused KeyFault)
     (values : List Value) (n : ℕ) (value : Value) (total : Result (List FlipFlop) KeyFault)
     → n < length values → value ≡ get_or values n value
-    → Fails e (flipflop_at width fields (data_of values) earlier n (view value))
-    → each_flipflop width fields (data_of values) earlier n (data_of (drop n values)) ≡ total → Fails e total
+    → Fails e (flipflop_at sizes fields (data_of values) earlier n (view value))
+    → each_flipflop sizes fields (data_of values) earlier n (data_of (drop n values)) ≡ total → Fails e total
 unfolding each_flipflop
-flipflop_ends width fields earlier NoMemory values n value total within is fails so_far = tt
-flipflop_ends width fields earlier (At fault) values n value total within is fails so_far =
-    let one : each_flipflop width fields (data_of values) earlier n (data_of (drop n values)) ≡ Err fault =
+flipflop_ends sizes fields earlier NoMemory values n value total within is fails so_far = tt
+flipflop_ends sizes fields earlier (At fault) values n value total within is fails so_far =
+    let one : each_flipflop sizes fields (data_of values) earlier n (data_of (drop n values)) ≡ Err fault =
     rw (ap data_of (next values n value within is), fails) refl in
     sym so_far ∙ one
 
-pub flipflop_goes_on : (width : ℕ) (fields : List NamedField) (earlier : List FlipFlop) (f : FlipFlop)
+pub flipflop_goes_on : (sizes : BoardSizes) (fields : List NamedField) (earlier : List FlipFlop) (f : FlipFlop)
     (values : List Value) (n : ℕ) (value : Value) (total : Result (List FlipFlop) KeyFault)
     → n < length values → value ≡ get_or values n value
-    → flipflop_at width fields (data_of values) earlier n (view value) ≡ Ok f
-    → each_flipflop width fields (data_of values) earlier n (data_of (drop n values)) ≡ total
-    → each_flipflop width fields (data_of values) (earlier ++ f ∷ []) (n + 1) (data_of (drop (n + 1) values)) ≡ total
+    → flipflop_at sizes fields (data_of values) earlier n (view value) ≡ Ok f
+    → each_flipflop sizes fields (data_of values) earlier n (data_of (drop n values)) ≡ total
+    → each_flipflop sizes fields (data_of values) (earlier ++ f ∷ []) (n + 1) (data_of (drop (n + 1) values)) ≡ total
 unfolding each_flipflop
-flipflop_goes_on width fields earlier f values n value total within is reads so_far =
-    let one : each_flipflop width fields (data_of values) earlier n (data_of (drop n values))
-    ≡ each_flipflop width fields (data_of values) (earlier ++ f ∷ []) (n + 1) (data_of (drop (n + 1) values)) =
+flipflop_goes_on sizes fields earlier f values n value total within is reads so_far =
+    let one : each_flipflop sizes fields (data_of values) earlier n (data_of (drop n values))
+    ≡ each_flipflop sizes fields (data_of values) (earlier ++ f ∷ []) (n + 1) (data_of (drop (n + 1) values)) =
     rw (ap data_of (next values n value within is), reads) refl in
     sym one ∙ so_far
 
-pub flipflops_end : (width : ℕ) (fields : List NamedField) (earlier : List FlipFlop) (values : List Value) (n : ℕ)
+pub flipflops_end : (sizes : BoardSizes) (fields : List NamedField) (earlier : List FlipFlop) (values : List Value) (n : ℕ)
     (total : Result (List FlipFlop) KeyFault) → length values ≤ n
-    → each_flipflop width fields (data_of values) earlier n (data_of (drop n values)) ≡ total → total ≡ Ok earlier
+    → each_flipflop sizes fields (data_of values) earlier n (data_of (drop n values)) ≡ total → total ≡ Ok earlier
 unfolding each_flipflop
-flipflops_end width fields earlier values n total past so_far =
-    let one : each_flipflop width fields (data_of values) earlier n (data_of (drop n values)) ≡ Ok earlier =
+flipflops_end sizes fields earlier values n total past so_far =
+    let one : each_flipflop sizes fields (data_of values) earlier n (data_of (drop n values)) ≡ Ok earlier =
     rw (ap data_of (drop_all n values past)) refl in
     sym so_far ∙ one
 

@@ -25,6 +25,7 @@ use Rattle.mw_boardfile.specs.FlipFlops.{tables_in, each_flipflop}
 use Rattle.mw_boardfile.specs.Lists.{chosen_list}
 use Rattle.mw_boardfile.specs.Map.{natural_or_zero, bits_in, entries_in}
 use Rattle.mw_boardfile.specs.Sizes.{version_in, width_in, microword_in, address_in, fill_in, unset_in, vector_in}
+use Rattle.mw_boardfile.specs.Sizes.{stack_in}
 use Rattle.mw_boardfile.specs.Unknown.{unknown_key, known_or_fault}
 use Rattle.mw_boardfile.specs.Values.{below, under, whole, list, table_or_none}
 
@@ -68,7 +69,7 @@ sources_of reader fields control select =
       mask = None;
     }) fields control (get_member (codes "d") select))
 
--- version to vector
+-- version to stack
 unfoldable pub sizes_of : Members → Result BoardSizes KeyFault
 sizes_of document = do
   version ← under (codes "version") (whole (version_in (get_member (codes "version") document)))
@@ -78,7 +79,16 @@ sizes_of document = do
   fill ← under (codes "fill") (whole (fill_in microword (get_member (codes "fill") document)))
   unset ← under (codes "unset") (whole (unset_in microword (get_member (codes "unset") document)))
   vector ← under (codes "vector") (whole (vector_in (get_member (codes "vector") document)))
-  Ok (record { width = width; microword = microword; address = address; fill = fill; unset = unset; vector = vector })
+  stack ← under (codes "stack") (whole (stack_in version (get_member (codes "stack") document)))
+  Ok (record {
+    width = width;
+    microword = microword;
+    address = address;
+    fill = fill;
+    unset = unset;
+    vector = vector;
+    stack = stack;
+  })
 
 -- select: each list
 unfoldable pub lists_of : ℕ → List NamedField → List Data → Points → Members → Result BoardLists KeyFault
@@ -106,7 +116,7 @@ parts_of document = do
   sizes ← sizes_of document
   fields ← fields_of sizes.microword document
   flipflops ← under (codes "flipflop") (tables_in (get_member (codes "flipflop") document))
-  flipflop ← each_flipflop sizes.width fields flipflops [] 0 flipflops
+  flipflop ← each_flipflop sizes fields flipflops [] 0 flipflops
   control ← points_of fields document
   lists ← lists_of sizes.width fields flipflops control document
   map ← map_of sizes.width document
@@ -117,6 +127,7 @@ parts_of document = do
     fill = sizes.fill;
     unset = sizes.unset;
     vector = sizes.vector;
+    stack = sizes.stack;
     fields = fields;
     flipflop = flipflop;
     control = control;

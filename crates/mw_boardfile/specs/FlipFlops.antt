@@ -12,6 +12,7 @@ use Rattle.mw_board.specs.declared.flipflop.FlipFlop.{FlipFlop}
 use Rattle.mw_board.specs.Rules.{flipflops_rule, flipflop_name_rule}
 use Rattle.mw_boardfile.specs.declared.fault.Fault.{Fault}
 use Rattle.mw_boardfile.specs.declared.fault.KeyFault.{KeyFault}
+use Rattle.mw_boardfile.specs.declared.sizes.BoardSizes.{BoardSizes}
 use Rattle.mw_boardfile.specs.Control.{control_in}
 use Rattle.mw_boardfile.specs.Entries.{load_in}
 use Rattle.mw_boardfile.specs.Lists.{none_refused, chosen_list}
@@ -31,12 +32,12 @@ tables_in given = do
   few ← whole (flipflops_rule (length values))
   Ok values
 
--- name: of no other element, and of no flip-flop before
-unfoldable pub name_in : List FlipFlop → Option Data → Result (List ℕ) Cause
-name_in earlier given = do
+-- name: of no other element of a board of such a stack, and of no flip-flop before
+unfoldable pub name_in : ℕ → List FlipFlop → Option Data → Result (List ℕ) Cause
+name_in stack earlier given = do
   value ← required given
   name ← kind (as_str value)
-  new ← flipflop_name_rule earlier name
+  new ← flipflop_name_rule stack earlier name
   Ok name
 
 -- control: a field's name, or a constant
@@ -58,8 +59,9 @@ loads_in width fields flipflops control given = do
   chosen_list (load_in width flipflops) fields control values
 
 -- the three keys under a flip-flop's
-abbrev pub name_of : List ℕ → List FlipFlop → Members → Result (List ℕ) KeyFault
-name_of key earlier table = under (below key (codes "name")) (whole (name_in earlier (get_member (codes "name") table)))
+abbrev pub name_of : List ℕ → ℕ → List FlipFlop → Members → Result (List ℕ) KeyFault
+name_of key stack earlier table =
+    under (below key (codes "name")) (whole (name_in stack earlier (get_member (codes "name") table)))
 
 -- the control of a flip-flop, at its key
 abbrev pub control_of : List ℕ → List NamedField → Members → Result Control KeyFault
@@ -72,24 +74,24 @@ loads_of key width fields flipflops control table =
     under (below key (codes "load")) (loads_in width fields flipflops control (get_member (codes "load") table))
 
 -- a flip-flop, after the earlier ones
-unfoldable pub flipflop_of : ℕ → List NamedField → List Data → List FlipFlop → List ℕ → Members
+unfoldable pub flipflop_of : BoardSizes → List NamedField → List Data → List FlipFlop → List ℕ → Members
     → Result FlipFlop KeyFault
-flipflop_of width fields flipflops earlier key table = do
-  name ← name_of key earlier table
+flipflop_of sizes fields flipflops earlier key table = do
+  name ← name_of key sizes.stack earlier table
   control ← control_of key fields table
-  load ← loads_of key width fields flipflops control table
+  load ← loads_of key sizes.width fields flipflops control table
   Ok (record { name = name; control = control; load = load })
 
 -- the flip-flop of a value
-unfoldable pub flipflop_at : ℕ → List NamedField → List Data → List FlipFlop → ℕ → Data → Result FlipFlop KeyFault
-flipflop_at width fields flipflops earlier n value = do
+unfoldable pub flipflop_at : BoardSizes → List NamedField → List Data → List FlipFlop → ℕ → Data → Result FlipFlop KeyFault
+flipflop_at sizes fields flipflops earlier n value = do
   table ← under (below (codes "flipflop") (decimal n)) (whole (kind (as_table value)))
-  flipflop_of width fields flipflops earlier (below (codes "flipflop") (decimal n)) table
+  flipflop_of sizes fields flipflops earlier (below (codes "flipflop") (decimal n)) table
 
 -- the earlier flip-flops, and those of the values after them, of which the first has the number n
-unfoldable pub each_flipflop : ℕ → List NamedField → List Data → List FlipFlop → ℕ → List Data
+unfoldable pub each_flipflop : BoardSizes → List NamedField → List Data → List FlipFlop → ℕ → List Data
     → Result (List FlipFlop) KeyFault
-each_flipflop width fields flipflops earlier n [] = Ok earlier
-each_flipflop width fields flipflops earlier n (value ∷ rest) = do
-  flipflop ← flipflop_at width fields flipflops earlier n value
-  each_flipflop width fields flipflops (earlier ++ flipflop ∷ []) (n + 1) rest
+each_flipflop sizes fields flipflops earlier n [] = Ok earlier
+each_flipflop sizes fields flipflops earlier n (value ∷ rest) = do
+  flipflop ← flipflop_at sizes fields flipflops earlier n value
+  each_flipflop sizes fields flipflops (earlier ++ flipflop ∷ []) (n + 1) rest

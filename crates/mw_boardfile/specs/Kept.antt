@@ -9,10 +9,11 @@ use Rattle.mw_board.specs.declared.control.Control.{Control}
 use Rattle.mw_board.specs.declared.control.Points.{Points}
 use Rattle.mw_board.specs.declared.field.NamedField.{NamedField}
 use Rattle.mw_board.specs.declared.flipflop.FlipFlop.{FlipFlop}
+use Rattle.mw_board.specs.declared.parts.BoardParts.{BoardParts}
 use Rattle.mw_board.specs.Check.{flipflop_check, flipflops_from}
 use Rattle.mw_board.specs.Rules.{Verdict, width_rule, microword_rule, address_rule, word_rule, vector_rule, fields_rule}
 use Rattle.mw_board.specs.Rules.{name_rule, field_rule, bit_rule, carry_in_rule, d_source_rule, chosen_rule, list_rule}
-use Rattle.mw_board.specs.Rules.{map_bits_rule, map_entry_rule, map_entries_rule}
+use Rattle.mw_board.specs.Rules.{map_bits_rule, map_entry_rule, map_entries_rule, stack_rule}
 use Rattle.mw_boardfile.specs.declared.map.BoardMap.{BoardMap}
 use Rattle.mw_boardfile.specs.declared.select.BoardLists.{BoardLists}
 use Rattle.mw_boardfile.specs.declared.sizes.BoardSizes.{BoardSizes}
@@ -38,7 +39,7 @@ pub record ListKeeps {
   pub whole : AreChosen fields control (length entries)
   pub each : All (λ entry. Kept (rule entry)) entries
 
--- version to vector
+-- version to stack
 pub record SizesKeep (sizes : BoardSizes) : Type 0 where
   pub width : Kept (width_rule sizes.width)
   pub microword : Kept (microword_rule sizes.microword)
@@ -46,6 +47,7 @@ pub record SizesKeep (sizes : BoardSizes) : Type 0 where
   pub fill : Kept (word_rule sizes.microword sizes.fill)
   pub unset : Kept (word_rule sizes.microword sizes.unset)
   pub vector : Kept (vector_rule sizes.vector)
+  pub stack : Kept (stack_rule sizes.stack)
 
 -- a field
 abbrev pub FieldKeeps : ℕ → NamedField → Type 0
@@ -61,13 +63,22 @@ pub record FieldsKeep (microword : ℕ) (fields : List NamedField) : Type 0 wher
   pub few : Kept (fields_rule (length fields))
   pub each : All (FieldKeeps microword) fields
 
--- a flip-flop, after the earlier ones
-abbrev pub FlipFlopKeeps : ℕ → List NamedField → ℕ → List FlipFlop → FlipFlop → Type 0
-FlipFlopKeeps width fields flipflops earlier f = (i : ℕ) → flipflop_check width fields flipflops earlier i f ≡ Ok tt
+-- a board of such sizes, of these fields and of so many flip-flops
+pub record HasFlipFlops (sizes : BoardSizes) (fields : List NamedField) (flipflops : ℕ) (p : BoardParts) : Type 0 where
+  pub width : p.width ≡ sizes.width
+  pub stack : p.stack ≡ sizes.stack
+  pub named : p.fields ≡ fields
+  pub count : length p.flipflop ≡ flipflops
+
+-- a flip-flop of such a board, after the earlier ones
+abbrev pub FlipFlopKeeps : BoardSizes → List NamedField → ℕ → List FlipFlop → FlipFlop → Type 0
+FlipFlopKeeps sizes fields flipflops earlier f =
+    (p : BoardParts) (i : ℕ) → HasFlipFlops sizes fields flipflops p → flipflop_check p earlier i f ≡ Ok tt
 
 -- flipflop
-abbrev pub FlipFlopsKeep : ℕ → List NamedField → ℕ → List FlipFlop → Type 0
-FlipFlopsKeep width fields flipflops fs = flipflops_from width fields flipflops [] 0 fs ≡ Ok tt
+abbrev pub FlipFlopsKeep : BoardSizes → List NamedField → ℕ → List FlipFlop → Type 0
+FlipFlopsKeep sizes fields flipflops fs =
+    (p : BoardParts) → HasFlipFlops sizes fields flipflops p → flipflops_from p [] 0 fs ≡ Ok tt
 
 -- select
 pub record ListsKeep (width : ℕ) (fields : List NamedField) (flipflops : ℕ) (control : Points)

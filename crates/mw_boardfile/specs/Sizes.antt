@@ -1,18 +1,19 @@
--- version, width, microword, address, fill, unset and vector.
-use Rattle.std.specs.Prelude.{ℕ, Option, Some, None, Result, Ok, ◌==◌}
+-- version, width, microword, address, fill, unset, vector and stack.
+use Rattle.std.specs.Prelude.{ℕ, Option, Some, None, Result, Ok, ◌==◌, ◌||◌, if◌then◌else◌}
 use Rattle.toml.specs.Data.{Data}
 use Rattle.mw_base.specs.declared.cause.Cause.{Cause}
 use Rattle.mw_base.specs.declared.cause.Cause.TheVariants.{BadValue}
 use Rattle.mw_base.specs.Reading.{◌>>=◌}
 use Rattle.mw_board.specs.Rules.{ask, width_rule, microword_rule, address_rule, word_rule, vector_rule}
+use Rattle.mw_board.specs.Rules.{stack_rule}
 use Rattle.mw_boardfile.specs.Values.{required, natural, number_text}
 
--- version: 1
+-- version: 1 or 2
 unfoldable pub version_in : Option Data → Result ℕ Cause
 version_in given = do
   value ← required given
   version ← natural value
-  is_known ← ask (version == 1) BadValue
+  is_known ← ask (version == 1 || version == 2) BadValue
   Ok version
 
 -- width: 4 to 32 bits, a multiple of 4
@@ -64,3 +65,16 @@ vector_in (Some value) = do
   vector ← natural value
   fits ← vector_rule vector
   Ok vector
+
+-- the stack of a file that doesn't say how many words it has: 9 in version 2, as that of an Am2910A, and else 5, as that
+-- of an Am2910
+abbrev pub usual_stack : ℕ → ℕ
+usual_stack version = if version == 2 then 9 else 5
+
+-- stack: the words of the stack
+unfoldable pub stack_in : ℕ → Option Data → Result ℕ Cause
+stack_in version None = Ok (usual_stack version)
+stack_in version (Some value) = do
+  stack ← natural value
+  fits ← stack_rule stack
+  Ok stack

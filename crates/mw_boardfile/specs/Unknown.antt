@@ -1,26 +1,32 @@
 -- Keys that the format doesn't have.
 use Rattle.std.specs.Prelude.{ℕ, ◌+◌, List, map, [], ◌∷◌, ◌++◌, codes, Bool, Option, Some, None, Result, Ok, Err}
-use Rattle.std.specs.Prelude.{if◌then◌else◌}
+use Rattle.std.specs.Prelude.{if◌then◌else◌, ◌==◌}
 use Rattle.std.specs.List.{list_any}
 use Rattle.std.specs.Str.{bytes_eq}
 use Rattle.std.specs.Ordering.{nat_cmp, is_lt}
 use Rattle.std.specs.Cmp.Lexicographic.{slice_cmp}
 use Rattle.toml.specs.Data.{Data, Items, Members, no_members, member, get_member, as_array, as_table}
+use Rattle.mw_base.specs.declared.cause.Cause.{Cause}
 use Rattle.mw_base.specs.declared.cause.Cause.TheVariants.{UnknownKey}
 use Rattle.mw_base.specs.Numbers.{decimal}
 use Rattle.mw_board.specs.Points.{all_points, name_of}
 use Rattle.mw_boardfile.specs.declared.unknown.KeyTable.{KeyTable}
-use Rattle.mw_boardfile.specs.declared.unknown.KeyTable.TheVariants.{File, FlipFlop, Control, Select, Map}
+use Rattle.mw_boardfile.specs.declared.unknown.KeyTable.TheVariants.{File, SecondFile, FlipFlop, Control, Select, Map}
 use Rattle.mw_boardfile.specs.declared.fault.KeyFault.{KeyFault}
+use Rattle.mw_boardfile.specs.Sizes.{version_in}
 use Rattle.mw_boardfile.specs.Values.{values_of}
 
 -- ---- the keys of the format
 
--- the keys of the file itself
+-- the keys of a file of version 1
 abbrev pub file_keys : List (List ℕ)
 file_keys =
     codes "version" ∷ codes "width" ∷ codes "microword" ∷ codes "address" ∷ codes "fill" ∷ codes "unset"
     ∷ codes "vector" ∷ codes "fields" ∷ codes "flipflop" ∷ codes "control" ∷ codes "select" ∷ codes "map" ∷ []
+
+-- those of a file of version 2
+abbrev pub second_file_keys : List (List ℕ)
+second_file_keys = codes "stack" ∷ file_keys
 
 -- the keys of a flip-flop
 abbrev pub flipflop_keys : List (List ℕ)
@@ -41,10 +47,16 @@ map_keys = codes "low" ∷ codes "bits" ∷ codes "entries" ∷ []
 -- the keys that the format has in such a table
 abbrev pub keys_of : KeyTable → List (List ℕ)
 keys_of File = file_keys
+keys_of SecondFile = second_file_keys
 keys_of FlipFlop = flipflop_keys
 keys_of Control = control_keys
 keys_of Select = select_keys
 keys_of Map = map_keys
+
+-- the file itself, by its version: of version 1, where that isn't the integer 2
+abbrev pub file_of : Result ℕ Cause → KeyTable
+file_of (Ok version) = if version == 2 then SecondFile else File
+file_of (Err cause) = File
 
 -- one of these keys
 abbrev pub is_one_of : List (List ℕ) → List ℕ → Bool
@@ -106,7 +118,7 @@ unknown_key document =
     (with_table_under map_keys (codes "map") document
     (with_table_under select_keys (codes "select") document
     (with_table_under control_keys (codes "control") document
-    (with_members file_keys [] document None))))
+    (with_members (keys_of (file_of (version_in (get_member (codes "version") document)))) [] document None))))
 
 -- no key is unknown; else cause 22 at the least that is
 abbrev pub known_or_fault : Option (List ℕ) → Result (Unit {0}) KeyFault

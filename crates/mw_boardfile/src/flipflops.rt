@@ -18,6 +18,7 @@ use crate::fault::{BoardRefusal, Fault};
 use crate::lists::{chosen_list, none_refused, whole};
 use crate::paths::{below, located, numbered, under_list, under_whole};
 use crate::points::control;
+use crate::sizes::BoardSizes;
 use crate::values::{list, list_or_none, member, required, text};
 use mw_base::{Cause, Items, Name, Refused};
 use mw_board::{Control, FlipFlop, Load, NamedField, flipflop_name_rule, flipflops_rule};
@@ -59,12 +60,12 @@ pub(crate) fn tables<'a>(value: Option<&'a Value>) -> Result<&'a [Value], Fault>
 
 /// name: cause 21, 23, 24 or 31.
 #[tactic(auto, unfolding(crate::specs::FlipFlops::name_in))]
-fn name<'a>(earlier: &[FlipFlop], value: Option<&'a Value>) -> Result<&'a str, Cause>
-    ensures exact { Answers (λ name. name.now) result (name_in earlier.now (given value.entry)) }
-    ensures kept { IfOk result (λ name. Kept (flipflop_name_rule earlier.now name.now)) }
+fn name<'a>(stack: u8, earlier: &[FlipFlop], value: Option<&'a Value>) -> Result<&'a str, Cause>
+    ensures exact { Answers (λ name. name.now) result (name_in stack earlier.now (given value.entry)) }
+    ensures kept { IfOk result (λ name. Kept (flipflop_name_rule stack earlier.now name.now)) }
 {
     let name = text(required(value)?)?;
-    flipflop_name_rule(earlier, name.as_bytes())?;
+    flipflop_name_rule(stack, earlier, name.as_bytes())?;
     Ok(name)
 }
 
@@ -115,14 +116,15 @@ fn loads(
 fn name_of(
     alloc: Global,
     key: &[u8],
+    stack: u8,
     earlier: &[FlipFlop],
     table: &Table,
 ) -> Result<Name, BoardRefusal>
-    ensures gives { Gives (λ name. name) result (name_of key.now earlier.now (table_view table.now)) }
-    ensures kept { IfOk result (λ name. Kept (flipflop_name_rule earlier.now name)) }
+    ensures gives { Gives (λ name. name) result (name_of key.now stack earlier.now (table_view table.now)) }
+    ensures kept { IfOk result (λ name. Kept (flipflop_name_rule stack earlier.now name)) }
 {
     let key = below(alloc, key, b"name")?;
-    match name(earlier, member(table, "name")) {
+    match name(stack, earlier, member(table, "name")) {
         Ok(name) => Ok(Name::new(alloc, name.as_bytes())?),
         Err(cause) => Err(located(alloc, &key, Fault::whole(cause))),
     }
@@ -167,7 +169,7 @@ fn loads_of(
 #[tactic(auto, unfolding(crate::specs::FlipFlops::flipflop_of))]
 fn flipflop(
     alloc: Global,
-    width: u8,
+    sizes: BoardSizes,
     fields: &[NamedField],
     flipflops: &[Value],
     earlier: &[FlipFlop],
@@ -175,12 +177,12 @@ fn flipflop(
     table: &Table,
 ) -> Result<FlipFlop, BoardRefusal>
     ensures gives { Gives (λ f. f) result
-        (flipflop_of width fields.now (data_of flipflops.now) earlier.now key.now (table_view table.now)) }
-    ensures kept { IfOk result (FlipFlopKeeps width fields.now (length flipflops.now) earlier.now) }
+        (flipflop_of sizes fields.now (data_of flipflops.now) earlier.now key.now (table_view table.now)) }
+    ensures kept { IfOk result (FlipFlopKeeps sizes fields.now (length flipflops.now) earlier.now) }
 {
-    let name = name_of(alloc, key, earlier, table)?;
+    let name = name_of(alloc, key, sizes.stack, earlier, table)?;
     let control = control_of(alloc, key, fields, table)?;
-    let load = loads_of(alloc, key, width, fields, flipflops, control, table)?;
+    let load = loads_of(alloc, key, sizes.width, fields, flipflops, control, table)?;
     Ok(FlipFlop {
         name,
         control,
@@ -192,7 +194,7 @@ fn flipflop(
 #[tactic(auto, unfolding(crate::specs::FlipFlops::flipflop_at))]
 fn flipflop_at(
     alloc: Global,
-    width: u8,
+    sizes: BoardSizes,
     fields: &[NamedField],
     flipflops: &[Value],
     earlier: &[FlipFlop],
@@ -200,12 +202,12 @@ fn flipflop_at(
     value: &Value,
 ) -> Result<FlipFlop, BoardRefusal>
     ensures gives { Gives (λ f. f) result
-        (flipflop_at width fields.now (data_of flipflops.now) earlier.now n (view value.now)) }
-    ensures kept { IfOk result (FlipFlopKeeps width fields.now (length flipflops.now) earlier.now) }
+        (flipflop_at sizes fields.now (data_of flipflops.now) earlier.now n (view value.now)) }
+    ensures kept { IfOk result (FlipFlopKeeps sizes fields.now (length flipflops.now) earlier.now) }
 {
     let key = numbered(alloc, b"flipflop", n)?;
     match value.as_table() {
-        Some(table) => flipflop(alloc, width, fields, flipflops, earlier, &key, table),
+        Some(table) => flipflop(alloc, sizes, fields, flipflops, earlier, &key, table),
         None => Err(located(alloc, &key, Fault::whole(Cause::WrongKind))),
     }
 }
@@ -213,18 +215,18 @@ fn flipflop_at(
 /// The flip-flops of these values.
 pub(crate) fn flipflops(
     alloc: Global,
-    width: u8,
+    sizes: BoardSizes,
     fields: &[NamedField],
     flipflops: &[Value],
 ) -> Result<Items<FlipFlop>, BoardRefusal>
     ensures gives { Gives (λ fs. fs) result
-        (each_flipflop width fields.now (data_of flipflops.now) [] 0 (data_of flipflops.now)) }
+        (each_flipflop sizes fields.now (data_of flipflops.now) [] 0 (data_of flipflops.now)) }
     ensures count { IfOk result (λ fs. length fs ≡ length flipflops.now) }
-    ensures kept { IfOk result (FlipFlopsKeep width fields.now (length flipflops.now)) }
+    ensures kept { IfOk result (FlipFlopsKeep sizes fields.now (length flipflops.now)) }
 {
     let mut done = Vec::new(alloc);
     for (n, value) in flipflops.iter().enumerate() {
-        let flipflop = flipflop_at(alloc, width, fields, flipflops, &done, n, value)?;
+        let flipflop = flipflop_at(alloc, sizes, fields, flipflops, &done, n, value)?;
         done.push(flipflop)?;
     }
     Ok(Items::from_vec(done))

@@ -32,7 +32,7 @@ fn parts(alloc: Global, document: &Table) -> Result<BoardParts, BoardRefusal>
     let fields = fields(alloc, sizes.microword, document)?;
     let named = fields.as_slice();
     let tables = under(alloc, b"flipflop", tables(member(document, "flipflop")))?;
-    let flipflop = flipflops(alloc, sizes.width, named, tables)?;
+    let flipflop = flipflops(alloc, sizes, named, tables)?;
     let control = points(alloc, named, document)?;
     let lists = lists(alloc, sizes.width, named, tables, control, document)?;
     let map = map(alloc, sizes.width, document)?;
@@ -43,6 +43,7 @@ fn parts(alloc: Global, document: &Table) -> Result<BoardParts, BoardRefusal>
         fill: sizes.fill,
         unset: sizes.unset,
         vector: sizes.vector,
+        stack: sizes.stack,
         fields,
         flipflop,
         control,

@@ -1,11 +1,13 @@
-// version, width, microword, address, fill, unset and vector.
+// version, width, microword, address, fill, unset, vector and stack.
 ghost use Rattle.std.specs.Prelude.{◌≡◌, ◌<◌, ◌≤◌, IfOk};
 ghost use Rattle.toml.specs.View.{view, table_view};
 ghost use Rattle.mw_base.specs.Reading.{Gives};
 ghost use Rattle.mw_boardfile.specs.Board.{sizes_of};
 ghost use Rattle.mw_boardfile.specs.Sizes.{version_in, width_in, microword_in, address_in};
 ghost use Rattle.mw_boardfile.specs.Sizes.{word_in, fill_in, unset_in, vector_in};
+ghost use Rattle.mw_boardfile.specs.Sizes.{usual_stack, stack_in};
 ghost use Rattle.mw_board.specs.Rules.{width_rule, microword_rule, address_rule, word_rule, vector_rule};
+ghost use Rattle.mw_board.specs.Rules.{stack_rule};
 ghost use Rattle.mw_boardfile.specs.Kept.{Kept, SizesKeep};
 ghost use Rattle.mw_boardfile.specs.Views.{given};
 
@@ -13,7 +15,7 @@ use crate::fault::BoardRefusal;
 use crate::paths::under_whole;
 use crate::values::{member, natural, number_text, required};
 use mw_base::Cause;
-use mw_board::{address_rule, microword_rule, vector_rule, width_rule, word_rule};
+use mw_board::{address_rule, microword_rule, stack_rule, vector_rule, width_rule, word_rule};
 use std::alloc::Global;
 use toml::{Table, Value};
 
@@ -32,15 +34,17 @@ pub(crate) struct BoardSizes {
     pub(crate) unset: u128,
     /// The address that the vector gives.
     pub(crate) vector: u16,
+    /// How many words the stack has.
+    pub(crate) stack: u8,
 }
 
-/// version to vector.
+/// version to stack.
 #[tactic(auto, unfolding(crate::specs::Board::sizes_of))]
 pub(crate) fn sizes(alloc: Global, document: &Table) -> Result<BoardSizes, BoardRefusal>
     ensures gives { Gives (λ sizes. sizes) result (sizes_of (table_view document.now)) }
     ensures kept { IfOk result SizesKeep }
 {
-    under_whole(alloc, b"version", version(member(document, "version")))?;
+    let version = under_whole(alloc, b"version", version(member(document, "version")))?;
     let width = under_whole(alloc, b"width", width(member(document, "width")))?;
     let microword = under_whole(
         alloc,
@@ -55,6 +59,7 @@ pub(crate) fn sizes(alloc: Global, document: &Table) -> Result<BoardSizes, Board
     let fill = under_whole(alloc, b"fill", fill(microword, member(document, "fill")))?;
     let unset = under_whole(alloc, b"unset", unset(microword, member(document, "unset")))?;
     let vector = under_whole(alloc, b"vector", vector(member(document, "vector")))?;
+    let stack = under_whole(alloc, b"stack", stack(version, member(document, "stack")))?;
     Ok(BoardSizes {
         width,
         microword,
@@ -62,16 +67,17 @@ pub(crate) fn sizes(alloc: Global, document: &Table) -> Result<BoardSizes, Board
         fill,
         unset,
         vector,
+        stack,
     })
 }
 
-/// version: 1.
+/// version: 1 or 2.
 #[tactic(auto, unfolding(crate::specs::Sizes::version_in))]
-fn version(value: Option<&Value>) -> Result<u64, Cause>
+pub(crate) fn version(value: Option<&Value>) -> Result<u64, Cause>
     ensures { result ≡ version_in (given value.entry) }
 {
     let version = natural(required(value)?)?;
-    if version == 1 {
+    if version == 1 || version == 2 {
         Ok(version)
     } else {
         Err(Cause::BadValue)
@@ -156,5 +162,30 @@ fn vector(value: Option<&Value>) -> Result<u16, Cause>
             Ok(vector as u16)
         }
         None => Ok(0),
+    }
+}
+
+/// The words of the stack of a file that doesn't give them: 9 in version 2, as an Am2910A has, else 5, as an Am2910 has.
+#[tactic(auto, unfolding(mw_board::specs::Rules::stack_rule))]
+fn usual_stack(version: u64) -> u8
+    ensures exact { result ≡ usual_stack version }
+    ensures kept { Kept (stack_rule result) }
+{
+    if version == 2 { 9 } else { 5 }
+}
+
+/// stack: 5 or 9 words; those of the version where it isn't there.
+#[tactic(auto, unfolding(crate::specs::Sizes::stack_in))]
+fn stack(version: u64, value: Option<&Value>) -> Result<u8, Cause>
+    ensures exact { result ≡ stack_in version (given value.entry) }
+    ensures kept { IfOk result (λ stack. Kept (stack_rule stack)) }
+{
+    match value {
+        Some(value) => {
+            let stack = natural(value)?;
+            stack_rule(stack)?;
+            Ok(stack as u8)
+        }
+        None => Ok(usual_stack(version)),
     }
 }

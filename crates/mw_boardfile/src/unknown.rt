@@ -7,12 +7,14 @@ ghost use Rattle.toml.specs.Data.{get_member};
 ghost use Rattle.toml.specs.View.{table_view};
 ghost use Rattle.mw_base.specs.Numbers.{decimal};
 ghost use Rattle.mw_base.specs.Reading.{Gives};
-ghost use Rattle.mw_boardfile.specs.Unknown.{keys_of};
+ghost use Rattle.mw_boardfile.specs.Sizes.{version_in};
+ghost use Rattle.mw_boardfile.specs.Unknown.{keys_of, file_of};
 ghost use Rattle.mw_boardfile.specs.Unknown.{is_one_of, lesser, with_key, with_members, with_table, table_at};
 ghost use Rattle.mw_boardfile.specs.Unknown.{with_flipflops, flipflops_at, unknown_key, known_or_fault};
 ghost use Rattle.mw_boardfile.specs.Views.{given, data_of};
 
 use crate::fault::{BoardRefusal, KeyFault};
+use crate::sizes::version;
 use crate::values::member;
 use mw_base::{Cause, Name, NoMemory, Refused, append_decimal, is_one_of};
 use mw_board::Point;
@@ -22,8 +24,10 @@ use toml::{Table, Value};
 /// A table whose keys the format names.
 #[derive(Clone, Copy)]
 enum KeyTable {
-    /// The file itself.
+    /// The file itself, of version 1.
     File,
+    /// The file itself, of version 2.
+    SecondFile,
     /// A flip-flop.
     FlipFlop,
     /// The control points.
@@ -34,7 +38,7 @@ enum KeyTable {
     Map,
 }
 
-/// The keys of a file.
+/// The keys of a file of version 1.
 const FILE_KEYS: [&[u8]; 12] = [
     b"version",
     b"width",
@@ -72,6 +76,7 @@ fn is_known(kind: KeyTable, key: &[u8]) -> bool
 {
     match kind {
         KeyTable::File => is_one_of(&FILE_KEYS, key),
+        KeyTable::SecondFile => key == b"stack".as_slice() || is_one_of(&FILE_KEYS, key),
         KeyTable::FlipFlop => is_one_of(&FLIPFLOP_KEYS, key),
         KeyTable::Control => is_point(&Point::ALL, key),
         KeyTable::Select => is_one_of(&SELECT_KEYS, key),
@@ -196,12 +201,29 @@ fn flipflops(document: &Table) -> &[Value]
     }
 }
 
+/// The file itself, by its version: of version 1, where that isn't the integer 2.
+fn file_of(value: Option<&Value>) -> KeyTable
+    ensures { result ≡ file_of (version_in (given value.entry)) }
+{
+    match version(value) {
+        Ok(version) => {
+            if version == 2 {
+                KeyTable::SecondFile
+            } else {
+                KeyTable::File
+            }
+        }
+        Err(_) => KeyTable::File,
+    }
+}
+
 /// The least unknown key of a document, by the bytes of its dotted path.
 #[tactic(auto, unfolding(crate::specs::Unknown::unknown_key))]
 fn unknown_key(alloc: Global, document: &Table) -> Result<Option<Name>, NoMemory>
     ensures { IfOk result (λ least. least ≡ unknown_key (table_view document.now)) }
 {
-    let least = with_members(alloc, KeyTable::File, b"", document, None)?;
+    let file = file_of(member(document, "version"));
+    let least = with_members(alloc, file, b"", document, None)?;
     let least = with_table(
         alloc,
         KeyTable::Control,

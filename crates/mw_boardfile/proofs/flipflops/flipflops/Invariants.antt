@@ -6,8 +6,8 @@ use Rattle.mw_boardfile.proofs.flipflops.flipflops.Given as goal
 
 abbrev pub invariant-loop-n : goal.invariant-loop-n
 invariant-loop-n l =
-    (each_flipflop l.width l.fields (data_of l.flipflops) l.done.items l.n (data_of (drop l.n l.flipflops))
-    ≡ each_flipflop l.width l.fields (data_of l.flipflops) [] 0 (data_of l.flipflops))
+    (each_flipflop l.sizes l.fields (data_of l.flipflops) l.done.items l.n (data_of (drop l.n l.flipflops))
+    ≡ each_flipflop l.sizes l.fields (data_of l.flipflops) [] 0 (data_of l.flipflops))
     × (length l.done.items ≡ l.n)
     × (l.n ≤ length l.flipflops)
-    × FlipFlopsKeep l.width l.fields (length l.flipflops) l.done.items
+    × FlipFlopsKeep l.sizes l.fields (length l.flipflops) l.done.items
