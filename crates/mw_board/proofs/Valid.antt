@@ -87,7 +87,8 @@ vector_kept vector e =
     let h = asked (nat_lt vector 4096) BadValue e in
     grind (arith, nat_tests)
 
-stack_kept : (p : BoardParts) → stack_rule p.stack ≡ Ok tt → p.stack ≡ depth_of p
+-- a stack that keeps its rule is as deep as it says
+pub stack_kept : (p : BoardParts) → stack_rule p.stack ≡ Ok tt → p.stack ≡ depth_of p
 unfolding stack_rule depth_of
 stack_kept p e = five_or_nine (p.stack == 5) (p.stack == 9) refl refl (asked (p.stack == 5 || p.stack == 9) BadValue e)
   where

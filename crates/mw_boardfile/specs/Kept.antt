@@ -10,6 +10,7 @@ use Rattle.mw_board.specs.declared.control.Points.{Points}
 use Rattle.mw_board.specs.declared.field.NamedField.{NamedField}
 use Rattle.mw_board.specs.declared.flipflop.FlipFlop.{FlipFlop}
 use Rattle.mw_board.specs.declared.parts.BoardParts.{BoardParts}
+use Rattle.mw_board.specs.Depth.{depth_of}
 use Rattle.mw_board.specs.Check.{flipflop_check, flipflops_from}
 use Rattle.mw_board.specs.Rules.{Verdict, width_rule, microword_rule, address_rule, word_rule, vector_rule, fields_rule}
 use Rattle.mw_board.specs.Rules.{name_rule, field_rule, bit_rule, carry_in_rule, d_source_rule, chosen_rule, list_rule}
@@ -66,7 +67,7 @@ pub record FieldsKeep (microword : ℕ) (fields : List NamedField) : Type 0 wher
 -- a board of such sizes, of these fields and of so many flip-flops
 pub record HasFlipFlops (sizes : BoardSizes) (fields : List NamedField) (flipflops : ℕ) (p : BoardParts) : Type 0 where
   pub width : p.width ≡ sizes.width
-  pub stack : p.stack ≡ sizes.stack
+  pub stack : depth_of p ≡ sizes.stack
   pub named : p.fields ≡ fields
   pub count : length p.flipflop ≡ flipflops
 

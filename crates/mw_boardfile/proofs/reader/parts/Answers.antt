@@ -1,5 +1,6 @@
 use Rattle.std.proofs.Common.{length, refl, sym}
 use Rattle.mw_board.specs.Rules.{flipflops_rule}
+use Rattle.mw_board.proofs.Valid.{stack_kept}
 use Rattle.mw_boardfile.specs.Kept.{Kept}
 use Rattle.mw_boardfile.proofs.Kept.{of_value, parts_keep}
 use Rattle.mw_boardfile.proofs.reader.parts.Goals as goal
@@ -13,6 +14,6 @@ returns-clause-kept c =
     let flips = c.in_ok-flipflop.ensures.kept in
     let lists = c.in_ok-lists.ensures.kept in
     let points = c.in_ok-control.ensures.kept in
-    let on_board = flips _ (record { width = refl; stack = refl; named = sym named; count = count }) in
+    let on_board = flips _ (record { width = refl; stack = sym (stack_kept _ c.in_ok-sizes.ensures.kept.stack); named = sym named; count = count }) in
     parts_keep _ c.in_ok-sizes.ensures.kept c.in_ok-fields.ensures.kept (rw count few) on_board
     (rw (← named) points) (rw (count, ← named) lists) c.in_ok-map.ensures.kept
