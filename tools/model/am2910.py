@@ -44,19 +44,19 @@ def effect(name, passed, r):
     return table[name][passed].split()
 
 
-def moved(sp, move):
+def moved(sp, move, depth=DEPTH):
     """The stack pointer behind a move."""
-    return {"HOLD": sp, "PUSH": min(sp + 1, DEPTH), "POP": max(sp - 1, 0), "CLEAR": 0}[move]
+    return {"HOLD": sp, "PUSH": min(sp + 1, depth), "POP": max(sp - 1, 0), "CLEAR": 0}[move]
 
 
-def pushed_to(sp):
+def pushed_to(sp, depth=DEPTH):
     """The place of the word that a push writes: on a full stack it writes over the top."""
-    return min(sp, DEPTH - 1)
+    return min(sp, depth - 1)
 
 
 @dataclass
 class Sequencer:
-    """PC, R, the stack pointer and the stack, from its bottom."""
+    """PC, R, the stack pointer and the stack, from its bottom: of five words, or of nine."""
     pc: int = 0
     r: int = 0
     sp: int = 0
@@ -69,10 +69,10 @@ class Sequencer:
         following = {"0": 0, "PC": self.pc, "D": direct, "R": self.r, "F": top}[source]
         stack = list(self.stack)
         if move == "PUSH":
-            stack[pushed_to(self.sp)] = self.pc
+            stack[pushed_to(self.sp, len(stack))] = self.pc
         r = direct if load else {"HOLD": self.r, "LOAD": direct, "DEC": self.r - 1}[counter]
         pc = following + carry_in & 0xFFF
-        return following, replace(self, pc=pc, r=r, sp=moved(self.sp, move), stack=stack)
+        return following, replace(self, pc=pc, r=r, sp=moved(self.sp, move, len(stack)), stack=stack)
 
     def shown(self):
         stack = ",".join(f"{word:x}" for word in self.stack)
