@@ -1,6 +1,6 @@
 -- What the expressions of a relation are over.
 use Rattle.std.proofs.Common.{◌≡◌, ℕ, zero, suc, ◌+◌, ◌<◌, ◌≤◌, List, [], ◌∷◌, ◌++◌, length, map, take, true, refl, ap}
-use Rattle.std.proofs.Common.{arith, inl, inr, length-append, length-take-le}
+use Rattle.std.proofs.Common.{arith, length-append, length-take-le}
 use Rattle.std.specs.Prelude.{codes, slice_get, slice_index}
 use Rattle.std.specs.Option.{option_to_list}
 use Rattle.std.specs.List.{All}
@@ -11,7 +11,7 @@ use Rattle.mw_board.specs.declared.parts.BoardParts.{BoardParts}
 use Rattle.mw_board.specs.Elements.{Element, register_names, address_register_name, instruction_register_name}
 use Rattle.mw_board.specs.Elements.{names_behind_of, of_width, elements_of, element_count}
 use Rattle.mw_board.specs.Valid.{IsBoard}
-use Rattle.mw_board.proofs.Elements.{count_of, depth_known, words_few}
+use Rattle.mw_board.proofs.Elements.{count_of, words_few}
 use Rattle.mw_expr.specs.Grammar.{is_dotted}
 use Rattle.mw_macro.specs.Machine.{Description}
 use Rattle.mw_macro.specs.Right.{IsBetween, IsMachine}
@@ -93,10 +93,7 @@ elements_few board is =
 -- their names have two parts
 dotted : (board : BoardParts) (machine : Description) → is_dotted (names_of board machine) ≡ true
 unfolding names_of elements_of
-dotted board machine = elim (depth_known board) [
-  | inl five ↦ rw five refl
-  | inr nine ↦ rw nine refl
-]
+dotted board machine = refl
 
 pub scope_kept : (board : BoardParts) (machine : Description) → IsBoard board → IsMachine machine
     → IsScope (scope_for board machine)
