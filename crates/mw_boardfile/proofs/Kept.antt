@@ -99,7 +99,7 @@ unfolding flipflop_check
 flip_keeps sizes fields count earlier f name control load = λ p i has.
     let loads =
     list_keeps (in_load i) (λ n verdict holds. rw holds refl) (load_rule sizes.width count) fields f.control f.load load in
-    rw (has.width, has.stack, has.named, has.count, name, control, loads) refl
+    rw (has.stack, has.width, has.named, has.count, name, control, loads) refl
 
 -- one more flip-flop
 pub flipflop_keeps : (p : BoardParts) (earlier : List FlipFlop) (i : ℕ) (fs : List FlipFlop) (f : FlipFlop)
