@@ -16,7 +16,7 @@ from math import prod
 
 import difference_jobs
 import tools_path
-from case_jobs import BOARDS, JOBS, job_of, random_job
+from case_jobs import BACK, BOARDS, JOBS, JUMP_BACK, boundary, job, job_of, random_job
 from cases import given_lines
 from differences import Assigned, counter
 from files import file_lines, row_lines
@@ -28,6 +28,15 @@ SAMPLES = 200
 MOST_STARTS = 4096
 # The numbers of random jobs that read no noise.
 AT_RANDOM = *range(13), 14, 15, 17
+# Cases whose first start is another one where the variables stand by word, and then by bit: bit 1 of the first word
+# stands behind bit 0 of the second.
+BY_BIT = [
+    job(f"a first start by bit, and then by word, the flag {what}",
+        f"LOOP: dst=1, seq=3, FLAG, turn={turn}, br=2\n{JUMP_BACK}dst=1, CONT\n{BACK}",
+        "memory 2 4\nregister X 2\nregister Y 2\nstep\n", boundary("LOOP", 3, "b.flag = m.X[1] | m.Y[0]"),
+        elements=["m.X", "m.Y"])
+    for what, turn in (("for the longer way", 0), ("for the shorter way", 1))
+]
 HEAD = """\
 # How long the segments of small jobs last, printed by tools/rows/bounds.py from all their starts, without the crates:
 # of the first case with the least length, and of the first with the greatest, the start whose variables are first."""
@@ -102,7 +111,8 @@ def start_count(job, reads):
 
 def jobs():
     """The jobs with few starts, each name once."""
-    named = {each[0]: each for each in difference_jobs.JOBS + JOBS + [random_job(number) for number in AT_RANDOM]}
+    every = difference_jobs.JOBS + JOBS + BY_BIT + [random_job(number) for number in AT_RANDOM]
+    named = {each[0]: each for each in every}
     return [each for each in named.values() if start_count(job_of(each[1]), each[2]) <= MOST_STARTS]
 
 

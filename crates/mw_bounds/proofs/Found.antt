@@ -1,13 +1,12 @@
 -- What is found of a boundary whose cases were all gone through, and why it isn't.
-use Rattle.std.proofs.Common.{◌≡◌, inl, inr, ℕ, ◌<◌, ◌≤◌, ◌∙◌, List, [], ◌∷◌, ◌++◌, Option, Some, None, length, refl, ap, subst, sym, arith}
-use Rattle.std.specs.Prelude.{Contains}
+use Rattle.std.proofs.Common.{◌≡◌, ℕ, ◌<◌, List, [], Option, Some, None, length, refl, ap, subst, sym, arith}
+use Rattle.std.specs.Prelude.{Contains, false}
 use Rattle.std.proofs.lemmas.List.Elements.{All-contains}
 use Rattle.mw_term.specs.declared.decided.Decided.{Decided}
 use Rattle.mw_rel.specs.Case.{IsCase, IsStartAt, case_of}
 use Rattle.mw_rel.specs.Job.{Job, IsJob}
 use Rattle.mw_rel.specs.OverBudget.{AreWithin}
 use Rattle.mw_rel.specs.Start.{Start}
-use Rattle.mw_dd.proofs.Lists.{get-push}
 use Rattle.mw_fork.specs.declared.budget.Budget.{Budget}
 use Rattle.mw_fork.specs.Faults.{ForkFault}
 use Rattle.mw_fork.specs.declared.fault.Fault.TheVariants as faults
@@ -16,10 +15,9 @@ use Rattle.mw_fork.specs.Walks.{AreAllCases, HasWalked, StopsWalk}
 use Rattle.mw_fork.proofs.AnyStart.{some_case}
 use Rattle.mw_bounds.specs.declared.extreme.Extremes.{Extremes}
 use Rattle.mw_bounds.specs.declared.extreme.Shown.{Shown}
-use Rattle.mw_bounds.specs.declared.range.Range.{Range}
 use Rattle.mw_bounds.specs.declared.extreme.Side.{Side}
 use Rattle.mw_bounds.specs.declared.extreme.Side.TheVariants.{Least, Greatest}
-use Rattle.mw_bounds.specs.Answers.{AreOfFirst, IsFoundAt, IsShownBy, StopsSearch}
+use Rattle.mw_bounds.specs.Answers.{IsFoundAt, IsShownBy, IsNotFound}
 use Rattle.mw_bounds.specs.Extremes.{AreExtremes, ComesLater, IsExtreme, IsExtremeOf, NoneGoesBeyond}
 
 -- what is said of some cases of a boundary
@@ -91,24 +89,13 @@ found job number budget extremes least greatest walked least_is greatest_is =
       };
     }
 
--- where something is over the budget
-pub stops : (job : Job) (number : ℕ) (budget : Budget) (fault : ForkFault)
-    → StopsWalk job number budget (λ cases. (extremes : Extremes) × said job number budget extremes cases) fault
-    → StopsSearch job budget fault
-stops job number budget faults.NoMemory is = tt
-stops job number budget (faults.Over (Nodes boundary prefix word j)) is =
-    subst (λ n. StopsSearch job budget (faults.Over (Nodes n prefix word j))) (sym is.0) is.1.over
-stops job number budget (faults.Over (Paths boundary limit)) is =
-    subst (λ n. StopsSearch job budget (faults.Over (Paths n limit))) (sym is.0) (is.1.limit_is, is.1.over)
-
--- ---- one boundary more
-
-pub one_more : (job : Job) (budget : Budget) (ranges : List Range) (number : ℕ) (range : Range)
-    → AreOfFirst job budget ranges → length ranges ≡ number → IsFoundAt job number budget range
-    → AreOfFirst job budget (ranges ++ range ∷ [])
-one_more job budget ranges number range are count is k other there =
-    elim (get-push ranges range k other there) [
-      | inl old ↦ are k other old
-      | inr new ↦ subst (λ r. IsFoundAt job k budget r) new.1
-          (subst (λ n. IsFoundAt job n budget range) (sym (new.0 ∙ count)) is)
-    ]
+-- nothing is found where something is over the budget, or memory ran out
+pub not_found : (job : Job) (number : ℕ) (budget : Budget) (fault : ForkFault)
+    → StopsWalk job number budget false (λ cases. (extremes : Extremes) × said job number budget extremes cases) fault
+    → IsNotFound job budget fault
+not_found job number budget faults.NoMemory is = tt
+not_found job number budget (faults.Over (Nodes boundary prefix word j)) is =
+    subst (λ n. IsNotFound job budget (faults.Over (Nodes n prefix word j))) (sym is.0)
+    (record { asks = is.1.asks refl; over = is.1.over })
+not_found job number budget (faults.Over (Paths boundary limit)) is =
+    subst (λ n. IsNotFound job budget (faults.Over (Paths n limit))) (sym is.0) (is.1.limit_is, is.1.over)

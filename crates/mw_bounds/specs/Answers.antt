@@ -4,7 +4,7 @@ use Rattle.mw_term.specs.declared.decided.Decided.{Decided}
 use Rattle.mw_rel.specs.Begin.{Begin}
 use Rattle.mw_rel.specs.Case.{IsBefore, IsCase, IsStartAt, case_of}
 use Rattle.mw_rel.specs.Job.{Job}
-use Rattle.mw_rel.specs.OverBudget.{AreNodesOver, ArePathsOver, AreWithin}
+use Rattle.mw_rel.specs.OverBudget.{ArePathsOver, AreWithin}
 use Rattle.mw_rel.specs.Start.{Start}
 use Rattle.mw_fork.specs.declared.budget.Budget.{Budget}
 use Rattle.mw_fork.specs.Faults.{ForkFault}
@@ -12,6 +12,7 @@ use Rattle.mw_fork.specs.declared.fault.Fault.TheVariants as faults
 use Rattle.mw_fork.specs.declared.fault.Over.{Over}
 use Rattle.mw_fork.specs.declared.fault.Over.TheVariants.{Nodes, Paths}
 use Rattle.mw_fork.specs.Begins.{IsFirstOfCase, IsOfCase}
+use Rattle.mw_fork.specs.Stops.{IsDecisionOver}
 use Rattle.mw_fork.specs.Walks.{AreAllCases}
 use Rattle.mw_bounds.specs.declared.range.Bounds.{Bounds}
 use Rattle.mw_bounds.specs.declared.range.Bounds.TheVariants.{Found, Unknown}
@@ -59,10 +60,10 @@ pub record AreFound (job : Job) (budget : Budget) (ranges : List Range) : Type 0
   pub count : length ranges ≡ length job.relation.boundaries
   pub each : AreOfFirst job budget ranges
 
--- An operation at the word and bit, in the list of the prefix, is over the budget's nodes; or a boundary has more cases
--- than the budget's paths, which is the limit.
+-- The prefix asks for one more bit, and an operation at the word and bit of its list, so none of a comparison, is over the
+-- budget's nodes; or a boundary has more cases than the budget's paths, which is the limit.
 abbrev pub IsOver : Job → Budget → Over → Type 0
-IsOver job budget (Nodes number prefix word j) = AreNodesOver job number budget.nodes prefix word j
+IsOver job budget (Nodes number prefix word j) = IsDecisionOver job number budget.nodes prefix word j
 IsOver job budget (Paths number limit) = (limit ≡ budget.paths) × ArePathsOver job number limit
 
 -- what an answer says of a job, within a budget
@@ -70,7 +71,7 @@ abbrev pub IsAnswer : Job → Budget → Bounds → Type 0
 IsAnswer job budget (Found ranges) = AreFound job budget ranges
 IsAnswer job budget (Unknown over) = IsOver job budget over
 
--- why there is no answer
-abbrev pub StopsSearch : Job → Budget → ForkFault → Type 0
-StopsSearch job budget (faults.Over over) = IsOver job budget over
-StopsSearch job budget faults.NoMemory = Unit {0}
+-- why nothing is found
+abbrev pub IsNotFound : Job → Budget → ForkFault → Type 0
+IsNotFound job budget (faults.Over over) = IsOver job budget over
+IsNotFound job budget faults.NoMemory = Unit {0}

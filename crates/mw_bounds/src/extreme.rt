@@ -1,5 +1,5 @@
 // The extreme lengths of the cases of a boundary.
-ghost use Rattle.std.specs.Prelude.{◌≡◌, ◌∷◌, ◌++◌, [], List, IfErr, OnOk};
+ghost use Rattle.std.specs.Prelude.{◌≡◌, ◌∷◌, ◌++◌, [], List, IfErr, OnOk, false};
 ghost use Rattle.mw_term.specs.declared.decided.Decided.{Decided};
 ghost use Rattle.mw_rel.specs.Views.{job_of};
 ghost use Rattle.mw_fork.specs.declared.fault.Fault.TheVariants as faults;
@@ -97,6 +97,8 @@ impl Visitor for Extremes {
     ghost has_seen = { λ before now job number budget cases. AreExtremes job number budget.nodes now cases };
 
     ghost stops = { λ now job number budget bits stop. ⊥ };
+
+    ghost compares = { false };
 
     fn visit(
         &mut self,

@@ -3,10 +3,10 @@
 #![tactic(auto)]
 
 mod extreme;
+mod finding;
 mod length;
 mod range;
-mod search;
 
+pub use finding::bounds;
 pub use length::Length;
 pub use range::{Bounds, Range};
-pub use search::bounds;

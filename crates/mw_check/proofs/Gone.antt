@@ -1,7 +1,7 @@
 -- From the cases that were gone through to one more, and to what a search of a boundary ends with.
 use Rattle.std.proofs.Common.{◌≡◌, ◌⊎◌, inl, inr, ℕ, ◌+◌, ◌<◌, ◌≤◌, max, List, [], ◌∷◌, ◌++◌, length, refl}
 use Rattle.std.proofs.Common.{sym, ap, ◌∙◌, subst, arith}
-use Rattle.std.specs.Prelude.{All}
+use Rattle.std.specs.Prelude.{All, true}
 use Rattle.std.proofs.Math.Nat.{le-max_left, le-max_right, max-eq_left, max-eq_right}
 use Rattle.std.proofs.lemmas.Bool.{cases_lt}
 use Rattle.std.proofs.lemmas.List.{length-append}
@@ -167,7 +167,7 @@ stops_at_start job number budget search begin counter valid stopped is short non
 
 -- where something is over the budget
 pub stops_over : (job : Job) (number : ℕ) (budget : Budget) (fault : ForkFault)
-    → StopsWalk job number budget (λ cases. (search : Found) × said job number budget search cases) fault
+    → StopsWalk job number budget true (λ cases. (search : Found) × said job number budget search cases) fault
     → NoneDiffersBefore job number → StopsSearch job budget fault
 stops_over job number budget faults.NoMemory stops none = tt
 stops_over job number budget (faults.Over (overs.Nodes boundary prefix word j)) stops none =

@@ -1,27 +1,15 @@
 -- From boundary to boundary, and what all of them together say.
-use Rattle.std.proofs.Common.{◌≡◌, inl, inr, ℕ, ◌<◌, List, [], ◌∷◌, ◌++◌, length, sym, ◌∙◌, subst, arith}
+use Rattle.std.proofs.Common.{◌≡◌, ℕ, ◌<◌, List, length, sym, ◌∙◌, arith}
 use Rattle.std.specs.Prelude.{slice_index_or}
 use Rattle.std.proofs.lemmas.Option.{none-some, slice_get-get_or, slice_get_within}
 use Rattle.mw_rel.specs.Certified.{Certified}
 use Rattle.mw_rel.specs.Job.{Job, IsJob}
 use Rattle.mw_rel.specs.Laws.{NoneDiffers}
 use Rattle.mw_rel.proofs.Law.{certified_where_none_differs}
-use Rattle.mw_dd.proofs.Lists.{get-push}
 use Rattle.mw_fork.specs.declared.budget.Budget.{Budget}
 use Rattle.mw_check.specs.declared.verdict.Summary.{Summary}
 use Rattle.mw_check.specs.Searched.{AreSearched, IsSearched}
 use Rattle.mw_check.specs.Verdict.{AreSummaries, AreWithinBudget, NoneDiffersBefore}
-
--- one boundary more
-pub one_searched : (job : Job) (budget : Budget) (summaries : List Summary) (number : ℕ) (summary : Summary)
-    → AreSearched job budget summaries → length summaries ≡ number → IsSearched job number budget summary
-    → AreSearched job budget (summaries ++ summary ∷ [])
-one_searched job budget summaries number summary are count is k found there =
-    elim (get-push summaries summary k found there) [
-      | inl old ↦ are k found old
-      | inr new ↦ subst (λ s. IsSearched job k budget s) new.1 (subst (λ n. IsSearched job n budget summary)
-          (sym (new.0 ∙ count)) is)
-    ]
 
 -- what was found of the boundary with a number
 searched_at : (job : Job) (budget : Budget) (summaries : List Summary) (number : ℕ) → AreSearched job budget summaries

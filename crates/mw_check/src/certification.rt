@@ -1,5 +1,5 @@
 // Whether a job is certified.
-ghost use Rattle.std.specs.Prelude.{◌≡◌, ◌<◌, length, IfOk, IfErr, IsTrue};
+ghost use Rattle.std.specs.Prelude.{◌≡◌, ◌<◌, length, IfOk, IfErr, IsTrue, true};
 ghost use Rattle.mw_rel.specs.Views.{job_of};
 ghost use Rattle.mw_replay.specs.CounterPrinted.{AreShort};
 ghost use Rattle.mw_check.specs.Searched.{EndsSearch, StopsSearch};
@@ -32,6 +32,8 @@ impl Visitor for Found {
     ghost has_seen = { λ before now job number budget cases. AreGoneThrough job number budget.nodes now.summary cases };
 
     ghost stops = { λ now job number budget bits begin. IsFirstDiffering job number bits begin };
+
+    ghost compares = { true };
 
     fn visit(
         &mut self,

@@ -5,7 +5,6 @@ use Rattle.mw_term.specs.declared.decided.Decided.{Decided}
 use Rattle.mw_symmach.specs.Turns.{Stepping}
 use Rattle.mw_rel.specs.Case.{IsBefore, IsCase}
 use Rattle.mw_rel.specs.Job.{Job, IsJob}
-use Rattle.mw_rel.specs.OverBudget.{AreNodesOver}
 use Rattle.mw_fork.specs.declared.budget.Budget.{Budget}
 use Rattle.mw_fork.specs.declared.fork.Stage.{Stage}
 use Rattle.mw_fork.specs.declared.fork.Stage.TheVariants as stages
@@ -17,7 +16,7 @@ use Rattle.mw_fork.specs.Forks.{At, Before, EndsEach, Fork, IsForkOf, IsNextCase
 use Rattle.mw_fork.specs.Forks.{LeadOn, LeadsToNext, NoneIsToCome, fork_of}
 use Rattle.mw_fork.specs.KeptBits.{AreKeptBits}
 use Rattle.mw_fork.specs.OnWay.{HasMetCase}
-use Rattle.mw_fork.specs.Stops.{StopsBy}
+use Rattle.mw_fork.specs.Stops.{IsDecisionOver, StopsBy}
 use Rattle.mw_fork.specs.Ways.{Way, bits_of, met_of, turned_last}
 use Rattle.mw_fork.specs.Within.{AreDecidedWithin}
 use Rattle.mw_fork.proofs.AnyStart.{some_case}
@@ -53,9 +52,9 @@ none_next job f boundary given budget stage kept is of nowhere =
     let keeps = (subst (IsForkOf job) (sym is) of).keeps in
     subst (λ (g : Fork). NoneIsToCome job g.boundary g.at) is (nowhere job boundary keeps)
 
--- an operation is over a fork's budget in the list of a prefix, and no case that is to come stands before that
+-- the decision behind a prefix is over a fork's budget, and no case that is to come stands before that
 pub record HasStopped (job : Job) (f : Fork) (number : ℕ) (prefix : List Decided) (word j : ℕ) : Type 0 where
-  pub cause : AreNodesOver job number f.budget.nodes prefix word j
+  pub cause : IsDecisionOver job number f.budget.nodes prefix word j
   pub before : (other : List Decided) → IsCase job number other → IsBefore other prefix → ¬ IsToCome f.at other
 
 -- so it is where the run of a fork's next case stops, by the bits that it has met

@@ -32,6 +32,7 @@ pub mod Named
 pub mod Numbered
 pub mod OnRun
 pub mod OnStep
+pub mod OneMore
 pub mod Ordering
 pub mod OverCompared
 pub mod OverWords

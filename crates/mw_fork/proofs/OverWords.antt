@@ -213,13 +213,16 @@ stops_by job number nodes g from way path term (faults.Over named j) stop law nu
     let feasible = met_feasible job number g from way path starts on in
     rw (tells.over named j refl) (
       on.bits,
-      elim cause [
-        | inl h ↦ row_over job number nodes (met_of way) g term named j law numbered map asks feasible h.1
-        | inr h ↦
-            subst (λ (x : ℕ). IsOverAt job number nodes (met_of way) g x j) (sym h.0)
-            (subst (λ (x : ℕ). IsOverAt job number nodes (met_of way) g term x) (sym h.1)
-            (path_over job number nodes (met_of way) g path term map asks on.written feasible h.2))
-      ],
+      record {
+        asks = rw (ap (λ (w : CaseWords). w.asked) asks) refl;
+        over = elim cause [
+          | inl h ↦ row_over job number nodes (met_of way) g term named j law numbered map asks feasible h.1
+          | inr h ↦
+              subst (λ (x : ℕ). IsOverAt job number nodes (met_of way) g x j) (sym h.0)
+              (subst (λ (x : ℕ). IsOverAt job number nodes (met_of way) g term x) (sym h.1)
+              (path_over job number nodes (met_of way) g path term map asks on.written feasible h.2))
+        ];
+      },
     )
 stops_by job number nodes g from way path term faults.NoMemory stop law numbered starts on asks cause tells =
     rw (tells.none refl) tt

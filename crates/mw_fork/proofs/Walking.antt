@@ -1,13 +1,14 @@
 -- From a fork that has given some cases to the next one, and to what a walk ends with.
 use Rattle.std.proofs.Common.{◌≡◌, ◌≢◌, ◌⊎◌, inl, inr, ℕ, ◌+◌, ◌<◌, ◌≤◌, List, [], ◌∷◌, ◌++◌, length, refl}
 use Rattle.std.proofs.Common.{sym, ap, ◌∙◌, subst, arith}
-use Rattle.std.specs.Prelude.{All, Contains, IfSome, Option, Some, slice_index_or}
+use Rattle.std.specs.Prelude.{All, Bool, Contains, IfSome, IsSome, Option, Some, false, slice_index_or, true}
 use Rattle.std.proofs.lemmas.List.{length-append}
 use Rattle.std.proofs.lemmas.List.Elements.{All-nil, All-push, Contains-append_left, Contains-push}
 use Rattle.std.proofs.lemmas.List.Quantifiers.{all_pairs_push}
 use Rattle.std.specs.List.{AllPairs}
 use Rattle.mw_term.specs.declared.decided.Decided.{Decided}
 use Rattle.mw_rel.specs.Case.{IsBefore, IsCase, case_of}
+use Rattle.mw_rel.specs.CaseWords.{case_words}
 use Rattle.mw_rel.specs.Job.{Job, IsJob}
 use Rattle.mw_rel.specs.OverBudget.{AreNodesOver}
 use Rattle.mw_rel.proofs.Cases.{cases_meet}
@@ -18,6 +19,7 @@ use Rattle.mw_fork.specs.declared.fault.Fault.TheVariants as faults
 use Rattle.mw_fork.specs.declared.fault.Over.TheVariants as overs
 use Rattle.mw_fork.specs.declared.fork.Case.{Case}
 use Rattle.mw_fork.specs.Forks.{At, Before, Fork, IsForkOf, IsNextCase, IsToCome, NoneIsToCome, OneIsToCome}
+use Rattle.mw_fork.specs.Stops.{IsDecisionOver}
 use Rattle.mw_fork.specs.Walks.{AreAllCases, AreFirstCases, IsNextBehind, ReachTo, StopsAt, StopsWalk}
 
 -- ---- the order of cases
@@ -196,22 +198,25 @@ pub record IsFaultAtNext (job : Job) (fork : Fork) (fault : ForkFault) : Type 0 
       → (boundary ≡ fork.boundary) × (fork.given < fork.budget.paths) × OneIsToCome job fork.boundary fork.at
   pub cause : (boundary : ℕ) (prefix : List Decided) (word bit : ℕ)
       → fault ≡ faults.Over (overs.Nodes boundary prefix word bit)
-      → AreNodesOver job boundary fork.budget.nodes prefix word bit
+      → IsDecisionOver job boundary fork.budget.nodes prefix word bit
   pub before : (boundary : ℕ) (prefix : List Decided) (word bit : ℕ)
       → fault ≡ faults.Over (overs.Nodes boundary prefix word bit) → (other : List Decided)
       → IsCase job boundary other → IsBefore other prefix → ¬ IsToCome fork.at other
 
-pub stops_at_next : (job : Job) (number : ℕ) (budget : Budget) (fork : Fork) (cases : List (List Decided))
-    (said : List (List Decided) → Type 0) (fault : ForkFault) → IsFaultAtNext job fork fault
-    → HasGiven job number budget fork cases → said cases → StopsWalk job number budget said fault
-stops_at_next job number budget fork cases said faults.NoMemory is gone says = tt
-stops_at_next job number budget fork cases said (faults.Over (overs.Nodes boundary prefix word j)) is gone says =
-    let same : boundary ≡ number = (is.over boundary prefix word j refl).0 ∙ gone.boundary in (
+pub stops_at_next : (job : Job) (number : ℕ) (budget : Budget) (fork : Fork) (compares : Bool)
+    (cases : List (List Decided)) (said : List (List Decided) → Type 0) (fault : ForkFault)
+    → IsFaultAtNext job fork fault → HasGiven job number budget fork cases → said cases
+    → StopsWalk job number budget compares said fault
+stops_at_next job number budget fork compares cases said faults.NoMemory is gone says = tt
+stops_at_next job number budget fork compares cases said (faults.Over (overs.Nodes boundary prefix word j)) is gone
+    says =
+    let same : boundary ≡ number = (is.over boundary prefix word j refl).0 ∙ gone.boundary in
+    let cause = is.cause boundary prefix word j refl in (
       same,
       record {
         over = subst (λ n. AreNodesOver job n budget.nodes prefix word j) same
-            (subst (λ (b : Budget). AreNodesOver job boundary b.nodes prefix word j) gone.budget_is
-            (is.cause boundary prefix word j refl));
+            (subst (λ (b : Budget). AreNodesOver job boundary b.nodes prefix word j) gone.budget_is cause.over);
+        asks = λ none. subst (λ n. IsSome (case_words job n prefix).asked) same cause.asks;
         cases = cases;
         reach = reach_to job number budget fork cases prefix gone
             (λ other feasible. is.before boundary prefix word j refl other
@@ -219,7 +224,7 @@ stops_at_next job number budget fork cases said (faults.Over (overs.Nodes bounda
         says = says;
       },
     )
-stops_at_next job number budget fork cases said (faults.Over (overs.Paths boundary limit)) is gone says =
+stops_at_next job number budget fork compares cases said (faults.Over (overs.Paths boundary limit)) is gone says =
     let told = is.paths boundary limit refl in
     let come = told.3 in
     let feasible = subst (λ n. IsCase job n come.other) gone.boundary come.feasible in
@@ -244,23 +249,24 @@ stops_at_next job number budget fork cases said (faults.Over (overs.Paths bounda
     )
 
 -- at a case that was handed over
-pub stops_at_case : (job : Job) (number : ℕ) (budget : Budget) (fork : Fork) (cases : List (List Decided))
-    (bits : List Decided) (said : List (List Decided) → Type 0) (fault : ForkFault) → StopsAt job fork bits fault
-    → fork.boundary ≡ number → fork.budget ≡ budget → IsNextBehind job number cases bits → said cases
-    → StopsWalk job number budget said fault
-stops_at_case job number budget fork cases bits said faults.NoMemory is boundary budget_is next says = tt
-stops_at_case job number budget fork cases bits said (faults.Over (overs.Paths here limit)) is boundary budget_is next
-    says =
-    absurd is
-stops_at_case job number budget fork cases bits said (faults.Over (overs.Nodes here prefix word j)) is boundary
+pub stops_at_case : (job : Job) (number : ℕ) (budget : Budget) (fork : Fork) (compares : Bool)
+    (cases : List (List Decided)) (bits : List Decided) (said : List (List Decided) → Type 0) (fault : ForkFault)
+    → StopsAt job fork compares bits fault → fork.boundary ≡ number → fork.budget ≡ budget
+    → IsNextBehind job number cases bits → said cases → StopsWalk job number budget compares said fault
+stops_at_case job number budget fork compares cases bits said faults.NoMemory is boundary budget_is next says = tt
+stops_at_case job number budget fork compares cases bits said (faults.Over (overs.Paths here limit)) is boundary
     budget_is next says =
-    let same : here ≡ number = is.0 ∙ boundary in (
+    absurd is
+stops_at_case job number budget fork compares cases bits said (faults.Over (overs.Nodes here prefix word j)) is
+    boundary budget_is next says =
+    let same : here ≡ number = is.1 ∙ boundary in (
       same,
       record {
         over = subst (λ n. AreNodesOver job n budget.nodes prefix word j) same
-            (subst (λ (b : Budget). AreNodesOver job here b.nodes prefix word j) budget_is is.2);
+            (subst (λ (b : Budget). AreNodesOver job here b.nodes prefix word j) budget_is is.3);
+        asks = λ none. let both : false ≡ true = sym none ∙ is.0 in absurd cc;
         cases = cases;
-        reach = subst (ReachTo job number cases) (sym is.1) next.reach;
+        reach = subst (ReachTo job number cases) (sym is.2) next.reach;
         says = says;
       },
     )

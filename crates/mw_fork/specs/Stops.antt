@@ -1,5 +1,7 @@
 -- Why a run has stopped.
-use Rattle.std.specs.Prelude.{ℕ, List}
+use Rattle.std.specs.Prelude.{ℕ, IsSome, List}
+use Rattle.mw_term.specs.declared.decided.Decided.{Decided}
+use Rattle.mw_rel.specs.CaseWords.{case_words}
 use Rattle.mw_rel.specs.Job.{Job}
 use Rattle.mw_rel.specs.OverBudget.{AreNodesOver}
 use Rattle.mw_fork.specs.Faults.{RunStop}
@@ -8,8 +10,14 @@ use Rattle.mw_fork.specs.declared.way.Kept.{Kept}
 use Rattle.mw_fork.specs.KeptBits.{IsWayFrom}
 use Rattle.mw_fork.specs.Ways.{Way, met_of}
 
--- An operation at a word and a bit is over the budget, in the list of the bits that the run has met; or memory ran out.
+-- A decision is over so many nodes: the prefix asks for one more bit, so that its list goes up to that bit's word and has
+-- no word of a comparison; and an operation of it, at a word and a bit, has more joint cofactors.
+pub record IsDecisionOver (job : Job) (number nodes : ℕ) (prefix : List Decided) (word j : ℕ) : Type 0 where
+  pub asks : IsSome (case_words job number prefix).asked
+  pub over : AreNodesOver job number nodes prefix word j
+
+-- The decision behind the bits that the run has met is over the budget, at a word and a bit; or memory ran out.
 abbrev pub StopsBy : Job → (number nodes : ℕ) → (from : List Kept) → Way → RunStop → Type 0
 StopsBy job number nodes from way (Over place) =
-    IsWayFrom job number from way × AreNodesOver job number nodes (met_of way) place.word place.bit
+    IsWayFrom job number from way × IsDecisionOver job number nodes (met_of way) place.word place.bit
 StopsBy job number nodes from way NoMemory = Unit {0}

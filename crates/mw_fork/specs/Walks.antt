@@ -1,8 +1,9 @@
 -- The cases of a boundary in their order, and what a walk over them ends with.
-use Rattle.std.specs.Prelude.{◌≡◌, ◌⊎◌, ℕ, ◌≤◌, List, length, All, Contains}
+use Rattle.std.specs.Prelude.{◌≡◌, ◌⊎◌, ℕ, ◌≤◌, List, length, All, Bool, true, false, Contains, IsSome}
 use Rattle.std.specs.List.{AllPairs}
 use Rattle.mw_term.specs.declared.decided.Decided.{Decided}
 use Rattle.mw_rel.specs.Case.{IsBefore, IsCase}
+use Rattle.mw_rel.specs.CaseWords.{case_words}
 use Rattle.mw_rel.specs.Job.{Job}
 use Rattle.mw_rel.specs.OverBudget.{AreNodesOver, ArePathsOver}
 use Rattle.mw_fork.specs.declared.budget.Budget.{Budget}
@@ -49,12 +50,14 @@ pub record IsAtCase (job : Job) (fork : Fork) (case : Case) : Type 0 where
   pub ends : EndsEach job fork.boundary case.prefix case.cycles case.late
   pub within : AreDecidedWithin job fork.boundary fork.budget.nodes case.prefix
 
--- An operation is over a fork's budget, in the list of the case at which it stands; or memory ran out.
-abbrev pub StopsAt : Job → Fork → (bits : List Decided) → ForkFault → Type 0
-StopsAt job fork bits (Over (Nodes number prefix word j)) =
-    (number ≡ fork.boundary) × (prefix ≡ bits) × AreNodesOver job number fork.budget.nodes prefix word j
-StopsAt job fork bits (Over (Paths number limit)) = ⊥
-StopsAt job fork bits NoMemory = Unit {0}
+-- An operation is over a fork's budget, in the list of the case at which it stands, where that is compared; or memory
+-- ran out.
+abbrev pub StopsAt : Job → Fork → (compares : Bool) → (bits : List Decided) → ForkFault → Type 0
+StopsAt job fork compares bits (Over (Nodes number prefix word j)) =
+    (compares ≡ true) × (number ≡ fork.boundary) × (prefix ≡ bits)
+    × AreNodesOver job number fork.budget.nodes prefix word j
+StopsAt job fork compares bits (Over (Paths number limit)) = ⊥
+StopsAt job fork compares bits NoMemory = Unit {0}
 
 -- ---- the end of a walk
 
@@ -75,10 +78,11 @@ pub record HasStopped (job : Job) (number : ℕ) (said : List (List Decided) →
   pub stops : stopped bits
 
 -- An operation is over the nodes, in the list of a prefix; the first cases, with all before that prefix, were handed
--- over.
-pub record IsOverNodes (job : Job) (number nodes : ℕ) (said : List (List Decided) → Type 0) (prefix : List Decided)
-    (word j : ℕ) : Type 0 where
+-- over. Where these aren't compared, the prefix asks for one more bit, so that the list has no word of a comparison.
+pub record IsOverNodes (job : Job) (number nodes : ℕ) (compares : Bool) (said : List (List Decided) → Type 0)
+    (prefix : List Decided) (word j : ℕ) : Type 0 where
   pub over : AreNodesOver job number nodes prefix word j
+  pub asks : compares ≡ false → IsSome (case_words job number prefix).asked
   pub cases : List (List Decided)
   pub reach : ReachTo job number cases prefix
   pub says : said cases
@@ -93,10 +97,11 @@ pub record IsOverPaths (job : Job) (number paths limit : ℕ) (said : List (List
   pub counted : length cases ≡ limit
   pub says : said cases
 
--- why a walk goes no further
-abbrev pub StopsWalk : Job → (number : ℕ) → Budget → (said : List (List Decided) → Type 0) → ForkFault → Type 0
-StopsWalk job number budget said (Over (Nodes boundary prefix word j)) =
-    (boundary ≡ number) × IsOverNodes job number budget.nodes said prefix word j
-StopsWalk job number budget said (Over (Paths boundary limit)) =
+-- why a walk goes no further, on which cases are compared or aren't
+abbrev pub StopsWalk : Job → (number : ℕ) → Budget → (compares : Bool) → (said : List (List Decided) → Type 0)
+    → ForkFault → Type 0
+StopsWalk job number budget compares said (Over (Nodes boundary prefix word j)) =
+    (boundary ≡ number) × IsOverNodes job number budget.nodes compares said prefix word j
+StopsWalk job number budget compares said (Over (Paths boundary limit)) =
     (boundary ≡ number) × IsOverPaths job number budget.paths limit said
-StopsWalk job number budget said NoMemory = Unit {0}
+StopsWalk job number budget compares said NoMemory = Unit {0}

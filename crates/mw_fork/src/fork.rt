@@ -19,7 +19,7 @@ ghost use Rattle.mw_fork.specs.Forks.{At, Behind, EndsEach, IsForkOf, IsNextCase
 ghost use Rattle.mw_fork.specs.Forks.{NoneIsToCome, OneIsToCome};
 ghost use Rattle.mw_fork.specs.KeptBits.{AreKeptBits};
 ghost use Rattle.mw_fork.specs.OnWay.{HasMetCase, HasMetSegment, HavePaths, IsRunOf};
-ghost use Rattle.mw_fork.specs.Stops.{StopsBy};
+ghost use Rattle.mw_fork.specs.Stops.{IsDecisionOver, StopsBy};
 ghost use Rattle.mw_fork.specs.Ways.{Way as WayOf, met_of};
 ghost use Rattle.mw_fork.specs.Within.{AreDecidedWithin};
 
@@ -324,8 +324,9 @@ impl Fork {
     /// # Errors
     ///
     /// - `Over`, with `Paths`, exactly where as many cases were given as the budget has paths, and another is to come;
-    ///   with `Nodes`, only where an operation at that word and bit, in the word list of that prefix, has more joint
-    ///   cofactors than the budget has nodes. No case that is still to come stands before the prefix.
+    ///   with `Nodes`, only where the prefix asks for one more bit, and an operation at that word and bit, in its word
+    ///   list, has more joint cofactors than the budget has nodes. No case that is still to come stands before the
+    ///   prefix.
     /// - `NoMemory`: memory ran out.
     ///
     /// After an error it may only be dropped.
@@ -355,7 +356,7 @@ impl Fork {
             × OneIsToCome (job_of job.now) self.old.boundary self.old.at) }
         ensures cause { IfErr result (λ e. (boundary : ℕ) (prefix : List Decided) (word bit : ℕ)
             → e ≡ faults.Over (overs.Nodes boundary prefix word bit)
-            → AreNodesOver (job_of job.now) boundary self.old.budget.nodes prefix word bit) }
+            → IsDecisionOver (job_of job.now) boundary self.old.budget.nodes prefix word bit) }
         ensures before { IfErr result (λ e. (boundary : ℕ) (prefix : List Decided) (word bit : ℕ)
             → e ≡ faults.Over (overs.Nodes boundary prefix word bit) → (other : List Decided)
             → IsCase (job_of job.now) boundary other → IsBefore other prefix → ¬ IsToCome self.old.at other) }

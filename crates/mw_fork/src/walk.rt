@@ -1,5 +1,5 @@
 // Walks over the cases of a boundary.
-ghost use Rattle.std.specs.Prelude.{◌≡◌, ◌+◌, ◌<◌, ◌^◌, ◌∷◌, ◌++◌, [], ℕ, List, length, IfOk, IfErr, OnOk};
+ghost use Rattle.std.specs.Prelude.{◌≡◌, ◌+◌, ◌<◌, ◌^◌, ◌∷◌, ◌++◌, [], ℕ, Bool, List, length, IfOk, IfErr, OnOk};
 ghost use Rattle.std.proofs.Common.{Break, Continue};
 ghost use Rattle.mw_term.specs.declared.decided.Decided.{Decided};
 ghost use Rattle.mw_rel.specs.Job.{Job as JobParts};
@@ -27,6 +27,9 @@ pub trait Visitor {
     /// What it says by a stop at a case of that boundary, as it was before that case.
     ghost stops: { (now : Self) → JobParts → (number : ℕ) → BudgetOf → (bits : List Decided) → Self.Stop → Type 0 };
 
+    /// Whether it compares the cases. Of one that isn't compared it can't say that it is over the budget.
+    ghost compares: { Bool };
+
     /// Takes the case at which a fork stands, the next one behind those before. It leaves the fork there.
     ///
     /// # Errors
@@ -51,7 +54,7 @@ pub trait Visitor {
             (cases ++ case.now.prefix ∷ [])) }
         ensures stops { IfOk result (λ flow. (stop : Self.Stop) → flow ≡ Break stop
             → stops self.old (job_of job.now) fork.old.boundary fork.old.budget case.now.prefix stop) }
-        ensures fault { IfErr result (StopsAt (job_of job.now) fork.old case.now.prefix) };
+        ensures fault { IfErr result (StopsAt (job_of job.now) fork.old compares case.now.prefix) };
 }
 
 impl Fork {
@@ -65,7 +68,8 @@ impl Fork {
     ///
     /// - `Over`, with `Paths`, where as many cases were handed over as the budget has paths, and there is another; with
     ///   `Nodes`, only where an operation at that word and bit, in the word list of that prefix, has more joint
-    ///   cofactors than the budget has nodes. Each case before the prefix was handed over.
+    ///   cofactors than the budget has nodes; where the visitor compares no case, the prefix asks for one more bit.
+    ///   Each case before the prefix was handed over.
     /// - `NoMemory`: memory ran out.
     ///
     /// After an error the visitor may only be dropped.
@@ -83,7 +87,7 @@ impl Fork {
         ensures stop { IfOk result (λ flow. (stop : V.Stop) → flow ≡ Break stop → (last : V)
             × HasStopped (job_of job.now) boundary (V.has_seen visitor.old last (job_of job.now) boundary budget)
             (λ bits. V.stops last (job_of job.now) boundary budget bits stop)) }
-        ensures fault { IfErr result (StopsWalk (job_of job.now) boundary budget
+        ensures fault { IfErr result (StopsWalk (job_of job.now) boundary budget V.compares
             (λ cases. (last : V) × V.has_seen visitor.old last (job_of job.now) boundary budget cases)) }
     {
         let mut fork = Fork::start(alloc, job, boundary, budget)?;

@@ -60,7 +60,7 @@ line_behind t job number range =
 -- the boundary is one of the job's
 pub over_there : (job : Job) (budget : Budget) (over : Over) → IsOver job budget over
     → boundary_over_budget over < length job.relation.boundaries
-over_there job budget (Nodes number prefix word j) is = nodes_there job number budget.nodes prefix word j is
+over_there job budget (Nodes number prefix word j) is = nodes_there job number budget.nodes prefix word j is.over
 over_there job budget (Paths number limit) is = paths_there job number limit is.1
 
 -- ---- how a call ends

@@ -3,9 +3,11 @@ use Rattle.std.proofs.lemmas.List.{length-append, length-map}
 use Rattle.std.proofs.lemmas.Result.{err_from_is_err_and}
 use Rattle.mw_rel.specs.Seen.{boundary_of}
 use Rattle.mw_rel.specs.Views.{job_of}
+use Rattle.mw_fork.proofs.OneMore.{each_with_one_more}
 use Rattle.mw_check.specs.declared.verdict.Summary.{Summary}
+use Rattle.mw_check.specs.Searched.{IsSearched}
 use Rattle.mw_check.specs.Verdict.{IsYes}
-use Rattle.mw_check.proofs.Searching.{all_within, certified, none_before, one_searched, summaries_are}
+use Rattle.mw_check.proofs.Searching.{all_within, certified, none_before, summaries_are}
 use Rattle.mw_check.proofs.certification.search_all.Goals as goal
 
 pub returns-in_err-summary-clause-stops : goal.returns-in_err-summary-clause-stops
@@ -21,8 +23,8 @@ pub loop-boundary-preserved : goal.loop-boundary-preserved
 loop-boundary-preserved c =
     let was = c.loop-boundary.invariant in
     rw c.in_ok-push-in-Continue.ensures.items (record {
-      searched = one_searched (job_of c.args.job.now) c.args.budget c.loop-boundary.summaries.items
-          c.loop-boundary.boundary c.in-Continue.summary was.searched was.count
+      searched = each_with_one_more (λ k s. IsSearched (job_of c.args.job.now) k c.args.budget s)
+          c.loop-boundary.summaries.items c.loop-boundary.boundary c.in-Continue.summary was.searched was.count
           (rw c.in-Continue.is at c.in_ok-summary.ensures.ends);
       count = omega (arith, was.count, length-append c.loop-boundary.summaries.items (c.in-Continue.summary ∷ []));
     })

@@ -22,7 +22,8 @@ returns-in_err-case-clause-fault g c =
     let was = c.loop-fork.invariant in
     let error = err_from_is_err_and c.from_residual-in_err-case.result c.from_residual-in_err-case.ensures.1 in
     let e = c.in_err-case.ensures in
-    rw error.1 (rw (sym error.2) at (stops_at_next job c.args.boundary c.args.budget c.loop-fork.fork was.cases
+    rw error.1 (rw (sym error.2) at (stops_at_next job c.args.boundary c.args.budget c.loop-fork.fork
+    g.V.Visitor.compares was.cases
     (λ cases. (last : g.row.V.Denot) × g.V.Visitor.has_seen c.args.visitor.now last job c.args.boundary c.args.budget
     cases) _ (record { paths = e.paths; over = e.over; cause = e.cause; before = e.before })
     was.given (c.loop-fork.visitor, was.says)))
@@ -51,8 +52,8 @@ returns-in_err-stop-clause-fault g c =
     let was = c.loop-fork.invariant in
     let said = c.in_ok-case.ensures in
     let error = err_from_is_err_and c.from_residual-in_err-stop.result c.from_residual-in_err-stop.ensures.1 in
-    rw error.1 (rw (sym error.2) at (stops_at_case job c.args.boundary c.args.budget c.next_case.new.self was.cases
-    c.in-Some.case.prefix
+    rw error.1 (rw (sym error.2) at (stops_at_case job c.args.boundary c.args.budget c.next_case.new.self
+    g.V.Visitor.compares was.cases c.in-Some.case.prefix
     (λ cases. (last : g.row.V.Denot) × g.V.Visitor.has_seen c.args.visitor.now last job c.args.boundary c.args.budget
     cases) _ c.in_err-stop.ensures.fault (said.boundary ∙ was.given.boundary) (said.budget ∙ was.given.budget_is)
     (next_behind job c.args.boundary c.args.budget _ _ was.cases _ was.given

@@ -2,18 +2,18 @@ use Rattle.std.proofs.Common.{◌≡◌, ◌∙◌, List, [], ◌∷◌, ap, len
 use Rattle.std.proofs.lemmas.List.{length-append, length-map}
 use Rattle.mw_rel.specs.Seen.{boundary_of}
 use Rattle.mw_rel.specs.Views.{job_of}
+use Rattle.mw_fork.proofs.OneMore.{each_with_one_more}
 use Rattle.mw_bounds.specs.declared.range.Range.{Range}
-use Rattle.mw_bounds.specs.Answers.{AreFound}
-use Rattle.mw_bounds.proofs.Found.{one_more}
-use Rattle.mw_bounds.proofs.search.ranges.Goals as goal
+use Rattle.mw_bounds.specs.Answers.{AreFound, IsFoundAt}
+use Rattle.mw_bounds.proofs.finding.ranges.Goals as goal
 
 pub loop-boundary-preserved : goal.loop-boundary-preserved
 loop-boundary-preserved c =
     let was = c.loop-boundary.invariant in
     let range = c.in_ok-range.field-0 in
     rw c.in_ok-push.ensures.items (record {
-      are = one_more (job_of c.args.job.now) c.args.budget c.loop-boundary.ranges.items c.loop-boundary.boundary range
-          was.are was.count c.in_ok-range.ensures.found;
+      are = each_with_one_more (λ k r. IsFoundAt (job_of c.args.job.now) k c.args.budget r) c.loop-boundary.ranges.items
+          c.loop-boundary.boundary range was.are was.count c.in_ok-range.ensures.found;
       count = omega (arith, was.count, length-append c.loop-boundary.ranges.items (range ∷ []));
     })
 

@@ -1,7 +1,7 @@
 use Rattle.std.proofs.Common.{◌≡◌, length}
 use Rattle.mw_rel.specs.Views.{job_of}
 use Rattle.mw_bounds.specs.Answers.{AreOfFirst}
-use Rattle.mw_bounds.proofs.search.ranges.Given as goal
+use Rattle.mw_bounds.proofs.finding.ranges.Given as goal
 
 -- there are the ranges of the boundaries before this one
 abbrev pub invariant-loop-boundary : goal.invariant-loop-boundary

@@ -1,7 +1,7 @@
 use Rattle.mw_rel.specs.Views.{job_of}
 use Rattle.mw_bounds.specs.declared.extreme.Side.TheVariants.{Greatest, Least}
 use Rattle.mw_bounds.proofs.Found.{found, not_none}
-use Rattle.mw_bounds.proofs.search.range.Goals as goal
+use Rattle.mw_bounds.proofs.finding.range.Goals as goal
 
 pub unreachable-requires-in_default-least : goal.unreachable-requires-in_default-least
 unreachable-requires-in_default-least c =

@@ -1,7 +1,7 @@
 // The lengths of the segments of a job.
 ghost use Rattle.std.specs.Prelude.{◌≡◌, ◌<◌, length, IfOk, IfErr};
 ghost use Rattle.mw_rel.specs.Views.{job_of};
-ghost use Rattle.mw_bounds.specs.Answers.{IsAnswer, IsFoundAt, StopsSearch};
+ghost use Rattle.mw_bounds.specs.Answers.{IsAnswer, IsFoundAt, IsNotFound};
 
 use crate::extreme::Extremes;
 use crate::range::{Bounds, Range};
@@ -15,7 +15,7 @@ use std::ops::ControlFlow;
 fn range(alloc: Global, job: &Job, boundary: usize, budget: Budget) -> Result<Range, ForkFault>
     requires there { boundary < length (job_of job.now).relation.boundaries }
     ensures found { IfOk result (IsFoundAt (job_of job.now) boundary budget) }
-    ensures stops { IfErr result (StopsSearch (job_of job.now) budget) }
+    ensures not_found { IfErr result (IsNotFound (job_of job.now) budget) }
 {
     let mut extremes = Extremes {
         least: None,
@@ -42,7 +42,7 @@ fn range(alloc: Global, job: &Job, boundary: usize, budget: Budget) -> Result<Ra
 /// Goes through the boundaries, in the order of the relation.
 fn ranges(alloc: Global, job: &Job, budget: Budget) -> Result<Bounds, ForkFault>
     ensures found { IfOk result (IsAnswer (job_of job.now) budget) }
-    ensures stops { IfErr result (StopsSearch (job_of job.now) budget) }
+    ensures not_found { IfErr result (IsNotFound (job_of job.now) budget) }
 {
     let mut ranges = Vec::new(alloc);
     for boundary in 0..job.relation.boundaries().len() {
@@ -58,8 +58,9 @@ fn ranges(alloc: Global, job: &Job, budget: Budget) -> Result<Bounds, ForkFault>
 ///   bits, has a length from the least to the greatest. The two starts have these: each is the first start of the first
 ///   case that has one of this length. All feasible cases of each boundary are within the budget.
 /// - `Unknown`: an operation at that word and bit, in the word list of that prefix of a case, has more joint cofactors
-///   than the budget's nodes; or that boundary has more feasible cases than the budget's paths. So where nothing is over
-///   the budget, the ranges are found.
+///   than the budget's nodes, and the prefix asks for one more bit, so that the operation is none of a comparison; or
+///   that boundary has more feasible cases than the budget's paths. So where nothing is over the budget, the ranges are
+///   found.
 ///
 /// # Errors
 ///
