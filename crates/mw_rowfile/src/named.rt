@@ -129,9 +129,11 @@ pub fn sequencer_of(words: &[String]) -> Result<Seq, Fault> {
     seq.pc = address_of(words, "pc")?;
     seq.r = address_of(words, "r")?;
     seq.sp = pointer_of(words, seq.depth())?;
-    for place in 0..seq.depth() {
-        let word = listed(text, usize::from(place))?;
-        seq.set_word(place, word);
+    for place in 0..9 {
+        if place < seq.depth() {
+            let word = listed(text, usize::from(place))?;
+            seq.set_word(place, word);
+        }
     }
     Ok(seq)
 }
