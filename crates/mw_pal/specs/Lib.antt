@@ -1,4 +1,6 @@
 pub mod Codes
+pub mod DeviceExamples
+pub mod Devices
 pub mod Examples
 pub mod FirstPass
 pub mod Joins

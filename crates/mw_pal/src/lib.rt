@@ -2,6 +2,8 @@
 #![tactic(auto)]
 
 mod codes;
+mod device_examples;
+mod devices;
 mod examples;
 mod first_pass;
 mod joins;
