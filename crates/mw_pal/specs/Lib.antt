@@ -1,4 +1,5 @@
 pub mod Codes
+pub mod Console
 pub mod DeviceExamples
 pub mod Devices
 pub mod Examples

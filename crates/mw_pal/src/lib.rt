@@ -1,6 +1,7 @@
-//! PDP-8 programs: their source and the memory that it spells.
+//! PDP-8 programs: their source and the memory that it spells, and their console.
 #![tactic(auto)]
 
+mod answered;
 mod codes;
 mod device_examples;
 mod devices;
@@ -9,6 +10,7 @@ mod first_pass;
 mod joins;
 mod opcode;
 mod operation;
+mod running;
 mod source;
 mod statement;
 
