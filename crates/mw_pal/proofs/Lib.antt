@@ -1,5 +1,7 @@
 pub mod Joining
 pub mod Memories
+pub mod Readings
 pub mod Runs
+pub mod StepInputs
 pub mod Taken
 pub mod Wording

@@ -5,8 +5,10 @@ pub mod Devices
 pub mod Examples
 pub mod FirstPass
 pub mod Joins
+pub mod Laws
 pub mod Opcodes
 pub mod Operations
+pub mod RunExamples
 pub mod Source
 pub mod Statements
 pub mod Views

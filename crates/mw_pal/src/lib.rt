@@ -8,10 +8,13 @@ mod devices;
 mod examples;
 mod first_pass;
 mod joins;
+mod laws;
 mod opcode;
 mod operation;
+mod run_examples;
 mod running;
 mod source;
 mod statement;
 
+pub use laws::{inputs_make_the_run, text_is_read};
 pub use source::read_pal;
