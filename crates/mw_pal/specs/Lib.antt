@@ -4,6 +4,7 @@ pub mod DeviceExamples
 pub mod Devices
 pub mod Examples
 pub mod FirstPass
+pub mod Fits
 pub mod Joins
 pub mod Laws
 pub mod Opcodes
@@ -11,4 +12,5 @@ pub mod Operations
 pub mod RunExamples
 pub mod Source
 pub mod Statements
+pub mod Talk
 pub mod Views

@@ -30,7 +30,6 @@ abbrev pub known_seen : passes.Known.Known → Known
 known_seen known = record {
   labels = names_seen known.labels;
   next = known.next;
-  used = known.used.items;
   cells = known.cells.items;
 }
 
