@@ -10,19 +10,13 @@ use Rattle.mw_cycle.specs.Boundary.{numbers}
 use Rattle.mw_macro.specs.DescribedStep.{Stepped, step_of}
 use Rattle.mw_macro.specs.Machine.{Description}
 use Rattle.mw_macro.specs.State.{MachineState}
+use Rattle.mw_rel.proofs.Elements.{back_at, numbers_length}
 use Rattle.mw_pal.specs.Console.{ConsoleRun, answer_in, answered, asked, longer_run, run_of, taken_of}
 use Rattle.mw_pal.specs.Devices.{Console, console_after, transfer_of}
 use Rattle.mw_pal.specs.Laws.{InputsMakeTheRun, OutputsIgnoreInputs, TextIsRead, outer, steps_of}
 use Rattle.mw_pal.proofs.StepInputs.{step_same}
 
 -- ---- lists of inputs
-
--- an item behind others
-behind : (xs ys : List ℕ) (i : ℕ) → slice_index (xs ++ ys) (length xs + i) ≡ slice_index ys i
-behind [] ys i = let place : 0 + i ≡ i = omega arith in ap (slice_index ys) place
-behind (x ∷ rest) ys i =
-    let place : suc (length rest) + i ≡ suc (length rest + i) = omega arith in
-    ap (slice_index (x ∷ rest ++ ys)) place ∙ behind rest ys i
 
 -- an item of what is made of numbers, before others
 made_at : (f : ℕ → ℕ) (from n : ℕ) (rest : List ℕ) (i : ℕ) → i < n
@@ -32,10 +26,6 @@ made_at f from (suc n) rest zero below = ap f (omega arith)
 made_at f from (suc n) rest (suc i) below =
     let place : from + 1 + i ≡ from + suc i = omega arith in
     made_at f (from + 1) n rest i (omega arith) ∙ ap f place
-
-numbers_length : (from n : ℕ) → length (numbers from n) ≡ n
-numbers_length from zero = refl
-numbers_length from (suc n) = omega (arith, numbers_length (from + 1) n)
 
 -- ---- the steps
 
@@ -54,7 +44,7 @@ step_over m run inputs rest are =
     step_same m run.state false inputs answer (length run.inputs) (λ i below.
     let place : 0 + i ≡ i = omega arith in
     ap (λ all. slice_index all (length run.inputs + i)) are
-    ∙ behind run.inputs (taken_of answer (answered m run) ++ rest) i
+    ∙ back_at run.inputs (taken_of answer (answered m run) ++ rest) i
     ∙ made_at (slice_index answer) 0 count rest i below ∙ ap (slice_index answer) place)
 
 -- the next step after so many

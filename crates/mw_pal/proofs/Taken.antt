@@ -1,27 +1,10 @@
 -- The inputs that a step took.
-use Rattle.std.proofs.Common.{◌≡◌, ℕ, zero, suc, ◌+◌, ◌<◌, List, [], ◌∷◌, ◌++◌, map, slice_index, sym, ap, ◌∙◌}
+use Rattle.std.proofs.Common.{◌≡◌, ℕ, zero, suc, ◌+◌, ◌<◌, List, [], ◌∷◌, ◌++◌, map, slice_index, ap, ◌∙◌}
 use Rattle.std.proofs.Common.{append_assoc, arith}
-use Rattle.std.proofs.lemmas.List.{map-append}
 use Rattle.mw_cycle.specs.Boundary.{numbers}
+use Rattle.mw_replay.proofs.Settables.{made_more}
 
--- ---- one more
-
-numbers_more : (from n : ℕ) → numbers from (suc n) ≡ numbers from n ++ (from + n) ∷ []
-numbers_more from zero = ap (λ k. k ∷ []) (omega arith)
-numbers_more from (suc n) =
-    let place : from + 1 + n ≡ from + suc n = omega arith in
-    ap (λ ns. from ∷ ns) (numbers_more (from + 1) n ∙ ap (λ k. numbers (from + 1) n ++ k ∷ []) place)
-
-pub made_more : {A : Type 0} (f : ℕ → A) (n : ℕ)
-    → map f (numbers 0 n) ++ (f n ∷ []) ≡ map f (numbers 0 (n + 1))
-made_more f n =
-    let more : n + 1 ≡ suc n = omega arith in
-    let place : 0 + n ≡ n = omega arith in
-    sym (ap (λ k. map f (numbers 0 k)) more
-    ∙ ap (map f) (numbers_more 0 n ∙ ap (λ k. numbers 0 n ++ k ∷ []) place)
-    ∙ map-append f (numbers 0 n) (n ∷ []))
-
--- behind others
+-- one more behind others
 pub taken_more : (before : List ℕ) (f : ℕ → ℕ) (n : ℕ)
     → (before ++ map f (numbers 0 n)) ++ (f n ∷ []) ≡ before ++ map f (numbers 0 (n + 1))
 taken_more before f n = append_assoc before (map f (numbers 0 n)) (f n ∷ []) ∙ ap (λ xs. before ++ xs) (made_more f n)

@@ -9,8 +9,8 @@ ghost use Rattle.mw_pal.specs.Views.{known_seen};
 use crate::joins::check_joins;
 use crate::statement::{Entry, Instruction, Statement, entry_of, is_reserved};
 use mw_base::{
-    Cause, Cursor, Line, Names, Numeral, Refusal, Refused, TextFault, Token, fault_on,
-    low_address, spelled,
+    Cause, Cursor, Line, Names, Numeral, Refusal, Refused, TextFault, Token, fault_on, low_address,
+    spelled,
 };
 use std::alloc::Global;
 
