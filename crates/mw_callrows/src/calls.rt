@@ -12,6 +12,7 @@ mod plain;
 mod programmed;
 mod relations;
 mod runs;
+mod sources;
 mod steps;
 mod tokens;
 mod trees;
@@ -48,6 +49,7 @@ pub fn made(alloc: Global, words: &[String], files: &[File]) -> Result<Vec<u8>, 
         "cycle-words" => symbolic::words(alloc, given, files),
         "start" => runs::start(alloc, files),
         "until" => runs::until(alloc, given, files),
+        "pal" => sources::read(alloc, contents(files, "text")?),
         _ => Err(wrong("no such call")),
     }
 }

@@ -1,45 +1,70 @@
 -- One word of a statement after those before it.
-use Rattle.std.proofs.Common.{◌≡◌, ℕ, ◌+◌, ◌≤◌, List, ◌∷◌, Bool, true, false, Ok, Err, refl, drop, length}
+use Rattle.std.proofs.Common.{◌≡◌, ℕ, ◌+◌, ◌<◌, ◌≤◌, List, [], true, false, ◌&&◌, Ok, Err, refl, sym, ap, ◌∙◌}
+use Rattle.std.proofs.Common.{cond, drop, get_or, take, length}
+use Rattle.std.specs.List.{list_all}
+use Rattle.std.proofs.Math.ListN.{drop_of_length-le}
+use Rattle.std.proofs.lemmas.List.{take_more}
+use Rattle.std.proofs.lemmas.List.Folds.{list_all_more}
 use Rattle.mw_base.specs.declared.cause.Cause.TheVariants.{MixedWords}
-use Rattle.mw_base.specs.Steps.{steps}
 use Rattle.mw_base.specs.TokenLines.{fault_on}
-use Rattle.mw_base.proofs.Steps.{goes_on, fails, done}
+use Rattle.mw_base.proofs.Lists.{next_or}
 use Rattle.mw_pal.specs.declared.joins.Room.{Room}
 use Rattle.mw_pal.specs.declared.joins.Spelled.{Spelled}
 use Rattle.mw_pal.specs.declared.operation.Kind.{Kind}
-use Rattle.mw_pal.specs.Joins.{every, beside, with_word, all_join}
+use Rattle.mw_pal.specs.Joins.{all_join, all_join_behind, joins, joins_all}
 use Rattle.mw_pal.specs.Operations.{kind_of}
 use Rattle.mw_pal.specs.Views.{room_seen}
 
--- a statement goes on with the same kinds of words
-same_room : (room : Room) (others : Kind → Bool) → ((kind : Kind) → room_seen room kind ≡ others kind)
-    → room_seen room ≡ others
-same_room room others each = λ i kind. each kind i
+-- the room behind some words is what each of them joins
+abbrev pub IsRoom : Room → List Spelled → Type 0
+IsRoom room words = (kind : Kind)
+    → room_seen room kind ≡ list_all (λ (other : Spelled). joins (kind_of other.operation) kind) words
+
+-- before the first word
+pub first_room : (room : Room) → ((kind : Kind) → room_seen room kind ≡ true) → IsRoom room []
+first_room room each = each
+
+-- a word more
+pub more_room : (room after : Room) (words : List Spelled) (n : ℕ) (d : Spelled) → n < length words
+    → ((kind : Kind) → room_seen after kind
+    ≡ (room_seen room kind && joins (kind_of (get_or words n d).operation) kind))
+    → IsRoom room (take n words) → IsRoom after (take (n + 1) words)
+more_room room after words n d inside each is = λ kind.
+    each kind ∙ ap (λ b. b && joins (kind_of (get_or words n d).operation) kind) (is kind)
+    ∙ sym (list_all_more (λ (other : Spelled). joins (kind_of other.operation) kind) words n d inside)
+
+-- the words from one on
+here : (words : List Spelled) (n : ℕ) (d : Spelled) → n < length words
+    → all_join_behind (take n words) (drop n words)
+    ≡ cond (joins_all (take n words) (get_or words n d))
+    (all_join_behind (take (n + 1) words) (drop (n + 1) words)) (Err (fault_on (get_or words n d).token MixedWords))
+here words n d inside = rw (next_or words n d inside, take_more words n d inside) refl
 
 -- a word that joins those before it
-pub joined : (room after : Room) (words : List Spelled) (n : ℕ) (word : Spelled)
-    → drop n words ≡ word ∷ drop (n + 1) words → room_seen room (kind_of word.operation) ≡ true
-    → ((kind : Kind) → room_seen after kind ≡ beside (room_seen room) (kind_of word.operation) kind)
-    → steps with_word (room_seen room) (drop n words) ≡ steps with_word every words
-    → steps with_word (room_seen after) (drop (n + 1) words) ≡ steps with_word every words
-unfolding with_word
-joined room after words n word at admitted each so_far =
-    let rest = beside (room_seen room) (kind_of word.operation) in
-    let goes : with_word (room_seen room) word ≡ Ok rest = rw admitted refl in
-    rw (same_room after rest each) (goes_on with_word (room_seen room) rest words n word _ at goes so_far)
+pub joined : (room : Room) (words : List Spelled) (n : ℕ) (d : Spelled) → n < length words
+    → room_seen room (kind_of (get_or words n d).operation) ≡ true → IsRoom room (take n words)
+    → all_join_behind (take n words) (drop n words) ≡ all_join words
+    → all_join_behind (take (n + 1) words) (drop (n + 1) words) ≡ all_join words
+joined room words n d inside admitted is so_far =
+    let joins_them : joins_all (take n words) (get_or words n d) ≡ true =
+    sym (is (kind_of (get_or words n d).operation)) ∙ admitted in
+    let step : all_join_behind (take n words) (drop n words) ≡ all_join_behind (take (n + 1) words) (drop (n + 1) words) =
+    here words n d inside ∙ rw joins_them refl in
+    sym step ∙ so_far
 
 -- a word that doesn't
-pub mixed : (room : Room) (words : List Spelled) (n : ℕ) (word : Spelled)
-    → drop n words ≡ word ∷ drop (n + 1) words → room_seen room (kind_of word.operation) ≡ false
-    → steps with_word (room_seen room) (drop n words) ≡ steps with_word every words
-    → Err (fault_on word.token MixedWords) ≡ all_join words
-unfolding with_word all_join
-mixed room words n word at refused so_far =
-    let fault : with_word (room_seen room) word ≡ Err (fault_on word.token MixedWords) = rw refused refl in
-    rw (fails with_word (room_seen room) (fault_on word.token MixedWords) words n word _ at fault so_far) refl
+pub mixed : (room : Room) (words : List Spelled) (n : ℕ) (d : Spelled) → n < length words
+    → room_seen room (kind_of (get_or words n d).operation) ≡ false → IsRoom room (take n words)
+    → all_join_behind (take n words) (drop n words) ≡ all_join words
+    → Err (fault_on (get_or words n d).token MixedWords) ≡ all_join words
+mixed room words n d inside refused is so_far =
+    let fails : joins_all (take n words) (get_or words n d) ≡ false =
+    sym (is (kind_of (get_or words n d).operation)) ∙ refused in
+    let step : all_join_behind (take n words) (drop n words) ≡ Err (fault_on (get_or words n d).token MixedWords) =
+    here words n d inside ∙ rw fails refl in
+    sym step ∙ so_far
 
 -- no word more
-pub all_joined : (room : Room) (words : List Spelled) (n : ℕ) → length words ≤ n
-    → steps with_word (room_seen room) (drop n words) ≡ steps with_word every words → Ok tt ≡ all_join words
-unfolding all_join
-all_joined room words n past so_far = rw (done with_word (room_seen room) words n _ past so_far) refl
+pub all_joined : (words : List Spelled) (n : ℕ) → length words ≤ n
+    → all_join_behind (take n words) (drop n words) ≡ all_join words → Ok tt ≡ all_join words
+all_joined words n past so_far = rw (drop_of_length-le words past) at so_far

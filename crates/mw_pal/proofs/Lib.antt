@@ -1,3 +1,9 @@
+pub mod Begins
 pub mod Joining
 pub mod Memories
+pub mod Readings
+pub mod Runs
+pub mod StepInputs
+pub mod Taken
+pub mod Talks
 pub mod Wording

@@ -9,10 +9,9 @@ use Rattle.std.proofs.lemmas.Nat.{or_lt}
 use Rattle.mw_pal.specs.declared.joins.Spelled.{Spelled}
 use Rattle.mw_pal.specs.declared.operation.Operation.{Operation}
 use Rattle.mw_pal.specs.declared.operation.Operation.TheVariants.{Cla}
-use Rattle.mw_pal.specs.FirstPass.{everywhere}
 use Rattle.mw_pal.specs.Joins.{ored}
 use Rattle.mw_pal.specs.Operations.{added}
-use Rattle.mw_pal.specs.Source.{IsMemory}
+use Rattle.mw_pal.specs.Source.{IsMemory, no_words}
 
 -- what a word adds to a code has 12 bits
 added_fits : (operation : Operation) → nat_lt (added operation) 4096 ≡ true
@@ -34,8 +33,8 @@ pub ored_low : (words : List Spelled) → ored words < 4096
 ored_low words = ored_from words 0 (omega arith)
 
 -- the memory that is 0 everywhere
-pub cleared : IsMemory (everywhere 0)
-unfolding everywhere
+pub cleared : IsMemory no_words
+unfolding no_words
 cleared =
     let none : ℕ = 0 in
     record { whole = length-replicate 4096 none; words = All-replicate (λ word. word < 4096) 4096 none (omega arith) }

@@ -1,6 +1,7 @@
 -- The first pass, over the lines of a source.
-use Rattle.std.specs.Prelude.{ℕ, ◌+◌, List, [], ◌∷◌, ◌++◌, replicate, slice_set, slice_index_or, Bool, true, false}
-use Rattle.std.specs.Prelude.{if◌then◌else◌, nat_le, Option, Some, None, Result, Ok, Err}
+use Rattle.std.specs.Prelude.{ℕ, ◌+◌, List, [], ◌∷◌, ◌++◌, Bool, ◌==◌, if◌then◌else◌, nat_le, Option, Some, None}
+use Rattle.std.specs.Prelude.{Result, Ok, Err}
+use Rattle.std.specs.List.{list_any}
 use Rattle.mw_base.specs.declared.cause.Cause.TheVariants.{StoreFull, Overlap, BadSyntax}
 use Rattle.mw_base.specs.declared.cursor.Numeral.{Numeral}
 use Rattle.mw_base.specs.declared.line.Line.{Line}
@@ -22,21 +23,16 @@ use Rattle.mw_pal.specs.declared.statement.Statement.{Statement}
 use Rattle.mw_pal.specs.Joins.{all_join}
 use Rattle.mw_pal.specs.Statements.{entry_of, is_reserved}
 
--- what is known after some lines: the addresses of labels, the next statement's address, for each of the 4,096
--- addresses whether a statement stands there, and the statements with their addresses in file order
+-- what is known after some lines: the addresses of labels, the next statement's address, and the statements with their
+-- addresses in file order
 pub record Known : Type 0 where
   pub labels : List ℕ → Option ℕ
   pub next : ℕ
-  pub used : List Bool
   pub cells : List Cell
-
--- the same for each of the 4,096 addresses
-unfoldable pub everywhere : {A : Type 0} → A → List A
-everywhere value = replicate 4096 value
 
 -- before the first line: no label and no statement, and the first address is octal 200
 abbrev pub at_first : Known
-at_first = record { labels = no_names; next = 0o200; used = everywhere false; cells = [] }
+at_first = record { labels = no_names; next = 0o200; cells = [] }
 
 -- org N
 unfoldable pub with_next : Numeral → Known → Result Known TextFault
@@ -60,13 +56,16 @@ abbrev pub can_stand : Instruction → Result (Unit {0}) TextFault
 can_stand (Operate words) = all_join words
 can_stand says = Ok tt
 
+-- one of some statements stands at this address
+abbrev pub stands_at : List Cell → ℕ → Bool
+stands_at cells address = list_any (λ (cell : Cell). cell.address == address) cells
+
 -- a statement at the next address, where none stands yet
 unfoldable pub with_cell : Statement → Known → Result Known TextFault
 with_cell statement known = do
   stands ← can_stand statement.says
   Ok (record known {
     next = known.next + 1;
-    used = slice_set known.used known.next true;
     cells = known.cells ++ (record { address = known.next; says = statement.says } ∷ []);
   })
 
@@ -74,7 +73,7 @@ with_cell statement known = do
 unfoldable pub with_statement : Statement → Known → Result Known TextFault
 with_statement statement known =
     if nat_le 4096 known.next then Err (fault_on statement.first StoreFull)
-    else (if slice_index_or known.used known.next false then Err (fault_on statement.first Overlap)
+    else (if stands_at known.cells known.next then Err (fault_on statement.first Overlap)
     else with_cell statement known)
 
 -- the statement that a line may have

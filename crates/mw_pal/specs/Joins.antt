@@ -1,10 +1,8 @@
 -- Which words can stand in one statement, and the code that they make.
-use Rattle.std.specs.Prelude.{ℕ, List, Bool, true, false, ◌&&◌, if◌then◌else◌, bit_or, Result, Ok, Err}
+use Rattle.std.specs.Prelude.{ℕ, List, [], ◌∷◌, ◌++◌, Bool, true, false, if◌then◌else◌, bit_or, Result, Ok, Err}
 use Rattle.std.specs.List.{fold, list_all}
 use Rattle.mw_base.specs.declared.cause.Cause.TheVariants.{MixedWords}
 use Rattle.mw_base.specs.declared.refusal.TextFault.{TextFault}
-use Rattle.mw_base.specs.Reading.{◌>>=◌}
-use Rattle.mw_base.specs.Steps.{steps}
 use Rattle.mw_base.specs.TokenLines.{fault_on}
 use Rattle.mw_pal.specs.declared.joins.Spelled.{Spelled}
 use Rattle.mw_pal.specs.declared.operation.Kind.{Kind}
@@ -32,25 +30,20 @@ joins AllTest AllTest = true
 joins Third Third = true
 joins kind other = false
 
--- with which kinds a statement can go on: at first with every kind
-abbrev pub every : Kind → Bool
-every kind = true
+-- a word joins each of those before it
+abbrev pub joins_all : List Spelled → Spelled → Bool
+joins_all before word =
+    list_all (λ (other : Spelled). joins (kind_of other.operation) (kind_of word.operation)) before
 
--- after one more word, with those that it joins too
-abbrev pub beside : (Kind → Bool) → Kind → Kind → Bool
-beside room kind other = room other && joins kind other
+-- each of further words joins all those before it; the first that doesn't is at fault
+abbrev pub all_join_behind : (before further : List Spelled) → Result (Unit {0}) TextFault
+all_join_behind before [] = Ok tt
+all_join_behind before (word ∷ rest) =
+    if joins_all before word then all_join_behind (before ++ word ∷ []) rest else Err (fault_on word.token MixedWords)
 
--- a word that joins all those before it
-unfoldable pub with_word : (Kind → Bool) → Spelled → Result (Kind → Bool) TextFault
-with_word room word =
-    if room (kind_of word.operation) then Ok (beside room (kind_of word.operation))
-    else Err (fault_on word.token MixedWords)
-
--- each word joins all those before it; the first that can't is at fault
-unfoldable pub all_join : List Spelled → Result (Unit {0}) TextFault
-all_join words = do
-  room ← steps with_word every words
-  Ok tt
+-- each word joins all those before it
+abbrev pub all_join : List Spelled → Result (Unit {0}) TextFault
+all_join words = all_join_behind [] words
 
 -- whether they are cla alone
 abbrev pub are_clear : List Spelled → Bool

@@ -1,9 +1,16 @@
 pub mod Codes
+pub mod Console
+pub mod DeviceExamples
+pub mod Devices
 pub mod Examples
 pub mod FirstPass
+pub mod Fits
 pub mod Joins
+pub mod Laws
 pub mod Opcodes
 pub mod Operations
+pub mod RunExamples
 pub mod Source
 pub mod Statements
+pub mod Talk
 pub mod Views

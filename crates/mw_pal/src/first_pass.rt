@@ -1,7 +1,7 @@
 // The first pass, over the lines of a source.
-ghost use Rattle.std.specs.Prelude.{◌≡◌, ◌<◌, IfOk, slice_set, false};
+ghost use Rattle.std.specs.Prelude.{◌≡◌, ◌<◌};
 ghost use Rattle.mw_base.specs.Reading.{Gives};
-ghost use Rattle.mw_pal.specs.FirstPass.{everywhere, at_first, with_next, with_label, with_optional_label, can_stand};
+ghost use Rattle.mw_pal.specs.FirstPass.{stands_at, at_first, with_next, with_label, with_optional_label, can_stand};
 ghost use Rattle.mw_pal.specs.FirstPass.{with_cell, with_statement, with_optional_statement, with_entry, with_line};
 ghost use Rattle.mw_pal.specs.FirstPass.{first_pass};
 ghost use Rattle.mw_pal.specs.Views.{known_seen};
@@ -9,16 +9,16 @@ ghost use Rattle.mw_pal.specs.Views.{known_seen};
 use crate::joins::check_joins;
 use crate::statement::{Entry, Instruction, Statement, entry_of, is_reserved};
 use mw_base::{
-    Cause, Cursor, Line, Names, NoMemory, Numeral, Refusal, Refused, TextFault, Token, fault_on,
-    low_address, spelled,
+    Cause, Cursor, Line, Names, Numeral, Refusal, Refused, TextFault, Token, fault_on, low_address,
+    spelled,
 };
 use std::alloc::Global;
 
 /// How many words a memory has.
 pub(crate) const WORDS: u16 = 4096;
 
-/// The first address.
-const FIRST: u16 = 0o200;
+/// The address of the first statement, and of the first instruction of a program.
+pub(crate) const FIRST: u16 = 0o200;
 
 /// A statement that puts a word into memory.
 #[derive(Drop)]
@@ -36,29 +36,15 @@ pub(crate) struct Known<'a> {
     pub labels: Names<'a, u16>,
     /// The next statement's address, 0 to 4,096; at 4,096 there is no more room.
     pub next: u16,
-    /// For each address whether a statement stands there.
-    pub used: Vec<bool>,
     /// The statements, in file order.
     pub cells: Vec<Cell>,
 }
 
-/// No address where a statement stands.
-#[tactic(auto, unfolding(crate::specs::FirstPass::everywhere))]
-fn none_used(alloc: Global) -> Result<Vec<bool>, NoMemory>
-    ensures { IfOk result (λ used. used.items ≡ everywhere false) }
+/// Whether one of some statements stands at this address.
+fn stands_at(cells: &[Cell], address: u16) -> bool
+    ensures { result ≡ stands_at cells.now address }
 {
-    Ok(vec![in alloc; false; usize::from(WORDS)]?)
-}
-
-/// Puts a value at an address; past the list's end nothing.
-#[tactic(auto, using(std::proofs::lemmas::List::set_past))]
-pub(crate) fn put<T: Copy>(values: &mut [T], address: u16, value: T)
-    ensures { values.new ≡ slice_set values.old address value }
-{
-    let place = usize::from(address);
-    if place < values.len() {
-        values[place] = value;
-    }
+    cells.iter().any(|cell| cell.address == address)
 }
 
 /// Whether the words of a statement can stand together: cause 85.
@@ -73,15 +59,14 @@ fn check_stands(says: &Instruction) -> Result<(), TextFault>
 
 impl<'a> Known<'a> {
     /// Before the first line.
-    fn new(alloc: Global) -> Result<Known<'a>, NoMemory>
-        ensures { IfOk result (λ known. known_seen known ≡ at_first) }
+    fn new(alloc: Global) -> Known<'a>
+        ensures { known_seen result ≡ at_first }
     {
-        Ok(Known {
+        Known {
             labels: Names::new(alloc),
             next: FIRST,
-            used: none_used(alloc)?,
             cells: Vec::new(alloc),
-        })
+        }
     }
 
     /// Takes `org N`: cause 33 where no address is so great.
@@ -127,7 +112,6 @@ impl<'a> Known<'a> {
             address: self.next,
             says: statement.says,
         })?;
-        put(&mut self.used, self.next, true);
         self.next += 1;
         Ok(())
     }
@@ -140,12 +124,7 @@ impl<'a> Known<'a> {
         if self.next >= WORDS {
             return Err(Refused::At(fault_on(statement.first, Cause::StoreFull)));
         }
-        if self
-            .used
-            .get(usize::from(self.next))
-            .copied()
-            .unwrap_or(false)
-        {
+        if stands_at(&self.cells, self.next) {
             return Err(Refused::At(fault_on(statement.first, Cause::Overlap)));
         }
         self.add_cell(statement)
@@ -192,7 +171,7 @@ pub(crate) fn first_pass<'a>(
 ) -> Result<Known<'a>, Refusal>
     ensures { Gives (λ known. known_seen known) result (first_pass text.now at_first lines.now) }
 {
-    let mut known = Known::new(alloc)?;
+    let mut known = Known::new(alloc);
     for line in lines {
         known.add_line(alloc, text, line)?;
     }

@@ -1,7 +1,7 @@
 // Which words can stand in one statement, and the code that they make.
 ghost use Rattle.std.specs.Prelude.{◌≡◌, ◌&&◌, ◌<◌, true, length};
 ghost use Rattle.mw_pal.specs.declared.operation.Kind.{Kind as KindSeen};
-ghost use Rattle.mw_pal.specs.Joins.{joins, beside, all_join, are_clear, ored, joined_code};
+ghost use Rattle.mw_pal.specs.Joins.{joins, all_join, are_clear, ored, joined_code};
 ghost use Rattle.mw_pal.specs.Views.{room_seen};
 
 use crate::operation::{Kind, Operation};
@@ -83,7 +83,7 @@ impl Room {
 
     /// After one more word, of this kind.
     fn beside(self, kind: Kind) -> Room
-        ensures { (other : KindSeen) → room_seen result other ≡ beside (room_seen self) kind other }
+        ensures { (other : KindSeen) → room_seen result other ≡ (room_seen self other && joins kind other) }
     {
         Room {
             clear: self.clear & kind.joins(Kind::Clear),
@@ -103,7 +103,6 @@ impl Room {
 /// # Errors
 ///
 /// Cause 85 at the first that can't.
-#[tactic(auto, unfolding(crate::specs::Joins::all_join))]
 pub(crate) fn check_joins(words: &[Spelled]) -> Result<(), TextFault>
     ensures { result ≡ all_join words.now }
 {

@@ -1,21 +1,31 @@
 // PDP-8 sources.
-ghost use Rattle.std.specs.Prelude.{◌≡◌, ◌<◌, ◌^◌, IfOk, OnOk, length};
+ghost use Rattle.std.specs.Prelude.{◌≡◌, ◌<◌, ◌^◌, IfOk, OnOk, length, slice_set};
 ghost use Rattle.mw_base.specs.Named.{names_seen};
 ghost use Rattle.mw_base.specs.Reading.{Gives};
-ghost use Rattle.mw_pal.specs.FirstPass.{everywhere};
-ghost use Rattle.mw_pal.specs.Source.{with_word, second_pass, memory_of, IsMemory};
+ghost use Rattle.mw_pal.specs.Source.{no_words, with_word, second_pass, memory_of, IsMemory};
 
 use crate::codes::code_of;
-use crate::first_pass::{Cell, WORDS, first_pass, put};
+use crate::first_pass::{Cell, WORDS, first_pass};
 use mw_base::{Names, NoMemory, Refusal, Refused, lines};
 use std::alloc::Global;
 
 /// A memory that is 0 everywhere.
-#[tactic(auto, unfolding(crate::specs::FirstPass::everywhere))]
+#[tactic(auto, unfolding(crate::specs::Source::no_words))]
 fn cleared(alloc: Global) -> Result<Vec<u32>, NoMemory>
-    ensures { IfOk result (λ memory. memory.items ≡ everywhere 0) }
+    ensures { IfOk result (λ memory. memory.items ≡ no_words) }
 {
     Ok(vec![in alloc; 0; usize::from(WORDS)]?)
+}
+
+/// Puts a word at an address; past the memory's end nothing.
+#[tactic(auto, using(std::proofs::lemmas::List::set_past))]
+fn put(memory: &mut [u32], address: u16, word: u32)
+    ensures { memory.new ≡ slice_set memory.old address word }
+{
+    let place = usize::from(address);
+    if place < memory.len() {
+        memory[place] = word;
+    }
 }
 
 /// Puts the word of a statement at its address: cause 30, 33 or 84.

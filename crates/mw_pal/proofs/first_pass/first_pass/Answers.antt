@@ -6,7 +6,7 @@ use Rattle.mw_pal.proofs.first_pass.first_pass.Goals as goal
 
 pub returns-in_err-add_line : goal.returns-in_err-add_line
 returns-in_err-add_line c =
-    let p = err_from_is_err_and c.from_residual-in_err-add_line.result c.from_residual-in_err-add_line.ensures.1 in
+    let p = err_from_is_err_and c.from_residual.result c.from_residual.ensures.1 in
     rw (p.1, p.2) (refused _ (known_seen c.loop-line.known)
     c.in_err-add_line.field-0.0 c.args.lines.now c.loop-line.line-index c.line-item.result _
     (next _ _ _ c.loop-line-test.true c.line-item.is) c.in_err-add_line.ensures c.loop-line.invariant)

@@ -1,9 +1,10 @@
-use Rattle.std.proofs.Common.{◌≡◌, drop}
-use Rattle.mw_base.specs.Steps.{steps}
-use Rattle.mw_pal.specs.Joins.{every, with_word}
-use Rattle.mw_pal.specs.Views.{room_seen}
+use Rattle.std.proofs.Common.{◌≡◌, drop, take}
+use Rattle.mw_pal.specs.Joins.{all_join, all_join_behind}
+use Rattle.mw_pal.proofs.Joining.{IsRoom}
 use Rattle.mw_pal.proofs.joins.check_joins.Given as goal
 
 abbrev pub invariant-loop-word : goal.invariant-loop-word
-invariant-loop-word l =
-    steps with_word (room_seen l.room) (drop l.word-index l.words) ≡ steps with_word every l.words
+invariant-loop-word l = record {
+  room : IsRoom l.room (take l.word-index l.words);
+  so_far : all_join_behind (take l.word-index l.words) (drop l.word-index l.words) ≡ all_join l.words;
+}
