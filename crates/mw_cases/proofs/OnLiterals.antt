@@ -3,8 +3,8 @@ use Rattle.std.specs.Prelude.{⊤}
 use Rattle.mw_base.specs.Names.{is_name}
 use Rattle.mw_board.specs.Check.{each_from, list_check, sizes_check, fields_check, flipflop_check, flipflops_from}
 use Rattle.mw_board.specs.Check.{flipflops_check, points_check, lists_check, map_check, check_of}
-use Rattle.mw_board.specs.Rules.{width_rule, microword_rule, address_rule, word_rule, vector_rule, fields_rule}
-use Rattle.mw_board.specs.Rules.{name_rule, field_rule, flipflops_rule, flipflop_name_rule, control_rule, point_rule}
+use Rattle.mw_board.specs.Rules.{width_rule, microword_rule, address_rule, word_rule, vector_rule, stack_rule}
+use Rattle.mw_board.specs.Rules.{fields_rule, name_rule, field_rule, flipflops_rule, flipflop_name_rule, control_rule, point_rule}
 use Rattle.mw_board.specs.Rules.{chosen_rule, list_rule, bit_rule, carry_in_rule, load_rule, source_rule, mask_rule}
 use Rattle.mw_board.specs.Rules.{d_source_rule, map_bits_rule, map_entry_rule, map_entries_rule}
 use Rattle.mw_board.specs.Depth.{depth_of}
@@ -18,7 +18,7 @@ use Rattle.mw_cases.specs.Described.{generated_machine}
 unfoldable pub board_on_literals : ⊤
 unfolding is_name each_from list_check sizes_check fields_check flipflop_check flipflops_from flipflops_check
     points_check lists_check map_check check_of width_rule microword_rule address_rule word_rule vector_rule
-    fields_rule name_rule field_rule flipflops_rule flipflop_name_rule control_rule point_rule chosen_rule list_rule
+    stack_rule depth_of fields_rule name_rule field_rule flipflops_rule flipflop_name_rule control_rule point_rule chosen_rule list_rule
     bit_rule carry_in_rule load_rule source_rule mask_rule d_source_rule map_bits_rule map_entry_rule map_entries_rule
     generated_fields generated_map generated_board
 board_on_literals = tt
