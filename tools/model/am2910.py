@@ -1,10 +1,11 @@
-"""The Am2910 on numbers: its instructions, and what one does to the sequencer.
+"""The Am2910 and the Am2910A on numbers: their instructions, and what one does to the sequencer.
 
 The table is that of AMD's Am2900 Family Data Book, by mnemonic: for each instruction, where the test fails and where it
 passes, the source of the next address, the move of the stack, and the effect on the counter R.
 """
 from dataclasses import dataclass, field, replace
 
+# How many words the stack of an Am2910 has.
 DEPTH = 5
 
 # By code from 0: mnemonic, where the test fails, where it passes; each is next address, stack, counter. D is what stands at
@@ -44,12 +45,12 @@ def effect(name, passed, r):
     return table[name][passed].split()
 
 
-def moved(sp, move, depth=DEPTH):
-    """The stack pointer behind a move."""
+def moved(sp, move, depth):
+    """The stack pointer behind a move, of a stack of so many words."""
     return {"HOLD": sp, "PUSH": min(sp + 1, depth), "POP": max(sp - 1, 0), "CLEAR": 0}[move]
 
 
-def pushed_to(sp, depth=DEPTH):
+def pushed_to(sp, depth):
     """The place of the word that a push writes: on a full stack it writes over the top."""
     return min(sp, depth - 1)
 

@@ -14,11 +14,11 @@ LISTS = {"carry_in": "carry_in", "condition": "condition", "ram_link": "link", "
 REQUIRED = ("version", "width", "microword", "address", "fill")
 
 
-def board_elements(width, address, flipflops):
+def board_elements(width, address, flipflops, depth=DEPTH):
     """The names and the widths of the elements of a board's state, in their order."""
     named = [(f"r{number}", width) for number in range(16)] + [("q", width), ("mar", address), ("ir", width)]
     named += [(name, 1) for name in flipflops] + [("upc", 12), ("count", 12)]
-    return named + [(f"stack{number}", 12) for number in range(DEPTH)]
+    return named + [(f"stack{number}", 12) for number in range(depth)]
 
 
 def missing_key(text):
@@ -45,6 +45,7 @@ class Board:
         self.ones = (1 << self.width) - 1
         self.fill = number_of(file["fill"])
         self.vector = file.get("vector", 0)
+        self.depth = file.get("stack", 9) if file["version"] == 2 else DEPTH
         self.map = file.get("map", {"low": 0, "bits": 0, "entries": [0]})
         self.fields = file.get("fields", {})
         self.control = {"ci": 1} | file.get("control", {})
@@ -97,4 +98,4 @@ class Board:
 
     def elements(self):
         """The names and the widths of the elements of its state."""
-        return board_elements(self.width, self.address, [each["name"] for each in self.flips])
+        return board_elements(self.width, self.address, [each["name"] for each in self.flips], self.depth)

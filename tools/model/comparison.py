@@ -5,7 +5,6 @@ described step that of description.py.
 """
 import tomllib
 
-from model.am2910 import DEPTH
 from model.board import Board
 from model.cycle import State, cycle
 from model.description import Described, Grammar, Machine, Outside
@@ -18,7 +17,6 @@ MOST_ENTRIES = 65536
 
 # The lists of an environment, each with the bound of its values.
 LISTS = {"inputs": None, "line": 2, "noise": 2**14}
-STACK = [f"stack{number}" for number in range(DEPTH)]
 
 
 class Start(Grammar, Outside):
@@ -111,7 +109,7 @@ class Job:
         self.address, self.word = self.board.address, self.board.width
         described = self.machine.over
         flips = [each["name"] for each in self.board.flips]
-        kept = elements(self.word, self.address, flips, self.machine.elements["register"])
+        kept = elements(self.word, self.address, flips, self.machine.elements["register"], self.board.depth)
         self.widths = dict(kept)
         sees = (self.address, self.word), (described.address, described.word), kept, self.labels
         boundaries = self.attempt("r", lambda: Relation(sees, relation)).boundaries
@@ -153,7 +151,7 @@ def board_state(job, values, sp, memory):
         return values.get(f"b.{name}", 0)
 
     flips = sum(of(each["name"]) << number for number, each in enumerate(job.board.flips))
-    return State(of("upc"), of("count"), sp, [of(name) for name in STACK], of("q"), of("mar"), of("ir"), flips,
+    return State(of("upc"), of("count"), sp, [of(f"stack{number}") for number in range(job.board.depth)], of("q"), of("mar"), of("ir"), flips,
                  {number: of(f"r{number}") for number in range(16)}, dict(memory))
 
 

@@ -6,7 +6,7 @@ cycle on terms is `Cycle` of words.py, which shares those tables alone with this
 from dataclasses import dataclass, field
 
 from model import am2901
-from model.am2910 import COUNTED_OUT, DEPTH, INSTRUCTIONS, TESTED, Sequencer
+from model.am2910 import COUNTED_OUT, INSTRUCTIONS, TESTED, Sequencer
 from model.board import settings_of
 from model.lines import number_of
 
@@ -53,7 +53,7 @@ def cycle(board, store, at, state, noise, line, offered):
     word = store[at] if at < len(store) else board.fill
     top = board.width - 1
     bits = {"zero": 0, "one": 1, "q_low": state.q & 1, "q_high": state.q >> top, "line": line,
-            "full": int(state.sp == DEPTH)}
+            "full": int(state.sp == board.depth)}
 
     def point(name):
         return board.point(word, name)

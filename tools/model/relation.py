@@ -2,15 +2,16 @@
 
 The format of relations is stated anew as the manual has it.
 """
+from model.am2910 import DEPTH
 from model.board import board_elements
 from model.description import Grammar, mems
 from model.expression import Over, judged, parts_of, shown
 from model.lines import Refused, lines_of
 
 
-def elements(width, address, flipflops, registers):
-    """The widths of the elements of a relation, by name."""
-    board = board_elements(width, address, flipflops)
+def elements(width, address, flipflops, registers, depth=DEPTH):
+    """The widths of the elements of a relation, by name. The board's stack has `depth` words."""
+    board = board_elements(width, address, flipflops, depth)
     return [(f"b.{name}", bits) for name, bits in board] + [(f"m.{name}", bits) for name, bits in registers]
 
 
@@ -21,6 +22,7 @@ class Relation(Grammar):
     def __init__(self, sees, text):
         board_memory, memory, widths, self.labels = sees
         self.over = Over([f"{name}:{bits}" for name, bits in widths] + ["mem:%d:%d" % memory])
+        self.depth = sum(name.startswith("b.stack") and bits == 12 for name, bits in widths)
         self.boundaries, self.block = [], None
         lines = lines_of(text)
         if board_memory != memory:
@@ -65,7 +67,7 @@ class Relation(Grammar):
         number = self.token(1, "number")
         self.ends(2)
         self.fault(self.line.tokens[0][0], 31, self.block[2] is not None)
-        self.fault(number[0], 33, number[2] > 5)
+        self.fault(number[0], 33, number[2] > self.depth)
         self.block[2] = number[2]
 
     def equate(self):

@@ -9,7 +9,7 @@ import random
 from dataclasses import dataclass, field
 
 from model.am2901 import DESTINATIONS, FUNCTIONS, SOURCES, SUMS
-from model.am2910 import COUNTED_OUT, DEPTH, INSTRUCTIONS, TESTED, effect, moved, pushed_to
+from model.am2910 import COUNTED_OUT, INSTRUCTIONS, TESTED, effect, moved, pushed_to
 from model.board import board_elements
 from model.lines import number_of
 
@@ -119,7 +119,7 @@ class Memory:
 
 def element_widths(board):
     """The names of a board's elements by their numbers, with their widths. A flip-flop stands behind `ff:`."""
-    return board_elements(board.width, board.address, [f"ff:{each['name']}" for each in board.flips])
+    return board_elements(board.width, board.address, [f"ff:{each['name']}" for each in board.flips], board.depth)
 
 
 class Cycle:
@@ -252,7 +252,7 @@ class Cycle:
             return self.words.part(self.old["ir"], name, 1)
         if kind == "ff:":
             return self.old[f"ff:{name}"]
-        return self.line if kind == "line" else constant({"zero": 0, "one": 1, "full": int(self.sp == DEPTH)}[kind], 1)
+        return self.line if kind == "line" else constant({"zero": 0, "one": 1, "full": int(self.sp == self.board.depth)}[kind], 1)
 
     def bit(self, entry):
         return self.made[self.key(entry)]
@@ -297,8 +297,8 @@ class Cycle:
         for place in range(11, -1, -1):
             self.at |= self.decide(place, self.words.part(following, place, 1)) << place
         if move == "PUSH":
-            self.elements[f"stack{pushed_to(self.sp)}"] = self.old["upc"]
-        self.sp = moved(self.sp, move)
+            self.elements[f"stack{pushed_to(self.sp, self.board.depth)}"] = self.old["upc"]
+        self.sp = moved(self.sp, move, self.board.depth)
         if counter == "LOAD" or self.point("rld"):
             self.elements["count"] = direct
         self.elements["upc"] = constant(self.at + self.point("ci") & 0xFFF, 12)

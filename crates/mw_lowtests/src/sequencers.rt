@@ -32,10 +32,12 @@ fn rfct(rt: HostRuntime) {
     let mut at_zero = sequencer(5, 0, 2, 1);
     assert_eq!(rt; at_zero.step(RFCT, false, 0, true, false, 0), 5);
     assert_eq!(rt; (at_zero.sp, at_zero.r, at_zero.pc), (0, 0, 6));
+    assert_eq!(rt; at_zero.stack, [2, 0, 0, 0, 0, 0, 0, 0, 0]);
 
     let mut counting = sequencer(5, 3, 2, 1);
     assert_eq!(rt; counting.step(RFCT, false, 0, true, false, 0), 2);
     assert_eq!(rt; (counting.sp, counting.r, counting.pc), (1, 2, 3));
+    assert_eq!(rt; counting.stack, [2, 0, 0, 0, 0, 0, 0, 0, 0]);
 }
 
 #[test]

@@ -130,6 +130,7 @@ pub fn sequencer_of(words: &[String]) -> Result<Seq, Fault> {
     seq.r = address_of(words, "r")?;
     seq.sp = pointer_of(words, seq.depth())?;
     for place in 0..9 {
+        // Not a bound of the loop: that no word changes how many there are would need an invariant.
         if place < seq.depth() {
             let word = listed(text, usize::from(place))?;
             seq.set_word(place, word);
