@@ -24,7 +24,7 @@ pub struct Points {
     pub a_address: Control,
     /// The register that B reads, and that the edge writes, 4 bits.
     pub b_address: Control,
-    /// The Am2910's instruction, 4 bits.
+    /// The sequencer's instruction, 4 bits.
     pub sequencer: Control,
     /// The branch address, 12 bits.
     pub branch: Control,

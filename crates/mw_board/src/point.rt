@@ -19,7 +19,7 @@ pub enum Point {
     AAddress,
     /// The register that B reads, and that the edge writes.
     BAddress,
-    /// The Am2910's instruction.
+    /// The sequencer's instruction.
     Sequencer,
     /// The branch address.
     Branch,

@@ -201,7 +201,7 @@ fn flipflops(document: &Table) -> &[Value]
     }
 }
 
-/// The file itself, by its version: of version 1, where that isn't the integer 2.
+/// The table of the file's own keys: of version 2 where `version` is 2, and else of version 1.
 fn file_of(value: Option<&Value>) -> KeyTable
     ensures { result ≡ file_of (version_in (given value.entry)) }
 {

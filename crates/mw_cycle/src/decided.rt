@@ -5,7 +5,7 @@ ghost use Rattle.mw_cycle.specs.Decided.{decides_counter, decides_pass};
 use crate::microword::Microword;
 
 impl Microword {
-    /// Whether pass is decided: the test is enabled, and the instruction of the Am2910 reads it.
+    /// Whether pass is decided: the test is enabled, and the sequencer's instruction reads it.
     pub fn decides_pass(&self) -> bool
         ensures { result ≡ decides_pass self.now }
     {

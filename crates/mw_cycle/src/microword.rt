@@ -29,7 +29,7 @@ pub struct Microword {
     pub polarity: bool,
     /// The test passes whatever its bit is.
     pub test_disable: bool,
-    /// The Am2910's instruction.
+    /// The sequencer's instruction.
     pub sequencer: u8,
     /// The branch address.
     pub branch: u16,
@@ -69,7 +69,7 @@ fn instruction(board: &Board, word: u128) -> u16
     destination * 64 + function * 8 + source
 }
 
-/// The number of a register or of an instruction of the Am2910.
+/// The number of a register or of an instruction of the sequencer.
 fn four_bits(board: &Board, word: u128, control: Control) -> u8
     requires { IsPoint 4 board.now.fields control }
     ensures exact { result ≡ value_at board.now.fields word control }

@@ -127,7 +127,7 @@ fn mapped(board: &Board, state: &State) -> u16
     }
 }
 
-/// The address at the Am2910's D.
+/// The address at the sequencer's D.
 #[tactic(auto, unfolding(crate::specs::Cycle::direct_address))]
 fn direct_address(board: &Board, microword: &Microword, state: &State) -> u16
     requires { IsMicroword board.now microword.now }

@@ -27,7 +27,7 @@ pub trait Visitor {
     /// What it says by a stop at a case of that boundary, as it was before that case.
     ghost stops: { (now : Self) → JobParts → (number : ℕ) → BudgetOf → (bits : List Decided) → Self.Stop → Type 0 };
 
-    /// Whether it compares the cases. Of one that isn't compared it can't say that it is over the budget.
+    /// Whether it compares the cases. One that doesn't never says that a case is over the budget.
     ghost compares: { Bool };
 
     /// Takes the case at which a fork stands, the next one behind those before. It leaves the fork there.

@@ -3,8 +3,8 @@ ghost use Rattle.std.specs.Prelude.{◌≡◌, [], ◌∷◌};
 ghost use Rattle.mw_base.specs.declared.event.Event.TheVariants.{Out, Taken};
 ghost use Rattle.mw_pal.specs.DeviceExamples.{one_key, printed, transfer, answers, leaves};
 
-/// The keyboard: `ksf` skips where a key is left, `krs` reads it, `kcc` clears the accumulator and drops it, and `krb`
-/// does both.
+/// The keyboard: `ksf` skips where a key is left, `krs` reads it, `kcc` clears the accumulator and drops the key,
+/// and `krb` does both.
 fn keyboard()
     ensures ksf { answers one_key (transfer 0o31 0) ≡ 0o4000 ∷ 0 ∷ [] }
     ensures ksf_kept { leaves one_key (transfer 0o31 0) ≡ one_key }

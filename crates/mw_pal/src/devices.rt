@@ -89,7 +89,7 @@ fn clear_if(is_asked: bool) -> u32
     if is_asked { CLEAR } else { 0 }
 }
 
-/// The keys that were not read yet, and the text so far.
+/// The keys that are left, and the text so far.
 #[derive(Drop)]
 pub(crate) struct Console<'a> {
     keys: &'a [u8],

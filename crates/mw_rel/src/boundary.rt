@@ -10,7 +10,7 @@ pub struct Boundary {
     pub address: u16,
     /// How many cycles a segment that begins here may take, 1 to 500.
     pub bound: u32,
-    /// The stack pointer here: how many words are on the sequencer's stack, 0 to 5.
+    /// The stack pointer here: how many words are on the sequencer's stack, no more than it has.
     pub sp: u8,
     /// What holds here, at most 256 lines.
     pub lines: Items<Line>,

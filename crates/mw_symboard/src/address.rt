@@ -66,7 +66,7 @@ fn mapped(
     }
 }
 
-/// The address at the Am2910's D: by the map in JMAP and the vector in CJV, else the branch field.
+/// The address at the sequencer's D: by the map in JMAP and the vector in CJV, else the branch field.
 pub(crate) fn direct(
     alloc: Global,
     board: &Board,

@@ -49,7 +49,7 @@ fn value_in(decided: &Path, place: usize) -> bool
     decided.bit(place).value
 }
 
-/// The entry of the Am2910's table, by the bits that were decided. Where pass isn't decided it is 1, and where the
+/// The entry of the sequencer's table, by the bits that were decided. Where pass isn't decided it is 1, and where the
 /// counter isn't it is not 0.
 pub(crate) fn effect(microword: &Microword, decided: &Path) -> Effect
     requires microword { microword.now.sequencer < 16 }
