@@ -1,5 +1,6 @@
 // Calls that no command shows.
 mod cases;
+mod consoles;
 mod cycles;
 mod diagrams;
 mod differs;
@@ -50,6 +51,7 @@ pub fn made(alloc: Global, words: &[String], files: &[File]) -> Result<Vec<u8>, 
         "start" => runs::start(alloc, files),
         "until" => runs::until(alloc, given, files),
         "pal" => sources::read(alloc, contents(files, "text")?),
+        "console" => consoles::run(alloc, given, files),
         _ => Err(wrong("no such call")),
     }
 }
