@@ -4,7 +4,7 @@ use Rattle.std.specs.Prelude.{Option, Some, None, ok_or, is_none, not, nat_le, n
 use Rattle.std.specs.List.{All}
 use Rattle.std.proofs.lemmas.Bool.{and_parts}
 use Rattle.std.proofs.lemmas.Bool.Decides.{nat_tests}
-use Rattle.std.proofs.lemmas.List.Elements.{All-nil, All-cons, All-append, All-weaker}
+use Rattle.std.proofs.lemmas.List.Elements.{All-nil, All-cons, All-append}
 use Rattle.mw_base.specs.declared.cause.Cause.TheVariants.{BadSyntax, TooMany, ValueTooWide, Twice, UnknownElement}
 use Rattle.mw_base.specs.declared.cause.Cause.TheVariants.{NoStackPointer, NoBoundary, ShapesDiffer}
 use Rattle.mw_base.specs.declared.cursor.Dotted.{Dotted}
@@ -71,9 +71,9 @@ stack_pointer_low depth word value block next is =
     (subst (λ n. n ≤ depth) both.1 few)
 
 -- an equation gives none
-equation_low : (depth : ℕ) (text : List ℕ) (scope : Scope) (element : Dotted) (sign : Token) (value : Placed) (uses : List Use)
-    (block next : Block) → IsLow depth block.sp → with_equation text scope element sign value uses block ≡ Ok next
-    → IsLow depth next.sp
+equation_low : (depth : ℕ) (text : List ℕ) (scope : Scope) (element : Dotted) (sign : Token) (value : Placed)
+    (uses : List Use) (block next : Block) → IsLow depth block.sp
+    → with_equation text scope element sign value uses block ≡ Ok next → IsLow depth next.sp
 unfolding with_equation IsLow
 equation_low depth text scope element sign value uses block next low is =
     let one = bind_ok (allowed (nat_lt (length block.lines) 256) (fault_on element.owner TooMany)) _ next is in
@@ -101,8 +101,8 @@ closed_low depth block word boundary low is =
     (found (λ n. n ≤ depth) (fault_on word NoStackPointer) block.sp two.0 two.1 low)
 
 -- a boundary that begins has none yet
-begun_low : (depth : ℕ) (text : List ℕ) (labels : List Label) (before : List Boundary) (said : Beginning) (block : Block)
-    → block_of text labels before said ≡ Ok block → IsLow depth block.sp
+begun_low : (depth : ℕ) (text : List ℕ) (labels : List Label) (before : List Boundary) (said : Beginning)
+    (block : Block) → block_of text labels before said ≡ Ok block → IsLow depth block.sp
 unfolding block_of IsLow
 begun_low depth text labels before said block is =
     let one = bind_ok (allowed (nat_lt (length before) 64) (fault_on said.word TooMany)) _ block is in
@@ -117,21 +117,24 @@ told_low : (text : List ℕ) (sides : Sides) (known next : Known) (block : Block
 unfolding with_told IsLow
 told_low text sides known next block (sp_line word value) all low is =
     let one = bind_ok (with_stack_pointer sides.depth word value block) _ next is in
-    subst (AreLow sides.depth) (ok_is {F = TextFault} (record { boundaries = known.boundaries; block = Some one.0 }) next one.2)
+    subst (AreLow sides.depth)
+    (ok_is {F = TextFault} (record { boundaries = known.boundaries; block = Some one.0 }) next one.2)
     (record { boundaries = all.boundaries; block = stack_pointer_low sides.depth word value block one.0 one.1 })
 told_low text sides known next block (equation_line element sign value uses) all low is =
     let one = bind_ok (with_equation text sides.scope element sign value uses block) _ next is in
-    subst (AreLow sides.depth) (ok_is {F = TextFault} (record { boundaries = known.boundaries; block = Some one.0 }) next one.2)
+    subst (AreLow sides.depth)
+    (ok_is {F = TextFault} (record { boundaries = known.boundaries; block = Some one.0 }) next one.2)
     (record {
       boundaries = all.boundaries;
       block = equation_low sides.depth text sides.scope element sign value uses block one.0 low one.1;
     })
 told_low text sides known next block (end_line word) all low is =
     let one = bind_ok (closed_block block word) _ next is in
-    subst (AreLow sides.depth) (ok_is {F = TextFault} (record { boundaries = known.boundaries ++ one.0 ∷ []; block = None }) next
-    one.2) (record {
+    subst (AreLow sides.depth)
+    (ok_is {F = TextFault} (record { boundaries = known.boundaries ++ one.0 ∷ []; block = None }) next one.2) (record {
       boundaries = All-append (EndsLow sides.depth) known.boundaries (one.0 ∷ []) all.boundaries
-          (All-cons (EndsLow sides.depth) one.0 [] (closed_low sides.depth block word one.0 low one.1) (All-nil (EndsLow sides.depth)));
+          (All-cons (EndsLow sides.depth) one.0 [] (closed_low sides.depth block word one.0 low one.1)
+          (All-nil (EndsLow sides.depth)));
       block = tt;
     })
 
@@ -142,15 +145,21 @@ unfolding with_tokens block_of IsLow
 tokens_low text labels sides known next None line same all is =
     let one = bind_ok (beginning_of (at_line text line BadSyntax)) _ next is in
     let two = bind_ok (block_of text labels known.boundaries one.0) _ next one.2 in
-    subst (AreLow sides.depth) (ok_is {F = TextFault} (record { boundaries = known.boundaries; block = Some two.0 }) next two.2)
-    (record { boundaries = all.boundaries; block = begun_low sides.depth text labels known.boundaries one.0 two.0 two.1 })
+    subst (AreLow sides.depth)
+    (ok_is {F = TextFault} (record { boundaries = known.boundaries; block = Some two.0 }) next two.2)
+    (record {
+      boundaries = all.boundaries;
+      block = begun_low sides.depth text labels known.boundaries one.0 two.0 two.1;
+    })
 tokens_low text labels sides known next (Some block) line same all is =
     let one = bind_ok (told_of sides.scope (at_line text line BadSyntax)) _ next is in
     told_low text sides known next block one.0 all (rw same at all.block) one.2
 
 any_low : (text : List ℕ) (labels : List Label) (sides : Sides) (known next : Known) (line : Line)
-    (tokens : List Token) → AreLow sides.depth known → with_any text labels sides known line tokens ≡ Ok next → AreLow sides.depth next
-any_low text labels sides known next line [] all is = subst (AreLow sides.depth) (ok_is {F = TextFault} known next is) all
+    (tokens : List Token) → AreLow sides.depth known → with_any text labels sides known line tokens ≡ Ok next
+    → AreLow sides.depth next
+any_low text labels sides known next line [] all is =
+    subst (AreLow sides.depth) (ok_is {F = TextFault} known next is) all
 any_low text labels sides known next line (token ∷ rest) all is =
     tokens_low text labels sides known next known.block line refl all is
 
@@ -163,7 +172,8 @@ pub record IsMatched (board : BoardParts) (machine : Description) (relation : Re
 
 -- that of what is known at a text's end
 ended : (board : BoardParts) (machine : Description) (fault : TextFault) (known : Known) (block : Option Block)
-    (relation : Relation) → AreLow (depth_of board) known → finished (shape_of board machine) fault known.boundaries block ≡ Ok relation
+    (relation : Relation) → AreLow (depth_of board) known
+    → finished (shape_of board machine) fault known.boundaries block ≡ Ok relation
     → AreForEachOther board machine relation
 unfolding EndsLow
 ended board machine fault known None relation all is =

@@ -20,10 +20,6 @@ abbrev pub IsRoom : Room → List Spelled → Type 0
 IsRoom room words = (kind : Kind)
     → room_seen room kind ≡ list_all (λ (other : Spelled). joins (kind_of other.operation) kind) words
 
--- before the first word
-pub first_room : (room : Room) → ((kind : Kind) → room_seen room kind ≡ true) → IsRoom room []
-first_room room each = each
-
 -- a word more
 pub more_room : (room after : Room) (words : List Spelled) (n : ℕ) (d : Spelled) → n < length words
     → ((kind : Kind) → room_seen after kind
