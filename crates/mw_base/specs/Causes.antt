@@ -8,8 +8,8 @@ use Rattle.mw_base.specs.declared.cause.Cause.TheVariants.{UnknownName, Twice, F
 use Rattle.mw_base.specs.declared.cause.Cause.TheVariants.{Overlap, BadLine, UnknownElement, WidthsDiffer, TooDeep}
 use Rattle.mw_base.specs.declared.cause.Cause.TheVariants.{LeftTwice, LeftUsedOnRight, NoStackPointer, NoBoundary}
 use Rattle.mw_base.specs.declared.cause.Cause.TheVariants.{BadBound, ShapesDiffer, NotFree, BadSyntax, BadCommand}
-use Rattle.mw_base.specs.declared.cause.Cause.TheVariants.{NoSuchElement, NothingToUndo, NotPdp8}
-use Rattle.mw_base.specs.declared.cause.Cause.TheVariants.{OffPage, MixedWords}
+use Rattle.mw_base.specs.declared.cause.Cause.TheVariants.{NoSuchElement, NothingToUndo, BadNode, BadFact, BadCount}
+use Rattle.mw_base.specs.declared.cause.Cause.TheVariants.{NotPdp8, OffPage, MixedWords}
 
 -- the number of a cause, which its reports print
 abbrev pub cause_number : Cause → ℕ
@@ -49,6 +49,9 @@ cause_number BadSyntax = 60
 cause_number BadCommand = 70
 cause_number NoSuchElement = 71
 cause_number NothingToUndo = 72
+cause_number BadNode = 80
+cause_number BadFact = 81
+cause_number BadCount = 82
 cause_number NotPdp8 = 83
 cause_number OffPage = 84
 cause_number MixedWords = 85

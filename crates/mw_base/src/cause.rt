@@ -78,6 +78,12 @@ pub enum Cause {
     NoSuchElement,
     /// 72: more is taken back than was done.
     NothingToUndo,
+    /// 80: a line of a certificate log gives no node, or one that is there already.
+    BadNode,
+    /// 81: a fact of a certificate log doesn't follow from the lines before it.
+    BadFact,
+    /// 82: a certificate log has another number of boundaries than the relation.
+    BadCount,
     /// 83: a machine isn't one that a PDP-8 program runs on.
     NotPdp8,
     /// 84: an address of a PDP-8 source is on another page than its statement.
@@ -128,6 +134,9 @@ impl Cause {
             Cause::BadCommand => 70,
             Cause::NoSuchElement => 71,
             Cause::NothingToUndo => 72,
+            Cause::BadNode => 80,
+            Cause::BadFact => 81,
+            Cause::BadCount => 82,
             Cause::NotPdp8 => 83,
             Cause::OffPage => 84,
             Cause::MixedWords => 85,
