@@ -14,19 +14,21 @@ use Rattle.mw_rel.specs.Begin.{Begin}
 use Rattle.mw_rel.specs.Job.{Job, IsJob}
 use Rattle.mw_replay.specs.Counter.{IsCounter, counter_at}
 use Rattle.mw_sim.specs.Texts.{line}
+use Rattle.mw_top.specs.declared.commands.Task.TheVariants as tasks
 use Rattle.mw_top.specs.declared.commands.Work.{Work}
 use Rattle.mw_top.specs.declared.commands.Work.TheVariants as works
 use Rattle.mw_top.specs.declared.status.Status.{Status}
-use Rattle.mw_top.specs.Answer.{IsEnd, IsWorkEnd, is_worked}
-use Rattle.mw_top.specs.Bounded.{AsksForBounds, IsBoundsEnd}
+use Rattle.mw_top.specs.Answer.{IsEnd, is_worked}
+use Rattle.mw_top.specs.Asked.{AsksFor}
+use Rattle.mw_top.specs.Bounded.{IsBoundsEnd}
 use Rattle.mw_top.specs.Call.{Call, Took}
 use Rattle.mw_top.specs.Commands.Bounds.{bounds_plan, length_text, range_line, range_text, shown_text}
 use Rattle.mw_top.specs.Commands.Certify.{boundary_over_budget, boundary_text}
-use Rattle.mw_top.specs.Commands.Table.{IsAnswer, plan_of}
-use Rattle.mw_top.specs.Request.{RequestData, files_of, task_of}
-use Rattle.mw_top.proofs.Ends.{end_worked}
+use Rattle.mw_top.specs.Commands.Table.{IsAnswer}
+use Rattle.mw_top.specs.Request.{files_of}
 use Rattle.mw_top.proofs.Made.{MakesOnly, made_so, makes_of_job}
 use Rattle.mw_top.proofs.Noes.{nodes_there, paths_there}
+use Rattle.mw_top.proofs.Tasks.{end_of_task}
 
 -- ---- what is printed
 
@@ -74,7 +76,7 @@ bounding : MakesOnly IsBounding bounds_plan
 unfolding bounds_plan
 bounding = makes_of_job IsBounding (λ job labels. done (works.Bounds job)) (λ job labels. tt {0})
 
-ends_by : (call : Call) (asks : AsksForBounds call) (contents : List (List ℕ)) (work : Work) (status : Status)
+ends_by : (call : Call) (asks : AsksFor tasks.Bounds call) (contents : List (List ℕ)) (work : Work) (status : Status)
     (report : List ℕ) → IsBounding work
     → IsLeft bounds_plan call.shelf_before (files_of asks.request contents) (done work)
     → IsAnswer asks.request work status report → Took call report → IsBoundsEnd call status
@@ -95,18 +97,11 @@ ends_by call asks contents (works.Trace trace) status report only made answer to
 ends_by call asks contents (works.Question question) status report only made answer took = absurd only
 ends_by call asks contents (works.Certification job) status report only made answer took = absurd only
 ends_by call asks contents works.Generation status report only made answer took = absurd only
+ends_by call asks contents (works.Upgrade board) status report only made answer took = absurd only
 
-pub end_bounds : (call : Call) (status : Status) → IsEnd call status → AsksForBounds call → is_worked status ≡ true
-    → IsBoundsEnd call status
+pub end_bounds : (call : Call) (status : Status) → IsEnd call status → AsksFor tasks.Bounds call
+    → is_worked status ≡ true → IsBoundsEnd call status
 end_bounds call status end asks is =
-    let worked_end = end_worked call status end is in
-    let worked = worked_end.1 in
-    let same : worked.request ≡ asks.request = cc (worked.requested, asks.requested) in
-    let left = subst
-    (λ (r : RequestData). IsLeft (plan_of (task_of r)) call.shelf_before (files_of r worked.contents) (done worked.work))
-    same worked.made in
-    let made = subst (λ task. IsLeft (plan_of task) call.shelf_before (files_of asks.request worked.contents)
-    (done worked.work)) asks.task left in
-    ends_by call asks worked.contents worked.work status worked_end.0
-    (made_so IsBounding bounds_plan worked.contents worked.work bounding made.left_is) made
-    (subst (λ (r : RequestData). IsAnswer r worked.work status worked_end.0) same worked.answer) worked_end.2
+    let ends = end_of_task tasks.Bounds call status end asks is in
+    ends_by call asks ends.contents ends.work status ends.report
+    (made_so IsBounding bounds_plan ends.contents ends.work bounding ends.made.left_is) ends.made ends.answer ends.took

@@ -8,4 +8,6 @@ pub mod Lines
 pub mod Made
 pub mod Noes
 pub mod Reports
+pub mod Tasks
+pub mod Upgraded
 pub mod Works

@@ -80,6 +80,7 @@ answer_is_worked request (works.Certification job) status report answer =
     rw answer.status_is (verdict_is_worked answer.verdict)
 answer_is_worked request (works.Bounds job) status report answer =
     rw answer.status_is (bounds_are_worked answer.bounds)
+answer_is_worked request (works.Upgrade board) status report answer = rw answer.status_is refl
 answer_is_worked request works.Generation status report answer =
     rw answer.certified.status_is (verdict_is_worked answer.certified.verdict)
 
@@ -91,6 +92,7 @@ IsDetermined (works.Question question) = ⊥
 IsDetermined (works.Certification job) = ⊥
 IsDetermined (works.Bounds job) = ⊥
 IsDetermined works.Generation = ⊥
+IsDetermined (works.Upgrade board) = ⊥
 IsDetermined other = Unit {0}
 
 abbrev comparison_of : Job → Counter → Plan Fault Work
@@ -122,6 +124,7 @@ determined tasks.Question is = absurd cc
 determined tasks.Certification is = absurd cc
 determined tasks.Bounds is = absurd cc
 determined tasks.Generation is = absurd cc
+determined tasks.Upgrade is = absurd cc
 
 -- a comparison has one answer
 comparison_once : (steps : ℕ) (comparison : Comparison) (status other : Status) (report text : List ℕ)
@@ -154,6 +157,7 @@ answer_once request parts (works.Question question) status other report text onl
 answer_once request parts (works.Certification job) status other report text only first second = absurd only
 answer_once request parts (works.Bounds job) status other report text only first second = absurd only
 answer_once request parts works.Generation status other report text only first second = absurd only
+answer_once request parts (works.Upgrade board) status other report text only first second = absurd only
 
 -- ---- the job that it is on
 
@@ -174,6 +178,7 @@ certifies tasks.Run is = absurd cc
 certifies tasks.Trace is = absurd cc
 certifies tasks.Question is = absurd cc
 certifies tasks.Bounds is = absurd cc
+certifies tasks.Upgrade is = absurd cc
 
 -- no number of operations follows another answer than yes
 none_after : (status : Status) → status ≢ Done → operations_text status all_operations ≡ []
@@ -221,6 +226,7 @@ certified_work request (works.Run prepared) status report is answer = absurd is
 certified_work request (works.Trace trace) status report is answer = absurd is
 certified_work request (works.Question question) status report is answer = absurd is
 certified_work request (works.Bounds job) status report is answer = absurd is
+certified_work request (works.Upgrade board) status report is answer = absurd is
 
 -- it is on one job
 pub one_job : (request : RequestData) (work : Work) (job other : Job) → IsJobOf request work job
@@ -233,3 +239,4 @@ one_job request (works.Run prepared) job other is also = absurd is
 one_job request (works.Trace trace) job other is also = absurd is
 one_job request (works.Question question) job other is also = absurd is
 one_job request (works.Bounds given) job other is also = absurd is
+one_job request (works.Upgrade board) job other is also = absurd is

@@ -10,3 +10,4 @@ pub mod Job
 pub mod Prepared
 pub mod Run
 pub mod Table
+pub mod Upgrade

@@ -1,4 +1,5 @@
 pub mod Answer
+pub mod Asked
 pub mod Bounded
 pub mod Call
 pub mod Codes
@@ -16,4 +17,5 @@ pub mod Request
 pub mod RunText
 pub mod StateText
 pub mod Status
+pub mod Upgraded
 pub mod Work

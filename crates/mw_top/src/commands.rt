@@ -20,6 +20,7 @@ mod job;
 mod microprogram;
 mod prepared;
 mod run;
+mod upgrade;
 
 use self::compare::Comparison;
 use self::equal::Asked;
@@ -30,6 +31,7 @@ use crate::outcome::Outcome;
 use crate::request::Request;
 use mw_asm::Program;
 use mw_base::{Items, NoMemory};
+use mw_board::Board;
 use mw_fork::Budget;
 use mw_outside::Shelf;
 use mw_plan::{Files, Stop};
@@ -54,6 +56,8 @@ pub(crate) enum Task {
     Bounds,
     /// Certifies the job that is generated of a number.
     Generation,
+    /// Prints a board as a file of version 2.
+    Upgrade,
 }
 
 /// What tasks make of their files.
@@ -75,6 +79,8 @@ pub(crate) enum Work {
     Bounds(FileJob),
     /// No file: the job that is to be certified is made of the request's number.
     Generation,
+    /// A board that is to be printed.
+    Upgrade(Board),
 }
 
 /// Reads the files of a task, and makes of them what its plan says.
@@ -100,6 +106,7 @@ pub(crate) fn read_files<S: Shelf>(
         Task::Certification => certify::read(alloc, shelf, files),
         Task::Bounds => bounds::read(alloc, shelf, files),
         Task::Generation => Ok(Work::Generation),
+        Task::Upgrade => upgrade::read(alloc, shelf, files),
     }
 }
 
@@ -146,5 +153,10 @@ pub(crate) fn answer_with(alloc: Global, request: &Request, work: Work) -> Resul
             outcome
         }
         Work::Generation => generate::report(alloc, request.number, budget_of(request)),
+        Work::Upgrade(board) => {
+            let outcome = upgrade::report(alloc, &board);
+            drop(board);
+            outcome
+        }
     }
 }

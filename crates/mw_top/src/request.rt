@@ -40,6 +40,8 @@ pub enum Command {
     Replay,
     /// Certifies the job that the generator makes of a number.
     Generate,
+    /// Prints a board file of version 2 that means the same: a board file.
+    Upgrade,
 }
 
 /// A command with what stands behind it, and its options. An option that isn't the command's own stands as it does
@@ -89,6 +91,7 @@ impl Command {
         Command::Bounds,
         Command::Replay,
         Command::Generate,
+        Command::Upgrade,
     ];
 
     /// The row of the command.
@@ -153,6 +156,12 @@ impl Command {
                 numbers: &[Number::Nodes, Number::Paths],
                 parts: false,
             },
+            Command::Upgrade => Row {
+                word: "upgrade",
+                task: Task::Upgrade,
+                numbers: &[],
+                parts: false,
+            },
         }
     }
 
@@ -176,6 +185,7 @@ fn expected_by(task: Task) -> Expected
         Task::Question => Expected::Files(1),
         Task::Certification => Expected::Files(4),
         Task::Bounds => Expected::Files(4),
+        Task::Upgrade => Expected::Files(1),
         Task::Generation => Expected::JobNumber,
     }
 }

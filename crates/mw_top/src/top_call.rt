@@ -9,10 +9,12 @@ ghost use Rattle.mw_top.specs.declared.commands.Task.{Task};
 ghost use Rattle.mw_top.specs.Answer.{AreAccepted, AreRefused, IsEnd, IsReport, is_worked};
 ghost use Rattle.mw_top.specs.Answer.{IsMemoryEnd, IsReadFaultEnd, IsRefusalEnd, IsUsageEnd, IsWorkEnd};
 ghost use Rattle.mw_top.specs.Answer.{IsWriteFaultEnd};
-ghost use Rattle.mw_top.specs.Bounded.{AsksForBounds, IsBoundsEnd};
+ghost use Rattle.mw_top.specs.Asked.{AsksFor};
+ghost use Rattle.mw_top.specs.Bounded.{IsBoundsEnd};
 ghost use Rattle.mw_top.specs.Call.{Call, NothingFailed, call_of};
 ghost use Rattle.mw_top.specs.Headline.{AreToCertify, AsksToCertify, IsNoEnd, IsSettled, IsUnknownEnd, IsYesEnd};
 ghost use Rattle.mw_top.specs.Headline.{NothingIsOver};
+ghost use Rattle.mw_top.specs.Upgraded.{IsUpgradeEnd};
 ghost use Rattle.mw_top.specs.Request.{HasItsFiles, RequestData, data_of, request_of, task_of};
 
 use crate::commands::{answer_with, read_files};
@@ -137,9 +139,14 @@ pub fn bench<S: Shelf, K: Sink>(
 
     // Where the words ask how long the segments of a job last: every start's length lies in the range of its boundary, and
     // the two starts of the report have the least and the greatest; or what the report names is over the budget.
-    ensures bounds { AsksForBounds (call_of S.Shelf K.Sink words.now shelf.old shelf.new out.old out.new)
+    ensures bounds { AsksFor Task.Bounds (call_of S.Shelf K.Sink words.now shelf.old shelf.new out.old out.new)
         → is_worked result ≡ true
         → IsBoundsEnd (call_of S.Shelf K.Sink words.now shelf.old shelf.new out.old out.new) result }
+
+    // Where the words ask for a board file of version 2: the text that was taken spells the board that was read.
+    ensures upgrade { AsksFor Task.Upgrade (call_of S.Shelf K.Sink words.now shelf.old shelf.new out.old out.new)
+        → is_worked result ≡ true
+        → IsUpgradeEnd (call_of S.Shelf K.Sink words.now shelf.old shelf.new out.old out.new) result }
 
     // A job of a number has no file, so none is refused, and none can't be read.
     ensures without_files { (request : RequestData) → request_of (map string_bytes words.now) ≡ Some request

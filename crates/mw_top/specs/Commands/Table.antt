@@ -16,6 +16,7 @@ use Rattle.mw_top.specs.Commands.Debug.{debug_plan, IsTrace}
 use Rattle.mw_top.specs.Commands.Equal.{equal_plan, IsEquality}
 use Rattle.mw_top.specs.Commands.Generate.{generate_plan, IsGeneration}
 use Rattle.mw_top.specs.Commands.Run.{run_plan, IsRun}
+use Rattle.mw_top.specs.Commands.Upgrade.{upgrade_plan, IsUpgrade}
 use Rattle.mw_top.specs.Request.{RequestData}
 
 -- What a task makes of its files; whether status and report are a function of the request and of what was read, since
@@ -35,6 +36,7 @@ task_row tasks.Question = record { plan = equal_plan; is_determined = false; is_
 task_row tasks.Certification = record { plan = certify_plan; is_determined = false; is_certifying = true }
 task_row tasks.Bounds = record { plan = bounds_plan; is_determined = false; is_certifying = false }
 task_row tasks.Generation = record { plan = generate_plan; is_determined = false; is_certifying = true }
+task_row tasks.Upgrade = record { plan = upgrade_plan; is_determined = false; is_certifying = false }
 
 -- what a task makes of its files
 abbrev pub plan_of : Task → Plan Fault Work
@@ -54,3 +56,4 @@ IsAnswer request (works.Question question) status report = IsEquality request.no
 IsAnswer request (works.Certification job) status report = IsCertification (budget_of request) job status report
 IsAnswer request (works.Bounds job) status report = IsBounding (budget_of request) job status report
 IsAnswer request works.Generation status report = IsGeneration (budget_of request) request.number status report
+IsAnswer request (works.Upgrade board) status report = IsUpgrade board status report
