@@ -4,3 +4,13 @@ pub mod InOrder
 pub mod Kept
 pub mod Keys
 pub mod Loops
+pub mod PrintedBits
+pub mod PrintedControls
+pub mod PrintedFields
+pub mod PrintedKeys
+pub mod PrintedLists
+pub mod PrintedMap
+pub mod PrintedPoints
+pub mod PrintedSizes
+pub mod Spelled
+pub mod Tables

@@ -7,7 +7,9 @@ pub mod FlipFlops
 pub mod Kept
 pub mod Lists
 pub mod Map
+pub mod Printed
 pub mod Sizes
+pub mod Tables
 pub mod Unknown
 pub mod Values
 pub mod Views

@@ -10,6 +10,7 @@ mod lists;
 mod map;
 mod paths;
 mod points;
+mod print;
 mod reader;
 mod select;
 mod sizes;
@@ -17,4 +18,5 @@ mod unknown;
 mod values;
 
 pub use fault::{BoardRefusal, KeyFault};
+pub use print::print_board;
 pub use reader::read_board;

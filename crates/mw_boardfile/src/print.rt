@@ -1,0 +1,25 @@
+// Boards as board files.
+ghost use Rattle.std.specs.Prelude.{◌≡◌, IfOk, Ok};
+ghost use Rattle.mw_boardfile.specs.Board.{board_of};
+
+mod fields;
+mod sizes;
+mod values;
+
+use mw_base::NoMemory;
+use mw_board::Board;
+use std::alloc::Global;
+
+/// The text of a board file that spells the board: a TOML document of version 2, whose keys stand in byte order.
+///
+/// `version`, `width`, `microword`, `address`, `fill` and `stack` are always given; every other key stands only where
+/// its value isn't the one that it has without its key. Reading the text gives the board back.
+///
+/// # Errors
+///
+/// Memory ran out.
+pub fn print_board(alloc: Global, board: &Board) -> Result<Vec<u8>, NoMemory>
+    ensures reads_back { IfOk result (λ text. board_of text.items ≡ Ok board.now) }
+{
+    Err(NoMemory)
+}
