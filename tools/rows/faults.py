@@ -62,12 +62,15 @@ SCRIPTS = {
     12: ["watch b.r0             ; AC", "until DCA_D 21", "step 1                 ; memory takes AC, and AC becomes 0",
          "until FETCH 21"],
 }
+# A program that prints two letters. Where AC is put out before the nine bits, its second instruction differs at once.
+LETTERS = ["tad H", "tls", "cla", "tad J", "tls", "hlt", "H: word 0o110", "J: word 0o111"]
 STARTS = 1000
 HEAD = """\
 # Twelve faults of the PDP-8 of examples/pdp8, as pdp8_fault of mw_cases has them, printed by tools/rows/faults.py. Of each:
 # its no, the replay of that no, and the replay on the right microprogram. The differences are written by hand in the
 # script. The starts are worked out, whole, by tools/model/certified.py: from the word table and the term table, with
-# functions and runs on numbers of its own. The traces are worked out by tools/model/cycle.py."""
+# functions and runs on numbers of its own. The traces are worked out by tools/model/cycle.py. Last stand two runs of a
+# PDP-8 program at its console."""
 
 
 def example(file):
@@ -165,6 +168,13 @@ def rows_of(found, what):
             yield from row(f"fault {found.number}, in the debugger{name}", "debug b m e d", micro, files, 0, trace)
 
 
+def pal_row(number, end, report):
+    """The row of a program that prints two letters, on the microprogram with a fault."""
+    given = ["$ pal b m k r s keys --steps 6", "with pdp8", f"with fault {number}",
+             *file_lines("s", text_of(LETTERS)), *file_lines("keys", b"")]
+    return ["", *row_lines(f"pal-faults, fault {number}", given, end, text_of(report))]
+
+
 def rows():
     lines = [HEAD, "", "set pdp8"]
     for name, file in FILES.items():
@@ -175,6 +185,8 @@ def rows():
         lines += ["", f"set fault {number}", *file_lines("m", found.micro.encode())]
     for what, found in every.values():
         lines += rows_of(found, what)
+    lines += pal_row(1, "begins 0", ["; same 6", "; text 0x48 0x49"])
+    lines += pal_row(8, "status 1", ["differs step 2", "difference event 0"])
     return text_of(lines).decode()
 
 

@@ -1,4 +1,5 @@
 pub mod Begins
+pub mod Counters
 pub mod Joining
 pub mod Memories
 pub mod Readings

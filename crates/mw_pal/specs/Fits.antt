@@ -1,5 +1,6 @@
 -- Which jobs PDP-8 programs fit.
 use Rattle.std.specs.Prelude.{◌≡◌, ℕ, ◌<◌, length, codes, bytes_eq, Bool, true, not, ◌&&◌, ◌==◌, nat_lt, slice_index}
+use Rattle.std.specs.List.{list_any, range_with_len}
 use Rattle.mw_board.specs.Elements.{element_count}
 use Rattle.mw_rel.specs.Free.{is_free, numbered}
 use Rattle.mw_rel.specs.Job.{Job}
@@ -25,3 +26,12 @@ pub record FitsPal (job : Job) : Type 0 where
   pub address : job.machine.shape.address ≡ 12
   pub word : job.machine.shape.word ≡ 12
   pub counter : HasFreeCounter job
+
+-- whether there is such an element
+abbrev pub has_free_counter : Job → Bool
+has_free_counter job = list_any (is_free_counter job) (range_with_len 0 (length job.relation.shape.widths))
+
+-- whether PDP-8 programs fit a job, as a test
+abbrev pub fits_pal : Job → Bool
+fits_pal job =
+    job.machine.shape.address == 12 && (job.machine.shape.word == 12 && has_free_counter job)

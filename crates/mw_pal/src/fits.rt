@@ -1,7 +1,8 @@
 // Which jobs PDP-8 programs fit.
 ghost use Rattle.std.specs.Prelude.{◌≡◌, ◌<◌, ◌↔◌, ◌&&◌, ◌==◌, IsTrue, length};
 ghost use Rattle.mw_rel.specs.Views.{job_of};
-ghost use Rattle.mw_pal.specs.Fits.{is_program_counter, is_free_counter, HasFreeCounter, FitsPal};
+ghost use Rattle.mw_pal.specs.Fits.{is_program_counter, is_free_counter, has_free_counter, HasFreeCounter};
+ghost use Rattle.mw_pal.specs.Fits.{FitsPal, fits_pal};
 
 use mw_rel::{Job, free};
 
@@ -35,8 +36,10 @@ fn is_free_counter(job: &Job, number: usize) -> bool
 }
 
 /// Whether there is such an element.
+#[tactic(auto, using(crate::proofs::Counters::one_passes, crate::proofs::Counters::none_passes))]
 fn has_free_counter(job: &Job) -> bool
-    ensures { IsTrue result ↔ HasFreeCounter (job_of job.now) }
+    ensures exact { result ≡ has_free_counter (job_of job.now) }
+    ensures there { IsTrue result ↔ HasFreeCounter (job_of job.now) }
 {
     for number in 0..job.element_count() {
         if is_free_counter(job, number) {
@@ -49,7 +52,8 @@ fn has_free_counter(job: &Job) -> bool
 /// Whether a job's machine is one that PDP-8 programs fit: its memory has 4,096 words of 12 bits, and it has a register
 /// `PC` of 12 bits that is free at the first boundary. Where it isn't, that is cause 83.
 pub fn fits_pal(job: &Job) -> bool
-    ensures { IsTrue result ↔ FitsPal (job_of job.now) }
+    ensures exact { result ≡ fits_pal (job_of job.now) }
+    ensures fits { IsTrue result ↔ FitsPal (job_of job.now) }
 {
     let shape = job.machine.shape();
     let has_counter = has_free_counter(job);

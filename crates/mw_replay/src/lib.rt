@@ -18,6 +18,6 @@ pub use laws::{
 };
 pub use mw_rel::Difference;
 pub use one_replay::replay;
-pub use printed::{print_counter, print_start};
+pub use printed::{append_environment, append_values_lines, print_counter, print_start};
 pub use stepping::Replay;
 pub use text::read_counter;

@@ -147,8 +147,13 @@ fn values_at(values: &[u32], number: usize) -> &[u32]
     &rest[..rest.len().min(MOST_VALUES)]
 }
 
-/// Appends the lines of values, behind a list's keyword.
-fn append_values_lines(
+/// Appends the lines of values: each line begins with the keyword of their list, behind which stand sixteen values, and
+/// those that are left on the last. Where there are no values there is no line.
+///
+/// # Errors
+///
+/// Memory ran out.
+pub fn append_values_lines(
     alloc: Global,
     text: &mut Vec<u8>,
     keyword: &[u8],
@@ -186,8 +191,13 @@ fn append_series(
     append_values_lines(alloc, text, series.keyword(), &values)
 }
 
-/// Appends the lines of the lists of an environment.
-fn append_environment(alloc: Global, text: &mut Vec<u8>, env: &Env) -> Result<(), NoMemory>
+/// Appends the lines of the lists `inputs`, `line` and `noise` of an environment, in this order, without the zeros at
+/// their ends, sixteen values to a line.
+///
+/// # Errors
+///
+/// Memory ran out.
+pub fn append_environment(alloc: Global, text: &mut Vec<u8>, env: &Env) -> Result<(), NoMemory>
     ensures { OnOk result (text.new.items ≡ text.old.items ++ environment_lines env.now) }
 {
     let lists = Series::all();

@@ -98,6 +98,7 @@ ends_by call asks contents (works.Question question) status report only made ans
 ends_by call asks contents (works.Certification job) status report only made answer took = absurd only
 ends_by call asks contents works.Generation status report only made answer took = absurd only
 ends_by call asks contents (works.Upgrade board) status report only made answer took = absurd only
+ends_by call asks contents (works.Console console) status report only made answer took = absurd only
 
 pub end_bounds : (call : Call) (status : Status) → IsEnd call status → AsksFor tasks.Bounds call
     → is_worked status ≡ true → IsBoundsEnd call status

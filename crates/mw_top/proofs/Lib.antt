@@ -7,6 +7,7 @@ pub mod Headlines
 pub mod Lines
 pub mod Made
 pub mod Noes
+pub mod Played
 pub mod Reports
 pub mod Tasks
 pub mod Upgraded

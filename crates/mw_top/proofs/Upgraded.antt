@@ -49,6 +49,7 @@ ends_by call asks contents (works.Question question) status report only made ans
 ends_by call asks contents (works.Certification job) status report only made answer took = absurd only
 ends_by call asks contents (works.Bounds job) status report only made answer took = absurd only
 ends_by call asks contents works.Generation status report only made answer took = absurd only
+ends_by call asks contents (works.Console console) status report only made answer took = absurd only
 
 pub end_upgrade : (call : Call) (status : Status) → IsEnd call status → AsksFor tasks.Upgrade call
     → is_worked status ≡ true → IsUpgradeEnd call status

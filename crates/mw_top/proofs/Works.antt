@@ -81,6 +81,8 @@ answer_is_worked request (works.Certification job) status report answer =
 answer_is_worked request (works.Bounds job) status report answer =
     rw answer.status_is (bounds_are_worked answer.bounds)
 answer_is_worked request (works.Upgrade board) status report answer = rw answer.status_is refl
+answer_is_worked request (works.Console console) status report answer =
+    rw answer.status_is (compared_is_worked answer.compared)
 answer_is_worked request works.Generation status report answer =
     rw answer.certified.status_is (verdict_is_worked answer.certified.verdict)
 
@@ -93,6 +95,7 @@ IsDetermined (works.Certification job) = ⊥
 IsDetermined (works.Bounds job) = ⊥
 IsDetermined works.Generation = ⊥
 IsDetermined (works.Upgrade board) = ⊥
+IsDetermined (works.Console console) = ⊥
 IsDetermined other = Unit {0}
 
 abbrev comparison_of : Job → Counter → Plan Fault Work
@@ -125,6 +128,7 @@ determined tasks.Certification is = absurd cc
 determined tasks.Bounds is = absurd cc
 determined tasks.Generation is = absurd cc
 determined tasks.Upgrade is = absurd cc
+determined tasks.Console is = absurd cc
 
 -- a comparison has one answer
 comparison_once : (steps : ℕ) (comparison : Comparison) (status other : Status) (report text : List ℕ)
@@ -158,6 +162,7 @@ answer_once request parts (works.Certification job) status other report text onl
 answer_once request parts (works.Bounds job) status other report text only first second = absurd only
 answer_once request parts works.Generation status other report text only first second = absurd only
 answer_once request parts (works.Upgrade board) status other report text only first second = absurd only
+answer_once request parts (works.Console console) status other report text only first second = absurd only
 
 -- ---- the job that it is on
 
@@ -179,6 +184,7 @@ certifies tasks.Trace is = absurd cc
 certifies tasks.Question is = absurd cc
 certifies tasks.Bounds is = absurd cc
 certifies tasks.Upgrade is = absurd cc
+certifies tasks.Console is = absurd cc
 
 -- no number of operations follows another answer than yes
 none_after : (status : Status) → status ≢ Done → operations_text status all_operations ≡ []
@@ -227,6 +233,7 @@ certified_work request (works.Trace trace) status report is answer = absurd is
 certified_work request (works.Question question) status report is answer = absurd is
 certified_work request (works.Bounds job) status report is answer = absurd is
 certified_work request (works.Upgrade board) status report is answer = absurd is
+certified_work request (works.Console console) status report is answer = absurd is
 
 -- it is on one job
 pub one_job : (request : RequestData) (work : Work) (job other : Job) → IsJobOf request work job
@@ -240,3 +247,4 @@ one_job request (works.Trace trace) job other is also = absurd is
 one_job request (works.Question question) job other is also = absurd is
 one_job request (works.Bounds given) job other is also = absurd is
 one_job request (works.Upgrade board) job other is also = absurd is
+one_job request (works.Console console) job other is also = absurd is

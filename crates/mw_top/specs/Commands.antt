@@ -7,6 +7,7 @@ pub mod Debug
 pub mod Equal
 pub mod Generate
 pub mod Job
+pub mod Pal
 pub mod Prepared
 pub mod Run
 pub mod Table

@@ -11,6 +11,7 @@ pub mod Line
 pub mod LineRead
 pub mod Operands
 pub mod Options
+pub mod Played
 pub mod PrefixText
 pub mod Report
 pub mod Request

@@ -10,7 +10,7 @@ use Rattle.mw_top.specs.declared.commands.Task.{Task}
 use Rattle.mw_top.specs.declared.commands.Task.TheVariants as tasks
 use Rattle.mw_top.specs.declared.request.Command.{Command}
 use Rattle.mw_top.specs.declared.request.Command.TheVariants.{Asm, Bounds, Certify, Compare, Debug, Equal, Generate}
-use Rattle.mw_top.specs.declared.request.Command.TheVariants.{Replay, Run, Upgrade}
+use Rattle.mw_top.specs.declared.request.Command.TheVariants.{Pal, Replay, Run, Upgrade}
 use Rattle.mw_top.specs.declared.request.Request.{Request}
 use Rattle.mw_top.specs.declared.request.operands.Expected.{Expected}
 use Rattle.mw_top.specs.declared.request.operands.Expected.TheVariants.{Files, JobNumber}
@@ -71,6 +71,7 @@ row_of Replay = record { word = codes "replay"; task = tasks.Comparison; numbers
 row_of Generate =
     record { word = codes "generate"; task = tasks.Generation; numbers = Nodes ∷ Paths ∷ []; parts = false }
 row_of Upgrade = record { word = codes "upgrade"; task = tasks.Upgrade; numbers = []; parts = false }
+row_of Pal = record { word = codes "pal"; task = tasks.Console; numbers = Steps ∷ []; parts = false }
 
 -- what the command of a request does
 abbrev pub task_of : RequestData → Task
@@ -86,11 +87,12 @@ expected_by tasks.Question = Files 1
 expected_by tasks.Certification = Files 4
 expected_by tasks.Bounds = Files 4
 expected_by tasks.Upgrade = Files 1
+expected_by tasks.Console = Files 6
 expected_by tasks.Generation = JobNumber
 
 -- the commands
 abbrev pub commands : List Command
-commands = Compare ∷ Asm ∷ Run ∷ Debug ∷ Equal ∷ Certify ∷ Bounds ∷ Replay ∷ Generate ∷ Upgrade ∷ []
+commands = Compare ∷ Asm ∷ Run ∷ Debug ∷ Equal ∷ Certify ∷ Bounds ∷ Replay ∷ Generate ∷ Upgrade ∷ Pal ∷ []
 
 -- the command of a word
 abbrev pub command_of : List ℕ → Option Command

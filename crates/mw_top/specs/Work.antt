@@ -1,4 +1,5 @@
 -- What commands make of their files.
+use Rattle.std.specs.Prelude.{ℕ, List}
 use Rattle.mw_rel.specs.Job.{Job}
 use Rattle.mw_replay.specs.Counter.{Counter}
 use Rattle.mw_sim.specs.Start.{Start}
@@ -13,3 +14,9 @@ pub record Comparison : Type 0 where
 pub record Prepared : Type 0 where
   pub program : Program
   pub start : Start
+
+-- a job that PDP-8 programs fit, the memory of one, and the keys at its console
+pub record Console : Type 0 where
+  pub job : Job
+  pub memory : List ℕ
+  pub keys : List ℕ

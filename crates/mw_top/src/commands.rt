@@ -18,6 +18,7 @@ mod equal;
 mod generate;
 mod job;
 mod microprogram;
+mod pal;
 mod prepared;
 mod run;
 mod upgrade;
@@ -25,6 +26,7 @@ mod upgrade;
 use self::compare::Comparison;
 use self::equal::Asked;
 use self::job::FileJob;
+use self::pal::Console;
 use self::prepared::Prepared;
 use crate::fault::Fault;
 use crate::outcome::Outcome;
@@ -58,6 +60,8 @@ pub(crate) enum Task {
     Generation,
     /// Prints a board as a file of version 2.
     Upgrade,
+    /// Runs a PDP-8 program at its console beside a board.
+    Console,
 }
 
 /// What tasks make of their files.
@@ -81,6 +85,8 @@ pub(crate) enum Work {
     Generation,
     /// A board that is to be printed.
     Upgrade(Board),
+    /// A job, a PDP-8 program and the keys at its console.
+    Console(Console),
 }
 
 /// Reads the files of a task, and makes of them what its plan says.
@@ -107,6 +113,7 @@ pub(crate) fn read_files<S: Shelf>(
         Task::Bounds => bounds::read(alloc, shelf, files),
         Task::Generation => Ok(Work::Generation),
         Task::Upgrade => upgrade::read(alloc, shelf, files),
+        Task::Console => pal::read(alloc, shelf, files),
     }
 }
 
@@ -156,6 +163,11 @@ pub(crate) fn answer_with(alloc: Global, request: &Request, work: Work) -> Resul
         Work::Upgrade(board) => {
             let outcome = upgrade::report(alloc, &board);
             drop(board);
+            outcome
+        }
+        Work::Console(console) => {
+            let outcome = pal::report(alloc, &console, request.steps);
+            drop(console);
             outcome
         }
     }

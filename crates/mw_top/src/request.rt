@@ -42,6 +42,9 @@ pub enum Command {
     Generate,
     /// Prints a board file of version 2 that means the same: a board file.
     Upgrade,
+    /// Runs a PDP-8 program at its console beside a board: the files of `Certify`, the program's source, and the keys at
+    /// the console.
+    Pal,
 }
 
 /// A command with what stands behind it, and its options. An option that isn't the command's own stands as it does
@@ -92,6 +95,7 @@ impl Command {
         Command::Replay,
         Command::Generate,
         Command::Upgrade,
+        Command::Pal,
     ];
 
     /// The row of the command.
@@ -162,6 +166,12 @@ impl Command {
                 numbers: &[],
                 parts: false,
             },
+            Command::Pal => Row {
+                word: "pal",
+                task: Task::Console,
+                numbers: &[Number::Steps],
+                parts: false,
+            },
         }
     }
 
@@ -186,6 +196,7 @@ fn expected_by(task: Task) -> Expected
         Task::Certification => Expected::Files(4),
         Task::Bounds => Expected::Files(4),
         Task::Upgrade => Expected::Files(1),
+        Task::Console => Expected::Files(6),
         Task::Generation => Expected::JobNumber,
     }
 }

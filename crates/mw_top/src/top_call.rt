@@ -14,6 +14,7 @@ ghost use Rattle.mw_top.specs.Bounded.{IsBoundsEnd};
 ghost use Rattle.mw_top.specs.Call.{Call, NothingFailed, call_of};
 ghost use Rattle.mw_top.specs.Headline.{AreToCertify, AsksToCertify, IsNoEnd, IsSettled, IsUnknownEnd, IsYesEnd};
 ghost use Rattle.mw_top.specs.Headline.{NothingIsOver};
+ghost use Rattle.mw_top.specs.Played.{IsPalEnd};
 ghost use Rattle.mw_top.specs.Upgraded.{IsUpgradeEnd};
 ghost use Rattle.mw_top.specs.Request.{HasItsFiles, RequestData, data_of, request_of, task_of};
 
@@ -147,6 +148,13 @@ pub fn bench<S: Shelf, K: Sink>(
     ensures upgrade { AsksFor Task.Upgrade (call_of S.Shelf K.Sink words.now shelf.old shelf.new out.old out.new)
         → is_worked result ≡ true
         → IsUpgradeEnd (call_of S.Shelf K.Sink words.now shelf.old shelf.new out.old out.new) result }
+
+    // Where the words ask for a PDP-8 program at its console: the text and the inputs that are printed are those of its
+    // console run. `Done` comes where no step up to the number that the words say differs over these inputs, and
+    // `Differs` where one does, of which the report names the first; where the job is certified none does.
+    ensures pal { AsksFor Task.Console (call_of S.Shelf K.Sink words.now shelf.old shelf.new out.old out.new)
+        → is_worked result ≡ true
+        → IsPalEnd (call_of S.Shelf K.Sink words.now shelf.old shelf.new out.old out.new) result }
 
     // A job of a number has no file, so none is refused, and none can't be read.
     ensures without_files { (request : RequestData) → request_of (map string_bytes words.now) ≡ Some request

@@ -15,12 +15,13 @@ use Rattle.mw_top.specs.Commands.Compare.{compare_plan, IsComparison}
 use Rattle.mw_top.specs.Commands.Debug.{debug_plan, IsTrace}
 use Rattle.mw_top.specs.Commands.Equal.{equal_plan, IsEquality}
 use Rattle.mw_top.specs.Commands.Generate.{generate_plan, IsGeneration}
+use Rattle.mw_top.specs.Commands.Pal.{pal_plan, IsPal}
 use Rattle.mw_top.specs.Commands.Run.{run_plan, IsRun}
 use Rattle.mw_top.specs.Commands.Upgrade.{upgrade_plan, IsUpgrade}
 use Rattle.mw_top.specs.Request.{RequestData}
 
--- What a task makes of its files; whether status and report are a function of the request and of what was read, since
--- an unknown answer may name one of several words; and whether a job is to be certified.
+-- What a task makes of its files; whether status and report are stated to be a function of the request and of what was
+-- read, as the law of `--parts` asks; and whether a job is to be certified.
 pub record TaskRow : Type 0 where
   pub plan : Plan Fault Work
   pub is_determined : Bool
@@ -37,6 +38,7 @@ task_row tasks.Certification = record { plan = certify_plan; is_determined = fal
 task_row tasks.Bounds = record { plan = bounds_plan; is_determined = false; is_certifying = false }
 task_row tasks.Generation = record { plan = generate_plan; is_determined = false; is_certifying = true }
 task_row tasks.Upgrade = record { plan = upgrade_plan; is_determined = false; is_certifying = false }
+task_row tasks.Console = record { plan = pal_plan; is_determined = false; is_certifying = false }
 
 -- what a task makes of its files
 abbrev pub plan_of : Task → Plan Fault Work
@@ -57,3 +59,4 @@ IsAnswer request (works.Certification job) status report = IsCertification (budg
 IsAnswer request (works.Bounds job) status report = IsBounding (budget_of request) job status report
 IsAnswer request works.Generation status report = IsGeneration (budget_of request) request.number status report
 IsAnswer request (works.Upgrade board) status report = IsUpgrade board status report
+IsAnswer request (works.Console console) status report = IsPal request.steps console status report

@@ -72,7 +72,7 @@ pub(super) fn read<S: Shelf>(
 }
 
 /// The status of what a comparison shows.
-fn status_of(compared: Compared) -> Status
+pub(super) fn status_of(compared: Compared) -> Status
     ensures { result ≡ compare_status compared }
 {
     match compared {
@@ -83,7 +83,7 @@ fn status_of(compared: Compared) -> Status
 
 /// Appends what a comparison of so many steps shows.
 #[tactic(auto, unfolding(crate::specs::Commands::Compare::compare_report))]
-fn append_comparison(
+pub(super) fn append_comparison(
     alloc: Global,
     report: &mut Vec<u8>,
     job: &Job,

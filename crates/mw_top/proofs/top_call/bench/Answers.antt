@@ -1,6 +1,7 @@
 use Rattle.mw_top.proofs.Bounded.{end_bounds}
 use Rattle.mw_top.proofs.Upgraded.{end_upgrade}
 use Rattle.mw_top.proofs.Ends.{end_worked, end_usage, end_accepted, end_refused, end_complete}
+use Rattle.mw_top.proofs.Played.{end_pal}
 use Rattle.mw_top.proofs.Headlines.{end_no, end_settled, end_unknown, end_without_files, end_yes}
 use Rattle.mw_top.proofs.top_call.bench.Goals as goal
 
@@ -30,6 +31,9 @@ returns-clause-bounds g c = end_bounds _ _ c.run.ensures.end
 
 pub returns-clause-upgrade : goal.returns-clause-upgrade
 returns-clause-upgrade g c = end_upgrade _ _ c.run.ensures.end
+
+pub returns-clause-pal : goal.returns-clause-pal
+returns-clause-pal g c = end_pal _ _ c.run.ensures.end
 
 pub returns-clause-without_files : goal.returns-clause-without_files
 returns-clause-without_files g c = end_without_files _ _ c.run.ensures.end

@@ -1,0 +1,56 @@
+#!/usr/bin/env python3
+"""Rows of PDP-8 programs at their console, as crates/mw_rows runs them, from cases of the command `pal` that are JSON, one
+a line.
+
+    pal.py CASES..    prints the rows of crates/mw_rows/data/pal. The PDP-8 of the cases is that of examples/pdp8, whose
+                      description and relation say the same in other words. Those of changed microprograms are left out
+"""
+import json
+import sys
+from pathlib import Path
+
+import tools_path
+from files import case_lines, cases_of, contents_lines, hashed, sets_of
+
+EXAMPLE = Path(__file__).resolve().parent.parent.parent / "examples" / "pdp8"
+FILES = {"b": "board.toml", "m": "micro", "k": "machine", "r": "relation"}
+# Which cases are taken, by what their names begin with and by their numbers; none: all.
+TAKEN = {"row": None, "console": None, "edge": None, "machine": {104, *range(107, 115)}, "fits": None, "talk": None, "order": None,
+         "program": {5, 9, 11, 15, 21, 26}, "codes": {40, 41, 42}, "words": {46, 48, 142, 143, 144, 145, 146},
+         "refused": {62, 63, 66, 73, 75, 78, 84, 101}}
+# The names of worked rows.
+WORKED = {"row-0": "pal-prints", "row-1": "pal-echoes", "row-2": "pal-refusals, another page",
+          "row-3": "pal-refusals, tests of both kinds", "machine-104": "pal-refusals, no PDP-8"}
+HEAD = """\
+# PDP-8 programs at their console, beside a board: what is printed, and an environment in which the board runs them; the
+# first difference; or the first fault. The answers are those of a second implementation, of which tools/rows/pal.py
+# prints the rows. The faults of the PDP-8 are tried in the file of faults."""
+
+
+def is_taken(case):
+    kind, _, number = case["name"].partition("-")
+    return kind in TAKEN and (TAKEN[kind] is None or int(number) in TAKEN[kind])
+
+
+def lines_of(case, pdp8, sets):
+    """The row of a case, where files of the PDP-8 and others are sets."""
+    own = {name: text for name, text in case["files"].items() if pdp8.get(name) != text}
+    row, words, *others = case_lines(case | {"files": own}, sets)
+    return [row, words, *(["with pdp8"] if len(own) < len(case["files"]) else []), *others]
+
+
+def main():
+    cases = [case | {"name": WORKED.get(case["name"], case["name"])} for case in cases_of(sys.argv[1:]) if is_taken(case)]
+    pdp8 = {name: cases[0]["files"][name] for name in FILES}
+    sets = {file: name for file, name in sets_of(cases).items() if file not in {hashed(*its) for its in pdp8.items()}}
+    print(HEAD + "\n\nset pdp8")
+    for name, file in FILES.items():
+        print("\n".join(contents_lines(name, (EXAMPLE / file).read_text())))
+    for (file, text), name in sets.items():
+        print("\n".join(["", f"set {name}", *contents_lines(file, json.loads(text))]))
+    for case in cases:
+        print("\n".join(["", *lines_of(case, pdp8, sets)]))
+
+
+if __name__ == "__main__":
+    main()
