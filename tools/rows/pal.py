@@ -14,10 +14,8 @@ from files import case_lines, cases_of, contents_lines, hashed, sets_of
 
 EXAMPLE = Path(__file__).resolve().parent.parent.parent / "examples" / "pdp8"
 FILES = {"b": "board.toml", "m": "micro", "k": "machine", "r": "relation"}
-# Which cases are taken, by what their names begin with and by their numbers; none: all.
-TAKEN = {"row": None, "console": None, "edge": None, "machine": {104, *range(107, 115)}, "fits": None, "talk": None, "order": None,
-         "program": {5, 9, 11, 15, 21, 26}, "codes": {40, 41, 42}, "words": {46, 48, 142, 143, 144, 145, 146},
-         "refused": {62, 63, 66, 73, 75, 78, 84, 101}}
+# What the names of cases of changed microprograms begin with.
+CHANGED = "changed"
 # The names of worked rows.
 WORKED = {"row-0": "pal-prints", "row-1": "pal-echoes", "row-2": "pal-refusals, another page",
           "row-3": "pal-refusals, tests of both kinds", "machine-104": "pal-refusals, no PDP-8"}
@@ -28,8 +26,16 @@ HEAD = """\
 
 
 def is_taken(case):
-    kind, _, number = case["name"].partition("-")
-    return kind in TAKEN and (TAKEN[kind] is None or int(number) in TAKEN[kind])
+    return not case["name"].startswith(CHANGED)
+
+
+def with_later(case):
+    """A case, and one for each command that takes its report: the report is a file of it."""
+    yield case
+    for then in case.get("then", []):
+        name = f"{case['name']}, {then['words'][0]} on the board"
+        files = {file: case["files"][file] for file in then["words"] if file in case["files"]}
+        yield then | {"name": name, "files": files | {then["save"]: case["stdout"]}}
 
 
 def lines_of(case, pdp8, sets):
@@ -40,7 +46,8 @@ def lines_of(case, pdp8, sets):
 
 
 def main():
-    cases = [case | {"name": WORKED.get(case["name"], case["name"])} for case in cases_of(sys.argv[1:]) if is_taken(case)]
+    named = (case | {"name": WORKED.get(case["name"], case["name"])} for case in cases_of(sys.argv[1:]) if is_taken(case))
+    cases = [each for case in named for each in with_later(case)]
     pdp8 = {name: cases[0]["files"][name] for name in FILES}
     sets = {file: name for file, name in sets_of(cases).items() if file not in {hashed(*its) for its in pdp8.items()}}
     print(HEAD + "\n\nset pdp8")

@@ -1,6 +1,5 @@
 // Calls that no command shows.
 mod cases;
-mod consoles;
 mod cycles;
 mod diagrams;
 mod differs;
@@ -13,7 +12,6 @@ mod plain;
 mod programmed;
 mod relations;
 mod runs;
-mod sources;
 mod steps;
 mod tokens;
 mod trees;
@@ -50,8 +48,6 @@ pub fn made(alloc: Global, words: &[String], files: &[File]) -> Result<Vec<u8>, 
         "cycle-words" => symbolic::words(alloc, given, files),
         "start" => runs::start(alloc, files),
         "until" => runs::until(alloc, given, files),
-        "pal" => sources::read(alloc, contents(files, "text")?),
-        "console" => consoles::run(alloc, given, files),
         _ => Err(wrong("no such call")),
     }
 }
