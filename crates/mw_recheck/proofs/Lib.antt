@@ -1,0 +1,9 @@
+pub mod Blocks
+pub mod Counts
+pub mod Follows
+pub mod Order
+pub mod Places
+pub mod Reduced
+pub mod Truths
+pub mod Unique
+pub mod Values

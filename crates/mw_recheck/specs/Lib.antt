@@ -1,0 +1,7 @@
+pub mod Facts
+pub mod Kept
+pub mod Laws
+pub mod LogPrinted
+pub mod LogText
+pub mod Nodes
+pub mod Rules
