@@ -1,5 +1,6 @@
 pub mod Alike
 pub mod Bounded
+pub mod Consoles
 pub mod Cycles
 pub mod Ends
 pub mod Followed

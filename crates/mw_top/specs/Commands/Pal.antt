@@ -1,6 +1,6 @@
 -- pal: a board file, a microprogram for its board, a described machine, a relation between both, the source of a PDP-8
 -- program, and the keys at its console.
-use Rattle.std.specs.Prelude.{◌≡◌, ℕ, List, [], ◌∷◌, ◌++◌, codes, if◌then◌else◌, Result, Ok, Err}
+use Rattle.std.specs.Prelude.{◌≡◌, ℕ, List, [], ◌++◌, codes, length, ◌==◌, if◌then◌else◌, Result, Ok, Err}
 use Rattle.mw_base.specs.declared.cause.Cause.TheVariants.{NotPdp8}
 use Rattle.mw_base.specs.declared.refusal.TextFault.{TextFault}
 use Rattle.mw_check.specs.declared.comparison.Compared.{Compared}
@@ -49,8 +49,8 @@ pal_plan = job_plan (λ job labels.
 
 -- what the console printed: `; text` and its bytes, sixteen to a line, and one such line where there are none
 unfoldable pub printed_lines : List ℕ → List ℕ
-printed_lines [] = series_line (codes "; text") []
-printed_lines text = values_lines (codes "; text") text
+printed_lines text =
+    if length text == 0 then series_line (codes "; text") [] else values_lines (codes "; text") text
 
 -- a start as an environment in which the board runs from it: its state, and the lists
 unfoldable pub start_text : Job → Start → List ℕ

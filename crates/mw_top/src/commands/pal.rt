@@ -98,15 +98,15 @@ pub(super) fn read<S: Shelf>(
     ensures later { IsLater (shelf_shown S.Shelf shelf.old) (shelf_shown S.Shelf shelf.new) }
 {
     let labelled = read_job(alloc, shelf, files)?;
-    let source = files.next(alloc, shelf, |bytes| read_source(alloc, &labelled.job, bytes));
-    let memory = match source {
+    let memory = match files.next(alloc, shelf, |bytes| read_source(alloc, &labelled.job, bytes)) {
         Ok(memory) => memory,
         Err(stop) => {
             drop(labelled);
             return Err(stop);
         }
     };
-    match files.next(alloc, shelf, |bytes| read_keys(alloc, bytes)) {
+    let keys = files.next(alloc, shelf, |bytes| read_keys(alloc, bytes));
+    match keys {
         Ok(keys) => Ok(Work::Console(Console {
             labelled,
             memory,
