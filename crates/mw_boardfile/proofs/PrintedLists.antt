@@ -18,7 +18,7 @@ abbrev pub IsRead : {A : Type 0} → (Data → Result A Cause) → (A → Data) 
 IsRead reader printed x = reader (printed x) ≡ Ok x
 
 -- the values of a list
-values_read : (values : List Data) → values_of (items_of values) ≡ values
+pub values_read : (values : List Data) → values_of (items_of values) ≡ values
 values_read [] = refl
 values_read (value ∷ rest) = ap (λ (others : List Data). value ∷ others) (values_read rest)
 

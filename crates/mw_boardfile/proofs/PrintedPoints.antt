@@ -71,10 +71,11 @@ field_found fields n f order at =
 
 -- ---- controls
 
-within_some : (fields : List NamedField) (n : ℕ) → n < length fields → (f : NamedField) × (slice_get fields n ≡ Some f)
+-- the item at a place within a list
+pub within_some : {A : Type 0} (xs : List A) (n : ℕ) → n < length xs → (x : A) × (slice_get xs n ≡ Some x)
 within_some [] n h = absurd (omega arith)
-within_some (g ∷ rest) zero h = (g, refl)
-within_some (g ∷ rest) (suc n) h = within_some rest n (omega arith)
+within_some (x ∷ rest) zero h = (x, refl)
+within_some (x ∷ rest) (suc n) h = within_some rest n (omega arith)
 
 -- a field's name is read as the field
 name_read : (fields : List NamedField) (n : ℕ) → AreInOrder fields → length fields ≤ 64 → n < length fields

@@ -2,10 +2,10 @@
 use Rattle.std.proofs.Common.{◌≡◌, ℕ, suc, ◌+◌, ◌*◌, ◌^◌, ◌<◌, ◌≤◌, ◌==◌, nat_lt, List, [], ◌∷◌, map, Bool, true, false, Result, Ok, refl, sym, ap, ◌∙◌}
 use Rattle.std.proofs.Common.{zero, arith, length, get_or, nat_le, subst, cond}
 use Rattle.std.specs.Str.{IsAscii, IsUtf8}
-use Rattle.std.proofs.lemmas.Bool.{and_parts}
+use Rattle.std.proofs.lemmas.Bool.{and_parts, or_from}
 use Rattle.std.proofs.lemmas.Str.{IsUtf8-from_ascii}
 use Rattle.mw_base.specs.Names.{is_name_start, is_word_byte, are_word_bytes, is_spelled_as_name, is_name}
-use Rattle.std.specs.List.{list_all, fold}
+use Rattle.std.specs.List.{list_all, list_any, fold}
 use Rattle.std.specs.Int.Digits.{digits_of, number_from_digits_after, number_from_digits, AllBelowBase}
 use Rattle.std.proofs.lemmas.Bool.Decides.{nat_tests}
 use Rattle.std.proofs.lemmas.Int.Digits.{all_below_base_digits_of, number_digits_of, first_digits_of}
@@ -108,3 +108,21 @@ name_text (c ∷ rest) is =
     let both = and_parts (is_name_start c) (are_word_bytes rest) spelled.0 in
     let first : is_word_byte c ≡ true = rw both.0 refl in
     IsUtf8-from_ascii (c ∷ rest) (ascii_more c rest (word_ascii c first) (words_ascii rest both.1))
+
+words_plain : (text : List ℕ) → are_word_bytes text ≡ true → list_any (λ c. c == 38) text ≡ false
+words_plain [] are = refl
+words_plain (c ∷ rest) are =
+    let both = and_parts (is_word_byte c) (are_word_bytes rest) are in
+    let here : (c == 38) ≡ false = grind (arith, nat_tests, both.0) in
+    or_from (c == 38) (list_any (λ d. d == 38) rest) here (words_plain rest both.1)
+
+-- in a name there is no & (38)
+pub name_plain : (name : List ℕ) → is_name name ≡ true → list_any (λ c. c == 38) name ≡ false
+unfolding is_name
+name_plain [] is = refl
+name_plain (c ∷ rest) is =
+    let spelled = and_parts (is_spelled_as_name (c ∷ rest)) (nat_le (length (c ∷ rest)) 64) is in
+    let both = and_parts (is_name_start c) (are_word_bytes rest) spelled.0 in
+    let first : is_word_byte c ≡ true = rw both.0 refl in
+    let here : (c == 38) ≡ false = grind (arith, nat_tests, first) in
+    or_from (c == 38) (list_any (λ d. d == 38) rest) here (words_plain rest both.1)

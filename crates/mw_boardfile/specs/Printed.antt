@@ -1,10 +1,16 @@
 -- What is printed for a board: the values under the keys of its file.
-use Rattle.std.specs.Prelude.{ℕ, pos, List, map, [], ◌∷◌, ◌++◌, codes, slice_get, Option, Some, None, if◌then◌else◌, ◌==◌}
+use Rattle.std.specs.Prelude.{ℕ, pos, List, map, [], ◌∷◌, ◌++◌, codes, slice_get, Bool, true, false, ◌&&◌, Option}
+use Rattle.std.specs.Prelude.{Some, None, if◌then◌else◌, ◌==◌}
 use Rattle.toml.specs.Data.{Data, integer, string, array, table, Members, no_members, member}
 use Rattle.toml.specs.View.{items_of}
 use Rattle.mw_base.specs.Numbers.{hex}
 use Rattle.mw_board.specs.declared.bit.Bit.{Bit}
 use Rattle.mw_board.specs.declared.bit.Bit.TheVariants as bits
+use Rattle.mw_board.specs.declared.bit.DFrom.{DFrom}
+use Rattle.mw_board.specs.declared.bit.DFrom.TheVariants as sources
+use Rattle.mw_board.specs.declared.bit.DSource.{DSource}
+use Rattle.mw_board.specs.declared.bit.Load.{Load}
+use Rattle.mw_board.specs.declared.bit.Load.TheVariants as loads
 use Rattle.mw_board.specs.declared.control.Control.{Control}
 use Rattle.mw_board.specs.declared.control.Control.TheVariants.{Field, Fixed}
 use Rattle.mw_board.specs.declared.control.Points.{Points}
@@ -14,7 +20,7 @@ use Rattle.mw_board.specs.declared.parts.BoardParts.{BoardParts}
 use Rattle.mw_board.specs.declared.point.Point.{Point}
 use Rattle.mw_board.specs.declared.point.Point.TheVariants.{Ci}
 use Rattle.mw_board.specs.Points.{all_points, name_of, driver_of}
-use Rattle.mw_boardfile.specs.Tables.{put, Entry}
+use Rattle.mw_boardfile.specs.Tables.{put, Entry, table_of}
 
 -- an integer
 abbrev pub integer_of : ℕ → Data
@@ -130,3 +136,121 @@ bit_text flipflops bits.Line = codes "line"
 bit_text flipflops bits.Full = codes "full"
 bit_text flipflops (bits.Ir n) = codes "ir:" ++ hex n
 bit_text flipflops (bits.Flip n) = codes "ff:" ++ flipflop_name (slice_get flipflops n)
+
+-- a bit
+abbrev pub bit_printed : List FlipFlop → Bit → Data
+bit_printed flipflops bit = string (bit_text flipflops bit)
+
+-- ---- flip-flops
+
+-- a load as a text
+abbrev pub load_text : List FlipFlop → Load → List ℕ
+load_text flipflops loads.Hold = codes "hold"
+load_text flipflops loads.Invert = codes "invert"
+load_text flipflops loads.XorCarry = codes "xor_carry"
+load_text flipflops (loads.Take bit) = bit_text flipflops bit
+
+-- a load
+abbrev pub load_printed : List FlipFlop → Load → Data
+load_printed flipflops load = string (load_text flipflops load)
+
+-- name, control and load
+abbrev pub flipflop_keys_printed : List NamedField → List FlipFlop → FlipFlop → List Entry
+flipflop_keys_printed fields flipflops f =
+    (codes "name", Some (string f.name))
+    ∷ (codes "control", Some (control_printed fields f.control))
+    ∷ (codes "load", Some (list_of (map (load_printed flipflops) f.load)))
+    ∷ []
+
+-- a flip-flop
+abbrev pub flipflop_printed : List NamedField → List FlipFlop → FlipFlop → Data
+flipflop_printed fields flipflops f = table (table_of (flipflop_keys_printed fields flipflops f))
+
+-- flipflop
+abbrev pub flipflops_printed : List NamedField → List FlipFlop → List Data
+flipflops_printed fields flipflops = map (flipflop_printed fields flipflops) flipflops
+
+-- ---- lists from which control points choose
+
+-- the source of D without its mask
+abbrev pub from_text : List NamedField → List FlipFlop → DFrom → List ℕ
+from_text fields flipflops sources.Zero = codes "zero"
+from_text fields flipflops sources.Memory = codes "memory"
+from_text fields flipflops sources.Ir = codes "ir"
+from_text fields flipflops sources.Mar = codes "mar"
+from_text fields flipflops sources.Input = codes "input"
+from_text fields flipflops (sources.Field n) = codes "field:" ++ field_name (slice_get fields n)
+from_text fields flipflops (sources.Flip n) = codes "ff:" ++ flipflop_name (slice_get flipflops n)
+
+-- a text, and behind & (38) the mask, where there is one
+abbrev pub masked_text : List ℕ → Option ℕ → List ℕ
+masked_text text None = text
+masked_text text (Some mask) = text ++ 38 ∷ hex mask
+
+-- a source of D
+abbrev pub source_printed : List NamedField → List FlipFlop → DSource → Data
+source_printed fields flipflops source = string (masked_text (from_text fields flipflops source.from) source.mask)
+
+-- a list of one entry that passes
+abbrev pub is_alone : {A : Type 0} → (A → Bool) → List A → Bool
+is_alone passes [] = false
+is_alone passes (entry ∷ []) = passes entry
+is_alone passes (entry ∷ other ∷ rest) = false
+
+-- a list that isn't printed where it has the one entry zero
+abbrev pub list_unless_zero : {A : Type 0} → (A → Bool) → (A → Data) → List A → Option Data
+list_unless_zero is_zero printed entries =
+    if is_alone is_zero entries then None else Some (list_of (map printed entries))
+
+-- the bit is zero
+abbrev pub is_zero_bit : Bit → Bool
+is_zero_bit bits.Zero = true
+is_zero_bit other = false
+
+-- the source is zero, whatever its mask
+abbrev pub is_zero_from : DFrom → Bool
+is_zero_from sources.Zero = true
+is_zero_from other = false
+
+-- there is no mask
+abbrev pub has_no_mask : Option ℕ → Bool
+has_no_mask None = true
+has_no_mask (Some mask) = false
+
+-- the source is zero, without a mask
+abbrev pub is_zero_source : DSource → Bool
+is_zero_source source = has_no_mask source.mask && is_zero_from source.from
+
+-- select.LIST, of bits
+abbrev pub bits_printed : List FlipFlop → List Bit → Option Data
+bits_printed flipflops entries = list_unless_zero is_zero_bit (bit_printed flipflops) entries
+
+-- select.d
+abbrev pub sources_printed : List NamedField → List FlipFlop → List DSource → Option Data
+sources_printed fields flipflops entries = list_unless_zero is_zero_source (source_printed fields flipflops) entries
+
+-- select
+abbrev pub lists_printed : BoardParts → List Entry
+lists_printed p =
+    (codes "carry_in", bits_printed p.flipflop p.carry_in)
+    ∷ (codes "condition", bits_printed p.flipflop p.condition)
+    ∷ (codes "ram_link", bits_printed p.flipflop p.ram_link)
+    ∷ (codes "q_link", bits_printed p.flipflop p.q_link)
+    ∷ (codes "d", sources_printed p.fields p.flipflop p.d)
+    ∷ []
+
+-- ---- the file
+
+-- fields to map
+abbrev pub tables_printed : BoardParts → List Entry
+tables_printed p =
+    (codes "fields", unless_empty (fields_printed p.fields))
+    ∷ (codes "flipflop", list_unless_empty (flipflops_printed p.fields p.flipflop))
+    ∷ (codes "control", unless_empty (table_of (points_printed p.fields p.control)))
+    ∷ (codes "select", unless_empty (table_of (lists_printed p)))
+    ∷ (codes "map", unless_empty (table_of (map_printed p)))
+    ∷ []
+
+-- the keys of the file
+unfoldable pub document_printed : BoardParts → List Entry
+document_printed p = sizes_printed p ++ tables_printed p

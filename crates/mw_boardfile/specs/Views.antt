@@ -1,5 +1,5 @@
 -- How clauses see what a document holds.
-use Rattle.std.specs.Prelude.{◌≡◌, List, map, option_map, Bool, Option, Some, None, Result}
+use Rattle.std.specs.Prelude.{◌≡◌, List, map, option_map, All, Bool, true, Option, Some, None, Result, IfOk}
 use Rattle.std.specs.Borrow.{Bor}
 use Rattle.toml.specs.Data.{Data, Members, no_members}
 use Rattle.toml.specs.View.{view, table_view}
@@ -8,6 +8,10 @@ use Rattle.std.specs.BTreeMap.{BTreeMap}
 use Rattle.std.specs.declared.alloc.Global.{Global}
 use Rattle.toml.specs.declared.value.Value.{Value}
 use Rattle.mw_base.specs.declared.cause.Cause.{Cause}
+use Rattle.mw_base.specs.declared.memory.NoMemory.{NoMemory}
+use Rattle.mw_base.specs.Names.{is_name}
+use Rattle.mw_board.specs.declared.field.NamedField.{NamedField}
+use Rattle.mw_board.specs.declared.flipflop.FlipFlop.{FlipFlop}
 
 -- a value, where there is one
 abbrev pub given : Option (Bor Value) → Option Data
@@ -30,3 +34,15 @@ Reads {A} returns reader =
 -- each call of a closure that returns answers as the test does
 abbrev pub Tests : {T : Type 0} → (Bor T → Bool → Type 0) → (T → Bool) → Type 0
 Tests {T} returns test = (x : Bor T) (result : Bool) → returns x result → result ≡ test x.now
+
+-- each value that calls of a closure return is what is printed of the item
+abbrev pub Prints : {T : Type 0} → (Bor T → Result Value NoMemory → Type 0) → (T → Data) → Type 0
+Prints {T} returns printed =
+    (x : Bor T) (result : Result Value NoMemory) → returns x result → IfOk result (λ value. view value ≡ printed x.now)
+
+-- what is printed can be spelled: each field, and each flip-flop, has a name
+abbrev pub FieldsAreNamed : List NamedField → Type 0
+FieldsAreNamed fields = All (λ f. is_name f.name ≡ true) fields
+
+abbrev pub FlipFlopsAreNamed : List FlipFlop → Type 0
+FlipFlopsAreNamed flipflops = All (λ f. is_name f.name ≡ true) flipflops

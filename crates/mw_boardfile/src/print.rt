@@ -2,13 +2,22 @@
 ghost use Rattle.std.specs.Prelude.{◌≡◌, IfOk, Ok};
 ghost use Rattle.mw_boardfile.specs.Board.{board_of};
 
+mod document;
 mod fields;
+mod flipflops;
+mod map;
+mod names;
+mod points;
+mod select;
 mod sizes;
+mod texts;
 mod values;
 
+use document::document;
 use mw_base::NoMemory;
 use mw_board::Board;
 use std::alloc::Global;
+use toml::ser;
 
 /// The text of a board file that spells the board: a TOML document of version 2, whose keys stand in byte order.
 ///
@@ -21,5 +30,12 @@ use std::alloc::Global;
 pub fn print_board(alloc: Global, board: &Board) -> Result<Vec<u8>, NoMemory>
     ensures reads_back { IfOk result (λ text. board_of text.items ≡ Ok board.now) }
 {
-    Err(NoMemory)
+    let document = document(alloc, board.parts())?;
+    let printed = toml::table_to_string(alloc, &document);
+    drop(document);
+    match printed {
+        Ok(text) => Ok(text.into_bytes()),
+        Err(ser::Error::DateInvalid) => unreachable!(),
+        Err(ser::Error::OutOfMemory) => Err(NoMemory),
+    }
 }

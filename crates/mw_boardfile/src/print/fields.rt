@@ -1,9 +1,10 @@
 // fields.NAME.
-ghost use Rattle.std.specs.Prelude.{◌≡◌, All, true, IfOk};
+ghost use Rattle.std.specs.Prelude.{◌≡◌, IfOk};
 ghost use Rattle.toml.specs.View.{view, table_view};
-ghost use Rattle.mw_base.specs.Names.{is_name};
 ghost use Rattle.mw_boardfile.specs.Printed.{field_printed, fields_printed};
+ghost use Rattle.mw_boardfile.specs.Views.{FieldsAreNamed};
 
+use crate::print::names::name_text;
 use crate::print::values::{integer, put};
 use mw_base::NoMemory;
 use mw_board::NamedField;
@@ -20,21 +21,9 @@ fn field(alloc: Global, named: &NamedField) -> Result<Value, NoMemory>
     Ok(Value::from(entries))
 }
 
-/// A name as a text.
-#[tactic(auto, using(crate::proofs::Spelled::name_text))]
-fn name_text(name: &[u8]) -> &str
-    requires { is_name name.now ≡ true }
-    ensures { result.now ≡ name.now }
-{
-    match str::from_utf8(name) {
-        Ok(text) => text,
-        Err(_) => unreachable!(),
-    }
-}
-
 /// fields: the table of the fields, from the last one on.
 pub(crate) fn fields(alloc: Global, fields: &[NamedField]) -> Result<Table, NoMemory>
-    requires { All (λ f. is_name f.name ≡ true) fields.now }
+    requires { FieldsAreNamed fields.now }
     ensures { IfOk result (λ table. table_view table ≡ fields_printed fields.now) }
 {
     let mut table = Table::new(alloc);

@@ -1,10 +1,12 @@
 // Values and tables that are printed.
-ghost use Rattle.std.specs.Prelude.{◌≡◌, option_map, IfOk, OnOk};
+ghost use Rattle.std.specs.Prelude.{◌≡◌, map, option_map, string_bytes, IfOk, OnOk};
 ghost use Rattle.std.specs.Str.{IsUtf8};
-ghost use Rattle.toml.specs.Data.{string};
+ghost use Rattle.toml.specs.Data.{Data};
 ghost use Rattle.toml.specs.View.{view, table_view};
-ghost use Rattle.mw_boardfile.specs.Printed.{integer_of, text_of, unless_zero, unless_empty};
+ghost use Rattle.mw_base.specs.Numbers.{hex};
+ghost use Rattle.mw_boardfile.specs.Printed.{integer_of, text_of, unless_zero, unless_empty, list_unless_empty};
 ghost use Rattle.mw_boardfile.specs.Tables.{put, put_given};
+ghost use Rattle.mw_boardfile.specs.Views.{Prints};
 
 use mw_base::{NoMemory, append_hex};
 use std::alloc::Global;
@@ -24,24 +26,31 @@ pub(crate) fn integer_unless_zero(n: u32) -> Option<Value>
     if n == 0 { None } else { Some(integer(n)) }
 }
 
-/// A text.
-pub(crate) fn text(alloc: Global, bytes: Vec<u8>) -> Result<Value, NoMemory>
+/// Bytes that are a text.
+fn text(bytes: Vec<u8>) -> String
     requires { IsUtf8 bytes.items }
-    ensures { IfOk result (λ value. view value ≡ string bytes.items) }
+    ensures { string_bytes result ≡ bytes.items }
 {
-    match str::from_utf8(&bytes) {
-        Ok(text) => Ok(Value::string(alloc, text)?),
+    match String::from_utf8(bytes) {
+        Ok(text) => text,
         Err(_) => unreachable!(),
     }
+}
+
+/// The hexadecimal digits of a number.
+pub(crate) fn digits(alloc: Global, n: u128) -> Result<String, NoMemory>
+    ensures { IfOk result (λ text. string_bytes text ≡ hex n) }
+{
+    let mut bytes = Vec::new(alloc);
+    append_hex(alloc, &mut bytes, n)?;
+    Ok(text(bytes))
 }
 
 /// A number as a text.
 pub(crate) fn number(alloc: Global, n: u128) -> Result<Value, NoMemory>
     ensures { IfOk result (λ value. view value ≡ text_of n) }
 {
-    let mut bytes = Vec::new(alloc);
-    append_hex(alloc, &mut bytes, n)?;
-    text(alloc, bytes)
+    Ok(Value::from(digits(alloc, n)?))
 }
 
 /// A number as a text that isn't printed where it is 0.
@@ -52,6 +61,46 @@ pub(crate) fn number_unless_zero(alloc: Global, n: u128) -> Result<Option<Value>
         Ok(None)
     } else {
         Ok(Some(number(alloc, n)?))
+    }
+}
+
+/// What is printed of each of these.
+pub(crate) fn each<T, F: Fn(&T) -> Result<Value, NoMemory>>(
+    alloc: Global,
+    items: &[T],
+    print: &F,
+) -> Result<Vec<Value>, NoMemory>
+    requires { F.IsAlwaysCallable print.now }
+    // What is so of every printer that the closure follows.
+    ensures { (printed : T → Data) → Prints (F.post print.now) printed
+        → IfOk result (λ values. map view values.items ≡ map printed items.now) }
+{
+    let mut values = Vec::new(alloc);
+    for item in items {
+        values.push(print(item)?)?;
+    }
+    Ok(values)
+}
+
+/// A list that isn't printed where it has no entries.
+pub(crate) fn list_unless_empty(values: Vec<Value>) -> Option<Value>
+    ensures { option_map view result ≡ list_unless_empty (map view values.items) }
+{
+    if values.is_empty() {
+        None
+    } else {
+        Some(Value::from(values))
+    }
+}
+
+/// A table that isn't printed where it has no members.
+pub(crate) fn table_unless_empty(table: Table) -> Option<Value>
+    ensures { option_map view result ≡ unless_empty (table_view table) }
+{
+    if table.is_empty() {
+        None
+    } else {
+        Some(Value::from(table))
     }
 }
 
