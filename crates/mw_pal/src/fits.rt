@@ -36,7 +36,6 @@ fn is_free_counter(job: &Job, number: usize) -> bool
 }
 
 /// Whether there is such an element.
-#[tactic(auto, using(crate::proofs::Counters::one_passes, crate::proofs::Counters::none_passes))]
 fn has_free_counter(job: &Job) -> bool
     ensures exact { result ≡ has_free_counter (job_of job.now) }
     ensures there { IsTrue result ↔ HasFreeCounter (job_of job.now) }
