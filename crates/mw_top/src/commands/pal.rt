@@ -2,7 +2,6 @@
 // program, and the keys at its console.
 ghost use Rattle.std.specs.Prelude.{◌≡◌, ◌<◌, ◌^◌, ◌++◌, ◌×◌, [], IfOk, OnOk, length};
 ghost use Rattle.mw_base.specs.Reading.{Gives};
-ghost use Rattle.mw_check.specs.declared.comparison.Compared.{Compared};
 ghost use Rattle.mw_outside.specs.Views.{IsLater, shelf_shown};
 ghost use Rattle.mw_pal.specs.Fits.{FitsPal};
 ghost use Rattle.mw_pal.specs.Source.{IsMemory};
@@ -156,7 +155,28 @@ fn append_start(
 {
     let pair = complete(alloc, job, counter.boundary, &counter.begin)?;
     append_state(alloc, report, &job.board, &pair.board)?;
-    append_environment(alloc, report, &counter.begin.env)
+    append_environment(alloc, report, &counter.begin.env)?;
+    Ok(())
+}
+
+/// Appends that none of so many steps from the start of a console run differs, what was printed, and that start.
+fn append_same(
+    alloc: Global,
+    report: &mut Vec<u8>,
+    job: &Job,
+    steps: u32,
+    talk: &Talk,
+) -> Result<(), NoMemory>
+    requires { IsCounter (job_of job.now) talk.now.counter }
+    ensures { OnOk result ((start : Start) → IsStartOf (job_of job.now) talk.now.counter start
+        → report.new.items
+        ≡ report.old.items ++ pal_report (job_of job.now) steps talk.now.text start Compared.Same) }
+{
+    report.extend_from_slice(b"; ")?;
+    append_comparison(alloc, report, job, steps, Compared::Same)?;
+    append_printed(alloc, report, &talk.text)?;
+    append_start(alloc, report, job, &talk.counter)?;
+    Ok(())
 }
 
 /// Appends what so many steps from the start of a console run show.
@@ -174,12 +194,7 @@ fn append_pal(
         → report.new.items ≡ report.old.items ++ pal_report (job_of job.now) steps talk.now.text start compared) }
 {
     match compared {
-        Compared::Same => {
-            report.extend_from_slice(b"; ")?;
-            append_comparison(alloc, report, job, steps, compared)?;
-            append_printed(alloc, report, &talk.text)?;
-            append_start(alloc, report, job, &talk.counter)
-        }
+        Compared::Same => append_same(alloc, report, job, steps, talk),
         Compared::Differs { .. } => append_comparison(alloc, report, job, steps, compared),
     }
 }
