@@ -1,6 +1,7 @@
 -- Fields and flip-flops are found by their names.
 use Rattle.std.proofs.Common.{◌≡◌, ℕ, zero, suc, ◌+◌, ◌<◌, ◌≤◌, List, [], ◌∷◌, ◌++◌, length, map, slice_get, take, drop}
-use Rattle.std.proofs.Common.{Bool, true, false, not, nat_lt, Option, Some, None, Result, Ok, refl, sym, ap, subst, ◌∙◌, codes, arith}
+use Rattle.std.proofs.Common.{Bool, true, false, not, nat_lt, Option, Some, None, Result, Ok, refl, sym, ap, subst, ◌∙◌}
+use Rattle.std.proofs.Common.{codes, arith}
 use Rattle.std.proofs.Common.{append_assoc, length-append}
 use Rattle.std.specs.List.{All, AllByRecursion, list_any}
 use Rattle.std.specs.Str.{bytes_eq}
@@ -114,12 +115,14 @@ first_of_name p earlier i (g ∷ rest) zero f holds at =
     let new = (flipflop_named (depth_of p) earlier g.name here.name).1 in
     let itself : bytes_eq g.name g.name ≡ true = (bytes_eq-Decides g.name g.name).1 refl in
     let sum : 0 + length earlier ≡ length earlier + 0 = omega arith in
-    subst (λ (x : FlipFlop). first_place (λ y. bytes_eq x.name y.name) 0 (earlier ++ g ∷ rest) ≡ Some (length earlier + 0)) one
+    subst (λ (x : FlipFlop).
+    first_place (λ y. bytes_eq x.name y.name) 0 (earlier ++ g ∷ rest) ≡ Some (length earlier + 0)) one
     (first_after (λ y. bytes_eq g.name y.name) 0 earlier g rest new itself ∙ ap (λ (k : ℕ). Some k) sum)
 first_of_name p earlier i (g ∷ rest) (suc n) f holds at =
     let both = flipflops_hold p earlier i g rest holds in
     let others = first_of_name p (earlier ++ g ∷ []) (i + 1) rest n f both.1 at in
-    let count : length (earlier ++ g ∷ []) + n ≡ length earlier + suc n = omega (arith, length-append earlier (g ∷ [])) in
+    let count : length (earlier ++ g ∷ []) + n ≡ length earlier + suc n =
+    omega (arith, length-append earlier (g ∷ [])) in
     subst (λ (fs : List FlipFlop). first_place (λ y. bytes_eq f.name y.name) 0 fs ≡ Some (length earlier + suc n))
     (append_assoc earlier (g ∷ []) rest) (others ∙ ap (λ (k : ℕ). Some k) count)
 
@@ -127,7 +130,8 @@ first_of_name p earlier i (g ∷ rest) (suc n) f holds at =
 has_name_printed : (fields : List NamedField) (flipflops : List FlipFlop) (name : List ℕ) (f : FlipFlop)
     → has_name name (flipflop_printed fields flipflops f) ≡ bytes_eq name f.name
 unfolding has_name
-has_name_printed fields flipflops name f = rw (found (flipflop_keys_printed fields flipflops f) refl (codes "name")) refl
+has_name_printed fields flipflops name f =
+    rw (found (flipflop_keys_printed fields flipflops f) refl (codes "name")) refl
 
 -- a flip-flop is found by its name
 pub flipflop_found : (p : BoardParts) (n : ℕ) → flipflops_from p [] 0 p.flipflop ≡ Ok tt → length p.flipflop ≤ 16

@@ -1,5 +1,6 @@
 -- What the check of a board says of each of its parts.
-use Rattle.std.proofs.Common.{◌≡◌, ℕ, ◌+◌, ◌<◌, ◌≤◌, ◌^◌, List, [], ◌∷◌, ◌++◌, length, Bool, true, false, nat_lt, nat_le}
+use Rattle.std.proofs.Common.{◌≡◌, ℕ, ◌+◌, ◌<◌, ◌≤◌, ◌^◌, List, [], ◌∷◌, ◌++◌, length, Bool, true, false, nat_lt}
+use Rattle.std.proofs.Common.{nat_le}
 use Rattle.std.proofs.Common.{Result, Ok, Err, refl, arith}
 use Rattle.std.specs.List.{All, AllByRecursion}
 use Rattle.std.proofs.lemmas.Bool.Decides.{nat_tests}
@@ -15,17 +16,21 @@ use Rattle.mw_board.specs.declared.point.Point.{Point}
 use Rattle.mw_board.specs.declared.point.Point.TheVariants.{AluSource, AluFunction, AluDestination, AAddress, BAddress}
 use Rattle.mw_board.specs.declared.point.Point.TheVariants.{Sequencer, Branch, TestDisable, Polarity, Ci, Rld, MarLoad}
 use Rattle.mw_board.specs.declared.point.Point.TheVariants.{IrLoad, MemoryWrite, Out, CarryIn, D, Condition, Link}
-use Rattle.mw_board.specs.Check.{Checked, placed, number_16, at_key, at_flipflop, in_list, in_load, each_from, list_check}
+use Rattle.mw_board.specs.Check.{Checked, placed, number_16, at_key, at_flipflop, in_list, in_load, each_from}
+use Rattle.mw_board.specs.Check.{list_check}
 use Rattle.mw_board.specs.Check.{sizes_tests, sizes_check, field_check, fields_check, flipflop_check, flipflops_from}
-use Rattle.mw_board.specs.Check.{flipflops_check, point_check, points_check, lists_tests, lists_check, map_check, check_of}
+use Rattle.mw_board.specs.Check.{flipflops_check, point_check, points_check, lists_tests, lists_check, map_check}
+use Rattle.mw_board.specs.Check.{check_of}
 use Rattle.mw_board.specs.Depth.{depth_of}
 use Rattle.mw_board.specs.Keys.{width_key, microword_key, address_key, fill_key, unset_key, vector_key, stack_key}
-use Rattle.mw_board.specs.Keys.{fields_key, flipflop_key, name_key, control_key, load_key, first_point_key, carry_in_key}
+use Rattle.mw_board.specs.Keys.{fields_key, flipflop_key, name_key, control_key, load_key, first_point_key}
+use Rattle.mw_board.specs.Keys.{carry_in_key}
 use Rattle.mw_board.specs.Keys.{condition_key, ram_link_key, q_link_key, d_key, map_bits_key, map_entries_key}
 use Rattle.mw_board.specs.Points.{all_points, driver_of}
 use Rattle.mw_board.specs.Rules.{Verdict, ask, all_of, width_rule, microword_rule, address_rule, word_rule, vector_rule}
 use Rattle.mw_board.specs.Rules.{stack_rule, fields_rule, name_rule, field_rule, flipflops_rule, flipflop_name_rule}
-use Rattle.mw_board.specs.Rules.{control_rule, driver_rule, DriversKeep, chosen_rule, list_rule, bit_rule, carry_in_rule}
+use Rattle.mw_board.specs.Rules.{control_rule, driver_rule, DriversKeep, chosen_rule, list_rule, bit_rule}
+use Rattle.mw_board.specs.Rules.{carry_in_rule}
 use Rattle.mw_board.specs.Rules.{load_rule, d_source_rule, map_bits_rule, map_entry_rule, map_entries_rule}
 use Rattle.mw_boardfile.specs.declared.sizes.BoardSizes.{BoardSizes}
 use Rattle.mw_boardfile.specs.Kept.{Kept, ListKeeps, SizesKeep, FieldKeeps, FieldsKeep, ListsKeep, MapKeeps}
@@ -155,7 +160,8 @@ fields_hold p e =
     ∷ []) e in
     record {
       few = at_key_holds fields_key (fields_rule (length p.fields)) parts.0;
-      each = each_holds (field_check p.microword) (FieldKeeps p.microword) (field_holds p.microword) 0 p.fields parts.1.0;
+      each = each_holds (field_check p.microword) (FieldKeeps p.microword) (field_holds p.microword) 0 p.fields
+          parts.1.0;
     }
 
 -- a flip-flop after the earlier ones

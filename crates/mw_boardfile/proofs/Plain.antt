@@ -6,8 +6,10 @@ use Rattle.std.specs.List.{AllByRecursion}
 use Rattle.std.specs.Ordering.{match_ordering}
 use Rattle.std.specs.Cmp.Lexicographic.{slice_cmp}
 use Rattle.std.proofs.lemmas.Bool.{and_parts}
-use Rattle.toml.specs.Data.{Data, integer, string, array, table, Items, no_items, item, Members, no_members, member, depth}
-use Rattle.toml.specs.Data.{items_depth, members_depth, has_valid_dates, items_have_valid_dates, members_have_valid_dates}
+use Rattle.toml.specs.Data.{Data, integer, string, array, table, Items, no_items, item, Members, no_members, member}
+use Rattle.toml.specs.Data.{depth}
+use Rattle.toml.specs.Data.{items_depth, members_depth, has_valid_dates, items_have_valid_dates}
+use Rattle.toml.specs.Data.{members_have_valid_dates}
 use Rattle.toml.specs.View.{items_of}
 use Rattle.mw_board.specs.declared.control.Control.{Control}
 use Rattle.mw_board.specs.declared.control.Control.TheVariants.{Field, Fixed}
@@ -17,11 +19,14 @@ use Rattle.mw_board.specs.declared.flipflop.FlipFlop.{FlipFlop}
 use Rattle.mw_board.specs.declared.parts.BoardParts.{BoardParts}
 use Rattle.mw_board.specs.declared.point.Point.{Point}
 use Rattle.mw_board.specs.Points.{all_points, driver_of}
-use Rattle.mw_boardfile.specs.Printed.{integer_of, text_of, unless_zero, list_of, unless_empty, field_printed, fields_printed}
+use Rattle.mw_boardfile.specs.Printed.{integer_of, text_of, unless_zero, list_of, unless_empty, field_printed}
+use Rattle.mw_boardfile.specs.Printed.{fields_printed}
 use Rattle.mw_boardfile.specs.Printed.{field_name, usual_constant, control_printed, driver_printed, point_printed}
 use Rattle.mw_boardfile.specs.Printed.{points_printed, list_unless_empty, map_printed, bit_printed, load_printed}
-use Rattle.mw_boardfile.specs.Printed.{load_text, flipflop_keys_printed, flipflop_printed, flipflops_printed, source_printed}
-use Rattle.mw_boardfile.specs.Printed.{is_alone, list_unless_zero, is_zero_bit, is_zero_source, lists_printed, document_printed}
+use Rattle.mw_boardfile.specs.Printed.{load_text, flipflop_keys_printed, flipflop_printed, flipflops_printed}
+use Rattle.mw_boardfile.specs.Printed.{source_printed}
+use Rattle.mw_boardfile.specs.Printed.{is_alone, list_unless_zero, is_zero_bit, is_zero_source, lists_printed}
+use Rattle.mw_boardfile.specs.Printed.{document_printed}
 use Rattle.mw_boardfile.specs.Tables.{put, put_given, Entry, table_of}
 
 -- a value of at most so many levels, without dates
@@ -44,7 +49,8 @@ text_plain levels text = record { shallow = omega arith; dates = refl }
 integer_plain : (levels n : ℕ) → IsPlain levels (integer_of n)
 integer_plain levels n = record { shallow = omega arith; dates = refl }
 
-unless_plain : (levels : ℕ) (b : Bool) (value : Data) → IsPlain levels value → MayBePlain levels (cond b None (Some value))
+unless_plain : (levels : ℕ) (b : Bool) (value : Data) → IsPlain levels value
+    → MayBePlain levels (cond b None (Some value))
 unless_plain levels true value is = tt
 unless_plain levels false value is = is
 
@@ -101,8 +107,8 @@ plain_at levels Greater a b c x y z = z
 none_plain : (levels : ℕ) → ArePlain levels no_members
 none_plain levels = record { shallow = omega arith; dates = refl }
 
-put_plain : (levels : ℕ) (key : List ℕ) (value : Data) (members : Members) → IsPlain levels value → ArePlain levels members
-    → ArePlain levels (put key value members)
+put_plain : (levels : ℕ) (key : List ℕ) (value : Data) (members : Members) → IsPlain levels value
+    → ArePlain levels members → ArePlain levels (put key value members)
 put_plain levels key value no_members is are = member_plain levels key value no_members is are
 put_plain levels key value (member other old rest) is are =
     let both = parts_plain levels other old rest are in
@@ -122,7 +128,8 @@ unfolding table_of
 table_plain levels [] all = none_plain levels
 table_plain levels (e ∷ rest) all = given_plain levels e.0 e.1 (table_of rest) all.0 (table_plain levels rest all.1)
 
-under_plain : (levels : ℕ) (members : Members) → ArePlain levels members → MayBePlain (suc levels) (unless_empty members)
+under_plain : (levels : ℕ) (members : Members) → ArePlain levels members
+    → MayBePlain (suc levels) (unless_empty members)
 under_plain levels no_members are = tt
 under_plain levels (member key value rest) are =
     let shallow : members_depth (member key value rest) ≤ levels = are.shallow in
@@ -137,7 +144,8 @@ fields_plain (f ∷ rest) =
     (list_plain 1 (integer_of f.field.low ∷ integer_of f.field.width ∷ [])
     (integer_plain 1 f.field.low, (integer_plain 1 f.field.width, tt))) (fields_plain rest)
 
-control_plain : (levels : ℕ) (fields : List NamedField) (control : Control) → IsPlain levels (control_printed fields control)
+control_plain : (levels : ℕ) (fields : List NamedField) (control : Control)
+    → IsPlain levels (control_printed fields control)
 control_plain levels fields (Field n) = text_plain levels (field_name (slice_get fields n))
 control_plain levels fields (Fixed value) = integer_plain levels value
 
@@ -161,7 +169,8 @@ flipflop_plain fields flipflops f =
       (
         control_plain 1 fields f.control,
         (
-          list_plain 0 _ (each_plain 0 (load_printed flipflops) (λ load. text_plain 0 (load_text flipflops load)) f.load),
+          list_plain 0 _
+              (each_plain 0 (load_printed flipflops) (λ load. text_plain 0 (load_text flipflops load)) f.load),
           tt,
         ),
       ),
@@ -201,7 +210,8 @@ document_plain p =
     ) in
     let control = table_plain 2 (points_printed p.fields p.control) (points_plain p.fields p.control all_points) in
     let flipflops =
-    list_unless_plain 2 _ (each_plain 2 (flipflop_printed p.fields p.flipflop) (flipflop_plain p.fields p.flipflop) p.flipflop) in
+    list_unless_plain 2 _
+    (each_plain 2 (flipflop_printed p.fields p.flipflop) (flipflop_plain p.fields p.flipflop) p.flipflop) in
     table_plain 3 (document_printed p) (
       integer_plain 3 2,
       (

@@ -1,6 +1,7 @@
 -- Loops over what is printed, an item at a time.
-use Rattle.std.proofs.Common.{◌≡◌, ℕ, ◌+◌, ◌<◌, List, [], ◌∷◌, ◌++◌, map, length, get_or, take, Some, refl, sym, ap, ap₂, ◌∙◌}
-use Rattle.std.proofs.Common.{String, Global, ⊥, absurd}
+use Rattle.std.proofs.Common.{◌≡◌, ℕ, ◌+◌, ◌<◌, List, [], ◌∷◌, ◌++◌, map, length, get_or, take, Some, refl, sym, ap}
+use Rattle.std.proofs.Common.{ap₂, ◌∙◌}
+use Rattle.std.proofs.Common.{String, Global}
 use Rattle.std.proofs.lemmas.List.{map-append, take_more}
 use Rattle.toml.specs.Data.{table}
 use Rattle.toml.specs.View.{members_view}

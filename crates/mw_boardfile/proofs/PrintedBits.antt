@@ -8,7 +8,7 @@ use Rattle.mw_board.specs.declared.bit.Bit.TheVariants as bits
 use Rattle.mw_board.specs.declared.flipflop.FlipFlop.{FlipFlop}
 use Rattle.mw_boardfile.specs.Entries.{bit_spelled, flip_number}
 use Rattle.mw_boardfile.specs.Printed.{bit_text, flipflop_name}
-use Rattle.mw_boardfile.proofs.Spelled.{hex_spelled}
+use Rattle.mw_boardfile.proofs.Spelled.{decimal_spelled}
 
 -- the bits of the instruction register have numbers below 32, and each flip-flop is found by its name
 abbrev pub IsFound : List Data → List FlipFlop → Bit → Type 0
@@ -23,7 +23,7 @@ unfolding bit_spelled
 bit_read tables flipflops (bits.Ir n) few =
     let small : n < 2 ^ 128 = omega (arith, few) in
     let part : nat_lt n 256 ≡ true = grind (arith, nat_tests, few) in
-    rw (hex_spelled n small, part) refl
+    rw (decimal_spelled n small, part) refl
 bit_read tables flipflops (bits.Flip n) is = rw is refl
 bit_read tables flipflops bits.Zero is = refl
 bit_read tables flipflops bits.One is = refl

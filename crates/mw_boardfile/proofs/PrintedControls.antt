@@ -1,5 +1,6 @@
 -- All control points that are printed are read.
-use Rattle.std.proofs.Common.{◌≡◌, ℕ, ◌≤◌, List, [], ◌∷◌, map, length, true, Option, Some, None, Result, Ok, refl, sym, ap, ◌∙◌, codes}
+use Rattle.std.proofs.Common.{◌≡◌, ℕ, ◌≤◌, List, [], ◌∷◌, map, length, true, Option, Some, None, Result, Ok, refl, sym}
+use Rattle.std.proofs.Common.{ap, ◌∙◌, codes}
 use Rattle.toml.specs.Data.{Data, Members, get_member}
 use Rattle.mw_board.specs.Order.{AreInOrder}
 use Rattle.mw_board.specs.declared.control.Control.{Control}
@@ -42,7 +43,8 @@ points_in_turn fields points control before [] order few are keep usual there = 
 points_in_turn fields points control before (point ∷ rest) order few are keep usual there =
     let driver = driver_of points point in
     rw (there point, point_read fields before point driver order few (are point) (keep point) usual.0)
-    (points_in_turn fields points control (with_driver before point driver) rest order few are keep (usual.1 driver) there)
+    (points_in_turn fields points control (with_driver before point driver) rest order few are keep (usual.1 driver)
+    there)
 
 usual_points : AreUsual default_points all_points
 usual_points = (

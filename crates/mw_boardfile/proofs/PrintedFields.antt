@@ -1,5 +1,6 @@
 -- The fields that are printed are read.
-use Rattle.std.proofs.Common.{◌≡◌, ℕ, suc, ◌+◌, List, [], ◌∷◌, length, Option, Some, None, Result, Ok, refl, sym, ap, ◌∙◌, codes, add-one}
+use Rattle.std.proofs.Common.{◌≡◌, ℕ, suc, ◌+◌, List, [], ◌∷◌, length, Option, Some, None, Result, Ok, refl, sym, ap}
+use Rattle.std.proofs.Common.{◌∙◌, codes, add-one}
 use Rattle.std.specs.Prelude.{All}
 use Rattle.std.specs.List.Sorted.{IsStrictlySortedBy}
 use Rattle.std.proofs.lemmas.List.Elements.{All-head, All-tail}
@@ -54,4 +55,5 @@ pub fields_read : (microword : ℕ) (fields : List NamedField) (document : Membe
     → fields_of microword document ≡ Ok fields
 unfolding fields_of
 fields_read microword fields document order keep there =
-    rw (there, table_read (fields_printed fields), are_in_turn fields order, counted fields, keep.few) (each_read microword fields keep.each)
+    rw (there, table_read (fields_printed fields), are_in_turn fields order, counted fields, keep.few)
+    (each_read microword fields keep.each)

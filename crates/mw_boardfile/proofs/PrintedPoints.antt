@@ -1,6 +1,8 @@
 -- The control points that are printed are read.
-use Rattle.std.proofs.Common.{◌≡◌, ℕ, zero, suc, ◌+◌, ◌-◌, ◌^◌, ◌<◌, ◌≤◌, min, nat_lt, ◌==◌, cond, List, [], ◌∷◌, map, length, slice_get}
-use Rattle.std.proofs.Common.{pos, Bool, true, false, Option, Some, None, Result, Ok, refl, sym, ap, subst, ◌∙◌, codes, arith, inl, inr}
+use Rattle.std.proofs.Common.{◌≡◌, ℕ, zero, suc, ◌+◌, ◌-◌, ◌^◌, ◌<◌, ◌≤◌, min, nat_lt, ◌==◌, cond, List, [], ◌∷◌, map}
+use Rattle.std.proofs.Common.{length, slice_get}
+use Rattle.std.proofs.Common.{pos, Bool, true, false, Option, Some, None, Result, Ok, refl, sym, ap, subst, ◌∙◌, codes}
+use Rattle.std.proofs.Common.{arith, inl, inr}
 use Rattle.std.proofs.Common.{Ordering, Less, Equal, nat_cmp}
 use Rattle.std.specs.Cmp.{tied_itself}
 use Rattle.std.specs.Cmp.Lexicographic.{slice_cmp}
@@ -52,7 +54,8 @@ unfolding IsStrictlySortedBy first_place
 first_named [] n k f order at = cc
 first_named (g ∷ rest) zero k f order at =
     let one : g ≡ f = cc in
-    let same : bytes_eq f.name g.name ≡ true = (bytes_eq-Decides f.name g.name).1 (ap (λ (x : NamedField). x.name) (sym one)) in
+    let same : bytes_eq f.name g.name ≡ true =
+    (bytes_eq-Decides f.name g.name).1 (ap (λ (x : NamedField). x.name) (sym one)) in
     let sum : k + 0 ≡ k = omega arith in
     rw (same, sum) refl
 first_named (g ∷ rest) (suc n) k f order at =
@@ -139,8 +142,10 @@ pub point_read : (fields : List NamedField) (before : Points) (point : Point) (d
     → given_point fields before point (driver_printed fields point driver) ≡ Ok (with_driver before point driver)
 point_read fields before point (Field n) order few is rule usual =
     rw (driver_read fields point (Field n) order few is rule) refl
-point_read fields before point (Fixed value) order few is rule usual = elim (cases_Bool (value == usual_constant point)) [
-  | inl same ↦ let v : value ≡ usual_constant point = eqb-true value (usual_constant point) same in
-      rw same (ap (λ (p : Points). Ok p) (sym (same_driver before point (Fixed value) (usual ∙ ap (λ (n : ℕ). Fixed n) (sym v)))))
-  | inr apart ↦ rw (apart, driver_read fields point (Fixed value) order few is rule) refl
-]
+point_read fields before point (Fixed value) order few is rule usual =
+    elim (cases_Bool (value == usual_constant point)) [
+      | inl same ↦ let v : value ≡ usual_constant point = eqb-true value (usual_constant point) same in
+          let kept = same_driver before point (Fixed value) (usual ∙ ap (λ (n : ℕ). Fixed n) (sym v)) in
+          rw same (ap (λ (p : Points). Ok p) (sym kept))
+      | inr apart ↦ rw (apart, driver_read fields point (Fixed value) order few is rule) refl
+    ]

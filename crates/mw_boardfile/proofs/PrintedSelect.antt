@@ -1,6 +1,7 @@
 -- The lists that are printed, and the flip-flops with theirs, are read.
 use Rattle.std.proofs.Common.{◌≡◌, ℕ, ◌+◌, ◌^◌, ◌<◌, ◌≤◌, List, [], ◌∷◌, ◌++◌, map, length, Bool, true, false, ◌&&◌}
-use Rattle.std.proofs.Common.{Option, Some, None, Result, Ok, refl, sym, ap, ap₂, ◌∙◌, codes, arith, inl, inr, append_assoc, append-nil}
+use Rattle.std.proofs.Common.{Option, Some, None, Result, Ok, refl, sym, ap, ap₂, ◌∙◌, codes, arith, inl, inr}
+use Rattle.std.proofs.Common.{append_assoc, append-nil}
 use Rattle.std.specs.List.{All, AllByRecursion}
 use Rattle.std.proofs.lemmas.Bool.{cases_Bool, and_parts}
 use Rattle.std.proofs.lemmas.Bool.Decides.{nat_tests}
@@ -30,7 +31,8 @@ use Rattle.mw_boardfile.specs.FlipFlops.{table_kind, tables_in, name_in, flip_co
 use Rattle.mw_boardfile.specs.FlipFlops.{flipflop_of, flipflop_at, each_flipflop}
 use Rattle.mw_boardfile.specs.Kept.{Kept, ListKeeps, ListsKeep}
 use Rattle.mw_boardfile.specs.Lists.{none_refused, chosen_list}
-use Rattle.mw_boardfile.specs.Printed.{bit_printed, load_printed, source_printed, control_printed, flipflop_keys_printed}
+use Rattle.mw_boardfile.specs.Printed.{bit_printed, load_printed, source_printed, control_printed}
+use Rattle.mw_boardfile.specs.Printed.{flipflop_keys_printed}
 use Rattle.mw_boardfile.specs.Printed.{flipflop_printed, flipflops_printed, is_alone, list_unless_zero, is_zero_bit}
 use Rattle.mw_boardfile.specs.Printed.{is_zero_from, has_no_mask, is_zero_source, lists_printed, unless_empty, list_of}
 use Rattle.mw_boardfile.specs.Printed.{list_unless_empty}
@@ -82,7 +84,8 @@ list_or_zero_read {A} reader printed is_zero zero rule fields control xs zeros i
       | inl alone ↦ let one : xs ≡ zero ∷ [] = alone_is is_zero zero zeros xs alone in
           let count : length xs ≡ 1 = ap length one in
           let chosen : chosen_rule control 1 ≡ Ok tt = ap (chosen_rule control) (sym count) ∙ keep.whole.chosen in
-          let right : list_rule fields control 1 ≡ Ok tt = ap (list_rule fields control) (sym count) ∙ keep.whole.right in
+          let right : list_rule fields control 1 ≡ Ok tt =
+          ap (list_rule fields control) (sym count) ∙ keep.whole.right in
           rw (alone, chosen, right) (ap (λ (ys : List A). Ok ys) (sym one))
       | inr other ↦ rw (other, list_read (map printed xs)) (printed_read reader printed rule fields control xs is keep)
     ]
@@ -163,7 +166,8 @@ unfolding flipflop_at flipflop_of name_in flip_control_in load_values_in loads_i
 flipflop_read p tables earlier n f are narrow deep holds =
     let at = found (flipflop_keys_printed p.fields p.flipflop f) refl in
     let entries = length f.load in
-    let printable = chooser_printable p.fields f.control entries holds.control holds.load.whole.chosen holds.load.whole.right in
+    let whole = holds.load.whole in
+    let printable = chooser_printable p.fields f.control entries holds.control whole.chosen whole.right in
     rw (
       at (codes "name"),
       at (codes "control"),

@@ -4,7 +4,8 @@ use Rattle.toml.specs.Data.{Data, Members, get_member}
 use Rattle.mw_board.specs.declared.parts.BoardParts.{BoardParts}
 use Rattle.mw_board.specs.Rules.{width_rule, microword_rule, address_rule, word_rule, vector_rule, stack_rule}
 use Rattle.mw_boardfile.specs.Board.{sizes_of}
-use Rattle.mw_boardfile.specs.Sizes.{version_in, width_in, microword_in, address_in, word_in, fill_in, unset_in, vector_in}
+use Rattle.mw_boardfile.specs.Sizes.{version_in, width_in, microword_in, address_in, word_in, fill_in, unset_in}
+use Rattle.mw_boardfile.specs.Sizes.{vector_in}
 use Rattle.mw_boardfile.specs.Sizes.{stack_in}
 use Rattle.mw_boardfile.specs.Values.{natural, number_text}
 use Rattle.mw_boardfile.specs.Printed.{integer_of, text_of, unless_zero}

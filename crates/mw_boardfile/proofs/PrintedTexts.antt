@@ -1,5 +1,6 @@
 -- The bits, the loads and the sources of D that are printed are read.
-use Rattle.std.proofs.Common.{◌≡◌, ℕ, ◌+◌, ◌^◌, ◌<◌, ◌≤◌, ◌==◌, ◌++◌, nat_lt, List, [], ◌∷◌, length, slice_get, take, drop}
+use Rattle.std.proofs.Common.{◌≡◌, ℕ, ◌+◌, ◌^◌, ◌<◌, ◌≤◌, ◌==◌, ◌++◌, nat_lt, List, [], ◌∷◌, length, slice_get, take}
+use Rattle.std.proofs.Common.{drop}
 use Rattle.std.proofs.Common.{Bool, true, false, Option, Some, None, Result, Ok, refl, sym, ap, ◌∙◌, suc, arith}
 use Rattle.std.specs.List.{list_any}
 use Rattle.std.proofs.lemmas.Bool.Decides.{nat_tests}
@@ -21,7 +22,8 @@ use Rattle.mw_board.specs.Rules.{bit_rule, carry_in_rule, load_rule, source_rule
 use Rattle.mw_boardfile.specs.Entries.{bit_in, carry_in_in, named_load, load_spelled, load_in, source_spelled, masked}
 use Rattle.mw_boardfile.specs.Entries.{d_source_in}
 use Rattle.mw_boardfile.specs.Lists.{first_place}
-use Rattle.mw_boardfile.specs.Printed.{bit_text, bit_printed, load_text, load_printed, from_text, masked_text, source_printed}
+use Rattle.mw_boardfile.specs.Printed.{bit_text, bit_printed, load_text, load_printed, from_text, masked_text}
+use Rattle.mw_boardfile.specs.Printed.{source_printed}
 use Rattle.mw_boardfile.proofs.Names.{first_none, first_after, holds_at, is_named, AreFound}
 use Rattle.mw_boardfile.proofs.Parts.{all_hold, asked_below}
 use Rattle.mw_boardfile.proofs.PrintedBits.{IsFound, bit_read}

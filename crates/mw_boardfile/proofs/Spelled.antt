@@ -1,5 +1,6 @@
 -- Printed numbers are spelled.
-use Rattle.std.proofs.Common.{◌≡◌, ℕ, suc, ◌+◌, ◌*◌, ◌^◌, ◌<◌, ◌≤◌, ◌==◌, nat_lt, List, [], ◌∷◌, map, Bool, true, false, Result, Ok, refl, sym, ap, ◌∙◌}
+use Rattle.std.proofs.Common.{◌≡◌, ℕ, suc, ◌+◌, ◌*◌, ◌^◌, ◌<◌, ◌≤◌, ◌==◌, nat_lt, List, [], ◌∷◌, map, Bool, true, false}
+use Rattle.std.proofs.Common.{Result, Ok, refl, sym, ap, ◌∙◌}
 use Rattle.std.proofs.Common.{zero, arith, length, get_or, nat_le, subst, cond}
 use Rattle.std.specs.Str.{IsAscii, IsUtf8}
 use Rattle.std.proofs.lemmas.Bool.{and_parts, or_from}
@@ -11,41 +12,45 @@ use Rattle.std.proofs.lemmas.Bool.Decides.{nat_tests}
 use Rattle.std.proofs.lemmas.Int.Digits.{all_below_base_digits_of, number_digits_of, first_digits_of}
 use Rattle.mw_base.specs.declared.cause.Cause.{Cause}
 use Rattle.mw_base.specs.Literals.{digit_of, all_digits, value_of, digits_number, number_spelled}
-use Rattle.mw_base.specs.Numbers.{glyph, numeral, hex}
+use Rattle.mw_base.specs.Numbers.{glyph, numeral, hex, decimal}
 
 digit_glyph : (d : ℕ) → d < 16 → digit_of (glyph d) ≡ d
 digit_glyph d h = grind (arith, nat_tests, h)
 
-all_spelled : (ds : List ℕ) → AllBelowBase 16 ds → all_digits 16 (map glyph ds) ≡ true
-all_spelled [] below = refl
-all_spelled (d ∷ ds) below =
-    let test : nat_lt d 16 ≡ true = grind (arith, nat_tests, below.0) in
-    rw (digit_glyph d below.0, test, all_spelled ds below.1) refl
+all_spelled : (base : ℕ) (ds : List ℕ) → base ≤ 16 → AllBelowBase base ds → all_digits base (map glyph ds) ≡ true
+all_spelled base [] few below = refl
+all_spelled base (d ∷ ds) few below =
+    let h : d < base = below.0 in
+    let small : d < 16 = omega (arith, h, few) in
+    let test : nat_lt d base ≡ true = grind (arith, nat_tests, h) in
+    rw (digit_glyph d small, test, all_spelled base ds few below.1) refl
 
-value_spelled : (n : ℕ) (ds : List ℕ) → AllBelowBase 16 ds
-    → fold (λ m c. m * 16 + digit_of c) n (map glyph ds) ≡ number_from_digits_after 16 n ds
-value_spelled n [] below = refl
-value_spelled n (d ∷ ds) below =
-    ap (λ (digit : ℕ). fold (λ m c. m * 16 + digit_of c) (n * 16 + digit) (map glyph ds)) (digit_glyph d below.0)
-    ∙ value_spelled (n * 16 + d) ds below.1
+value_spelled : (base n : ℕ) (ds : List ℕ) → base ≤ 16 → AllBelowBase base ds
+    → fold (λ m c. m * base + digit_of c) n (map glyph ds) ≡ number_from_digits_after base n ds
+value_spelled base n [] few below = refl
+value_spelled base n (d ∷ ds) few below =
+    let h : d < base = below.0 in
+    let small : d < 16 = omega (arith, h, few) in
+    ap (λ (digit : ℕ). fold (λ m c. m * base + digit_of c) (n * base + digit) (map glyph ds)) (digit_glyph d small)
+    ∙ value_spelled base (n * base + d) ds few below.1
 
-digits_spelled : (n : ℕ) (ds : List ℕ) → n < 2 ^ 128 → 0 < get_or ds 0 0 → AllBelowBase 16 ds
-    → number_from_digits 16 ds ≡ n → digits_number 16 (map glyph ds) ≡ Ok n
+digits_spelled : (base n : ℕ) (ds : List ℕ) → base ≤ 16 → n < 2 ^ 128 → 0 < get_or ds 0 0 → AllBelowBase base ds
+    → number_from_digits base ds ≡ n → digits_number base (map glyph ds) ≡ Ok n
 unfolding digits_number
-digits_spelled n [] small some below is = absurd (omega (arith, some))
-digits_spelled n (d ∷ ds) small some below is =
-    let value : value_of 16 (map glyph (d ∷ ds)) ≡ n = value_spelled 0 (d ∷ ds) below ∙ is in
+digits_spelled base n [] few small some below is = absurd (omega (arith, some))
+digits_spelled base n (d ∷ ds) few small some below is =
+    let value : value_of base (map glyph (d ∷ ds)) ≡ n = value_spelled base 0 (d ∷ ds) few below ∙ is in
     let test : nat_lt n (2 ^ 128) ≡ true = grind (arith, nat_tests, small) in
-    rw (all_spelled (d ∷ ds) below, value, test) refl
+    rw (all_spelled base (d ∷ ds) few below, value, test) refl
 
 -- a number above 0 isn't 0
 pub above_zero : (m : ℕ) → (suc m == 0) ≡ false
 above_zero m = grind (arith, nat_tests)
 
 -- the numeral of one
-numeral_above : (m : ℕ) → numeral 16 (suc m) ≡ map glyph (digits_of 16 (suc m))
+numeral_above : (base m : ℕ) → numeral base (suc m) ≡ map glyph (digits_of base (suc m))
 unfolding numeral
-numeral_above m = ap (λ (b : Bool). cond b (48 ∷ []) (map glyph (digits_of 16 (suc m)))) (above_zero m)
+numeral_above base m = ap (λ (b : Bool). cond b (48 ∷ []) (map glyph (digits_of base (suc m)))) (above_zero m)
 
 zero_spelled : number_spelled (hex 0) ≡ Ok 0
 unfolding number_spelled numeral digits_number
@@ -56,9 +61,32 @@ pub hex_spelled : (n : ℕ) → n < 2 ^ 128 → number_spelled (hex n) ≡ Ok n
 unfolding number_spelled
 hex_spelled zero small = zero_spelled
 hex_spelled (suc m) small =
-    ap (digits_number 16) (numeral_above m)
-    ∙ digits_spelled (suc m) (digits_of 16 (suc m)) small (first_digits_of 16 (suc m) (omega arith) (omega arith))
+    ap (digits_number 16) (numeral_above 16 m)
+    ∙ digits_spelled 16 (suc m) (digits_of 16 (suc m)) (omega arith) small
+    (first_digits_of 16 (suc m) (omega arith) (omega arith))
     (all_below_base_digits_of 16 (suc m) (omega arith)) (number_digits_of 16 (suc m) (omega arith))
+
+decimal_zero : number_spelled (decimal 0) ≡ Ok 0
+unfolding number_spelled numeral digits_number
+decimal_zero = refl
+
+numeral_spelled : (n : ℕ) (ds : List ℕ) → n < 2 ^ 128 → 0 < get_or ds 0 0 → AllBelowBase 10 ds
+    → number_from_digits 10 ds ≡ n → number_spelled (map glyph ds) ≡ Ok n
+unfolding number_spelled
+numeral_spelled n [] small some below is = absurd (omega (arith, some))
+numeral_spelled n (d ∷ []) small some below is = digits_spelled 10 n (d ∷ []) (omega arith) small some below is
+numeral_spelled n (d ∷ e ∷ rest) small some below is =
+    let first : 0 < d = some in
+    let other : (glyph d == 48) ≡ false = grind (arith, nat_tests, first) in
+    rw other (digits_spelled 10 n (d ∷ e ∷ rest) (omega arith) small some below is)
+
+-- a number of 128 bits, in decimal
+pub decimal_spelled : (n : ℕ) → n < 2 ^ 128 → number_spelled (decimal n) ≡ Ok n
+decimal_spelled zero small = decimal_zero
+decimal_spelled (suc m) small =
+    ap number_spelled (numeral_above 10 m)
+    ∙ numeral_spelled (suc m) (digits_of 10 (suc m)) small (first_digits_of 10 (suc m) (omega arith) (omega arith))
+    (all_below_base_digits_of 10 (suc m) (omega arith)) (number_digits_of 10 (suc m) (omega arith))
 
 -- ---- texts
 
@@ -66,11 +94,13 @@ ascii_more : (c : ℕ) (rest : List ℕ) → c < 128 → IsAscii rest → IsAsci
 ascii_more c rest here others zero = here
 ascii_more c rest here others (suc i) = others i
 
-ascii_digits : (ds : List ℕ) → AllBelowBase 16 ds → IsAscii (map glyph ds)
-ascii_digits [] below i = omega arith
-ascii_digits (d ∷ ds) below i =
-    let here : glyph d < 128 = grind (arith, nat_tests, below.0) in
-    ascii_more (glyph d) (map glyph ds) here (ascii_digits ds below.1) i
+ascii_digits : (base : ℕ) (ds : List ℕ) → base ≤ 16 → AllBelowBase base ds → IsAscii (map glyph ds)
+ascii_digits base [] few below i = omega arith
+ascii_digits base (d ∷ ds) few below i =
+    let h : d < base = below.0 in
+    let small : d < 16 = omega (arith, h, few) in
+    let here : glyph d < 128 = grind (arith, nat_tests, small) in
+    ascii_more (glyph d) (map glyph ds) here (ascii_digits base ds few below.1) i
 
 after_prefix : (rest : List ℕ) → IsAscii rest → IsAscii (48 ∷ 120 ∷ rest)
 after_prefix rest others =
@@ -85,10 +115,21 @@ zero_text =
 pub hex_text : (n : ℕ) → IsUtf8 (hex n)
 hex_text zero = zero_text
 hex_text (suc m) =
-    subst IsUtf8 (ap (λ (digits : List ℕ). 48 ∷ 120 ∷ digits) (sym (numeral_above m)))
+    subst IsUtf8 (ap (λ (digits : List ℕ). 48 ∷ 120 ∷ digits) (sym (numeral_above 16 m)))
     (IsUtf8-from_ascii (48 ∷ 120 ∷ map glyph (digits_of 16 (suc m)))
     (after_prefix (map glyph (digits_of 16 (suc m)))
-    (ascii_digits (digits_of 16 (suc m)) (all_below_base_digits_of 16 (suc m) (omega arith)))))
+    (ascii_digits 16 (digits_of 16 (suc m)) (omega arith) (all_below_base_digits_of 16 (suc m) (omega arith)))))
+
+decimal_zero_text : IsUtf8 (decimal 0)
+unfolding numeral
+decimal_zero_text = IsUtf8-from_ascii (48 ∷ []) (ascii_more 48 [] (omega arith) (λ i. omega arith))
+
+pub decimal_text : (n : ℕ) → IsUtf8 (decimal n)
+decimal_text zero = decimal_zero_text
+decimal_text (suc m) =
+    subst IsUtf8 (sym (numeral_above 10 m))
+    (IsUtf8-from_ascii (map glyph (digits_of 10 (suc m)))
+    (ascii_digits 10 (digits_of 10 (suc m)) (omega arith) (all_below_base_digits_of 10 (suc m) (omega arith))))
 
 word_ascii : (c : ℕ) → is_word_byte c ≡ true → c < 128
 word_ascii c is = grind (arith, nat_tests, is)

@@ -1,5 +1,6 @@
 -- What a printed table holds.
-use Rattle.std.proofs.Common.{◌≡◌, ◌≢◌, ℕ, ◌≤◌, ◌||◌, List, [], ◌∷◌, Bool, true, false, not, ◌&&◌, Option, Some, None, refl, sym, ap, ◌∙◌}
+use Rattle.std.proofs.Common.{◌≡◌, ◌≢◌, ℕ, ◌≤◌, ◌||◌, List, [], ◌∷◌, Bool, true, false, not, ◌&&◌, Option, Some, None}
+use Rattle.std.proofs.Common.{refl, sym, ap, ◌∙◌}
 use Rattle.std.proofs.Common.{Ordering, Less, Equal, Greater, is_eq, nat_cmp, inl, inr, arith, max, cond}
 use Rattle.std.specs.List.{list_any, list_all}
 use Rattle.std.specs.Ordering.{match_ordering}
@@ -64,7 +65,8 @@ get_other j k v (member l d ms) other =
 absent : (k : List ℕ) (entries : List Entry) → list_any (λ (e : Entry). same_key k e.0) entries ≡ false
     → find k entries ≡ None
 absent k [] none = refl
-absent k (e ∷ rest) none = by_key (same_key k e.0) (list_any (λ (f : Entry). same_key k f.0) rest) e.1 none (absent k rest)
+absent k (e ∷ rest) none =
+    by_key (same_key k e.0) (list_any (λ (f : Entry). same_key k f.0) rest) e.1 none (absent k rest)
   where
     by_key : (b c : Bool) (o : Option Data) {r : Option Data} → (b || c) ≡ false → (c ≡ false → r ≡ None)
         → cond b o r ≡ None

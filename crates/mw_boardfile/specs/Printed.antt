@@ -3,7 +3,7 @@ use Rattle.std.specs.Prelude.{ℕ, pos, List, map, [], ◌∷◌, ◌++◌, code
 use Rattle.std.specs.Prelude.{Some, None, if◌then◌else◌, ◌==◌}
 use Rattle.toml.specs.Data.{Data, integer, string, array, table, Members, no_members, member}
 use Rattle.toml.specs.View.{items_of}
-use Rattle.mw_base.specs.Numbers.{hex}
+use Rattle.mw_base.specs.Numbers.{hex, decimal}
 use Rattle.mw_board.specs.declared.bit.Bit.{Bit}
 use Rattle.mw_board.specs.declared.bit.Bit.TheVariants as bits
 use Rattle.mw_board.specs.declared.bit.DFrom.{DFrom}
@@ -134,7 +134,7 @@ bit_text flipflops bits.QLow = codes "q_low"
 bit_text flipflops bits.QHigh = codes "q_high"
 bit_text flipflops bits.Line = codes "line"
 bit_text flipflops bits.Full = codes "full"
-bit_text flipflops (bits.Ir n) = codes "ir:" ++ hex n
+bit_text flipflops (bits.Ir n) = codes "ir:" ++ decimal n
 bit_text flipflops (bits.Flip n) = codes "ff:" ++ flipflop_name (slice_get flipflops n)
 
 -- a bit

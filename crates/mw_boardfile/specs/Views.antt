@@ -40,9 +40,10 @@ abbrev pub Prints : {T : Type 0} → (Bor T → Result Value NoMemory → Type 0
 Prints {T} returns printed =
     (x : Bor T) (result : Result Value NoMemory) → returns x result → IfOk result (λ value. view value ≡ printed x.now)
 
--- what is printed can be spelled: each field, and each flip-flop, has a name
+-- each field has a name
 abbrev pub FieldsAreNamed : List NamedField → Type 0
 FieldsAreNamed fields = All (λ f. is_name f.name ≡ true) fields
 
+-- each flip-flop has a name
 abbrev pub FlipFlopsAreNamed : List FlipFlop → Type 0
 FlipFlopsAreNamed flipflops = All (λ f. is_name f.name ≡ true) flipflops

@@ -35,7 +35,9 @@ pub fn print_board(alloc: Global, board: &Board) -> Result<Vec<u8>, NoMemory>
     drop(document);
     match printed {
         Ok(text) => Ok(text.into_bytes()),
-        Err(ser::Error::DateInvalid) => unreachable!(),
-        Err(ser::Error::OutOfMemory) => Err(NoMemory),
+        Err(error) => match error {
+            ser::Error::DateInvalid => unreachable!(),
+            ser::Error::OutOfMemory => Err(NoMemory),
+        },
     }
 }

@@ -68,7 +68,8 @@ pub(crate) fn points(
     points: &[Point],
 ) -> Result<Table, NoMemory>
     requires { FieldsAreNamed fields.now }
-    ensures { IfOk result (λ table. table_view table ≡ table_of (map (point_printed fields.now drivers.now) points.now)) }
+    ensures { IfOk result (λ table. table_view table
+        ≡ table_of (map (point_printed fields.now drivers.now) points.now)) }
 {
     let mut table = Table::new(alloc);
     let mut n = points.len();

@@ -6,7 +6,7 @@ ghost use Rattle.mw_boardfile.specs.Printed.{from_text, masked_text, source_prin
 ghost use Rattle.mw_boardfile.specs.Views.{FieldsAreNamed, FlipFlopsAreNamed};
 
 use crate::print::names::{field_name, flipflop_name};
-use crate::print::values::digits;
+use crate::print::values::{decimal_digits, hex_digits};
 use mw_base::NoMemory;
 use mw_board::{Bit, DFrom, DSource, FlipFlop, Load, NamedField};
 use std::alloc::Global;
@@ -46,7 +46,7 @@ fn bit_text(alloc: Global, flipflops: &[FlipFlop], bit: Bit) -> Result<String, N
         Bit::QHigh => word(alloc, "q_high"),
         Bit::Line => word(alloc, "line"),
         Bit::Full => word(alloc, "full"),
-        Bit::Ir(n) => joined(alloc, "ir:", digits(alloc, u128::from(n))?.as_str()),
+        Bit::Ir(n) => joined(alloc, "ir:", decimal_digits(alloc, n)?.as_str()),
         Bit::Flip(n) => joined(alloc, "ff:", flipflop_name(flipflops, n)),
     }
 }
@@ -108,7 +108,7 @@ fn masked_text(alloc: Global, text: &str, mask: Option<u32>) -> Result<String, N
 {
     match mask {
         Some(mask) => {
-            let mask = joined(alloc, "&", digits(alloc, u128::from(mask))?.as_str())?;
+            let mask = joined(alloc, "&", hex_digits(alloc, u128::from(mask))?.as_str())?;
             joined(alloc, text, mask.as_str())
         }
         None => word(alloc, text),

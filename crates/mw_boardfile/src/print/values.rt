@@ -3,12 +3,12 @@ ghost use Rattle.std.specs.Prelude.{◌≡◌, map, option_map, string_bytes, If
 ghost use Rattle.std.specs.Str.{IsUtf8};
 ghost use Rattle.toml.specs.Data.{Data};
 ghost use Rattle.toml.specs.View.{view, table_view};
-ghost use Rattle.mw_base.specs.Numbers.{hex};
+ghost use Rattle.mw_base.specs.Numbers.{hex, decimal};
 ghost use Rattle.mw_boardfile.specs.Printed.{integer_of, text_of, unless_zero, unless_empty, list_unless_empty};
 ghost use Rattle.mw_boardfile.specs.Tables.{put, put_given};
 ghost use Rattle.mw_boardfile.specs.Views.{Prints};
 
-use mw_base::{NoMemory, append_hex};
+use mw_base::{NoMemory, append_decimal, append_hex};
 use std::alloc::Global;
 use toml::{Table, Value};
 
@@ -38,7 +38,7 @@ fn text(bytes: Vec<u8>) -> String
 }
 
 /// The hexadecimal digits of a number.
-pub(crate) fn digits(alloc: Global, n: u128) -> Result<String, NoMemory>
+pub(crate) fn hex_digits(alloc: Global, n: u128) -> Result<String, NoMemory>
     ensures { IfOk result (λ text. string_bytes text ≡ hex n) }
 {
     let mut bytes = Vec::new(alloc);
@@ -46,11 +46,20 @@ pub(crate) fn digits(alloc: Global, n: u128) -> Result<String, NoMemory>
     Ok(text(bytes))
 }
 
+/// The decimal digits of a number.
+pub(crate) fn decimal_digits(alloc: Global, n: u8) -> Result<String, NoMemory>
+    ensures { IfOk result (λ text. string_bytes text ≡ decimal n) }
+{
+    let mut bytes = Vec::new(alloc);
+    append_decimal(alloc, &mut bytes, u64::from(n))?;
+    Ok(text(bytes))
+}
+
 /// A number as a text.
 pub(crate) fn number(alloc: Global, n: u128) -> Result<Value, NoMemory>
     ensures { IfOk result (λ value. view value ≡ text_of n) }
 {
-    Ok(Value::from(digits(alloc, n)?))
+    Ok(Value::from(hex_digits(alloc, n)?))
 }
 
 /// A number as a text that isn't printed where it is 0.

@@ -8,4 +8,5 @@ pub returns : goal.returns
 returns c =
     ap members_view c.in_ok-insert.ensures.entries
     ∙ members_put c.args.table.now.entries c.in_ok-from_str.field-0 c.args.value
-    ∙ ap (λ (key : List ℕ). put key (view c.args.value) (members_view c.args.table.now.entries)) c.in_ok-from_str.ensures.ok
+    ∙ ap (λ (key : List ℕ). put key (view c.args.value) (members_view c.args.table.now.entries))
+    c.in_ok-from_str.ensures.ok
