@@ -109,8 +109,8 @@ parts_read p holds is order =
     let s = holds.sizes in
     rw (
       sizes_read p document s.width s.microword s.address s.fill s.unset s.vector s.stack few_fill few_unset
-          (at (codes "version")) (at (codes "width")) (at (codes "microword")) (at (codes "address")) (at (codes "fill"))
-          (at (codes "unset")) (at (codes "vector")) (at (codes "stack")),
+          (at (codes "version")) (at (codes "width")) (at (codes "microword")) (at (codes "address"))
+          (at (codes "fill")) (at (codes "unset")) (at (codes "vector")) (at (codes "stack")),
       fields_read p.microword p.fields document order holds.fields (at (codes "fields")),
       at (codes "flipflop"),
       tables_read p.fields p.flipflop holds.few,

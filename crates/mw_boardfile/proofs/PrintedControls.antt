@@ -16,7 +16,7 @@ use Rattle.mw_board.specs.Rules.{driver_rule, DriversKeep}
 use Rattle.mw_boardfile.specs.Control.{given_point, each_point, points_of}
 use Rattle.mw_boardfile.specs.Values.{table_or_none}
 use Rattle.mw_boardfile.specs.Printed.{unless_empty, usual_constant, driver_printed, points_printed}
-use Rattle.mw_boardfile.specs.Tables.{table_of, are_distinct, find}
+use Rattle.mw_boardfile.specs.Tables.{table_of}
 use Rattle.mw_boardfile.proofs.PrintedFields.{table_read}
 use Rattle.mw_boardfile.proofs.PrintedPoints.{IsPrintable, point_read}
 use Rattle.mw_boardfile.proofs.Tables.{found}

@@ -140,8 +140,8 @@ lists_read p tables document are narrow keep there =
       bits_are p.control.link p.ram_link keep.ram_link,
       bits_are p.control.link p.q_link keep.q_link,
       list_or_zero_read (d_source_in p.width p.fields tables) (source_printed p.fields p.flipflop) is_zero_source
-          (record { from = sources.Zero; mask = None }) (d_source_rule p.width (length p.fields) (length p.flipflop)) p.fields
-          p.control.d p.d zero_source
+          (record { from = sources.Zero; mask = None }) (d_source_rule p.width (length p.fields) (length p.flipflop))
+          p.fields p.control.d p.d zero_source
           (λ x rule. source_in_read p.width p.fields p.flipflop tables x are narrow rule) keep.d,
     ) refl
 

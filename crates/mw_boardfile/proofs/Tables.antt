@@ -17,7 +17,17 @@ use Rattle.std.specs.BTreeMap.{insert_entry}
 use Rattle.std.specs.declared.alloc.Global.{Global}
 use Rattle.toml.specs.View.{view, members_view}
 use Rattle.toml.specs.declared.value.Value.{Value}
-use Rattle.mw_boardfile.specs.Tables.{put, put_given, Entry, table_of, find, are_distinct}
+use Rattle.mw_boardfile.specs.Tables.{put, put_given, Entry, table_of}
+
+-- what stands under a key
+abbrev pub find : List ℕ → List Entry → Option Data
+find key [] = None
+find key (entry ∷ rest) = cond (same_key key entry.0) entry.1 (find key rest)
+
+-- no key stands twice
+abbrev pub are_distinct : List Entry → Bool
+are_distinct [] = true
+are_distinct (entry ∷ rest) = not (list_any (λ other. same_key entry.0 other.0) rest) && are_distinct rest
 
 -- keys that are the same are one text
 pub one_key : (k l : List ℕ) → same_key k l ≡ true → k ≡ l

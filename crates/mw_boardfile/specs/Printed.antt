@@ -1,5 +1,5 @@
 -- What is printed for a board: the values under the keys of its file.
-use Rattle.std.specs.Prelude.{ℕ, pos, List, map, [], ◌∷◌, ◌++◌, codes, slice_get, Bool, true, false, ◌&&◌, Option}
+use Rattle.std.specs.Prelude.{◌≡◌, ℕ, pos, List, map, [], ◌∷◌, ◌++◌, codes, slice_get, Bool, true, false, ◌&&◌, Option}
 use Rattle.std.specs.Prelude.{Some, None, if◌then◌else◌, ◌==◌}
 use Rattle.toml.specs.Data.{Data, integer, string, array, table, Members, no_members, member}
 use Rattle.toml.specs.View.{items_of}
@@ -20,6 +20,7 @@ use Rattle.mw_board.specs.declared.parts.BoardParts.{BoardParts}
 use Rattle.mw_board.specs.declared.point.Point.{Point}
 use Rattle.mw_board.specs.declared.point.Point.TheVariants.{Ci}
 use Rattle.mw_board.specs.Points.{all_points, name_of, driver_of}
+use Rattle.mw_boardfile.specs.Document.{document_of}
 use Rattle.mw_boardfile.specs.Tables.{put, Entry, table_of}
 
 -- an integer
@@ -254,3 +255,7 @@ tables_printed p =
 -- the keys of the file
 unfoldable pub document_printed : BoardParts → List Entry
 document_printed p = sizes_printed p ++ tables_printed p
+
+-- a text is the file that is printed for a board: a document of these keys
+abbrev pub IsPrinted : BoardParts → List ℕ → Type 0
+IsPrinted p text = document_of text ≡ Some (table_of (document_printed p))

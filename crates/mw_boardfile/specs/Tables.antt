@@ -1,9 +1,8 @@
 -- Tables as they are printed: members by their keys.
-use Rattle.std.specs.Prelude.{ℕ, List, [], ◌∷◌, Bool, true, not, ◌&&◌, Option, Some, None, if◌then◌else◌}
-use Rattle.std.specs.List.{list_any}
+use Rattle.std.specs.Prelude.{ℕ, List, [], ◌∷◌, Option, Some, None}
 use Rattle.std.specs.Ordering.{nat_cmp, match_ordering}
 use Rattle.std.specs.Cmp.Lexicographic.{slice_cmp}
-use Rattle.toml.specs.Data.{Data, Members, no_members, member, same_key}
+use Rattle.toml.specs.Data.{Data, Members, no_members, member}
 
 -- the members with one more, by the bytes of the keys; a key that is there takes the value
 abbrev pub put : List ℕ → Data → Members → Members
@@ -32,13 +31,3 @@ put_all (entry ∷ rest) table = put_given entry.0 entry.1 (put_all rest table)
 unfoldable pub table_of : List Entry → Members
 table_of [] = no_members
 table_of (entry ∷ rest) = put_given entry.0 entry.1 (table_of rest)
-
--- what stands under a key
-abbrev pub find : List ℕ → List Entry → Option Data
-find key [] = None
-find key (entry ∷ rest) = if same_key key entry.0 then entry.1 else find key rest
-
--- no key stands twice
-abbrev pub are_distinct : List Entry → Bool
-are_distinct [] = true
-are_distinct (entry ∷ rest) = not (list_any (λ other. same_key entry.0 other.0) rest) && are_distinct rest

@@ -1,6 +1,7 @@
 // Boards as board files.
 ghost use Rattle.std.specs.Prelude.{◌≡◌, IfOk, Ok};
 ghost use Rattle.mw_boardfile.specs.Board.{board_of};
+ghost use Rattle.mw_boardfile.specs.Printed.{IsPrinted};
 
 mod document;
 mod fields;
@@ -28,6 +29,7 @@ use toml::ser;
 ///
 /// Memory ran out.
 pub fn print_board(alloc: Global, board: &Board) -> Result<Vec<u8>, NoMemory>
+    ensures printed { IfOk result (λ text. IsPrinted board.now text.items) }
     ensures reads_back { IfOk result (λ text. board_of text.items ≡ Ok board.now) }
 {
     let document = document(alloc, board.parts())?;

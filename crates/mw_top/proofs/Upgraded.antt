@@ -39,6 +39,7 @@ ends_by call asks contents (works.Upgrade board) status report only made answer 
   status_is = answer.status_is;
   text = report;
   report = took;
+  printed = answer.printed;
   same = answer.same;
 }
 ends_by call asks contents (works.Comparison comparison) status report only made answer took = absurd only

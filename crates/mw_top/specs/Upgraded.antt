@@ -2,6 +2,7 @@
 use Rattle.std.specs.Prelude.{◌≡◌, ℕ, List, Ok}
 use Rattle.mw_board.specs.declared.parts.BoardParts.{BoardParts}
 use Rattle.mw_boardfile.specs.Board.{board_of}
+use Rattle.mw_boardfile.specs.Printed.{IsPrinted}
 use Rattle.mw_plan.specs.Files.{IsLeft}
 use Rattle.mw_plan.specs.Plan.{done}
 use Rattle.mw_top.specs.declared.commands.Task.TheVariants as tasks
@@ -13,7 +14,7 @@ use Rattle.mw_top.specs.Call.{Call, Took}
 use Rattle.mw_top.specs.Commands.Upgrade.{upgrade_plan}
 use Rattle.mw_top.specs.Request.{files_of}
 
--- The file was read and accepted, and the sink took a text that spells the same board.
+-- The file was read and accepted, and the sink took the file of version 2 that is printed for its board, and spells it.
 pub record IsUpgradeEnd (call : Call) (status : Status) : Type 0 where
   pub asks : AsksFor tasks.Upgrade call
   pub contents : List (List ℕ)
@@ -22,4 +23,5 @@ pub record IsUpgradeEnd (call : Call) (status : Status) : Type 0 where
   pub status_is : status ≡ Done
   pub text : List ℕ
   pub report : Took call text
+  pub printed : IsPrinted board text
   pub same : board_of text ≡ Ok board

@@ -8,6 +8,7 @@ use Rattle.toml.specs.View.{table_view}
 use Rattle.mw_board.specs.declared.parts.BoardParts.{BoardParts}
 use Rattle.mw_boardfile.specs.Printed.{document_printed}
 use Rattle.mw_boardfile.specs.Tables.{table_of}
+use Rattle.mw_boardfile.proofs.Documents.{document_from}
 use Rattle.mw_boardfile.proofs.Plain.{document_plain}
 use Rattle.mw_boardfile.proofs.PrintedBoard.{board_read, has_field_names, has_flipflop_names}
 use Rattle.mw_boardfile.proofs.print.print_board.Goals as goal
@@ -29,6 +30,9 @@ returns-in-Ok c =
     let parsed : parse_document (string_bytes c.in-Ok.text) ≡ Some (table_of (document_printed board)) =
     c.in-Ok.ensures.reads_back shallow ∙ ap (λ (members : Members). Some members) there in
     record {
+      printed = rw c.into_bytes.ensures.value
+          (document_from (string_bytes c.in-Ok.text) (table_of (document_printed board))
+          (IsUtf8-string_bytes c.in-Ok.text) parsed);
       reads_back = rw c.into_bytes.ensures.value
           (board_read board (string_bytes c.in-Ok.text) c.parts.ensures.kept c.parts.ensures.valid
           c.parts.ensures.order (IsUtf8-string_bytes c.in-Ok.text) parsed);
