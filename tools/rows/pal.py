@@ -7,6 +7,7 @@ a line.
 """
 import json
 import sys
+from itertools import chain
 from pathlib import Path
 
 import tools_path
@@ -38,11 +39,19 @@ def with_later(case):
         yield then | {"name": name, "files": files | {then["save"]: case["stdout"]}}
 
 
+def is_pdp8s(case, file, pdp8):
+    return pdp8.get(file) == case["files"].get(file)
+
+
 def lines_of(case, pdp8, sets):
-    """The row of a case, where files of the PDP-8 and others are sets."""
-    own = {name: text for name, text in case["files"].items() if pdp8.get(name) != text}
+    """The row of a case: the files of the PDP-8 are one set, unless it has others in the place of some; each of several
+    cases is one too."""
+    names = [file for file in pdp8 if file in case["files"]]
+    is_whole = all(is_pdp8s(case, file, pdp8) for file in names)
+    given = ["with pdp8"] if is_whole else [f"with pdp8 {file}" for file in names if is_pdp8s(case, file, pdp8)]
+    own = {file: text for file, text in case["files"].items() if file not in pdp8 or not is_pdp8s(case, file, pdp8)}
     row, words, *others = case_lines(case | {"files": own}, sets)
-    return [row, words, *(["with pdp8"] if len(own) < len(case["files"]) else []), *others]
+    return [row, words, *(given if names else []), *others]
 
 
 def main():
@@ -50,9 +59,10 @@ def main():
     cases = [each for case in named for each in with_later(case)]
     pdp8 = {name: cases[0]["files"][name] for name in FILES}
     sets = {file: name for file, name in sets_of(cases).items() if file not in {hashed(*its) for its in pdp8.items()}}
-    print(HEAD + "\n\nset pdp8")
-    for name, file in FILES.items():
-        print("\n".join(contents_lines(name, (EXAMPLE / file).read_text())))
+    texts = {name: contents_lines(name, (EXAMPLE / file).read_text()) for name, file in FILES.items()}
+    print("\n".join([HEAD, "", "set pdp8", *chain.from_iterable(texts.values())]))
+    for name, lines in texts.items():
+        print("\n".join(["", f"set pdp8 {name}", *lines]))
     for (file, text), name in sets.items():
         print("\n".join(["", f"set {name}", *contents_lines(file, json.loads(text))]))
     for case in cases:

@@ -1,13 +1,13 @@
 -- Fields and flip-flops are found by their names.
-use Rattle.std.proofs.Common.{◌≡◌, ℕ, zero, suc, ◌+◌, ◌<◌, ◌≤◌, List, [], ◌∷◌, ◌++◌, length, map, slice_get, take, drop}
-use Rattle.std.proofs.Common.{Bool, true, false, not, nat_lt, Option, Some, None, Result, Ok, refl, sym, ap, subst, ◌∙◌}
+use Rattle.std.proofs.Common.{◌≡◌, ℕ, zero, suc, ◌+◌, ◌<◌, ◌≤◌, List, [], ◌∷◌, ◌++◌, length, map, slice_get}
+use Rattle.std.proofs.Common.{Bool, true, false, not, nat_lt, Some, None, Ok, refl, ap, subst, ◌∙◌}
 use Rattle.std.proofs.Common.{codes, arith}
 use Rattle.std.proofs.Common.{append_assoc, length-append}
 use Rattle.std.specs.List.{All, AllByRecursion, list_any}
 use Rattle.std.specs.Str.{bytes_eq}
 use Rattle.std.proofs.lemmas.Bool.{or_parts}
 use Rattle.std.proofs.lemmas.Bool.Decides.{nat_tests}
-use Rattle.std.proofs.lemmas.List.Elements.{All-weaker, recursion_from_All}
+use Rattle.std.proofs.lemmas.List.Elements.{All-weaker}
 use Rattle.std.proofs.lemmas.Slice.Eq.{bytes_eq-Decides}
 use Rattle.toml.specs.Data.{Data}
 use Rattle.mw_base.specs.declared.cause.Cause.TheVariants.{BadValue, Twice}
@@ -24,7 +24,7 @@ use Rattle.mw_boardfile.specs.Entries.{has_name, flip_number}
 use Rattle.mw_boardfile.specs.Kept.{FieldKeeps}
 use Rattle.mw_boardfile.specs.Lists.{first_place}
 use Rattle.mw_boardfile.specs.Printed.{flipflop_name, flipflop_keys_printed, flipflop_printed, flipflops_printed}
-use Rattle.mw_boardfile.proofs.Parts.{all_hold, asked, FlipFlopHolds, flipflops_hold}
+use Rattle.mw_boardfile.proofs.Parts.{all_hold, asked, flipflops_hold}
 use Rattle.mw_boardfile.proofs.PrintedPoints.{within_some}
 use Rattle.mw_boardfile.proofs.Tables.{found}
 

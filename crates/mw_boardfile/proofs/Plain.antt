@@ -1,12 +1,12 @@
 -- A file that is printed is shallow, and has no dates.
-use Rattle.std.proofs.Common.{◌≡◌, ℕ, suc, ◌≤◌, max, ◌==◌, cond, List, [], ◌∷◌, map, slice_get, Bool, true, false, ◌&&◌}
-use Rattle.std.proofs.Common.{Option, Some, None, pos, refl, arith, codes, Ordering, Less, Equal, Greater, nat_cmp}
+use Rattle.std.proofs.Common.{◌≡◌, ℕ, suc, ◌≤◌, max, ◌==◌, cond, List, [], ◌∷◌, map, slice_get, Bool, true, false}
+use Rattle.std.proofs.Common.{Option, Some, None, refl, arith, Ordering, Less, Equal, Greater, nat_cmp}
 use Rattle.std.specs.Prelude.{IfSome}
 use Rattle.std.specs.List.{AllByRecursion}
 use Rattle.std.specs.Ordering.{match_ordering}
 use Rattle.std.specs.Cmp.Lexicographic.{slice_cmp}
 use Rattle.std.proofs.lemmas.Bool.{and_parts}
-use Rattle.toml.specs.Data.{Data, integer, string, array, table, Items, no_items, item, Members, no_members, member}
+use Rattle.toml.specs.Data.{Data, string, Members, no_members, member}
 use Rattle.toml.specs.Data.{depth}
 use Rattle.toml.specs.Data.{items_depth, members_depth, has_valid_dates, items_have_valid_dates}
 use Rattle.toml.specs.Data.{members_have_valid_dates}
@@ -19,11 +19,11 @@ use Rattle.mw_board.specs.declared.flipflop.FlipFlop.{FlipFlop}
 use Rattle.mw_board.specs.declared.parts.BoardParts.{BoardParts}
 use Rattle.mw_board.specs.declared.point.Point.{Point}
 use Rattle.mw_board.specs.Points.{all_points, driver_of}
-use Rattle.mw_boardfile.specs.Printed.{integer_of, text_of, unless_zero, list_of, unless_empty, field_printed}
+use Rattle.mw_boardfile.specs.Printed.{integer_of, text_of, list_of, unless_empty, field_printed}
 use Rattle.mw_boardfile.specs.Printed.{fields_printed}
 use Rattle.mw_boardfile.specs.Printed.{field_name, usual_constant, control_printed, driver_printed, point_printed}
 use Rattle.mw_boardfile.specs.Printed.{points_printed, list_unless_empty, map_printed, bit_printed, load_printed}
-use Rattle.mw_boardfile.specs.Printed.{load_text, flipflop_keys_printed, flipflop_printed, flipflops_printed}
+use Rattle.mw_boardfile.specs.Printed.{load_text, flipflop_keys_printed, flipflop_printed}
 use Rattle.mw_boardfile.specs.Printed.{source_printed}
 use Rattle.mw_boardfile.specs.Printed.{is_alone, list_unless_zero, is_zero_bit, is_zero_source, lists_printed}
 use Rattle.mw_boardfile.specs.Printed.{document_printed}

@@ -1,8 +1,7 @@
 -- The bits that are printed are read.
-use Rattle.std.proofs.Common.{◌≡◌, ℕ, ◌^◌, ◌<◌, ◌++◌, nat_lt, true, List, Result, Ok, refl, arith, slice_get}
+use Rattle.std.proofs.Common.{◌≡◌, ◌^◌, ◌<◌, nat_lt, true, List, Ok, refl, arith, slice_get}
 use Rattle.std.proofs.lemmas.Bool.Decides.{nat_tests}
 use Rattle.toml.specs.Data.{Data}
-use Rattle.mw_base.specs.Numbers.{hex}
 use Rattle.mw_board.specs.declared.bit.Bit.{Bit}
 use Rattle.mw_board.specs.declared.bit.Bit.TheVariants as bits
 use Rattle.mw_board.specs.declared.flipflop.FlipFlop.{FlipFlop}

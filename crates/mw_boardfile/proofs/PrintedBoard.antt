@@ -1,13 +1,11 @@
 -- The board of a file that is printed is the board that was printed.
-use Rattle.std.proofs.Common.{◌≡◌, ℕ, ◌^◌, ◌<◌, ◌≤◌, List, [], ◌∷◌, map, length, true, Option, Some, None, Result, Ok}
-use Rattle.std.proofs.Common.{refl, sym, codes, arith}
-use Rattle.std.specs.List.{All, AllByRecursion}
-use Rattle.std.specs.Str.{is_utf8, IsUtf8}
+use Rattle.std.proofs.Common.{◌≡◌, ℕ, ◌^◌, ◌<◌, ◌≤◌, List, [], length, true, Some, Ok}
+use Rattle.std.proofs.Common.{refl, codes, arith}
+use Rattle.std.specs.Str.{IsUtf8}
 use Rattle.std.proofs.lemmas.Str.{is_utf8-from_IsUtf8}
 use Rattle.std.proofs.lemmas.List.{length-map}
 use Rattle.std.proofs.lemmas.List.Elements.{All-from_recursion, recursion_from_All}
 use Rattle.std.proofs.Math.Pow.{pow_mono}
-use Rattle.toml.specs.Data.{Data, Members, get_member}
 use Rattle.toml.specs.Parse.{parse_document}
 use Rattle.mw_base.specs.Names.{is_name}
 use Rattle.mw_board.specs.declared.control.Control.{Control}

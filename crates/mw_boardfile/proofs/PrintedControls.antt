@@ -1,10 +1,10 @@
 -- All control points that are printed are read.
-use Rattle.std.proofs.Common.{◌≡◌, ℕ, ◌≤◌, List, [], ◌∷◌, map, length, true, Option, Some, None, Result, Ok, refl, sym}
-use Rattle.std.proofs.Common.{ap, ◌∙◌, codes}
-use Rattle.toml.specs.Data.{Data, Members, get_member}
+use Rattle.std.proofs.Common.{◌≡◌, ◌≤◌, List, [], ◌∷◌, length, Ok, refl}
+use Rattle.std.proofs.Common.{codes}
+use Rattle.toml.specs.Data.{Members, get_member}
 use Rattle.mw_board.specs.Order.{AreInOrder}
 use Rattle.mw_board.specs.declared.control.Control.{Control}
-use Rattle.mw_board.specs.declared.control.Control.TheVariants.{Field, Fixed}
+use Rattle.mw_board.specs.declared.control.Control.TheVariants.{Fixed}
 use Rattle.mw_board.specs.declared.control.Points.{Points}
 use Rattle.mw_board.specs.declared.field.NamedField.{NamedField}
 use Rattle.mw_board.specs.declared.point.Point.{Point}
@@ -12,9 +12,8 @@ use Rattle.mw_board.specs.declared.point.Point.TheVariants.{AluSource, AluFuncti
 use Rattle.mw_board.specs.declared.point.Point.TheVariants.{Sequencer, Branch, TestDisable, Polarity, Ci, Rld, MarLoad}
 use Rattle.mw_board.specs.declared.point.Point.TheVariants.{IrLoad, MemoryWrite, Out, CarryIn, D, Condition, Link}
 use Rattle.mw_board.specs.Points.{all_points, name_of, driver_of, with_driver, default_points}
-use Rattle.mw_board.specs.Rules.{driver_rule, DriversKeep}
-use Rattle.mw_boardfile.specs.Control.{given_point, each_point, points_of}
-use Rattle.mw_boardfile.specs.Values.{table_or_none}
+use Rattle.mw_board.specs.Rules.{DriversKeep}
+use Rattle.mw_boardfile.specs.Control.{each_point, points_of}
 use Rattle.mw_boardfile.specs.Printed.{unless_empty, usual_constant, driver_printed, points_printed}
 use Rattle.mw_boardfile.specs.Tables.{table_of}
 use Rattle.mw_boardfile.proofs.PrintedFields.{table_read}

@@ -1,12 +1,11 @@
 -- The fields that are printed are read.
-use Rattle.std.proofs.Common.{◌≡◌, ℕ, suc, ◌+◌, List, [], ◌∷◌, length, Option, Some, None, Result, Ok, refl, sym, ap}
+use Rattle.std.proofs.Common.{◌≡◌, ℕ, suc, List, [], ◌∷◌, length, Ok, refl, ap}
 use Rattle.std.proofs.Common.{◌∙◌, codes, add-one}
 use Rattle.std.specs.Prelude.{All}
 use Rattle.std.specs.List.Sorted.{IsStrictlySortedBy}
 use Rattle.std.proofs.lemmas.List.Elements.{All-head, All-tail}
-use Rattle.toml.specs.Data.{Data, Members, no_members, member, get_member}
+use Rattle.toml.specs.Data.{Members, no_members, member, get_member}
 use Rattle.mw_board.specs.Order.{AreInOrder}
-use Rattle.mw_board.specs.Rules.{fields_rule}
 use Rattle.mw_board.specs.declared.field.NamedField.{NamedField}
 use Rattle.mw_boardfile.specs.Fields.{field_in, count_of, field_of, each_field, fields_of}
 use Rattle.mw_boardfile.specs.Kept.{FieldKeeps, FieldsKeep}

@@ -1,13 +1,13 @@
 -- A printed table has no unknown key, and is shallow.
-use Rattle.std.proofs.Common.{◌≡◌, ℕ, suc, ◌≤◌, max, List, [], ◌∷◌, Bool, true, Option, Some, None, refl, sym, ap, ◌∙◌}
-use Rattle.std.proofs.Common.{arith, Ordering, Less, Equal, Greater, nat_cmp}
+use Rattle.std.proofs.Common.{◌≡◌, ℕ, List, [], ◌∷◌, true, Option, Some, None, refl}
+use Rattle.std.proofs.Common.{Ordering, Less, Equal, Greater, nat_cmp}
 use Rattle.std.specs.List.{list_all}
 use Rattle.std.specs.Ordering.{match_ordering}
 use Rattle.std.specs.Cmp.Lexicographic.{slice_cmp}
 use Rattle.std.proofs.lemmas.Bool.{and_parts}
-use Rattle.toml.specs.Data.{Data, Members, no_members, member, depth, members_depth}
+use Rattle.toml.specs.Data.{Data, Members, no_members, member}
 use Rattle.mw_boardfile.specs.Unknown.{is_one_of, with_members}
-use Rattle.mw_boardfile.specs.Tables.{put, put_given, Entry, put_all, table_of}
+use Rattle.mw_boardfile.specs.Tables.{put, put_given, Entry, table_of}
 
 -- each key is known
 abbrev AllKnown : List (List ℕ) → Members → Type 0

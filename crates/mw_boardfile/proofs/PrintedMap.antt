@@ -1,6 +1,6 @@
 -- The map that is printed is read.
-use Rattle.std.proofs.Common.{◌≡◌, ℕ, zero, suc, List, [], ◌∷◌, map, length, Option, Some, None, Result, Ok, refl, sym}
-use Rattle.std.proofs.Common.{ap, ◌∙◌, codes}
+use Rattle.std.proofs.Common.{◌≡◌, ℕ, zero, suc, List, [], ◌∷◌, map, length, Ok, refl}
+use Rattle.std.proofs.Common.{codes}
 use Rattle.std.specs.List.{AllByRecursion}
 use Rattle.std.proofs.lemmas.List.{length-map}
 use Rattle.toml.specs.Data.{Data, Members, get_member}
@@ -9,7 +9,7 @@ use Rattle.mw_board.specs.declared.parts.BoardParts.{BoardParts}
 use Rattle.mw_board.specs.Rules.{map_bits_rule, map_entry_rule, map_entries_rule}
 use Rattle.mw_boardfile.specs.Board.{map_of}
 use Rattle.mw_boardfile.specs.Map.{natural_or_zero, bits_in, entry_in, entry_faults, entries_in}
-use Rattle.mw_boardfile.specs.Values.{natural, list_or_none, table_or_none}
+use Rattle.mw_boardfile.specs.Values.{natural, list_or_none}
 use Rattle.mw_boardfile.specs.Printed.{integer_of, unless_zero, list_unless_empty, map_printed, unless_empty}
 use Rattle.mw_boardfile.specs.Tables.{table_of}
 use Rattle.mw_boardfile.proofs.PrintedFields.{table_read}

@@ -1,9 +1,9 @@
 -- The control points that are printed are read.
-use Rattle.std.proofs.Common.{◌≡◌, ℕ, zero, suc, ◌+◌, ◌-◌, ◌^◌, ◌<◌, ◌≤◌, min, nat_lt, ◌==◌, cond, List, [], ◌∷◌, map}
+use Rattle.std.proofs.Common.{◌≡◌, ℕ, zero, suc, ◌+◌, ◌-◌, ◌^◌, ◌<◌, ◌≤◌, min, nat_lt, ◌==◌, List, [], ◌∷◌, map}
 use Rattle.std.proofs.Common.{length, slice_get}
-use Rattle.std.proofs.Common.{pos, Bool, true, false, Option, Some, None, Result, Ok, refl, sym, ap, subst, ◌∙◌, codes}
+use Rattle.std.proofs.Common.{pos, true, false, Some, Ok, refl, sym, ap, subst, ◌∙◌}
 use Rattle.std.proofs.Common.{arith, inl, inr}
-use Rattle.std.proofs.Common.{Ordering, Less, Equal, nat_cmp}
+use Rattle.std.proofs.Common.{Less, Equal, nat_cmp}
 use Rattle.std.specs.Cmp.{tied_itself}
 use Rattle.std.specs.Cmp.Lexicographic.{slice_cmp}
 use Rattle.std.specs.List.{AllByRecursion}
@@ -15,7 +15,7 @@ use Rattle.std.proofs.lemmas.Cmp.{nat_list_cmp_total}
 use Rattle.std.proofs.lemmas.Slice.Eq.{bytes_eq-Decides}
 use Rattle.mw_board.specs.Order.{AreInOrder}
 use Rattle.mw_board.specs.declared.field.NamedField.{NamedField}
-use Rattle.toml.specs.Data.{Data, as_str, as_integer}
+use Rattle.toml.specs.Data.{as_str, as_integer}
 use Rattle.mw_board.specs.declared.control.Control.{Control}
 use Rattle.mw_board.specs.declared.control.Control.TheVariants.{Field, Fixed}
 use Rattle.mw_board.specs.declared.control.Points.{Points}

@@ -1,10 +1,9 @@
 -- The lists that are printed, and the flip-flops with theirs, are read.
-use Rattle.std.proofs.Common.{◌≡◌, ℕ, ◌+◌, ◌^◌, ◌<◌, ◌≤◌, List, [], ◌∷◌, ◌++◌, map, length, Bool, true, false, ◌&&◌}
+use Rattle.std.proofs.Common.{◌≡◌, ℕ, ◌+◌, ◌<◌, ◌≤◌, List, [], ◌∷◌, ◌++◌, map, length, Bool, true}
 use Rattle.std.proofs.Common.{Option, Some, None, Result, Ok, refl, sym, ap, ap₂, ◌∙◌, codes, arith, inl, inr}
 use Rattle.std.proofs.Common.{append_assoc, append-nil}
 use Rattle.std.specs.List.{All, AllByRecursion}
 use Rattle.std.proofs.lemmas.Bool.{cases_Bool, and_parts}
-use Rattle.std.proofs.lemmas.Bool.Decides.{nat_tests}
 use Rattle.std.proofs.lemmas.List.{length-map}
 use Rattle.std.proofs.lemmas.List.Elements.{All-weaker, recursion_from_All}
 use Rattle.toml.specs.Data.{Data, Members, get_member}
@@ -22,8 +21,8 @@ use Rattle.mw_board.specs.declared.flipflop.FlipFlop.{FlipFlop}
 use Rattle.mw_board.specs.declared.parts.BoardParts.{BoardParts}
 use Rattle.mw_board.specs.Check.{flipflops_from}
 use Rattle.mw_board.specs.Depth.{depth_of}
-use Rattle.mw_board.specs.Rules.{Verdict, ask, all_of, bit_rule, carry_in_rule, load_rule, d_source_rule, control_rule}
-use Rattle.mw_board.specs.Rules.{chosen_rule, list_rule, flipflops_rule, width_of}
+use Rattle.mw_board.specs.Rules.{Verdict, bit_rule, carry_in_rule, load_rule, d_source_rule, control_rule}
+use Rattle.mw_board.specs.Rules.{chosen_rule, list_rule, flipflops_rule}
 use Rattle.mw_boardfile.specs.Board.{zero_alone, zero_list, given_list, list_or_zero, lists_of}
 use Rattle.mw_boardfile.specs.Control.{control_in}
 use Rattle.mw_boardfile.specs.Entries.{bit_in, carry_in_in, load_in, d_source_in}
@@ -31,17 +30,16 @@ use Rattle.mw_boardfile.specs.FlipFlops.{table_kind, tables_in, name_in, flip_co
 use Rattle.mw_boardfile.specs.FlipFlops.{flipflop_of, flipflop_at, each_flipflop}
 use Rattle.mw_boardfile.specs.Kept.{Kept, ListKeeps, ListsKeep}
 use Rattle.mw_boardfile.specs.Lists.{none_refused, chosen_list}
-use Rattle.mw_boardfile.specs.Printed.{bit_printed, load_printed, source_printed, control_printed}
+use Rattle.mw_boardfile.specs.Printed.{bit_printed, load_printed, source_printed}
 use Rattle.mw_boardfile.specs.Printed.{flipflop_keys_printed}
 use Rattle.mw_boardfile.specs.Printed.{flipflop_printed, flipflops_printed, is_alone, list_unless_zero, is_zero_bit}
-use Rattle.mw_boardfile.specs.Printed.{is_zero_from, has_no_mask, is_zero_source, lists_printed, unless_empty, list_of}
+use Rattle.mw_boardfile.specs.Printed.{is_zero_from, has_no_mask, is_zero_source, lists_printed, unless_empty}
 use Rattle.mw_boardfile.specs.Printed.{list_unless_empty}
 use Rattle.mw_boardfile.specs.Tables.{table_of}
-use Rattle.mw_boardfile.specs.Values.{list, list_or_none, table_or_none}
 use Rattle.mw_boardfile.proofs.Names.{AreFound}
 use Rattle.mw_boardfile.proofs.Parts.{sizes_in, lists_in, asked_below, asked_most, FlipFlopHolds, flipflops_hold}
 use Rattle.mw_boardfile.proofs.PrintedFields.{table_read}
-use Rattle.mw_boardfile.proofs.PrintedLists.{IsRead, list_read, none_are, chosen_are}
+use Rattle.mw_boardfile.proofs.PrintedLists.{IsRead, list_read, chosen_are}
 use Rattle.mw_boardfile.proofs.PrintedMap.{list_or_none_read}
 use Rattle.mw_boardfile.proofs.PrintedPoints.{IsPrintable, control_read}
 use Rattle.mw_boardfile.proofs.PrintedTexts.{bit_in_read, carry_in_read, load_in_read, source_in_read}

@@ -1,6 +1,6 @@
 -- The sizes that are printed are read.
-use Rattle.std.proofs.Common.{◌≡◌, ℕ, zero, suc, ◌^◌, ◌<◌, Option, Some, None, Result, Ok, refl, codes}
-use Rattle.toml.specs.Data.{Data, Members, get_member}
+use Rattle.std.proofs.Common.{◌≡◌, ℕ, zero, suc, ◌^◌, ◌<◌, Some, Ok, refl, codes}
+use Rattle.toml.specs.Data.{Members, get_member}
 use Rattle.mw_board.specs.declared.parts.BoardParts.{BoardParts}
 use Rattle.mw_board.specs.Rules.{width_rule, microword_rule, address_rule, word_rule, vector_rule, stack_rule}
 use Rattle.mw_boardfile.specs.Board.{sizes_of}

@@ -1,7 +1,7 @@
 -- The bits, the loads and the sources of D that are printed are read.
-use Rattle.std.proofs.Common.{◌≡◌, ℕ, ◌+◌, ◌^◌, ◌<◌, ◌≤◌, ◌==◌, ◌++◌, nat_lt, List, [], ◌∷◌, length, slice_get, take}
+use Rattle.std.proofs.Common.{◌≡◌, ℕ, ◌+◌, ◌^◌, ◌<◌, ◌≤◌, ◌==◌, ◌++◌, nat_lt, List, [], ◌∷◌, length, take}
 use Rattle.std.proofs.Common.{drop}
-use Rattle.std.proofs.Common.{Bool, true, false, Option, Some, None, Result, Ok, refl, sym, ap, ◌∙◌, suc, arith}
+use Rattle.std.proofs.Common.{true, false, Option, Some, None, Ok, refl, ap, ◌∙◌, suc, arith}
 use Rattle.std.specs.List.{list_any}
 use Rattle.std.proofs.lemmas.Bool.Decides.{nat_tests}
 use Rattle.std.proofs.Math.Pow.{pow_mono}

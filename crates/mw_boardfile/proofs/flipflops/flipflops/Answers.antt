@@ -1,4 +1,4 @@
-use Rattle.std.proofs.Common.{length, [], refl, arith}
+use Rattle.std.proofs.Common.{length, refl, arith}
 use Rattle.std.proofs.lemmas.Grind.{common_steps}
 use Rattle.std.proofs.lemmas.Result.{err_from_is_err_and}
 use Rattle.mw_board.specs.Check.{flipflops_from}
