@@ -4,6 +4,7 @@ mod cycles;
 mod diagrams;
 mod differs;
 mod expressions;
+mod logs;
 mod machines;
 mod numbers;
 mod pairs;
@@ -48,6 +49,8 @@ pub fn made(alloc: Global, words: &[String], files: &[File]) -> Result<Vec<u8>, 
         "cycle-words" => symbolic::words(alloc, given, files),
         "start" => runs::start(alloc, files),
         "until" => runs::until(alloc, given, files),
+        "log" => logs::read(alloc, given, files),
+        "job-log" => logs::of_job(alloc, files),
         _ => Err(wrong("no such call")),
     }
 }
