@@ -78,10 +78,11 @@ ends_by call asks contents (works.Console console) status report only made answe
   made = made;
   talk = answer.talk;
   talks = answer.talks;
-  compared = answer.compared;
-  judged = judged_by console.job answer.talks.start asks.request.steps answer.compared answer.job_is answer.shows;
-  status_is = answer.status_is;
-  report = subst (Took call) answer.report_is took;
+  compared = answer.told.compared;
+  judged = judged_by console.job answer.talks.start asks.request.steps answer.told.compared answer.job_is
+      answer.told.shows;
+  status_is = answer.told.status_is;
+  report = subst (Took call) answer.told.report_is took;
 }
 ends_by call asks contents (works.Comparison comparison) status report only made answer took = absurd only
 ends_by call asks contents (works.Assembly program) status report only made answer took = absurd only

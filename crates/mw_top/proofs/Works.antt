@@ -82,7 +82,7 @@ answer_is_worked request (works.Bounds job) status report answer =
     rw answer.status_is (bounds_are_worked answer.bounds)
 answer_is_worked request (works.Upgrade board) status report answer = rw answer.status_is refl
 answer_is_worked request (works.Console console) status report answer =
-    rw answer.status_is (compared_is_worked answer.compared)
+    rw answer.told.status_is (compared_is_worked answer.told.compared)
 answer_is_worked request works.Generation status report answer =
     rw answer.certified.status_is (verdict_is_worked answer.certified.verdict)
 

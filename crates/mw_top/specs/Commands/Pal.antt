@@ -66,8 +66,16 @@ pal_report job steps text start (compared.Differs step difference) =
 
 -- ---- its answer
 
--- The console run of so many steps with the program's memory and its keys tells this; so many steps from its start, over
--- the inputs that it took, show that; and status and report say so.
+-- so many steps from a start show this, and that is what status and report say, behind what the console printed
+pub record IsTold (job : Job) (steps : ℕ) (text : List ℕ) (start : Start) (status : Status) (report : List ℕ)
+    : Type 0 where
+  pub compared : Compared
+  pub shows : Shows job start steps compared
+  pub status_is : status ≡ compare_status compared
+  pub report_is : report ≡ pal_report job steps text start compared
+
+-- The console run of so many steps with the program's memory and its keys tells this, and as many steps from its start,
+-- over the inputs that it took, are told so.
 pub record IsPal (steps : ℕ) (console : Console) (status : Status) (report : List ℕ) : Type 0 where
   pub job_is : IsJob console.job
   pub fits : FitsPal console.job
@@ -75,7 +83,4 @@ pub record IsPal (steps : ℕ) (console : Console) (status : Status) (report : L
   pub talk : Talk
   pub talks : IsTalk console.job console.memory console.keys steps talk
   pub counter_is : IsCounter console.job talk.counter
-  pub compared : Compared
-  pub shows : Shows console.job talks.start steps compared
-  pub status_is : status ≡ compare_status compared
-  pub report_is : report ≡ pal_report console.job steps talk.text talks.start compared
+  pub told : IsTold console.job steps talk.text talks.start status report

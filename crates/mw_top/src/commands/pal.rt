@@ -1,6 +1,6 @@
 // pal: a board file, a microprogram for its board, a described machine, a relation between both, the source of a PDP-8
 // program, and the keys at its console.
-ghost use Rattle.std.specs.Prelude.{◌≡◌, ◌<◌, ◌^◌, ◌++◌, ◌×◌, [], IfOk, OnOk, length};
+ghost use Rattle.std.specs.Prelude.{◌≡◌, ◌<◌, ◌^◌, ◌++◌, [], IfOk, OnOk, length};
 ghost use Rattle.mw_base.specs.Reading.{Gives};
 ghost use Rattle.mw_outside.specs.Views.{IsLater, shelf_shown};
 ghost use Rattle.mw_pal.specs.Fits.{FitsPal};
@@ -8,8 +8,9 @@ ghost use Rattle.mw_pal.specs.Source.{IsMemory};
 ghost use Rattle.mw_plan.specs.Steps.{Ends};
 ghost use Rattle.mw_rel.specs.Start.{Start};
 ghost use Rattle.mw_rel.specs.Views.{job_of};
-ghost use Rattle.mw_replay.specs.Counter.{IsCounter, IsStartOf};
-ghost use Rattle.mw_top.specs.Commands.Pal.{IsPal, keys_of, pal_plan, pal_report, printed_lines, source_of, start_text};
+ghost use Rattle.mw_replay.specs.Counter.{IsCounter, IsStartOf, counter_at};
+ghost use Rattle.mw_top.specs.Commands.Pal.{IsPal, IsTold, keys_of, pal_plan, pal_report, printed_lines, source_of};
+ghost use Rattle.mw_top.specs.Commands.Pal.{start_text};
 
 use super::Work;
 use super::compare::{append_comparison, status_of};
@@ -22,7 +23,7 @@ use mw_check::{Compared, compare};
 use mw_outside::Shelf;
 use mw_pal::{Talk, console, fits_pal, read_pal};
 use mw_plan::{Files, Stop};
-use mw_rel::{Job, complete};
+use mw_rel::{Begin, Job, complete};
 use mw_replay::{Counter, append_environment, append_values_lines};
 use mw_sim::append_line;
 use std::alloc::Global;
@@ -97,11 +98,7 @@ pub(super) fn read<S: Shelf>(
     ensures later { IsLater (shelf_shown S.Shelf shelf.old) (shelf_shown S.Shelf shelf.new) }
 {
     let labelled = read_job(alloc, shelf, files)?;
-    let memory = match files.next(
-        alloc,
-        shelf,
-        |bytes| read_source(alloc, &labelled.job, bytes),
-    ) {
+    let memory = match files.next(alloc, shelf, |bytes| read_source(alloc, &labelled.job, bytes)) {
         Ok(memory) => memory,
         Err(stop) => {
             drop(labelled);
@@ -145,8 +142,28 @@ fn append_printed(alloc: Global, report: &mut Vec<u8>, text: &[u8]) -> Result<()
     append_values_lines(alloc, report, TEXT, &numbers)
 }
 
-/// Appends the start that a counter gives.
+/// Appends the start at the boundary of this number, as it is chosen.
 #[tactic(auto, unfolding(crate::specs::Commands::Pal::start_text))]
+fn append_begin(
+    alloc: Global,
+    report: &mut Vec<u8>,
+    job: &Job,
+    boundary: usize,
+    begin: &Begin,
+) -> Result<(), NoMemory>
+    requires { IsCounter (job_of job.now) (counter_at boundary begin.now) }
+    ensures { OnOk result ((start : Start) → IsStartOf (job_of job.now) (counter_at boundary begin.now) start
+        → report.new.items ≡ report.old.items ++ start_text (job_of job.now) start) }
+{
+    let pair = complete(alloc, job, boundary, begin)?;
+    let stated = append_state(alloc, report, &job.board, &pair.board);
+    drop(pair);
+    stated?;
+    append_environment(alloc, report, &begin.env)?;
+    Ok(())
+}
+
+/// Appends the start that a counter gives.
 fn append_start(
     alloc: Global,
     report: &mut Vec<u8>,
@@ -157,10 +174,8 @@ fn append_start(
     ensures { OnOk result ((start : Start) → IsStartOf (job_of job.now) counter.now start
         → report.new.items ≡ report.old.items ++ start_text (job_of job.now) start) }
 {
-    let pair = complete(alloc, job, counter.boundary, &counter.begin)?;
-    append_state(alloc, report, &job.board, &pair.board)?;
-    append_environment(alloc, report, &counter.begin.env)?;
-    Ok(())
+    let Counter { boundary, begin } = counter;
+    append_begin(alloc, report, job, *boundary, begin)
 }
 
 /// Appends that none of so many steps from the start of a console run differs, what was printed, and that start.
@@ -203,7 +218,22 @@ fn append_pal(
     }
 }
 
-/// Runs the program at its console for so many steps, and compares as many steps from the start of that run.
+/// Compares so many steps from the start of a console run.
+fn told(alloc: Global, job: &Job, steps: u32, talk: &Talk) -> Result<Outcome, NoMemory>
+    requires { IsCounter (job_of job.now) talk.now.counter }
+    ensures { IfOk result (λ outcome. (start : Start) → IsStartOf (job_of job.now) talk.now.counter start
+        → IsTold (job_of job.now) steps talk.now.text start outcome.status outcome.report.items) }
+{
+    let compared = compare(alloc, job, &talk.counter, steps, false)?;
+    let mut report = Vec::new(alloc);
+    append_pal(alloc, &mut report, job, steps, talk, compared)?;
+    Ok(Outcome {
+        status: status_of(compared),
+        report,
+    })
+}
+
+/// Runs the program at its console for so many steps, and compares as many from the start of that run.
 pub(super) fn report(alloc: Global, given: &Console, steps: u32) -> Result<Outcome, NoMemory>
     ensures { IfOk result (λ outcome. IsPal steps given.now outcome.status outcome.report.items) }
 {
@@ -213,11 +243,7 @@ pub(super) fn report(alloc: Global, given: &Console, steps: u32) -> Result<Outco
         keys,
     } = given;
     let talk = console(alloc, job, memory.as_slice(), keys.as_slice(), steps)?;
-    let compared = compare(alloc, job, &talk.counter, steps, false)?;
-    let mut report = Vec::new(alloc);
-    append_pal(alloc, &mut report, job, steps, &talk, compared)?;
-    Ok(Outcome {
-        status: status_of(compared),
-        report,
-    })
+    let outcome = told(alloc, job, steps, &talk);
+    drop(talk);
+    outcome
 }

@@ -4,10 +4,11 @@ use Rattle.mw_top.proofs.Consoles.{same_behind}
 use Rattle.mw_top.proofs.commands.pal.append_same.Goals as goal
 
 pub returns : goal.returns
-returns c = λ start its.
+returns c = rw (← c.talk.view_is) (λ start its.
     (rw (
       c.in_ok-append_printed.ensures,
+      c.deref.ensures.value,
       c.in_ok-append_comparison.ensures,
       c.in_ok-extend_from_slice.ensures.items,
     ) at (c.in_ok-append_start.ensures start its))
-    ∙ same_behind c.args.report.now.items (job_of c.args.job.now) c.args.steps c.args.talk.now.text start
+    ∙ same_behind c.args.report.now.items (job_of c.args.job.now) c.args.steps _ start)

@@ -1,4 +1,4 @@
-use Rattle.std.proofs.Common.{arith, refl, rules, sym}
+use Rattle.std.proofs.Common.{refl, rules, sym}
 use Rattle.std.proofs.lemmas.Result.{err_from_is_err_and}
 use Rattle.mw_board.specs.declared.parts.BoardParts.{BoardParts}
 use Rattle.mw_boardfile.specs.Board.{board_of}
@@ -15,9 +15,6 @@ use Rattle.mw_top.proofs.commands.upgrade.read.Goals as goal
 -- what follows the board
 abbrev after_board : BoardParts → Plan Fault Work
 after_board board = done (Upgrade board)
-
-pub next-requires-clause-callable : goal.next-requires-clause-callable
-next-requires-clause-callable g c = λ bytes few _ _ _ _ _ _. omega (arith, few)
 
 pub returns-in_err-board-clause-ends : goal.returns-in_err-board-clause-ends
 unfolding upgrade_plan
