@@ -98,7 +98,11 @@ pub(super) fn read<S: Shelf>(
     ensures later { IsLater (shelf_shown S.Shelf shelf.old) (shelf_shown S.Shelf shelf.new) }
 {
     let labelled = read_job(alloc, shelf, files)?;
-    let memory = match files.next(alloc, shelf, |bytes| read_source(alloc, &labelled.job, bytes)) {
+    let memory = match files.next(
+        alloc,
+        shelf,
+        |bytes| read_source(alloc, &labelled.job, bytes),
+    ) {
         Ok(memory) => memory,
         Err(stop) => {
             drop(labelled);
