@@ -1,8 +1,12 @@
 pub mod Blocks
 pub mod Counts
+pub mod Decimals
 pub mod Follows
+pub mod LinesBack
 pub mod Order
 pub mod Places
+pub mod PrintedTokens
+pub mod ReadBack
 pub mod Reduced
 pub mod Truths
 pub mod Unique

@@ -1,6 +1,6 @@
 -- The text of a log, as reports print it.
-use Rattle.std.specs.Prelude.{ℕ, List, [], ◌∷◌, ◌++◌, codes}
-use Rattle.std.specs.List.{flat_map}
+use Rattle.std.specs.Prelude.{ℕ, ◌^◌, List, [], ◌∷◌, ◌++◌, codes, Bool, nat_lt}
+use Rattle.std.specs.List.{flat_map, list_all}
 use Rattle.mw_base.specs.Numbers.{decimal}
 use Rattle.mw_recheck.specs.declared.line.LogLine.{LogLine}
 use Rattle.mw_recheck.specs.declared.line.LogLine.TheVariants as says
@@ -25,3 +25,22 @@ boundary_text lines = codes "boundary\n" ++ flat_map line_text lines
 -- the boundaries, in order
 unfoldable pub log_text : List (List LogLine) → List ℕ
 log_text log = flat_map boundary_text log
+
+-- ---- the range of what is printed
+
+-- the numbers of a line
+abbrev pub numbers_in : LogLine → List ℕ
+numbers_in (says.Node word bit high low) = word ∷ bit ∷ high ∷ low ∷ []
+numbers_in (says.Fact f g h r) = f ∷ g ∷ h ∷ r ∷ []
+
+-- numbers have 64 bits at most
+abbrev pub have_64_bits : List ℕ → Bool
+have_64_bits numbers = list_all (λ n. nat_lt n (2 ^ 64)) numbers
+
+-- the numbers of a line have
+abbrev pub is_narrow : LogLine → Bool
+is_narrow line = have_64_bits (numbers_in line)
+
+-- those of each of these lines have
+abbrev pub are_narrow : List LogLine → Bool
+are_narrow lines = list_all is_narrow lines

@@ -1,7 +1,9 @@
 // Logs as texts.
-ghost use Rattle.std.specs.Prelude.{◌≡◌, ◌++◌, IfOk, OnOk};
-ghost use Rattle.std.specs.List.{flat_map};
+ghost use Rattle.std.specs.Prelude.{◌≡◌, ◌++◌, length, true, Ok, IfOk, OnOk};
+ghost use Rattle.std.specs.List.{flat_map, list_all};
 ghost use Rattle.mw_recheck.specs.LogPrinted.{number_text, numbers_line, line_text, boundary_text, log_text};
+ghost use Rattle.mw_recheck.specs.LogPrinted.{is_narrow, are_narrow};
+ghost use Rattle.mw_recheck.specs.LogText.{log_of};
 
 use crate::line::LogLine;
 use crate::log::Log;
@@ -44,7 +46,8 @@ fn append_numbers_line(
 /// Appends a line of a log.
 #[tactic(auto, unfolding(crate::specs::LogPrinted::line_text))]
 fn append_line(alloc: Global, text: &mut Vec<u8>, line: LogLine) -> Result<(), NoMemory>
-    ensures { OnOk result (text.new.items ≡ text.old.items ++ line_text line) }
+    ensures exact { OnOk result (text.new.items ≡ text.old.items ++ line_text line) }
+    ensures narrow { is_narrow line ≡ true }
 {
     match line {
         LogLine::Node {
@@ -59,7 +62,8 @@ fn append_line(alloc: Global, text: &mut Vec<u8>, line: LogLine) -> Result<(), N
 
 /// Appends lines of a log.
 fn append_lines(alloc: Global, text: &mut Vec<u8>, lines: &[LogLine]) -> Result<(), NoMemory>
-    ensures { OnOk result (text.new.items ≡ text.old.items ++ flat_map line_text lines.now) }
+    ensures exact { OnOk result (text.new.items ≡ text.old.items ++ flat_map line_text lines.now) }
+    ensures narrow { OnOk result (are_narrow lines.now ≡ true) }
 {
     for line in lines {
         append_line(alloc, text, *line)?;
@@ -74,7 +78,8 @@ fn append_boundary(
     text: &mut Vec<u8>,
     lines: &Items<LogLine>,
 ) -> Result<(), NoMemory>
-    ensures { OnOk result (text.new.items ≡ text.old.items ++ boundary_text lines.now) }
+    ensures exact { OnOk result (text.new.items ≡ text.old.items ++ boundary_text lines.now) }
+    ensures narrow { OnOk result (are_narrow lines.now ≡ true) }
 {
     text.extend_from_slice(b"boundary\n")?;
     append_lines(alloc, text, lines.as_slice())
@@ -82,14 +87,16 @@ fn append_boundary(
 
 /// The text of a log: for each boundary a line `boundary`, then its lines `n WORD BIT HIGH LOW` and `i F G H R`.
 ///
-/// Blanks are single, numbers decimal and without leading zeros, and each line ends with a line feed.
+/// Blanks are single, numbers decimal and without leading zeros, and each line ends with a line feed. The text spells
+/// the log for `read_log_of`.
 ///
 /// # Errors
 ///
 /// Memory ran out.
 #[tactic(auto, unfolding(crate::specs::LogPrinted::log_text))]
 pub fn print_log(alloc: Global, log: &Log) -> Result<Vec<u8>, NoMemory>
-    ensures { IfOk result (λ text. text.items ≡ log_text log.now) }
+    ensures exact { IfOk result (λ text. text.items ≡ log_text log.now) }
+    ensures reads_back { IfOk result (λ text. log_of (length log.now) text.items ≡ Ok log.now) }
 {
     let mut text = Vec::new(alloc);
     for lines in log.boundaries() {
