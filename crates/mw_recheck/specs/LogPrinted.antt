@@ -1,4 +1,4 @@
--- The text of a log, as reports print it.
+-- The text of a log, as it is printed.
 use Rattle.std.specs.Prelude.{ℕ, ◌^◌, List, [], ◌∷◌, ◌++◌, codes, Bool, nat_lt}
 use Rattle.std.specs.List.{flat_map, list_all}
 use Rattle.mw_base.specs.Numbers.{decimal}

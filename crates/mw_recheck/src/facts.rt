@@ -130,7 +130,7 @@ fn half(nodes: &[Node], variable: Variable, value: bool, x: u64) -> u64
 {
     match node_at(nodes, u128::from(x)) {
         Some(node) => {
-            if !variable.is(node.variable()) {
+            if !variable.is_same(node.variable()) {
                 x
             } else if value {
                 node.high
@@ -159,7 +159,7 @@ fn chooses(nodes: &[Node], variable: Variable, high: u64, low: u64, x: u64) -> b
     ensures { result ≡ chooses (seen variable) high low (node_at nodes.now x) }
 {
     match node_at(nodes, u128::from(x)) {
-        Some(node) => variable.is(node.variable()) && node.high == high && node.low == low,
+        Some(node) => variable.is_same(node.variable()) && node.high == high && node.low == low,
         None => false,
     }
 }

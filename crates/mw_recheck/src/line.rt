@@ -70,8 +70,8 @@ impl Variable {
         self.bit < other.bit || (self.bit == other.bit && self.word < other.word)
     }
 
-    /// Whether it is another one.
-    pub fn is(self, other: Variable) -> bool
+    /// Whether both are one variable.
+    pub fn is_same(self, other: Variable) -> bool
         ensures { result ≡ is_variable (seen self) (seen other) }
     {
         self.bit == other.bit && self.word == other.word

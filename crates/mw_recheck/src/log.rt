@@ -47,8 +47,9 @@ impl Log {
 /// For each boundary a text has a line `boundary`, and then lines of two kinds. `n WORD BIT HIGH LOW` adds a node: that
 /// of a bit of a word, which chooses one earlier node where the bit is 1 and another where it is 0; each of them is
 /// constant, or of a variable that is later by bit and then by word. No two such lines of a boundary are equal.
-/// `i F G H R` is a fact: node R is G where F holds, else H. It has to follow: at once, or from what is known of the
-/// triple's halves by its first variable.
+/// `i F G H R` is a fact: node R is G where F holds, else H. It has to follow. It does at once where F is 0 and R is H,
+/// and where F is 1 or G is H and R is G. Else it does where the two triples in which the first variable of F, G and H is 1
+/// and is 0 have results, at once or by earlier facts, and R is the node of that variable with these two, or both are R.
 ///
 /// The text has fewer than 2^32 bytes.
 ///
