@@ -1,11 +1,12 @@
 #!/usr/bin/env python3
-"""Rows of PDP-8 programs at their console, as crates/mw_rows runs them, from cases of the command `pal` that are JSON, one
-a line.
+"""Rows of PDP-8 programs at their console, as crates/mw_rows runs them, from cases of the command `pal` that are JSON,
+one a line.
 
     pal.py CASES..    prints the rows of crates/mw_rows/data/pal. The PDP-8 of the cases is that of examples/pdp8, whose
                       description and relation say the same in other words. Those of changed microprograms are left out
 """
 import json
+import re
 import sys
 from itertools import chain
 from pathlib import Path
@@ -24,6 +25,12 @@ HEAD = """\
 # PDP-8 programs at their console, beside a board: what is printed, and an environment in which the board runs them; the
 # first difference; or the first fault. The answers are those of a second implementation, of which tools/rows/pal.py
 # prints the rows. The faults of the PDP-8 are tried in the file of faults."""
+
+
+def plain(case):
+    """A case whose machine has a short comment at its head."""
+    machine = re.sub("^; PDP-8/E .*", "; PDP-8/E", case["files"].get("k", ""))
+    return case | {"files": {file: machine if file == "k" else text for file, text in case["files"].items()}}
 
 
 def is_taken(case):
@@ -55,7 +62,8 @@ def lines_of(case, pdp8, sets):
 
 
 def main():
-    named = (case | {"name": WORKED.get(case["name"], case["name"])} for case in cases_of(sys.argv[1:]) if is_taken(case))
+    taken = filter(is_taken, map(plain, cases_of(sys.argv[1:])))
+    named = (case | {"name": WORKED.get(case["name"], case["name"])} for case in taken)
     cases = [each for case in named for each in with_later(case)]
     pdp8 = {name: cases[0]["files"][name] for name in FILES}
     sets = {file: name for file, name in sets_of(cases).items() if file not in {hashed(*its) for its in pdp8.items()}}
