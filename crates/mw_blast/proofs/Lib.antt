@@ -7,3 +7,4 @@ pub mod Ops
 pub mod Reached
 pub mod SoFar
 pub mod Waiting
+pub mod Written

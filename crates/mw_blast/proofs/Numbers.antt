@@ -19,7 +19,7 @@ no_operation true budget over = absurd (omega (arith, over.2))
 no_operation false budget over = absurd (omega (arith, over.2))
 
 -- a term with an operation is no constant
-is_word : (t : Table) (op : Op) (j budget : ℕ) → IsOneOver (row t op j) budget → is_constant op ≡ false
+pub is_word : (t : Table) (op : Op) (j budget : ℕ) → IsOneOver (row t op j) budget → is_constant op ≡ false
 unfolding operations row_bits
 is_word t (Con number w) j budget over = absurd (no_operation (nat_lt j 0) budget over)
 is_word t op j budget over = refl

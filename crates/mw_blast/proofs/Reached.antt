@@ -7,6 +7,7 @@ use Rattle.mw_term.specs.declared.op.Op.{Op}
 use Rattle.mw_term.specs.declared.op.Op.TheVariants.{Con, Var, Not, And, Or, Xor, Sum, Cout, Ovf, Eq, Lt, Ite, Part}
 use Rattle.mw_term.specs.declared.op.Op.TheVariants.{Join, Tab}
 use Rattle.mw_term.specs.Functions.{Function}
+use Rattle.mw_term.specs.Operands.{operands}
 use Rattle.mw_term.specs.PathWords.{path_zero, path_one}
 use Rattle.mw_term.specs.Rows.{bit, row, row_bits}
 use Rattle.mw_term.specs.Table.{Table, OpFits, IsTable, widths_of}
@@ -17,8 +18,9 @@ use Rattle.mw_blast.specs.declared.fault.BlastFault.{BlastFault}
 use Rattle.mw_blast.specs.declared.fault.BlastFault.TheVariants as blast
 use Rattle.mw_blast.specs.declared.fault.RowFault.{RowFault}
 use Rattle.mw_blast.specs.declared.fault.RowFault.TheVariants.{Over, NoMemory}
-use Rattle.mw_blast.specs.Causes.{operands, IsReached, IsCause}
-use Rattle.mw_blast.specs.Causes.IsReached.{itself, through}
+use Rattle.mw_blast.specs.Causes.{IsCause}
+use Rattle.mw_term.specs.Operands.{IsReached}
+use Rattle.mw_term.specs.Operands.IsReached.{itself, through}
 use Rattle.mw_blast.specs.Rows.{IsRefused, IsRefusedAt, fault_at, fault_of}
 use Rattle.mw_blast.specs.Splits.{IsSplitCause}
 

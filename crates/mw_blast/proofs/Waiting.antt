@@ -5,10 +5,12 @@ use Rattle.std.specs.Prelude.{false, Some, None, slice_get, slice_index_or, slic
 use Rattle.std.proofs.lemmas.Bool.{cases_lt}
 use Rattle.std.proofs.lemmas.List.{get_or_append_left, get_or_push, get_or-take, length-take-le, length-set}
 use Rattle.mw_term.specs.declared.op.Op.{Op}
+use Rattle.mw_term.specs.Operands.{operands}
 use Rattle.mw_term.specs.Table.{Table, IsTable}
 use Rattle.mw_blast.specs.declared.fault.BlastFault.{BlastFault}
-use Rattle.mw_blast.specs.Causes.{operands, IsReached, IsCause}
-use Rattle.mw_blast.specs.Causes.IsReached.{itself}
+use Rattle.mw_blast.specs.Causes.{IsCause}
+use Rattle.mw_term.specs.Operands.{IsReached}
+use Rattle.mw_term.specs.Operands.IsReached.{itself}
 use Rattle.mw_blast.specs.Kept.{Made, is_made, AreMade, unmade, IsOnTheWay, distance}
 use Rattle.mw_blast.proofs.Bits.{each_push}
 use Rattle.mw_blast.proofs.Kept.{made_same, made_other, unmade_fewer, all_made, first_missing}

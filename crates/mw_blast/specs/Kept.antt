@@ -7,7 +7,7 @@ use Rattle.mw_term.specs.Table.{Table, Extends, ArePair, widths_of, term_width}
 use Rattle.mw_dd.specs.declared.nodes.Node.{Node}
 use Rattle.mw_dd.specs.Diagrams.{Keeps}
 use Rattle.mw_blast.specs.Bits.{StandsFor}
-use Rattle.mw_blast.specs.Causes.{IsReached}
+use Rattle.mw_term.specs.Operands.{IsReached}
 
 -- Bits of terms, one after another, and for each term the place where its own begin. There is none where they weren't
 -- made.

@@ -4,4 +4,5 @@ pub mod Entries
 pub mod Kept
 pub mod Numbers
 pub mod Rows
+pub mod Shared
 pub mod Splits

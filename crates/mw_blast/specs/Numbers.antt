@@ -4,9 +4,10 @@ use Rattle.std.specs.Prelude.{◌≡◌, ℕ, ◌⊎◌, List, Contains, Some, I
 use Rattle.mw_term.specs.declared.op.Op.{Op}
 use Rattle.mw_term.specs.declared.op.Op.TheVariants.{Con}
 use Rattle.mw_term.specs.Numbered.{IsNumbered}
+use Rattle.mw_term.specs.Operands.{operands}
 use Rattle.mw_term.specs.Table.{IsTable}
 use Rattle.mw_term.specs.WordList.{WordList, word_number, table_in}
-use Rattle.mw_blast.specs.Causes.{operands, IsOver}
+use Rattle.mw_blast.specs.Causes.{IsOver}
 
 -- a term of a list is a constant, or that of a word
 abbrev pub IsKnown : WordList → (term : ℕ) → Type 0

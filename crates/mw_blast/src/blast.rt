@@ -2,13 +2,14 @@
 ghost use Rattle.std.specs.Prelude.{◌≡◌, ◌-◌, ◌<◌, ◌≤◌, ℕ, List, [], ◌∷◌, ◌++◌, true, not, length, find, slice_get};
 ghost use Rattle.std.specs.Prelude.{slice_index, slice_set, Some, IfOk, IfErr, OnOk, OnErr};
 ghost use Rattle.mw_term.specs.declared.op.Op as ops;
+ghost use Rattle.mw_term.specs.Operands.{operands};
 ghost use Rattle.mw_term.specs.Rows.{bit};
 ghost use Rattle.mw_term.specs.Table.{Table, term_width};
 ghost use Rattle.mw_dd.specs.declared.nodes.Node as nodes;
 ghost use Rattle.mw_dd.specs.Nodes.{IsDd, function_of};
 ghost use Rattle.mw_dd.specs.Diagrams.{Keeps};
 ghost use Rattle.mw_blast.specs.Bits.{AreBits};
-ghost use Rattle.mw_blast.specs.Causes.{operands, IsCause};
+ghost use Rattle.mw_blast.specs.Causes.{IsCause};
 ghost use Rattle.mw_blast.specs.Kept.{made_of, start_of, is_made, AreMade, IsOf, IsOnTheWay, distance};
 ghost use Rattle.mw_blast.specs.Splits.{IsSplit, IsSplitCause};
 
@@ -115,7 +116,7 @@ impl Blast {
     }
 
     /// The first operand of an op whose bits weren't made.
-    #[tactic(auto, unfolding(crate::specs::Causes::operands))]
+    #[tactic(auto, unfolding(mw_term::specs::Operands::operands))]
     fn unmade_operand(&self, op: Op) -> Option<Term>
         ensures { result ≡ find (λ x. not (is_made self.now x)) (operands op) }
     {

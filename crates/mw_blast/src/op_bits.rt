@@ -1,13 +1,13 @@
 // The bits of an op, from those of its operands.
 ghost use Rattle.std.specs.Prelude.{◌≡◌, ◌≤◌, ◌<◌, ◌-◌, ℕ, List, true, length, IfOk, MatchResult};
 ghost use Rattle.mw_term.specs.Functions.{Function};
+ghost use Rattle.mw_term.specs.Operands.{operands};
 ghost use Rattle.mw_term.specs.Rows.{bit, bit_made, row, row_bits};
 ghost use Rattle.mw_term.specs.Table.{IsBit, Fits, widths_of, term_width, width_over};
 ghost use Rattle.mw_dd.specs.declared.nodes.Node as nodes;
 ghost use Rattle.mw_dd.specs.Nodes.{IsDd};
 ghost use Rattle.mw_dd.specs.Diagrams.{Keeps};
 ghost use Rattle.mw_blast.specs.Bits.{StandsFor, AreThere, StandEach, AreFor};
-ghost use Rattle.mw_blast.specs.Causes.{operands};
 ghost use Rattle.mw_blast.specs.Kept.{is_made, AreMade, IsOf, AreReady};
 ghost use Rattle.mw_blast.specs.Rows.{carried, bit_at, operations_at, IsRefusedAt};
 

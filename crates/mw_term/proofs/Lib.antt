@@ -3,9 +3,12 @@ pub mod Cofactors
 pub mod Examples
 pub mod Fitting
 pub mod Fixed
+pub mod Hinting
 pub mod Indexes
 pub mod Kept
 pub mod Numbered
+pub mod Operands
 pub mod Pushed
 pub mod Rows
+pub mod Standing
 pub mod Tables

@@ -7,9 +7,12 @@ use Rattle.mw_term.specs.Assigned.{Given}
 use Rattle.mw_term.specs.Cofactors.{Variable, value_of, is_before, with_fixed, Agree, HasAtMostCofactors}
 use Rattle.mw_term.specs.Cofactors.{HasMoreCofactors}
 use Rattle.mw_term.specs.Functions.{Function, never, always, Triple, ite}
-use Rattle.mw_term.specs.Rows.{bit_made}
-use Rattle.mw_term.specs.Table.{Table, IsMap, IsTable, OpFits, Fits, IsWidth, widths_of, term_width, width_over}
-use Rattle.mw_term.specs.Values.{IsTermOf, term_value, value_over}
+use Rattle.mw_term.specs.Operands.{operands, placed, AreBefore}
+use Rattle.mw_term.specs.Rows.{row, bit_made}
+use Rattle.mw_term.specs.Standing.{StandsIn}
+use Rattle.mw_term.specs.Table.{Table, Extends, IsMap, IsTable, OpFits, Fits, IsWidth, widths_of, term_width}
+use Rattle.mw_term.specs.Table.{width_over}
+use Rattle.mw_term.specs.Values.{IsTermOf, Keeps, term_value, value_over}
 
 -- what a term with an op has in a table: the op fits the terms before it and all terms; the term has the op's width,
 -- which is 1 to 32 bits, and under every assignment the op's value, which has no more bits
@@ -80,3 +83,18 @@ HasTwo t = HasMoreCofactors t 1 × HasAtMostCofactors t 2
 abbrev pub LaterHasTwo : Type 0
 LaterHasTwo = (first later : Variable) → is_before first later ≡ true
     → HasTwo (ite (value_of later) (value_of first) never) × HasTwo (ite (value_of later) never (value_of first))
+
+-- what stands in a table goes on to stand there when more is written
+abbrev pub StandsWithMore : Type 0
+StandsWithMore = (old new t : Table) (places : List ℕ) → Extends old new → Keeps old new → StandsIn old t places
+    → StandsIn new t places
+
+-- and when the table has grown
+abbrev pub StandsInMore : Type 0
+StandsInMore = (l old new : Table) (places : List ℕ) → Extends old new → Keeps old new → StandsIn l old places
+    → StandsIn l new places
+
+-- where the operands of an op stand in a table, the rows of the op with these at their places are its own rows
+abbrev pub RowsStand : Type 0
+RowsStand = (l t : Table) (places : List ℕ) (op : Op) → StandsIn l t places → AreBefore (length places) (operands op)
+    → (j : ℕ) → row t (placed places op) j ≡ row l op j

@@ -1,12 +1,16 @@
 pub mod Assigned
 pub mod Cofactors
+pub mod Constants
 pub mod Examples
 pub mod Functions
+pub mod Hints
 pub mod Laws
 pub mod MemoryRead
 pub mod Numbered
+pub mod Operands
 pub mod PathWords
 pub mod Rows
+pub mod Standing
 pub mod Table
 pub mod Values
 pub mod WordList

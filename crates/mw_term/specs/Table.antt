@@ -110,6 +110,16 @@ pub record Extends (old new : Table) : Type 0 where
   pub more : length old.ops ≤ length new.ops
   pub ops : take (length old.ops) new.ops ≡ old.ops
 
+-- no op stands at two terms
+abbrev pub HasOpsOnce : Table → Type 0
+HasOpsOnce t = (a b : ℕ) (op : Op) → slice_get t.ops a ≡ Some op → slice_get t.ops b ≡ Some op → a ≡ b
+
+-- what the code keeps of a table in which no op stands twice: the ops again, by which they are found
+pub record IsIndexed (keys : List Op) (t : Table) : Type 0 where
+  pub keys_are : keys ≡ t.ops
+  pub table : IsTable t
+  pub once : HasOpsOnce t
+
 -- what the code keeps: a table, and beside the ops their widths
 pub record IsTableWithWidths (ops : List Op) (beside map : List ℕ) : Type 0 where
   pub table : IsTable (table_of ops map)

@@ -2,8 +2,9 @@
 ghost use Rattle.std.specs.Prelude.{[]};
 ghost use Rattle.mw_term.specs.Examples.{RowsAsWritten};
 ghost use Rattle.mw_term.specs.Laws.{CountsAreApart, FixedAreBefore, LaterHasTwo, MapsAreShort, OpsAreWords};
-ghost use Rattle.mw_term.specs.Laws.{RowsMakeValues, TerminalCasesHaveNone, TermsHaveOps, TermsHaveWidths};
-ghost use Rattle.mw_term.specs.Laws.{VariableHasOne};
+ghost use Rattle.mw_term.specs.Laws.{RowsMakeValues, RowsStand, StandsInMore, StandsWithMore, TerminalCasesHaveNone};
+ghost use Rattle.mw_term.specs.Laws.{TermsHaveOps};
+ghost use Rattle.mw_term.specs.Laws.{TermsHaveWidths, VariableHasOne};
 ghost use Rattle.mw_term.specs.Numbered.{IsNumbered, StaysWithConstants, StaysWithReads, StaysWithVariables};
 ghost use Rattle.mw_term.specs.Numbered.{StaysWithWords};
 ghost use Rattle.mw_term.specs.WordList.{list_of};
@@ -37,6 +38,19 @@ pub fn rows_make_values()
 /// The law of the small table: the rows of its ops are these, written out by hand.
 pub fn rows_as_written()
     ensures { RowsAsWritten }
+{}
+
+/// The law of standing: the written terms that stand in a table go on to stand there when more is written, and when the
+/// table has grown.
+pub fn stands_with_more()
+    ensures written { StandsWithMore }
+    ensures table { StandsInMore }
+{}
+
+/// The law of standing rows: an op whose operands stand in a table has, over the terms at which they stand, the rows
+/// that it has over the written terms.
+pub fn rows_stand()
+    ensures { RowsStand }
 {}
 
 /// The law of fixed variables: those before a place have the fixed values, and the others their own.

@@ -1,8 +1,8 @@
 // Terms and their ops.
 use std::marker::Model;
 
-/// A term: a position in the table that made it, seen as that number.
-#[derive(Clone, Copy, Debug, PartialEq, Eq)]
+/// A term: a position in the list in which it was written, or in the table that made it, seen as that number.
+#[derive(Clone, Copy, Debug, PartialEq, Eq, Hash)]
 pub struct Term {
     position: u32,
 }
@@ -20,14 +20,14 @@ impl Model for Term {
 impl Term {
     ghost use Rattle.std.specs.Prelude.{◌≡◌, ◌<◌, ◌^◌};
 
-    /// The term at a position of a table, from 0.
+    /// The term at a position, from 0.
     pub fn at(position: u32) -> Term
         ensures { result ≡ position }
     {
         Term { position }
     }
 
-    /// Its position in its table, from 0.
+    /// Its position in its list or table, from 0.
     pub fn position(self) -> usize
         ensures exact { result ≡ self }
         ensures below { result < 2 ^ 32 }
@@ -36,8 +36,9 @@ impl Term {
     }
 }
 
-/// What a term is made of. Operands are earlier terms of the same table, whose bits are numbered from 0, the lowest.
-#[derive(Clone, Copy, Debug, PartialEq, Eq)]
+/// What a term is made of. Operands are earlier terms of the same list or table, whose bits are numbered from 0, the
+/// lowest.
+#[derive(Clone, Copy, Debug, PartialEq, Eq, Hash)]
 pub enum Op {
     /// A number, and its width of 1 to 32 bits: the number is below 2 to the width.
     Con(u32, u8),
@@ -71,4 +72,76 @@ pub enum Op {
     /// The entry of the board's map, of 12 bits, at an index. The map has an entry for each value of the index, so it
     /// isn't empty and the index has 1 to 8 bits.
     Tab(Term),
+}
+
+impl Op {
+    ghost use Rattle.std.specs.Prelude.{◌≡◌};
+    ghost use Rattle.mw_term.specs.Hints.{operand_at};
+
+    /// The first operand.
+    #[tactic(auto, unfolding(crate::specs::Operands::operands))]
+    fn first(&self) -> Option<Term>
+        ensures { result ≡ operand_at self.now 0 }
+    {
+        match *self {
+            Op::Con(..) | Op::Var(..) => None,
+            Op::Not(a)
+            | Op::And(a, _)
+            | Op::Or(a, _)
+            | Op::Xor(a, _)
+            | Op::Sum(a, _, _)
+            | Op::Cout(a, _, _)
+            | Op::Ovf(a, _, _)
+            | Op::Eq(a, _)
+            | Op::Lt(a, _)
+            | Op::Ite(a, _, _)
+            | Op::Part(a, ..)
+            | Op::Join(a, _)
+            | Op::Tab(a) => Some(a),
+        }
+    }
+
+    /// The second.
+    #[tactic(auto, unfolding(crate::specs::Operands::operands))]
+    fn second(&self) -> Option<Term>
+        ensures { result ≡ operand_at self.now 1 }
+    {
+        match *self {
+            Op::And(_, b)
+            | Op::Or(_, b)
+            | Op::Xor(_, b)
+            | Op::Sum(_, b, _)
+            | Op::Cout(_, b, _)
+            | Op::Ovf(_, b, _)
+            | Op::Eq(_, b)
+            | Op::Lt(_, b)
+            | Op::Ite(_, b, _)
+            | Op::Join(_, b) => Some(b),
+            Op::Con(..) | Op::Var(..) | Op::Not(_) | Op::Part(..) | Op::Tab(_) => None,
+        }
+    }
+
+    /// The third.
+    #[tactic(auto, unfolding(crate::specs::Operands::operands))]
+    fn third(&self) -> Option<Term>
+        ensures { result ≡ operand_at self.now 2 }
+    {
+        match *self {
+            Op::Sum(_, _, c) | Op::Cout(_, _, c) | Op::Ovf(_, _, c) | Op::Ite(_, _, c) => Some(c),
+            _ => None,
+        }
+    }
+
+    /// The operand at a place, from 0, in the order of the term table, if it has one there.
+    #[tactic(auto, unfolding(crate::specs::Operands::operands))]
+    pub fn operand(&self, place: u8) -> Option<Term>
+        ensures { result ≡ operand_at self.now place }
+    {
+        match place {
+            0 => self.first(),
+            1 => self.second(),
+            2 => self.third(),
+            _ => None,
+        }
+    }
 }

@@ -9,7 +9,7 @@ use Rattle.mw_blast.specs.declared.rows.Row.TheVariants as rows
 use Rattle.mw_blast.specs.Bits.{AreFor}
 use Rattle.mw_blast.specs.Entries.{entry_row}
 use Rattle.mw_blast.specs.Rows.{IsRefusedAt}
-use Rattle.mw_blast.specs.Causes.{operands}
+use Rattle.mw_term.specs.Operands.{operands}
 use Rattle.mw_blast.proofs.Ops.{ready_two, two_made, makes, not_makes, and_makes, or_makes, xor_makes, sum_makes}
 use Rattle.mw_blast.proofs.Ops.{choice_makes}
 use Rattle.mw_blast.proofs.Ops.{makes_top, out_makes, equal_makes, less_makes, overflow_makes, constant_made}
