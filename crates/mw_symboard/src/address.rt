@@ -17,7 +17,7 @@ use mw_board::Board;
 use mw_cycle::Microword;
 use mw_seq::{AddressFrom, Instruction};
 use mw_symmem::Words;
-use mw_term::{Op, Term, Terms};
+use mw_term::{Op, Term, Written};
 use std::alloc::Global;
 
 /// The entry of the map for the instruction register, where the map has bits.
@@ -25,7 +25,7 @@ fn entry(
     alloc: Global,
     board: &Board,
     ir: Term,
-    terms: &mut Terms,
+    terms: &mut Written,
     words: &mut Words,
 ) -> Result<Term, NoMemory>
     requires some { 1 ≤ board.now.map_bits }
@@ -49,7 +49,7 @@ fn mapped(
     alloc: Global,
     board: &Board,
     ir: Term,
-    terms: &mut Terms,
+    terms: &mut Written,
     words: &mut Words,
 ) -> Result<Term, NoMemory>
     requires wide { IsOfWidth terms.old board.now.width ir }
@@ -72,7 +72,7 @@ pub(crate) fn direct(
     board: &Board,
     microword: &Microword,
     ir: Term,
-    terms: &mut Terms,
+    terms: &mut Written,
     words: &mut Words,
 ) -> Result<Term, NoMemory>
     requires microword { IsMicroword board.now microword.now }
@@ -100,7 +100,7 @@ fn top(
     sp: u8,
     noise: Term,
     board: &Board,
-    terms: &mut Terms,
+    terms: &mut Written,
     words: &mut Words,
 ) -> Result<Term, NoMemory>
     requires parts { AreParts board.now terms.old parts.now }
@@ -128,7 +128,7 @@ pub(crate) fn next(
     noise: Term,
     direct: Term,
     board: &Board,
-    terms: &mut Terms,
+    terms: &mut Written,
     words: &mut Words,
 ) -> Result<Term, NoMemory>
     requires parts { AreParts board.now terms.old parts.now }
@@ -154,7 +154,7 @@ pub(crate) fn next(
 pub(crate) fn less_one(
     alloc: Global,
     r: Term,
-    terms: &mut Terms,
+    terms: &mut Written,
     words: &mut Words,
 ) -> Result<Term, NoMemory>
     requires wide { IsOfWidth terms.old 12 r }

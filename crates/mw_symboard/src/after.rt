@@ -30,7 +30,7 @@ use mw_board::Board;
 use mw_cycle::Microword;
 use mw_seq::StackMove;
 use mw_symmem::Words;
-use mw_term::{Term, Terms};
+use mw_term::{Term, Written};
 use std::alloc::Global;
 
 /// The item of a place takes what there is to take.
@@ -60,7 +60,7 @@ fn mar(
     board: &Board,
     old: Term,
     y: Term,
-    terms: &mut Terms,
+    terms: &mut Written,
     words: &mut Words,
 ) -> Result<Term, NoMemory>
     requires old { IsOfWidth terms.old board.now.address old }
@@ -96,7 +96,7 @@ fn edge_made(
     microword: &Microword,
     place: &Progress,
     reading: &mut Reading,
-    terms: &mut Terms,
+    terms: &mut Written,
     words: &mut Words,
 ) -> Result<Taken, NoMemory>
     requires microword { IsMicroword board.now microword.now }
@@ -310,7 +310,7 @@ pub(crate) fn take_edge(
     place: &mut Progress,
     reading: &mut Reading,
     leaving: Leaving,
-    terms: &mut Terms,
+    terms: &mut Written,
     words: &mut Words,
 ) -> Result<(), NoMemory>
     requires microword { IsMicroword board.now microword.now }

@@ -20,7 +20,7 @@ use mw_alu::Function;
 use mw_base::NoMemory;
 use mw_board::{Bit, Board};
 use mw_symmem::Words;
-use mw_term::{Op, Term, Terms};
+use mw_term::{Op, Term, Written};
 use std::alloc::Global;
 use std::marker::Model;
 
@@ -136,7 +136,7 @@ impl Bits {
         parts: &Parts,
         sp: u8,
         line: Term,
-        terms: &mut Terms,
+        terms: &mut Written,
         words: &mut Words,
     ) -> Result<Term, NoMemory>
         requires fits { Fits terms.old op }
@@ -170,7 +170,7 @@ impl Bits {
         parts: &Parts,
         sp: u8,
         line: Term,
-        terms: &mut Terms,
+        terms: &mut Written,
         words: &mut Words,
     ) -> Result<Term, NoMemory>
         requires valid { IsBit board.now.width (length board.now.flipflop) bit }
@@ -217,7 +217,7 @@ impl Bits {
         parts: &Parts,
         sp: u8,
         sources: &Sources,
-        terms: &mut Terms,
+        terms: &mut Written,
         words: &mut Words,
     ) -> Result<Term, NoMemory>
         requires fits { Fits terms.old op }
@@ -250,7 +250,7 @@ impl Bits {
         parts: &Parts,
         sp: u8,
         sources: &Sources,
-        terms: &mut Terms,
+        terms: &mut Written,
         words: &mut Words,
     ) -> Result<Term, NoMemory>
         requires sources { AreSources board.now terms.old sources.now }
@@ -284,7 +284,7 @@ impl Bits {
         parts: &Parts,
         sp: u8,
         sources: &Sources,
-        terms: &mut Terms,
+        terms: &mut Written,
         words: &mut Words,
     ) -> Result<Term, NoMemory>
         requires valid { IsBit board.now.width (length board.now.flipflop) bit }

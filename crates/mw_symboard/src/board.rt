@@ -46,7 +46,7 @@ use mw_base::NoMemory;
 use mw_board::{Board, DFrom, Store};
 use mw_cycle::{Microword, element_of};
 use mw_symmem::{Side, SymEvent, SymMemory, Turn, Words};
-use mw_term::{Decided, DecidedKind, Op, Term, Terms};
+use mw_term::{Decided, DecidedKind, Op, Term, Written};
 use std::alloc::Global;
 use std::marker::Model;
 
@@ -192,7 +192,7 @@ impl SymBoard {
         alloc: Global,
         board: &Board,
         store: &Store,
-        terms: &mut Terms,
+        terms: &mut Written,
         words: &mut Words,
         memory: &mut SymMemory,
     ) -> Result<(), NoMemory>
@@ -247,7 +247,7 @@ impl SymBoard {
         &mut self,
         board: &Board,
         store: &Store,
-        terms: &Terms,
+        terms: &Written,
         words: &Words,
         memory: &SymMemory,
     ) -> Turn
@@ -277,7 +277,7 @@ impl SymBoard {
         alloc: Global,
         board: &Board,
         store: &Store,
-        terms: &mut Terms,
+        terms: &mut Written,
         words: &mut Words,
         memory: &SymMemory,
     ) -> Result<Turn, NoMemory>
@@ -308,7 +308,7 @@ impl SymBoard {
         alloc: Global,
         board: &Board,
         store: &Store,
-        terms: &mut Terms,
+        terms: &mut Written,
         words: &mut Words,
         memory: &SymMemory,
     ) -> Result<Turn, NoMemory>
@@ -353,7 +353,7 @@ impl SymBoard {
         alloc: Global,
         board: &Board,
         store: &Store,
-        terms: &mut Terms,
+        terms: &mut Written,
         words: &mut Words,
         memory: &SymMemory,
     ) -> Result<(), NoMemory>
@@ -424,7 +424,7 @@ impl SymBoard {
         alloc: Global,
         board: &Board,
         store: &Store,
-        terms: &mut Terms,
+        terms: &mut Written,
         words: &mut Words,
         memory: &SymMemory,
     ) -> Result<Turn, NoMemory>
@@ -466,7 +466,7 @@ impl SymBoard {
         microword: &Microword,
         reading: &mut Reading,
         leaving: Leaving,
-        terms: &mut Terms,
+        terms: &mut Written,
         words: &mut Words,
     ) -> Result<(), NoMemory>
         requires microword { IsMicroword board.now microword.now }
@@ -521,7 +521,7 @@ impl SymBoard {
         alloc: Global,
         board: &Board,
         store: &Store,
-        terms: &mut Terms,
+        terms: &mut Written,
         words: &mut Words,
         memory: &mut SymMemory,
     ) -> Result<(), NoMemory>
@@ -607,7 +607,7 @@ impl SymBoard {
         alloc: Global,
         board: &Board,
         store: &Store,
-        terms: &mut Terms,
+        terms: &mut Written,
         words: &mut Words,
         memory: &mut SymMemory,
     ) -> Result<Turn, NoMemory>

@@ -26,7 +26,7 @@ use mw_board::{Bit, Board, Load};
 use mw_cycle::Microword;
 use mw_seq::StackMove;
 use mw_symmem::Words;
-use mw_term::{Op, Term, Terms};
+use mw_term::{Op, Term, Written};
 use std::alloc::Global;
 
 /// A word shifted down, with the bit of a link at its top.
@@ -39,7 +39,7 @@ fn linked_down(
     sp: u8,
     sources: &Sources,
     bits: &mut Bits,
-    terms: &mut Terms,
+    terms: &mut Written,
     words: &mut Words,
 ) -> Result<Option<Term>, NoMemory>
     requires valid { IsBit board.now.width (length board.now.flipflop) link }
@@ -71,7 +71,7 @@ fn linked_up(
     sp: u8,
     sources: &Sources,
     bits: &mut Bits,
-    terms: &mut Terms,
+    terms: &mut Written,
     words: &mut Words,
 ) -> Result<Option<Term>, NoMemory>
     requires valid { IsBit board.now.width (length board.now.flipflop) link }
@@ -102,7 +102,7 @@ pub(crate) fn register_word(
     sp: u8,
     sources: &Sources,
     bits: &mut Bits,
-    terms: &mut Terms,
+    terms: &mut Written,
     words: &mut Words,
 ) -> Result<Option<Term>, NoMemory>
     requires microword { IsMicroword board.now microword.now }
@@ -157,7 +157,7 @@ pub(crate) fn q_word(
     sp: u8,
     sources: &Sources,
     bits: &mut Bits,
-    terms: &mut Terms,
+    terms: &mut Written,
     words: &mut Words,
 ) -> Result<Option<Term>, NoMemory>
     requires microword { IsMicroword board.now microword.now }
@@ -215,7 +215,7 @@ fn turned_by_carry(
     sp: u8,
     sources: &Sources,
     bits: &mut Bits,
-    terms: &mut Terms,
+    terms: &mut Written,
     words: &mut Words,
 ) -> Result<Term, NoMemory>
     requires old { IsOfWidth terms.old 1 old }
@@ -244,7 +244,7 @@ pub(crate) fn loaded(
     sp: u8,
     sources: &Sources,
     bits: &mut Bits,
-    terms: &mut Terms,
+    terms: &mut Written,
     words: &mut Words,
 ) -> Result<Term, NoMemory>
     requires load { IsLoad board.now.width (length board.now.flipflop) load }
@@ -286,7 +286,7 @@ pub(crate) fn flips(
     sp: u8,
     sources: &Sources,
     bits: &mut Bits,
-    terms: &mut Terms,
+    terms: &mut Written,
     words: &mut Words,
 ) -> Result<Vec<Term>, NoMemory>
     requires parts { AreParts board.now terms.old parts.now }
@@ -319,7 +319,7 @@ pub(crate) fn mar_word(
     alloc: Global,
     board: &Board,
     y: Term,
-    terms: &mut Terms,
+    terms: &mut Written,
     words: &mut Words,
 ) -> Result<Term, NoMemory>
     requires wide { IsOfWidth terms.old board.now.width y }

@@ -12,7 +12,7 @@ use crate::make::{constant, word};
 use mw_alu::{Function, Source};
 use mw_base::NoMemory;
 use mw_symmem::Words;
-use mw_term::{Op, Term, Terms};
+use mw_term::{Op, Term, Written};
 use std::alloc::Global;
 
 /// The operand R, from A and D. A 0 makes no word.
@@ -22,7 +22,7 @@ pub(crate) fn r(
     a: Term,
     d: Term,
     width: u8,
-    terms: &mut Terms,
+    terms: &mut Written,
     words: &mut Words,
 ) -> Result<Term, NoMemory>
     requires some { 1 ≤ width }
@@ -49,7 +49,7 @@ pub(crate) fn s(
     b: Term,
     q: Term,
     width: u8,
-    terms: &mut Terms,
+    terms: &mut Written,
     words: &mut Words,
 ) -> Result<Term, NoMemory>
     requires some { 1 ≤ width }
@@ -77,7 +77,7 @@ pub(crate) fn addend_r(
     function: Function,
     r: Term,
     width: u8,
-    terms: &mut Terms,
+    terms: &mut Written,
     words: &mut Words,
 ) -> Result<Term, NoMemory>
     requires wide { IsOfWidth terms.old width r }
@@ -99,7 +99,7 @@ pub(crate) fn addend_s(
     function: Function,
     s: Term,
     width: u8,
-    terms: &mut Terms,
+    terms: &mut Written,
     words: &mut Words,
 ) -> Result<Term, NoMemory>
     requires wide { IsOfWidth terms.old width s }
@@ -120,7 +120,7 @@ fn not_r_and_s(
     r: Term,
     s: Term,
     width: u8,
-    terms: &mut Terms,
+    terms: &mut Written,
     words: &mut Words,
 ) -> Result<Term, NoMemory>
     requires r { IsOfWidth terms.old width r }
@@ -141,7 +141,7 @@ fn alike(
     r: Term,
     s: Term,
     width: u8,
-    terms: &mut Terms,
+    terms: &mut Written,
     words: &mut Words,
 ) -> Result<Term, NoMemory>
     requires r { IsOfWidth terms.old width r }
@@ -166,7 +166,7 @@ pub(crate) fn f(
     addends: (Term, Term),
     carry: Term,
     width: u8,
-    terms: &mut Terms,
+    terms: &mut Written,
     words: &mut Words,
 ) -> Result<Term, NoMemory>
     requires r { IsOfWidth terms.old width operands.0 }

@@ -21,7 +21,7 @@ use mw_board::Board;
 use mw_cycle::Microword;
 use mw_seq::{CounterMove, Effect, Instruction};
 use mw_symmem::Words;
-use mw_term::{Term, Terms};
+use mw_term::{Term, Written};
 use std::alloc::Global;
 
 /// What is known of a cycle's end once pass and the counter are decided.
@@ -95,7 +95,7 @@ fn counter(
     counter: CounterMove,
     old: Term,
     direct: Term,
-    terms: &mut Terms,
+    terms: &mut Written,
     words: &mut Words,
 ) -> Result<Term, NoMemory>
     requires old { IsOfWidth terms.old 12 old }
@@ -126,7 +126,7 @@ impl Leaving {
         microword: &Microword,
         place: &Progress,
         noise: Term,
-        terms: &mut Terms,
+        terms: &mut Written,
         words: &mut Words,
     ) -> Result<Leaving, NoMemory>
         requires microword { IsMicroword board.now microword.now }

@@ -16,7 +16,7 @@ ghost use Rattle.mw_symmem.specs.Listed.{Lists};
 
 use mw_base::NoMemory;
 use mw_symmem::Words;
-use mw_term::{Op, Term, Terms};
+use mw_term::{Op, Term, Written};
 use std::alloc::Global;
 
 /// A constant, which is no word.
@@ -24,7 +24,7 @@ pub(crate) fn constant(
     alloc: Global,
     value: u32,
     width: u8,
-    terms: &mut Terms,
+    terms: &mut Written,
 ) -> Result<Term, NoMemory>
     requires width { IsWidth width }
     requires below { value < 2 ^ width }
@@ -35,7 +35,7 @@ pub(crate) fn constant(
     ensures grows { OnOk result ((words : List Word) → Grows terms.old terms.new words words []) }
     ensures grew { OnOk result ((words : List Word) → Grew terms.old terms.new words words) }
 {
-    let term = terms.build(alloc, Op::Con(value, width))?;
+    let term = terms.write(alloc, Op::Con(value, width))?;
     Ok(term)
 }
 
@@ -43,7 +43,7 @@ pub(crate) fn constant(
 pub(crate) fn word(
     alloc: Global,
     op: Op,
-    terms: &mut Terms,
+    terms: &mut Written,
     words: &mut Words,
 ) -> Result<Term, NoMemory>
     requires fits { Fits terms.old op }
@@ -64,7 +64,7 @@ pub(crate) fn widened(
     narrow: Term,
     from: u8,
     to: u8,
-    terms: &mut Terms,
+    terms: &mut Written,
     words: &mut Words,
 ) -> Result<Term, NoMemory>
     requires wide { IsOfWidth terms.old from narrow }
@@ -90,7 +90,7 @@ pub(crate) fn part(
     whole_width: u8,
     low: u8,
     width: u8,
-    terms: &mut Terms,
+    terms: &mut Written,
     words: &mut Words,
 ) -> Result<Term, NoMemory>
     requires wide { IsOfWidth terms.old whole_width whole }
@@ -116,7 +116,7 @@ pub(crate) fn shifted_down(
     shifted: Term,
     width: u8,
     high: Term,
-    terms: &mut Terms,
+    terms: &mut Written,
     words: &mut Words,
 ) -> Result<Term, NoMemory>
     requires wide { IsOfWidth terms.old width shifted }
@@ -139,7 +139,7 @@ pub(crate) fn shifted_up(
     shifted: Term,
     width: u8,
     low: Term,
-    terms: &mut Terms,
+    terms: &mut Written,
     words: &mut Words,
 ) -> Result<Term, NoMemory>
     requires wide { IsOfWidth terms.old width shifted }
@@ -161,7 +161,7 @@ pub(crate) fn is_zero(
     alloc: Global,
     tested: Term,
     width: u8,
-    terms: &mut Terms,
+    terms: &mut Written,
     words: &mut Words,
 ) -> Result<Term, NoMemory>
     requires width { IsWidth width }

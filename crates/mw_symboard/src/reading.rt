@@ -44,7 +44,7 @@ use mw_base::NoMemory;
 use mw_board::{Bit, Board, Load};
 use mw_cycle::Microword;
 use mw_symmem::{SymMemory, Words};
-use mw_term::{Op, Term, Terms, WordKind};
+use mw_term::{Op, Term, WordKind, Written};
 use std::alloc::Global;
 
 /// What a cycle has read before its edge.
@@ -138,7 +138,7 @@ fn make_read(
     place: &Progress,
     sources: &Sources,
     bits: &mut Bits,
-    terms: &mut Terms,
+    terms: &mut Written,
     words: &mut Words,
 ) -> Result<(), NoMemory>
     requires microword { IsMicroword board.now microword.now }
@@ -177,7 +177,7 @@ fn make_all(
     place: &Progress,
     sources: &Sources,
     bits: &mut Bits,
-    terms: &mut Terms,
+    terms: &mut Written,
     words: &mut Words,
 ) -> Result<(), NoMemory>
     requires microword { IsMicroword board.now microword.now }
@@ -207,7 +207,7 @@ fn make_ir_bits(
     place: &Progress,
     sources: &Sources,
     bits: &mut Bits,
-    terms: &mut Terms,
+    terms: &mut Written,
     words: &mut Words,
 ) -> Result<(), NoMemory>
     requires microword { IsMicroword board.now microword.now }
@@ -238,7 +238,7 @@ fn make_bits(
     place: &Progress,
     sources: &Sources,
     bits: &mut Bits,
-    terms: &mut Terms,
+    terms: &mut Written,
     words: &mut Words,
 ) -> Result<(), NoMemory>
     requires microword { IsMicroword board.now microword.now }
@@ -263,7 +263,7 @@ fn turned(
     alloc: Global,
     polarity: bool,
     bit: Term,
-    terms: &mut Terms,
+    terms: &mut Written,
     words: &mut Words,
 ) -> Result<Term, NoMemory>
     requires wide { IsOfWidth terms.old 1 bit }
@@ -287,7 +287,7 @@ fn condition(
     place: &Progress,
     sources: &Sources,
     bits: &mut Bits,
-    terms: &mut Terms,
+    terms: &mut Written,
     words: &mut Words,
 ) -> Result<Term, NoMemory>
     requires microword { IsMicroword board.now microword.now }
@@ -329,7 +329,7 @@ struct Variables {
 fn noise_word(
     alloc: Global,
     cycle: u32,
-    terms: &mut Terms,
+    terms: &mut Written,
     words: &mut Words,
 ) -> Result<Term, NoMemory>
     requires { term_of words.old (Noise cycle) ≡ None }
@@ -348,7 +348,7 @@ fn noise_word(
 fn line_and_noise(
     alloc: Global,
     cycle: u32,
-    terms: &mut Terms,
+    terms: &mut Written,
     words: &mut Words,
 ) -> Result<Variables, NoMemory>
     requires none { AreNoLater cycle words.old }
@@ -386,7 +386,7 @@ fn operands(
     microword: &Microword,
     parts: &Parts,
     d: Term,
-    terms: &mut Terms,
+    terms: &mut Written,
     words: &mut Words,
 ) -> Result<(Term, Term), NoMemory>
     requires microword { IsMicroword board.now microword.now }
@@ -418,7 +418,7 @@ fn addends(
     function: Function,
     operands: (Term, Term),
     width: u8,
-    terms: &mut Terms,
+    terms: &mut Written,
     words: &mut Words,
 ) -> Result<(Term, Term), NoMemory>
     requires r { IsOfWidth terms.old width operands.0 }
@@ -447,7 +447,7 @@ fn make_sources(
     variables: Variables,
     d: Term,
     bits: &mut Bits,
-    terms: &mut Terms,
+    terms: &mut Written,
     words: &mut Words,
 ) -> Result<Sources, NoMemory>
     requires microword { IsMicroword board.now microword.now }
@@ -510,7 +510,7 @@ impl Reading {
         board: &Board,
         microword: &Microword,
         place: &Progress,
-        terms: &mut Terms,
+        terms: &mut Written,
         words: &mut Words,
         memory: &mut SymMemory,
     ) -> Result<Reading, NoMemory>

@@ -21,7 +21,7 @@ use mw_base::NoMemory;
 use mw_board::{Board, DFrom};
 use mw_cycle::Microword;
 use mw_symmem::{Side, SymMemory, Words};
-use mw_term::{Op, Term, Terms, WordKind};
+use mw_term::{Op, Term, WordKind, Written};
 use std::alloc::Global;
 
 /// The input variable of a number that isn't there yet.
@@ -29,7 +29,7 @@ fn fresh_input(
     alloc: Global,
     board: &Board,
     number: u32,
-    terms: &mut Terms,
+    terms: &mut Written,
     words: &mut Words,
     memory: &SymMemory,
 ) -> Result<Term, NoMemory>
@@ -52,7 +52,7 @@ pub(crate) fn input(
     alloc: Global,
     board: &Board,
     number: u32,
-    terms: &mut Terms,
+    terms: &mut Written,
     words: &mut Words,
     memory: &SymMemory,
 ) -> Result<Term, NoMemory>
@@ -77,7 +77,7 @@ fn read_source(
     board: &Board,
     mar: Term,
     taken: u32,
-    terms: &mut Terms,
+    terms: &mut Written,
     words: &mut Words,
     memory: &mut SymMemory,
 ) -> Result<Term, NoMemory>
@@ -108,7 +108,7 @@ pub(crate) fn from_source(
     microword: &Microword,
     parts: &Parts,
     taken: u32,
-    terms: &mut Terms,
+    terms: &mut Written,
     words: &mut Words,
     memory: &mut SymMemory,
 ) -> Result<Term, NoMemory>
@@ -152,7 +152,7 @@ fn seen_through(
     mask: u32,
     whole: Term,
     width: u8,
-    terms: &mut Terms,
+    terms: &mut Written,
     words: &mut Words,
 ) -> Result<Term, NoMemory>
     requires width { IsWidth width }
@@ -175,7 +175,7 @@ pub(crate) fn masked(
     mask: Option<u32>,
     whole: Term,
     width: u8,
-    terms: &mut Terms,
+    terms: &mut Written,
     words: &mut Words,
 ) -> Result<Term, NoMemory>
     requires width { IsWidth width }

@@ -11,7 +11,7 @@ use crate::nodes::{choice, complement, constant, part, signed, widened};
 use mw_base::NoMemory;
 use mw_expr::Expr;
 use mw_symmem::{Side, SymMemory, Words};
-use mw_term::{Term, Terms};
+use mw_term::{Term, Written};
 use std::alloc::Global;
 
 /// The term that stands for an expression: its value is the expression's, for every assignment, and for every image
@@ -29,7 +29,7 @@ pub fn expr_term(
     expr: &Expr,
     elements: &[Term],
     side: Side,
-    terms: &mut Terms,
+    terms: &mut Written,
     words: &mut Words,
     memory: &mut SymMemory,
 ) -> Result<Term, NoMemory>
@@ -84,7 +84,7 @@ fn part_terms(
     parts: &[Expr],
     elements: &[Term],
     side: Side,
-    terms: &mut Terms,
+    terms: &mut Written,
     words: &mut Words,
     memory: &mut SymMemory,
 ) -> Result<Vec<Term>, NoMemory>

@@ -9,14 +9,14 @@ ghost use Rattle.mw_symmach.specs.Joined.{width_together, joined_value};
 use crate::nodes::above;
 use mw_base::NoMemory;
 use mw_symmem::Words;
-use mw_term::{Term, Terms};
+use mw_term::{Term, Written};
 use std::alloc::Global;
 
 /// The join of some terms, the first highest: each below the join of those before it.
 pub(crate) fn joined(
     alloc: Global,
     parts: &[Term],
-    terms: &mut Terms,
+    terms: &mut Written,
     words: &mut Words,
 ) -> Result<Term, NoMemory>
     requires some { 0 < length parts.now }

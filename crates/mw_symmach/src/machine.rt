@@ -34,7 +34,7 @@ use crate::walk::go_on;
 use mw_base::NoMemory;
 use mw_macro::Machine;
 use mw_symmem::{SymEvent, SymMemory, Turn, Words};
-use mw_term::{DecidedKind, Term, Terms};
+use mw_term::{DecidedKind, Term, Written};
 use std::alloc::Global;
 use std::marker::Model;
 
@@ -131,7 +131,7 @@ impl SymMach {
         &mut self,
         alloc: Global,
         machine: &Machine,
-        terms: &mut Terms,
+        terms: &mut Written,
     ) -> Result<(), NoMemory>
         requires table { IsTable terms.old }
         requires wide { AreWide terms.old (description_of machine.now).shape.widths self.old.parts.values }
@@ -171,7 +171,7 @@ impl SymMach {
         &mut self,
         alloc: Global,
         machine: &Machine,
-        terms: &mut Terms,
+        terms: &mut Written,
         words: &Words,
         memory: &SymMemory,
     ) -> Result<(), NoMemory>
@@ -223,7 +223,7 @@ impl SymMach {
         &mut self,
         alloc: Global,
         machine: &Machine,
-        terms: &mut Terms,
+        terms: &mut Written,
         words: &mut Words,
         memory: &mut SymMemory,
     ) -> Result<Turn, NoMemory>
@@ -257,7 +257,7 @@ impl SymMach {
         &mut self,
         alloc: Global,
         machine: &Machine,
-        terms: &mut Terms,
+        terms: &mut Written,
         words: &mut Words,
         memory: &mut SymMemory,
     ) -> Result<Reached, NoMemory>

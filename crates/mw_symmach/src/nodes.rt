@@ -17,11 +17,11 @@ ghost use Rattle.mw_symmach.specs.GivenTerms.{Gives};
 use mw_base::NoMemory;
 use mw_expr::Pair2;
 use mw_symmem::Words;
-use mw_term::{Op, Term, Terms};
+use mw_term::{Op, Term, Written};
 use std::alloc::Global;
 
 /// The next word, with the value of an op that is no variable.
-fn add(alloc: Global, op: Op, terms: &mut Terms, words: &mut Words) -> Result<Term, NoMemory>
+fn add(alloc: Global, op: Op, terms: &mut Written, words: &mut Words) -> Result<Term, NoMemory>
     requires fits { Fits terms.old op }
     requires none { IsNoVariable op }
     ensures gives { IfOk result (λ term. Gives terms.old terms.new words.old words.new (width_over terms.old op) term
@@ -37,7 +37,7 @@ pub(crate) fn constant(
     alloc: Global,
     number: u32,
     width: u8,
-    terms: &mut Terms,
+    terms: &mut Written,
 ) -> Result<Term, NoMemory>
     requires width { IsWidth width }
     requires below { number < 2 ^ width }
@@ -46,7 +46,7 @@ pub(crate) fn constant(
     ensures listed { IfOk result
         (λ term. (ws : List Word) → Lists (with_constant number width) terms.old terms.new ws ws term) }
 {
-    let term = terms.build(alloc, Op::Con(number, width))?;
+    let term = terms.write(alloc, Op::Con(number, width))?;
     Ok(term)
 }
 
@@ -54,7 +54,7 @@ pub(crate) fn constant(
 pub(crate) fn complement(
     alloc: Global,
     operand: Term,
-    terms: &mut Terms,
+    terms: &mut Written,
     words: &mut Words,
 ) -> Result<Term, NoMemory>
     requires { operand < length terms.old.ops }
@@ -72,7 +72,7 @@ fn sum(
     a: Term,
     b: Term,
     carry: u32,
-    terms: &mut Terms,
+    terms: &mut Written,
     words: &mut Words,
 ) -> Result<Term, NoMemory>
     requires pair { ArePair (widths_of terms.old.ops) a b }
@@ -91,7 +91,7 @@ fn difference(
     alloc: Global,
     a: Term,
     b: Term,
-    terms: &mut Terms,
+    terms: &mut Written,
     words: &mut Words,
 ) -> Result<Term, NoMemory>
     requires pair { ArePair (widths_of terms.old.ops) a b }
@@ -111,7 +111,7 @@ fn unequal(
     alloc: Global,
     a: Term,
     b: Term,
-    terms: &mut Terms,
+    terms: &mut Written,
     words: &mut Words,
 ) -> Result<Term, NoMemory>
     requires pair { ArePair (widths_of terms.old.ops) a b }
@@ -130,7 +130,7 @@ pub(crate) fn signed(
     sign: Pair2,
     a: Term,
     b: Term,
-    terms: &mut Terms,
+    terms: &mut Written,
     words: &mut Words,
 ) -> Result<Term, NoMemory>
     requires pair { ArePair (widths_of terms.old.ops) a b }
@@ -159,7 +159,7 @@ pub(crate) fn choice(
     condition: Term,
     a: Term,
     b: Term,
-    terms: &mut Terms,
+    terms: &mut Written,
     words: &mut Words,
 ) -> Result<Term, NoMemory>
     requires bit { IsBit (widths_of terms.old.ops) condition }
@@ -179,7 +179,7 @@ pub(crate) fn part(
     whole: Term,
     high: u8,
     low: u8,
-    terms: &mut Terms,
+    terms: &mut Written,
     words: &mut Words,
 ) -> Result<Term, NoMemory>
     requires there { whole < length terms.old.ops }
@@ -206,7 +206,7 @@ pub(crate) fn widened(
     alloc: Global,
     narrow: Term,
     width: u8,
-    terms: &mut Terms,
+    terms: &mut Written,
     words: &mut Words,
 ) -> Result<Term, NoMemory>
     requires there { narrow < length terms.old.ops }
@@ -232,7 +232,7 @@ pub(crate) fn above(
     alloc: Global,
     high: Term,
     low: Term,
-    terms: &mut Terms,
+    terms: &mut Written,
     words: &mut Words,
 ) -> Result<Term, NoMemory>
     requires high { high < length terms.old.ops }

@@ -24,7 +24,7 @@ use mw_base::NoMemory;
 use mw_expr::{Expr, Shape};
 use mw_macro::Statement;
 use mw_symmem::{Side, SymEvent, SymMemory, Words};
-use mw_term::{Term, Terms, WordKind};
+use mw_term::{Term, WordKind, Written};
 use std::alloc::Global;
 use std::marker::Model;
 
@@ -58,7 +58,7 @@ fn input_term(
     alloc: Global,
     number: u32,
     width: u8,
-    terms: &mut Terms,
+    terms: &mut Written,
     words: &mut Words,
 ) -> Result<Term, NoMemory>
     requires { IsWidth width }
@@ -92,7 +92,7 @@ impl Parts {
         alloc: Global,
         widths: &[u8],
         elements: usize,
-        terms: &mut Terms,
+        terms: &mut Written,
     ) -> Result<(), NoMemory>
         requires table { IsTable terms.old }
         requires widths { (i : ℕ) → i < length widths.now → IsWidth (slice_index widths.now i) }
@@ -142,7 +142,7 @@ impl Parts {
         shape: &Shape,
         target: u32,
         expr: &Expr,
-        terms: &mut Terms,
+        terms: &mut Written,
         words: &mut Words,
         memory: &mut SymMemory,
     ) -> Result<(), NoMemory>
@@ -175,7 +175,7 @@ impl Parts {
         shape: &Shape,
         address: &Expr,
         expr: &Expr,
-        terms: &mut Terms,
+        terms: &mut Written,
         words: &mut Words,
         memory: &mut SymMemory,
     ) -> Result<(), NoMemory>
@@ -217,7 +217,7 @@ impl Parts {
         alloc: Global,
         shape: &Shape,
         expr: &Expr,
-        terms: &mut Terms,
+        terms: &mut Written,
         words: &mut Words,
         memory: &mut SymMemory,
     ) -> Result<(), NoMemory>
@@ -249,7 +249,7 @@ impl Parts {
         alloc: Global,
         shape: &Shape,
         target: u32,
-        terms: &mut Terms,
+        terms: &mut Written,
         words: &mut Words,
         _memory: &SymMemory,
     ) -> Result<(), NoMemory>
@@ -274,7 +274,7 @@ impl Parts {
         alloc: Global,
         shape: &Shape,
         condition: &Expr,
-        terms: &mut Terms,
+        terms: &mut Written,
         words: &mut Words,
         memory: &mut SymMemory,
     ) -> Result<Term, NoMemory>
@@ -308,7 +308,7 @@ impl Parts {
         alloc: Global,
         shape: &Shape,
         statement: &Statement,
-        terms: &mut Terms,
+        terms: &mut Written,
         words: &mut Words,
         memory: &mut SymMemory,
     ) -> Result<Option<Term>, NoMemory>
@@ -352,7 +352,7 @@ impl Parts {
         shape: &Shape,
         statements: &[Statement],
         from: usize,
-        terms: &mut Terms,
+        terms: &mut Written,
         words: &mut Words,
         memory: &mut SymMemory,
     ) -> Result<Reached, NoMemory>

@@ -14,7 +14,7 @@ use mw_base::NoMemory;
 use mw_expr::Shape;
 use mw_macro::Statement;
 use mw_symmem::{SymMemory, Words};
-use mw_term::Terms;
+use mw_term::Written;
 use std::alloc::Global;
 
 /// Goes on in statements, from a position within the levels from one on, until none of them is left or an `if` asks for
@@ -27,7 +27,7 @@ pub(crate) fn go_on(
     position: usize,
     parts: &mut Parts,
     levels: &mut Vec<Level>,
-    terms: &mut Terms,
+    terms: &mut Written,
     words: &mut Words,
     memory: &mut SymMemory,
 ) -> Result<Reached, NoMemory>

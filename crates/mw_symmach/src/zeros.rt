@@ -9,7 +9,7 @@ ghost use Rattle.mw_symmach.specs.Zeros.{AreWide, HaveZeros};
 
 use crate::nodes::constant;
 use mw_base::NoMemory;
-use mw_term::{Term, Terms};
+use mw_term::{Term, Written};
 use std::alloc::Global;
 
 /// The elements up to a number that have no terms yet get terms of the value 0, of these widths.
@@ -18,7 +18,7 @@ pub(crate) fn push_zeros(
     widths: &[u8],
     elements: usize,
     values: &mut Vec<Term>,
-    terms: &mut Terms,
+    terms: &mut Written,
 ) -> Result<(), NoMemory>
     requires table { IsTable terms.old }
     requires widths { (i : ℕ) → i < length widths.now → IsWidth (slice_index widths.now i) }

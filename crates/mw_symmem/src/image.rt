@@ -6,7 +6,7 @@ ghost use Rattle.mw_symmem.specs.Memory.{IsOfWidth, AreHeld, base_word};
 
 use crate::held::Held;
 use mw_base::NoMemory;
-use mw_term::{Assignment, Terms};
+use mw_term::{Assignment, Written};
 use std::alloc::Global;
 
 /// Writes a word at an address of an image.
@@ -22,7 +22,7 @@ pub(crate) fn image(
     alloc: Global,
     width: u8,
     reads: &[Held],
-    terms: &Terms,
+    terms: &Written,
     given: &Assignment,
 ) -> Result<Vec<u32>, NoMemory>
     requires most { width ≤ 16 }

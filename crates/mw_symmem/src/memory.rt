@@ -19,7 +19,7 @@ use crate::read::{base_value, same, side_value};
 use crate::side::Side;
 use crate::words::Words;
 use mw_base::NoMemory;
-use mw_term::{Assignment, Term, Terms, WordKind};
+use mw_term::{Assignment, Term, WordKind, Written};
 use std::alloc::Global;
 use std::marker::Model;
 
@@ -79,7 +79,7 @@ impl SymMemory {
         alloc: Global,
         side: Side,
         address: Term,
-        terms: &mut Terms,
+        terms: &mut Written,
         words: &mut Words,
     ) -> Result<Made, NoMemory>
         requires few { length self.now.reads < 2 ^ 32 }
@@ -113,7 +113,7 @@ impl SymMemory {
         alloc: Global,
         side: Side,
         address: Term,
-        terms: &mut Terms,
+        terms: &mut Written,
         words: &mut Words,
     ) -> Result<Term, NoMemory>
         requires few { length self.old.reads < 2 ^ 32 }
@@ -169,7 +169,7 @@ impl SymMemory {
     pub fn image_of(
         &self,
         alloc: Global,
-        terms: &Terms,
+        terms: &Written,
         given: &Assignment,
     ) -> Result<Vec<u32>, NoMemory>
         requires table { IsTable terms.now }

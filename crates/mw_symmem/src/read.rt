@@ -12,11 +12,11 @@ ghost use Rattle.mw_symmem.specs.Steps.{Grows, AreSame, IsBaseValue, IsSideValue
 use crate::held::Held;
 use crate::words::Words;
 use mw_base::NoMemory;
-use mw_term::{Op, Term, Terms};
+use mw_term::{Op, Term, Written};
 use std::alloc::Global;
 
 /// One word more, of an op that is no variable.
-fn add(alloc: Global, op: Op, terms: &mut Terms, words: &mut Words) -> Result<Term, NoMemory>
+fn add(alloc: Global, op: Op, terms: &mut Written, words: &mut Words) -> Result<Term, NoMemory>
     requires fits { Fits terms.old op }
     requires none { IsNoVariable op }
     ensures grows { IfOk result (λ term. Grows terms.old terms.new words.old words.new (term ∷ [])) }
@@ -32,7 +32,7 @@ pub(crate) fn same(
     alloc: Global,
     reads: &[Held],
     address: Term,
-    terms: &mut Terms,
+    terms: &mut Written,
     words: &mut Words,
 ) -> Result<Vec<Term>, NoMemory>
     requires { (k : ℕ) (read : kept.Held)
@@ -57,7 +57,7 @@ pub(crate) fn base_value(
     reads: &[Held],
     same: &[Term],
     base: Term,
-    terms: &mut Terms,
+    terms: &mut Written,
     words: &mut Words,
 ) -> Result<Term, NoMemory>
     requires count { length same.now ≡ length reads.now }
@@ -84,7 +84,7 @@ fn over_write(
     write: Held,
     address: Term,
     value: Term,
-    terms: &mut Terms,
+    terms: &mut Written,
     words: &mut Words,
 ) -> Result<Term, NoMemory>
     requires same { Fits terms.old (Eq address write.address) }
@@ -104,7 +104,7 @@ pub(crate) fn side_value(
     writes: &[Held],
     address: Term,
     base: Term,
-    terms: &mut Terms,
+    terms: &mut Written,
     words: &mut Words,
 ) -> Result<Term, NoMemory>
     requires same { (k : ℕ) (write : kept.Held) → slice_get writes.now k ≡ Some write

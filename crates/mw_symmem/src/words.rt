@@ -13,7 +13,7 @@ ghost use Rattle.mw_symmem.specs.Words.{HaveOwnKinds, AreOf, IsNoVariable};
 
 use crate::key::Key;
 use mw_base::NoMemory;
-use mw_term::{Op, Term, Terms, Word, WordKind};
+use mw_term::{Op, Term, Word, WordKind, Written};
 use std::alloc::Global;
 use std::collections::HashMap;
 use std::marker::Model;
@@ -191,7 +191,7 @@ impl Words {
     pub fn fresh(
         &mut self,
         alloc: Global,
-        terms: &mut Terms,
+        terms: &mut Written,
         kind: WordKind,
         width: u8,
     ) -> Result<Term, NoMemory>
@@ -206,7 +206,7 @@ impl Words {
         ensures keeps { Keeps terms.old terms.new }
         ensures table { IsTable terms.new }
     {
-        let term = terms.build(alloc, self.next_variable(width))?;
+        let term = terms.write(alloc, self.next_variable(width))?;
         self.push_variable(term, kind)?;
         Ok(term)
     }
@@ -216,7 +216,7 @@ impl Words {
     /// # Errors
     ///
     /// Memory ran out: the words may only be dropped.
-    pub fn add(&mut self, alloc: Global, terms: &mut Terms, op: Op) -> Result<Term, NoMemory>
+    pub fn add(&mut self, alloc: Global, terms: &mut Written, op: Op) -> Result<Term, NoMemory>
         requires { Fits terms.old op }
         ensures words { IfOk result (λ term. self.new ≡ self.old ++ plain term ∷ []) }
         ensures op { IfOk result (λ term. slice_get terms.new.ops term ≡ Some op) }
@@ -227,7 +227,7 @@ impl Words {
         ensures keeps { Keeps terms.old terms.new }
         ensures table { IsTable terms.new }
     {
-        let term = terms.build(alloc, op)?;
+        let term = terms.write(alloc, op)?;
         self.push_plain(term)?;
         Ok(term)
     }

@@ -2,14 +2,14 @@
 // `line(0,1)`. An operand is `wN`, the word of number N, or `VALUE'WIDTH`, a constant. All numbers are decimal.
 use crate::valued::SymbolicStop;
 use mw_symmem::Words;
-use mw_term::{Op, Term, Terms, WordKind, terms_have_widths};
+use mw_term::{Op, Term, WordKind, Written, terms_have_widths};
 use std::alloc::Global;
 
 /// The number behind the greatest one that a variable of a kind has here.
 const KINDS_END: u32 = 4097;
 
 /// The op of a term, if the term is there.
-fn op_of(terms: &Terms, term: Term) -> Option<Op> {
+fn op_of(terms: &Written, term: Term) -> Option<Op> {
     terms_have_widths();
     if terms.fits(&Op::Not(term)) {
         Some(terms.op(term))
@@ -21,7 +21,7 @@ fn op_of(terms: &Terms, term: Term) -> Option<Op> {
 /// An operand.
 fn operand(
     alloc: Global,
-    terms: &Terms,
+    terms: &Written,
     words: &Words,
     term: Term,
 ) -> Result<String, SymbolicStop> {
@@ -37,7 +37,7 @@ fn operand(
 /// An operation on these operands.
 fn operation(
     alloc: Global,
-    terms: &Terms,
+    terms: &Written,
     words: &Words,
     name: &str,
     operands: &[Term],
@@ -84,7 +84,7 @@ fn variable(alloc: Global, words: &Words, term: Term, width: u8) -> Result<Strin
 /// A word, by its term and its op.
 fn word_text(
     alloc: Global,
-    terms: &Terms,
+    terms: &Written,
     words: &Words,
     term: Term,
     op: Op,
@@ -127,7 +127,7 @@ fn is_behind(words: &Words, term: Term, first: u64) -> bool {
 /// A word that isn't as in one run, and want of memory.
 pub fn words_line(
     alloc: Global,
-    terms: &Terms,
+    terms: &Written,
     words: &Words,
     first: u64,
 ) -> Result<String, SymbolicStop> {

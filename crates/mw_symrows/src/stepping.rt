@@ -13,14 +13,14 @@ use crate::valued::{SymbolicStop, is_of_width, numbered, set, value};
 use mw_macro::Machine;
 use mw_symmach::SymMach;
 use mw_symmem::{Side, SymMemory, Turn, Words, are_of_at_first, is_memory_at_first};
-use mw_term::{Assignment, Term, Terms, WordKind};
+use mw_term::{Assignment, Term, WordKind, Written};
 use std::alloc::Global;
 
 /// A described step on terms with what it works on.
 #[derive(Drop)]
 pub struct StepRun {
-    /// The table of terms.
-    pub terms: Terms,
+    /// The terms that were written.
+    pub terms: Written,
     /// The words of the step.
     pub words: Words,
     /// The memory.
@@ -64,7 +64,7 @@ fn first_variable(
     alloc: Global,
     kind: WordKind,
     width: u8,
-    terms: &mut Terms,
+    terms: &mut Written,
     words: &mut Words,
 ) -> Result<Term, SymbolicStop>
     requires kind { IsFirstKind kind }
@@ -97,7 +97,7 @@ fn push_register(
     alloc: Global,
     machine: &Machine,
     number: u32,
-    terms: &mut Terms,
+    terms: &mut Written,
     words: &mut Words,
     registers: &mut Vec<Term>,
 ) -> Result<(), SymbolicStop>
@@ -123,7 +123,7 @@ fn push_register(
 fn make_registers(
     alloc: Global,
     machine: &Machine,
-    terms: &mut Terms,
+    terms: &mut Written,
     words: &mut Words,
 ) -> Result<Vec<Term>, SymbolicStop>
     requires table { IsTable terms.old }
@@ -144,11 +144,11 @@ fn make_registers(
 }
 
 /// A table without a map and without terms.
-fn no_terms(alloc: Global) -> Result<Terms, SymbolicStop>
+fn no_terms(alloc: Global) -> Result<Written, SymbolicStop>
     ensures exact { IfOk result (λ terms. terms ≡ tables.table_of [] []) }
     ensures table { IfOk result (λ terms. IsTable terms) }
 {
-    let terms = Terms::new(alloc, &[])?;
+    let terms = Written::new(alloc, &[])?;
     Ok(terms)
 }
 
@@ -195,7 +195,7 @@ impl StepRun {
     pub fn on(
         alloc: Global,
         machine: &Machine,
-        terms: Terms,
+        terms: Written,
         words: Words,
         memory: SymMemory,
         registers: &[Term],

@@ -19,7 +19,7 @@ use mw_rowfile::states::{board_of, given_of, state_of, store_of};
 use mw_rowfile::{Fault, File, texts, wrong};
 use mw_symboard::SymBoard;
 use mw_symmem::SymEvent;
-use mw_term::{Assignment, DecidedKind, Terms};
+use mw_term::{Assignment, DecidedKind, Written};
 use std::alloc::Global;
 
 /// What is printed of a cycle.
@@ -110,7 +110,7 @@ fn push_element(
 fn elements_text(
     alloc: Global,
     board: &Board,
-    terms: &Terms,
+    terms: &Written,
     symbolic: &SymBoard,
     given: &Assignment,
 ) -> Result<String, SymbolicStop>

@@ -5,7 +5,7 @@ ghost use Rattle.mw_symmem.specs.Memory.{IsOfWidth};
 use mw_base::NoMemory;
 use mw_rowfile::{Fault, wrong};
 use mw_symmem::Words;
-use mw_term::{Assignment, Op, Term, Terms, WordKind, terms_have_widths};
+use mw_term::{Assignment, Op, Term, WordKind, Written, terms_have_widths};
 use std::alloc::{AllocError, AllocFailed, Global};
 
 /// Why a symbolic run doesn't come to its end.
@@ -55,7 +55,7 @@ pub fn numbered(number: usize) -> Result<u32, SymbolicStop>
 }
 
 /// Whether a term is there, with so many bits.
-pub fn is_of_width(terms: &Terms, width: u8, term: Term) -> bool
+pub fn is_of_width(terms: &Written, width: u8, term: Term) -> bool
     ensures { IsTrue result → IsOfWidth terms.now width term }
 {
     terms_have_widths();
@@ -69,7 +69,7 @@ pub fn is_of_width(terms: &Terms, width: u8, term: Term) -> bool
 /// The term isn't there, and want of memory.
 pub fn value(
     alloc: Global,
-    terms: &Terms,
+    terms: &Written,
     term: Term,
     given: &Assignment,
 ) -> Result<u32, SymbolicStop> {

@@ -17,14 +17,14 @@ use mw_board::{Board, Store};
 use mw_cycle::{CycleIn, Element, State, element_of};
 use mw_symboard::SymBoard;
 use mw_symmem::{Side, SymMemory, Turn, Words, are_of_at_first, is_memory_at_first};
-use mw_term::{Assignment, DecidedKind, Term, Terms, WordKind};
+use mw_term::{Assignment, DecidedKind, Term, WordKind, Written};
 use std::alloc::Global;
 
 /// A symbolic board with what it works on.
 #[derive(Drop)]
 pub struct Run {
-    /// The table of terms.
-    pub terms: Terms,
+    /// The terms that were written.
+    pub terms: Written,
     /// The words of the cycle.
     pub words: Words,
     /// The memory.
@@ -52,7 +52,7 @@ pub(crate) fn variable(
     alloc: Global,
     kind: WordKind,
     width: u8,
-    terms: &mut Terms,
+    terms: &mut Written,
     words: &mut Words,
 ) -> Result<Term, SymbolicStop>
     requires kind { IsFreeKind kind }
@@ -76,7 +76,7 @@ fn push_variable(
     alloc: Global,
     board: &Board,
     number: usize,
-    terms: &mut Terms,
+    terms: &mut Written,
     words: &mut Words,
     elements: &mut Vec<Term>,
 ) -> Result<(), SymbolicStop>
@@ -102,7 +102,7 @@ fn push_variable(
 fn make_elements(
     alloc: Global,
     board: &Board,
-    terms: &mut Terms,
+    terms: &mut Written,
     words: &mut Words,
 ) -> Result<Vec<Term>, SymbolicStop>
     requires table { IsTable terms.old }
@@ -122,11 +122,11 @@ fn make_elements(
 }
 
 /// A table with the board's map, and without terms.
-pub(crate) fn no_terms(alloc: Global, board: &Board) -> Result<Terms, SymbolicStop>
+pub(crate) fn no_terms(alloc: Global, board: &Board) -> Result<Written, SymbolicStop>
     ensures exact { IfOk result (λ terms. terms ≡ tables.table_of [] board.now.map_entries) }
     ensures table { IfOk result (λ terms. IsTable terms) }
 {
-    let terms = Terms::new(alloc, board.parts().map_entries.as_slice())?;
+    let terms = Written::new(alloc, board.parts().map_entries.as_slice())?;
     Ok(terms)
 }
 
@@ -215,7 +215,7 @@ impl Run {
         alloc: Global,
         board: &Board,
         state: &State,
-        terms: Terms,
+        terms: Written,
         words: Words,
         elements: &[Term],
     ) -> Result<Run, SymbolicStop>
@@ -389,7 +389,7 @@ impl Run {
 pub fn element(
     alloc: Global,
     board: &Board,
-    terms: &Terms,
+    terms: &Written,
     symbolic: &SymBoard,
     number: u32,
     given: &Assignment,
