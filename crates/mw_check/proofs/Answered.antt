@@ -18,7 +18,8 @@ use Rattle.mw_dd.specs.Nodes.{function_of}
 use Rattle.mw_blast.specs.Bits.{StandsFor, AreBits}
 use Rattle.mw_blast.specs.declared.fault.BlastFault.{BlastFault}
 use Rattle.mw_blast.specs.declared.fault.BlastFault.TheVariants as blast
-use Rattle.mw_blast.specs.Causes.{IsOver, IsCause}
+use Rattle.mw_blast.specs.Causes.{IsOver}
+use Rattle.mw_blast.specs.Shared.{IsWrittenCause}
 use Rattle.mw_check.specs.Question.{Asked, AgreeUnder, AlwaysAgree}
 use Rattle.mw_check.specs.QuestionTerms.{IsListOf, side_value}
 use Rattle.mw_check.specs.Equal.{given_values, values_from, IsFirstDifference, IsAnswer}
@@ -94,29 +95,36 @@ first_difference q f numbers holds first =
 
 -- ---- unknown
 
+-- what a fault names is over the budget
+abbrev pub NamesOver : Table → (budget : ℕ) → BlastFault → Type 0
+NamesOver t budget fault = (term j : ℕ) → fault ≡ blast.Over term j → IsOver t term j budget
+
+-- what a fault of written terms names is
+pub names_over : (t : Table) (places : List ℕ) (budget : ℕ) (fault : BlastFault)
+    → IsWrittenCause t places budget fault → NamesOver t budget fault
+names_over t places budget fault cause = λ term j is. (subst (IsWrittenCause t places budget) is cause).over
+
 -- the answer of a cause
 pub cause_answer : (q : Asked) (fault : BlastFault) (t : Table) (words : List Word) (end budget : ℕ)
     → IsListOf q t words end
-    → IsCause t end budget fault → (e : Equality)
+    → NamesOver t budget fault → (e : Equality)
     → ((term : ℕ) × (j : ℕ) × (word : ℕ) × (fault ≡ blast.Over term j) × (word_number words term ≡ Some word)
     × (e ≡ equality.Unknown word j))
     → IsAnswer q budget e
 cause_answer q fault t words end budget list cause e is =
-    let over = rw is.3 at cause in
     rw is.5 (record {
       term = is.0;
       its = ap (λ ws. word_number ws is.0) (sym list.list) ∙ is.4;
-      over = subst (λ (x : Table). IsOver x is.0 is.1 budget) list.table over.1;
+      over = subst (λ (x : Table). IsOver x is.0 is.1 budget) list.table (cause is.0 is.1 is.3);
     })
 
 -- what is over has a number
 pub cause_numbered : (q : Asked) (fault : BlastFault) (t : Table) (words : List Word) (end budget : ℕ)
-    → IsListOf q t words end → IsCause t end budget fault → (term j : ℕ) → fault ≡ blast.Over term j
+    → IsListOf q t words end → NamesOver t budget fault → (term j : ℕ) → fault ≡ blast.Over term j
     → IsSome (word_number words term)
 cause_numbered q fault t words end budget list cause term j over =
-    let named = rw over at cause in
     subst (λ ws. IsSome (word_number ws term)) (sym list.list)
-    (over_has_number q term j budget (subst (λ (x : Table). IsOver x term j budget) list.table named.1))
+    (over_has_number q term j budget (subst (λ (x : Table). IsOver x term j budget) list.table (cause term j over)))
 
 -- ---- the bit itself
 

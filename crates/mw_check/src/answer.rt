@@ -2,7 +2,7 @@
 ghost use Rattle.std.specs.Prelude.{◌≡◌, ◌<◌, ◌≤◌, ◌%◌, ◌^◌, ℕ, List, [], All, None, Some, IsSome, length, not, IfOk};
 ghost use Rattle.std.specs.Prelude.{IfErr, IfSome};
 ghost use Rattle.mw_blast.specs.Bits.{AreBits};
-ghost use Rattle.mw_blast.specs.Causes.{IsCause};
+ghost use Rattle.mw_blast.specs.Causes.{IsOver};
 ghost use Rattle.mw_blast.specs.declared.fault.BlastFault.TheVariants as blast;
 ghost use Rattle.mw_term.specs.Assigned.{given_by};
 ghost use Rattle.mw_term.specs.Cofactors.{Agree};
@@ -19,17 +19,17 @@ ghost use Rattle.mw_check.specs.QuestionTerms.{AreDeclared, IsListOf};
 use crate::equality::Equality;
 use crate::question::Question;
 use mw_base::{Items, NoMemory};
-use mw_blast::{Blast, BlastFault};
+use mw_blast::{BlastFault, Shared};
 use mw_dd::{Dd, Diagrams};
 use mw_symmach::expr_term;
 use mw_symmem::{Side, SymMemory, Words};
-use mw_term::{Assignment, Op, Term, Terms, WordKind};
+use mw_term::{Assignment, Op, Places, Term, WordKind, Written};
 use std::alloc::Global;
 
 /// One variable for each of some widths, at the head of a list.
 fn variables(
     alloc: Global,
-    terms: &mut Terms,
+    terms: &mut Written,
     words: &mut Words,
     widths: &[u8],
 ) -> Result<Vec<Term>, NoMemory>
@@ -53,7 +53,7 @@ fn variables(
 /// value.
 fn question_term(
     alloc: Global,
-    terms: &mut Terms,
+    terms: &mut Written,
     words: &mut Words,
     question: &Question,
 ) -> Result<Term, NoMemory>
@@ -131,22 +131,24 @@ fn values_of(alloc: Global, given: &Assignment, widths: &[u8]) -> Result<Items<u
 ///
 /// # Errors
 ///
-/// - `Over`: an operation at the bit that is named, of a term that is this one or is reached from it, is over the
-///   budget.
+/// - `Over`: an operation of the term that is named, which is one of the list, is over the budget at the bit that is
+///   named.
 /// - `NoMemory`: memory ran out.
 fn bits_within(
     alloc: Global,
-    terms: &Terms,
+    terms: &Written,
     dds: &mut Diagrams,
     term: Term,
     budget: u32,
 ) -> Result<Vec<Dd>, BlastFault>
     requires { term < length terms.now.ops }
     ensures bits { IfOk result (λ bits. AreBits terms.now dds.new term bits.items) }
-    ensures over { IfErr result (IsCause terms.now term budget) }
+    ensures over { IfErr result (λ fault. (named bit : ℕ) → fault ≡ blast.Over named bit
+        → IsOver terms.now named bit budget) }
 {
-    let mut blast = Blast::new(alloc);
-    blast.bits(alloc, terms, dds, term, budget)
+    let mut shared = Shared::new(alloc, terms.map())?;
+    let mut places = Places::new(alloc);
+    shared.bits(alloc, terms, &mut places, dds, term, budget)
 }
 
 /// The answer where bits weren't made. A term that is over the budget is a word.
@@ -174,7 +176,7 @@ fn unknown(words: &Words, fault: BlastFault) -> Result<Equality, NoMemory>
 fn answer(
     alloc: Global,
     question: &Question,
-    terms: &Terms,
+    terms: &Written,
     words: &Words,
     same: Term,
     budget: u32,
@@ -218,7 +220,7 @@ pub fn equal(alloc: Global, question: &Question, nodes: u32) -> Result<Equality,
     ensures unknown { IfOk result (λ e. (word bit : ℕ) → e ≡ equality.Unknown word bit
         → IsOverBudget (asked_of question.now) word bit nodes) }
 {
-    let mut terms = Terms::new(alloc, &[])?;
+    let mut terms = Written::new(alloc, &[])?;
     let mut words = Words::new(alloc);
     let same = question_term(alloc, &mut terms, &mut words, question)?;
     answer(alloc, question, &terms, &words, same, nodes)

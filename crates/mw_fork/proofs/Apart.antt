@@ -5,9 +5,9 @@ use Rattle.std.specs.Option.{unwrap_or}
 use Rattle.std.proofs.lemmas.Bool.{eq-eqb, eqb-true}
 use Rattle.std.proofs.lemmas.List.Elements.{All-push}
 use Rattle.mw_base.specs.Words.{bit_of, num}
-use Rattle.mw_blast.specs.Causes.{IsCause}
 use Rattle.mw_blast.specs.declared.fault.BlastFault.{BlastFault}
 use Rattle.mw_blast.specs.declared.fault.BlastFault.TheVariants as faults
+use Rattle.mw_blast.specs.Shared.{IsWrittenCause}
 use Rattle.mw_dd.specs.Diagrams.{IsFirst}
 use Rattle.mw_rel.specs.ComparisonWords.{Compared, Comparison, Subject, compared_in, with_comparison}
 use Rattle.mw_symmem.proofs.Growth.{grows_one}
@@ -180,9 +180,9 @@ compared_found nodes old new path subject term (Some numbers) same none within f
 -- ---- where it stops
 
 -- why: the term's bit wasn't made, or the path word is over the budget
-abbrev pub IsFailingCause : Table → (path : Function) → (term nodes : ℕ) → BlastFault → Type 0
-IsFailingCause t path term nodes fault =
-    (named j : ℕ) → fault ≡ faults.Over named j → IsCause t term nodes fault
+abbrev pub IsFailingCause : Table → (places : List ℕ) → (path : Function) → (term nodes : ℕ) → BlastFault → Type 0
+IsFailingCause t places path term nodes fault =
+    (named j : ℕ) → fault ≡ faults.Over named j → IsWrittenCause t places nodes fault
     ⊎ ((named ≡ term) × (j ≡ 0) × HasMoreCofactors (path_zero path (bit t term 0)) nodes)
 
 -- how the fault is told
@@ -194,24 +194,24 @@ pub record IsStopOf (words : List Word) (fault : BlastFault) (stop : RunStop) : 
 same_place : (a b : Place) (stop : RunStop) → stop ≡ stops.Over a → stop ≡ stops.Over b → a ≡ b
 same_place a b stop one other = cc
 
-over_by : (nodes : ℕ) (new : Space) (map : List ℕ) (path : Function) (subject : Subject) (term named j : ℕ)
+over_by : (nodes : ℕ) (new : Space) (map places : List ℕ) (path : Function) (subject : Subject) (term named j : ℕ)
     → new.terms.map ≡ map
-    → IsCause new.terms term nodes (faults.Over named j)
+    → IsWrittenCause new.terms places nodes (faults.Over named j)
     ⊎ ((named ≡ term) × (j ≡ 0) × HasMoreCofactors (path_zero path (bit new.terms term 0)) nodes)
     → IsComparedOver map nodes new path (comparison_of subject term (list_of_space new)) named j
-over_by nodes new map path subject term named j same cause = elim cause [
-  | inl h ↦ in_list h.1
+over_by nodes new map places path subject term named j same cause = elim cause [
+  | inl h ↦ in_list h.over
   | inr h ↦
       at_comparison (sym h.0) h.1
       (subst (λ (w : Triple). HasMoreCofactors w nodes)
       (sym (word_is map path subject term new.terms new.words new.memory same)) h.2)
 ]
 
-pub compared_over : (nodes : ℕ) (old new : Space) (path : Function) (subject : Subject) (term : ℕ)
+pub compared_over : (nodes : ℕ) (old new : Space) (places : List ℕ) (path : Function) (subject : Subject) (term : ℕ)
     (fault : BlastFault) (stop : RunStop) → new.terms.map ≡ old.terms.map → IsTable new.terms
-    → IsFailingCause new.terms path term nodes fault → IsStopOf new.words fault stop
+    → IsFailingCause new.terms places path term nodes fault → IsStopOf new.words fault stop
     → Compares nodes old new path (compared_at subject term (list_of_space new)) (Err stop)
-compared_over nodes old new path subject term (faults.Over named i) stop same table cause told =
+compared_over nodes old new places path subject term (faults.Over named i) stop same table cause told =
     λ so_far have place is.
     let map = old.terms.map in
     let same_as = same_place place _ stop is (told.over named i refl) in
@@ -227,9 +227,9 @@ compared_over nodes old new path subject term (faults.Over named i) stop same ta
       term = named;
       named = ap (λ (p : Place). p.word) same_as;
       over = subst (λ x. IsComparedOver map nodes new path c named x) (sym (ap (λ (p : Place). p.bit) same_as))
-          (over_by nodes new map path subject term named i same (cause named i refl));
+          (over_by nodes new map places path subject term named i same (cause named i refl));
       front = front_itself (list_of_space new);
     }
-compared_over nodes old new path subject term faults.NoMemory stop same table cause told = λ so_far have place is.
+compared_over nodes old new places path subject term faults.NoMemory stop same table cause told = λ so_far have place is.
     let other = told.none refl in
     absurd cc

@@ -1,7 +1,6 @@
 -- How what is compared goes on: from one space to the next, along paths that agree, and with comparisons behind.
 use Rattle.std.proofs.Common.{◌≡◌, ap, subst, sym, ◌∙◌, refl, ℕ, List, ◌∷◌, ◌++◌, append_assoc, slice_index}
 use Rattle.std.specs.Prelude.{None, Option, Some, Result, Ok, Err}
-use Rattle.mw_blast.proofs.Kept.{stays_with_terms}
 use Rattle.mw_rel.specs.ComparisonWords.{Compared, Comparison, Sides, Subject, compared_in, with_comparison}
 use Rattle.mw_symmem.specs.declared.side.Side.TheVariants.{Board, Machine}
 use Rattle.mw_symmem.proofs.Later.{goes_then, width_later, writes_then}
@@ -17,6 +16,7 @@ use Rattle.mw_fork.specs.Comparing.{IsOutcome, StopsComparing}
 use Rattle.mw_fork.specs.Listed.{list_of_space}
 use Rattle.mw_fork.specs.OnWay.{HavePaths}
 use Rattle.mw_fork.proofs.GoingOn.{GoesOnAs, front_then}
+use Rattle.mw_fork.proofs.Sharing.{shared_with_more}
 
 -- ---- from one space to the next
 
@@ -32,7 +32,8 @@ pub comparing_paths : (old new : Space) (paths : Paths) → GoesComparing old ne
     → HavePaths new paths
 comparing_paths old new paths goes have = record {
   there = have.there;
-  of = stays_with_terms old.terms new.terms paths.dds paths.blast goes.goes.later.extends have.of;
+  share = shared_with_more old.terms new.terms paths.places paths.shared paths.dds goes.goes.later.extends
+      goes.goes.later.keeps have.share;
 }
 
 -- the elements' terms are as wide

@@ -41,6 +41,7 @@ pub mod Placing
 pub mod Probes
 pub mod Related
 pub mod Runs
+pub mod Sharing
 pub mod Sides
 pub mod SidesCompared
 pub mod Splits

@@ -19,7 +19,8 @@ use Rattle.mw_blast.specs.declared.fault.BlastFault.{BlastFault}
 use Rattle.mw_blast.specs.declared.fault.BlastFault.TheVariants as faults
 use Rattle.mw_blast.specs.Causes.{IsOver}
 use Rattle.mw_blast.specs.Numbers.{OverHaveNumbers}
-use Rattle.mw_blast.specs.Splits.{IsPathOver, IsSplitCause}
+use Rattle.mw_blast.specs.Shared.{IsWrittenSplitCause}
+use Rattle.mw_blast.specs.Splits.{IsPathOver}
 use Rattle.mw_symmem.specs.Listed.{list_in}
 use Rattle.mw_symmem.proofs.Lists.{behind}
 use Rattle.mw_rel.specs.BitOperations.IsOperation.{of_path, of_row}
@@ -204,11 +205,11 @@ pub record Tells (words : List Word) (fault : BlastFault) (stop : RunStop) : Typ
   pub none : fault ≡ faults.NoMemory → stop ≡ stops.NoMemory
 
 -- a run whose path wasn't split stops by that
-pub stops_by : (job : Job) (number nodes : ℕ) (g : Ground) (from : List Kept) (way : Way) (path : Function) (term : ℕ)
-    (fault : BlastFault) (stop : RunStop) → OverHaveNumbers → IsNumbered (case_words job number (met_of way)).list
+pub stops_by : (job : Job) (number nodes : ℕ) (g : Ground) (from : List Kept) (way : Way) (places : List ℕ)
+    (path : Function) (term : ℕ) (fault : BlastFault) (stop : RunStop) → OverHaveNumbers → IsNumbered (case_words job number (met_of way)).list
     → HaveStarts job number g → IsOnWay job number g from way path → AsksFor job number (met_of way) g term
-    → IsSplitCause g.table path term nodes fault → Tells g.words fault stop → StopsBy job number nodes from way stop
-stops_by job number nodes g from way path term (faults.Over named j) stop law numbered starts on asks cause tells =
+    → IsWrittenSplitCause g.table places path term nodes fault → Tells g.words fault stop → StopsBy job number nodes from way stop
+stops_by job number nodes g from way places path term (faults.Over named j) stop law numbered starts on asks cause tells =
     let map = on.stands.space.map in
     let feasible = met_feasible job number g from way path starts on in
     rw (tells.over named j refl) (
@@ -216,7 +217,7 @@ stops_by job number nodes g from way path term (faults.Over named j) stop law nu
       record {
         asks = rw (ap (λ (w : CaseWords). w.asked) asks) refl;
         over = elim cause [
-          | inl h ↦ row_over job number nodes (met_of way) g term named j law numbered map asks feasible h.1
+          | inl h ↦ row_over job number nodes (met_of way) g term named j law numbered map asks feasible h.over
           | inr h ↦
               subst (λ (x : ℕ). IsOverAt job number nodes (met_of way) g x j) (sym h.0)
               (subst (λ (x : ℕ). IsOverAt job number nodes (met_of way) g term x) (sym h.1)
@@ -224,5 +225,5 @@ stops_by job number nodes g from way path term (faults.Over named j) stop law nu
         ];
       },
     )
-stops_by job number nodes g from way path term faults.NoMemory stop law numbered starts on asks cause tells =
+stops_by job number nodes g from way places path term faults.NoMemory stop law numbered starts on asks cause tells =
     rw (tells.none refl) tt

@@ -55,9 +55,9 @@ path_in paths = function_of paths.dds paths.path
 abbrev pub IsRunOf : Job → Run → Type 0
 IsRunOf job run = IsUnder job run.space.terms run.space.words run.space.memory run.board run.registers.items
 
--- the paths of a run are diagrams, and its bits are right for the terms of a space
+-- the paths of a run are diagrams, and its bits are right for what was written in a space
 abbrev pub HavePaths : Space → Paths → Type 0
-HavePaths space paths = ArePaths space.terms paths.dds paths.blast paths.path
+HavePaths space paths = ArePaths space.terms paths.dds paths.shared paths.places paths.path
 
 -- A run from a boundary that began with some bits kept is on its way through a case: its path is that of the bits that
 -- it has met, and that of the word list.

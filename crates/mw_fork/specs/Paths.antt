@@ -3,13 +3,15 @@ use Rattle.std.specs.Prelude.{ℕ, List}
 use Rattle.mw_term.specs.Table.{Table}
 use Rattle.mw_dd.specs.declared.nodes.Node.{Node}
 use Rattle.mw_dd.specs.Nodes.{IsDd}
-use Rattle.mw_blast.specs.Kept.{Made, IsOf}
+use Rattle.mw_blast.specs.declared.shared.Shared.{Shared}
 use Rattle.mw_blast.specs.declared.split.Split.{Split}
+use Rattle.mw_blast.specs.Shared.{IsShared}
 
--- the path is a diagram, and the bits that were made are right for the table and the diagrams
-pub record ArePaths (t : Table) (nodes : List Node) (made : Made) (path : ℕ) : Type 0 where
+-- the path is a diagram, what was written stands at these places of the shared table, as far as there are places, and
+-- the bits that were made are right for it and the diagrams
+pub record ArePaths (w : Table) (nodes : List Node) (shared : Shared) (places : List ℕ) (path : ℕ) : Type 0 where
   pub there : IsDd nodes path
-  pub of : IsOf t nodes made
+  pub share : IsShared w shared places nodes
 
 -- both paths of a split are diagrams
 pub record AreTwo (nodes : List Node) (split : Split) : Type 0 where

@@ -22,14 +22,14 @@ use mw_base::NoMemory;
 use mw_rel::{Job, Line, free};
 use mw_symmach::expr_term;
 use mw_symmem::{Side, SymMemory, Words, are_of_at_first, is_memory_at_first};
-use mw_term::{Op, Term, Terms, WordKind};
+use mw_term::{Op, Term, WordKind, Written};
 use std::alloc::Global;
 
 /// What a run works on.
 #[derive(Drop)]
 pub(crate) struct Space {
-    /// The table of terms.
-    pub terms: Terms,
+    /// The terms that it writes.
+    pub terms: Written,
     /// The words of the case.
     pub words: Words,
     /// The memory of both sides.
@@ -50,7 +50,7 @@ impl Space {
         is_memory_at_first();
         let parts = job.board.parts();
         Ok(Space {
-            terms: Terms::new(alloc, parts.map_entries.as_slice())?,
+            terms: Written::new(alloc, parts.map_entries.as_slice())?,
             words: Words::new(alloc),
             memory: SymMemory::new(alloc, parts.address, parts.width),
         })
@@ -83,7 +83,7 @@ fn own_term(
             .fresh(alloc, &mut space.terms, WordKind::Element(number), width)?;
         return Ok(variable);
     }
-    let zero = space.terms.build(alloc, Op::Con(0, width))?;
+    let zero = space.terms.write(alloc, Op::Con(0, width))?;
     Ok(zero)
 }
 

@@ -6,28 +6,29 @@ ghost use Rattle.mw_term.specs.Cofactors.{Agree, HasAtMostCofactors, HasMoreCofa
 ghost use Rattle.mw_term.specs.Functions.{Function, always, made, never};
 ghost use Rattle.mw_term.specs.PathWords.{path_zero};
 ghost use Rattle.mw_term.specs.Rows.{bit};
-ghost use Rattle.mw_term.specs.Table.{Table};
+ghost use Rattle.mw_term.specs.Table.{IsMap, Table};
 ghost use Rattle.mw_symmem.specs.Memory.{IsOfWidth};
 ghost use Rattle.mw_dd.specs.Nodes.{IsDd, function_of};
 ghost use Rattle.mw_dd.specs.Diagrams.{IsFirst, Keeps};
 ghost use Rattle.mw_blast.specs.Bits.{StandsFor};
-ghost use Rattle.mw_blast.specs.Causes.{IsCause};
 ghost use Rattle.mw_blast.specs.declared.fault.BlastFault.TheVariants as faults;
-ghost use Rattle.mw_blast.specs.Splits.{IsSplit, IsSplitCause};
+ghost use Rattle.mw_blast.specs.Shared.{IsWrittenCause, IsWrittenSplitCause};
+ghost use Rattle.mw_blast.specs.Splits.{IsSplit};
 ghost use Rattle.mw_fork.specs.Paths.{ArePaths, AreTwo};
 
 use crate::way::Feasible;
 use mw_base::NoMemory;
-use mw_blast::{Blast, BlastFault, Split};
+use mw_blast::{BlastFault, Shared, Split};
 use mw_dd::{Dd, DdFault, Diagrams};
-use mw_term::{Assignment, Term, Terms, terminal_cases_have_none};
+use mw_term::{Assignment, Places, Term, Written, terminal_cases_have_none};
 use std::alloc::Global;
 
 /// The function of the starts that take the path so far, and the functions of bits.
 #[derive(Drop)]
 pub(crate) struct Paths {
     dds: Diagrams,
-    blast: Blast,
+    shared: Shared,
+    places: Places,
     path: Dd,
 }
 
@@ -40,16 +41,20 @@ fn only(bits: &[Dd]) -> Dd
 }
 
 impl Paths {
-    /// The path on which no bit is decided: each start takes it.
-    pub(crate) fn new(alloc: Global) -> Result<Paths, NoMemory>
-        ensures paths { IfOk result (λ p. (t : Table) → ArePaths t p.dds p.blast p.path) }
+    /// The path on which no bit is decided: each start takes it. The map is that of the board.
+    pub(crate) fn new(alloc: Global, map: &[u16]) -> Result<Paths, NoMemory>
+        requires { IsMap map.now }
+        ensures paths { IfOk result (λ p. (w : Table) → w.map ≡ map.now
+            → ArePaths w p.dds p.shared p.places p.path) }
         ensures always { IfOk result (λ p. Agree (function_of p.dds p.path) always) }
     {
         let dds = Diagrams::new(alloc)?;
         let path = dds.constant(true);
+        let shared = Shared::new(alloc, map)?;
         Ok(Paths {
             dds,
-            blast: Blast::new(alloc),
+            shared,
+            places: Places::new(alloc),
             path,
         })
     }
@@ -83,52 +88,61 @@ impl Paths {
     pub(crate) fn split(
         &mut self,
         alloc: Global,
-        terms: &Terms,
+        written: &Written,
         term: Term,
         nodes: u32,
     ) -> Result<Split, BlastFault>
-        requires wide { IsOfWidth terms.now 1 term }
-        requires paths { ArePaths terms.now self.old.dds self.old.blast self.old.path }
+        requires wide { IsOfWidth written.now 1 term }
+        requires paths { ArePaths written.now self.old.dds self.old.shared self.old.places self.old.path }
         ensures split { IfOk result
-            (IsSplit self.new.dds (function_of self.old.dds self.old.path) (bit terms.now term 0) nodes) }
-        ensures over { IfErr result (IsSplitCause terms.now (function_of self.old.dds self.old.path) term nodes) }
+            (IsSplit self.new.dds (function_of self.old.dds self.old.path) (bit written.now term 0) nodes) }
+        ensures over { IfErr result
+            (IsWrittenSplitCause written.now self.new.places (function_of self.old.dds self.old.path) term nodes) }
         ensures path { self.new.path ≡ self.old.path }
-        ensures paths { ArePaths terms.now self.new.dds self.new.blast self.new.path }
+        ensures paths { ArePaths written.now self.new.dds self.new.shared self.new.places self.new.path }
         ensures keeps { Keeps self.old.dds self.new.dds }
     {
-        let bits = self.blast.bits(alloc, terms, &mut self.dds, term, nodes)?;
+        let bits = self.shared.bits(alloc, written, &mut self.places, &mut self.dds, term, nodes)?;
         let bit = only(&bits);
         if let Some(split) = self.fixed(bit) {
             return Ok(split);
         }
-        self.blast
-            .decide(alloc, terms, &mut self.dds, self.path, term, nodes)
+        self.shared.decide(
+            alloc,
+            written,
+            &mut self.places,
+            &mut self.dds,
+            self.path,
+            term,
+            nodes,
+        )
     }
 
     /// The first assignment on the path under which a term of one bit is 0, if there is one.
     pub(crate) fn failing(
         &mut self,
         alloc: Global,
-        terms: &Terms,
+        written: &Written,
         term: Term,
         nodes: u32,
     ) -> Result<Option<Assignment>, BlastFault>
-        requires wide { IsOfWidth terms.now 1 term }
-        requires paths { ArePaths terms.now self.old.dds self.old.blast self.old.path }
+        requires wide { IsOfWidth written.now 1 term }
+        requires paths { ArePaths written.now self.old.dds self.old.shared self.old.places self.old.path }
         ensures first { IfOk result (λ o. IfSome o (λ numbers.
-            IsFirst (made (path_zero (function_of self.old.dds self.old.path) (bit terms.now term 0))) numbers)) }
+            IsFirst (made (path_zero (function_of self.old.dds self.old.path) (bit written.now term 0))) numbers)) }
         ensures none { IfOk result (λ o. o ≡ None
-            → Agree (made (path_zero (function_of self.old.dds self.old.path) (bit terms.now term 0))) never) }
+            → Agree (made (path_zero (function_of self.old.dds self.old.path) (bit written.now term 0))) never) }
         ensures within { OnOk result
-            (HasAtMostCofactors (path_zero (function_of self.old.dds self.old.path) (bit terms.now term 0)) nodes) }
-        ensures over { IfErr result (λ e. (named j : ℕ) → e ≡ faults.Over named j → IsCause terms.now term nodes e
+            (HasAtMostCofactors (path_zero (function_of self.old.dds self.old.path) (bit written.now term 0)) nodes) }
+        ensures over { IfErr result (λ e. (named j : ℕ) → e ≡ faults.Over named j
+            → IsWrittenCause written.now self.new.places nodes e
             ⊎ ((named ≡ term) × (j ≡ 0) × HasMoreCofactors
-            (path_zero (function_of self.old.dds self.old.path) (bit terms.now term 0)) nodes)) }
+            (path_zero (function_of self.old.dds self.old.path) (bit written.now term 0)) nodes)) }
         ensures path { self.new.path ≡ self.old.path }
-        ensures paths { ArePaths terms.now self.new.dds self.new.blast self.new.path }
+        ensures paths { ArePaths written.now self.new.dds self.new.shared self.new.places self.new.path }
         ensures keeps { Keeps self.old.dds self.new.dds }
     {
-        let bits = self.blast.bits(alloc, terms, &mut self.dds, term, nodes)?;
+        let bits = self.shared.bits(alloc, written, &mut self.places, &mut self.dds, term, nodes)?;
         let never = self.dds.constant(false);
         match self.dds.ite(alloc, only(&bits), never, self.path, nodes) {
             Ok(fails) => Ok(self.dds.some_assignment(alloc, fails)?),
@@ -165,7 +179,8 @@ impl Paths {
     /// Goes on where the bit that split the path has this value.
     pub(crate) fn go(&mut self, split: &Split, value: bool)
         ensures dds { self.new.dds ≡ self.old.dds }
-        ensures blast { self.new.blast ≡ self.old.blast }
+        ensures shared { self.new.shared ≡ self.old.shared }
+        ensures places { self.new.places ≡ self.old.places }
         ensures path { self.new.path ≡ cond value split.now.one split.now.zero }
     {
         self.path = if value { split.one } else { split.zero };

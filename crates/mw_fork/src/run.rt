@@ -14,11 +14,10 @@ use crate::fault::RunStop;
 use crate::paths::Paths;
 use crate::way::Way;
 use mw_base::NoMemory;
-use mw_blast::stays_with_terms;
 use mw_rel::Job;
 use mw_symboard::SymBoard;
 use mw_symmem::Turn;
-use mw_term::{DecidedKind, Term};
+use mw_term::{DecidedKind, Term, stands_with_more};
 use std::alloc::Global;
 
 /// A run from a boundary, on terms.
@@ -75,7 +74,7 @@ impl Run {
             board_terms(job, &start.terms),
         )?;
         let registers = Vec::from_slice(alloc, register_terms(job, &start.terms))?;
-        let paths = Paths::new(alloc)?;
+        let paths = Paths::new(alloc, job.board.parts().map_entries.as_slice())?;
         Ok(Run {
             space: start.space,
             paths,
@@ -95,8 +94,8 @@ impl Run {
         ensures goes { IfOk result (Turns (job_of job.now) self.old self.new) }
         ensures paths { OnOk result (HavePaths self.new.space self.new.paths) }
     {
-        // A law for the proof: the bits that were made are right for a table with more terms.
-        stays_with_terms();
+        // A law for the proof: what stands in a table goes on to stand there when more is written.
+        stands_with_more();
         let turn = self.board.sym_cycle(
             alloc,
             &job.board,

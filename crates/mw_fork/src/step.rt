@@ -29,15 +29,14 @@ use crate::paths::Paths;
 use crate::run::Run;
 use crate::way::Way;
 use mw_base::NoMemory;
-use mw_blast::stays_with_terms;
 use mw_rel::Job;
 use mw_symmach::{SymMach, steps_go_along};
 use mw_symmem::{Turn, Words};
-use mw_term::{DecidedKind, Term, Terms, WordKind};
+use mw_term::{DecidedKind, Term, WordKind, Written, stands_with_more};
 use std::alloc::Global;
 
 /// The line of the first cycle, which is the request of the step. `_terms` is for the contract alone.
-fn request(_terms: &Terms, words: &Words) -> Term
+fn request(_terms: &Written, words: &Words) -> Term
     requires { HasLine _terms.now words.now }
     ensures line { term_of words.now (Line 0) ≡ Some result }
     ensures wide { IsOfWidth _terms.now 1 result }
@@ -89,8 +88,8 @@ fn turn(alloc: Global, job: &Job, space: &mut Space, step: &mut SymMach) -> Resu
         → IsTurnedOnStep (job_of job.now) number elements from cycles segment board way space.new paths step.new turn) }
     ensures paths { OnOk result ((paths : diagrams.Paths) → HavePaths space.old paths → HavePaths space.new paths) }
 {
-    // A law for the proof: the bits that were made are right for a table with more terms.
-    stays_with_terms();
+    // A law for the proof: what stands in a table goes on to stand there when more is written.
+    stands_with_more();
     // A law for the proof: a step goes along the bits that are given to it.
     steps_go_along();
     let turn = step.sym_step(

@@ -8,6 +8,7 @@ use Rattle.mw_fork.specs.OnWay.{path_in}
 use Rattle.mw_fork.specs.declared.elements.Space.{Space}
 use Rattle.mw_fork.proofs.Apart.{compared_found, compared_goes, compared_over, compared_so, compared_wide, one_on}
 use Rattle.mw_fork.proofs.Apart.{two_at_first}
+use Rattle.mw_fork.proofs.Sharing.{shared_with_more}
 use Rattle.mw_fork.proofs.comparing.apart.Goals as goal
 
 pub add-requires : goal.add-requires
@@ -17,6 +18,16 @@ add-requires c =
 pub failing-requires-clause-wide : goal.failing-requires-clause-wide
 failing-requires-clause-wide c =
     compared_wide c.args.space.now.terms _ c.args.a c.args.b c.in_ok-same.same c.in_ok-same.ensures.made
+
+pub failing-requires-clause-paths : goal.failing-requires-clause-paths
+failing-requires-clause-paths c =
+    let have = c.requires.paths in
+    let e = c.in_ok-same.ensures in
+    record {
+      there = have.there;
+      share = shared_with_more c.args.space.now.terms c.add.new.terms c.args.paths.now.places c.args.paths.now.shared
+          c.args.paths.now.dds e.extends e.keeps have.share;
+    }
 
 pub returns-in-Ok-clause-goes : goal.returns-in-Ok-clause-goes
 returns-in-Ok-clause-goes c =
@@ -64,6 +75,6 @@ returns-in-Err-clause-compared c = λ subject.
     compared_so c.args.nodes c.args.space.now new (path_in c.args.paths.now) subject c.args.a c.args.b c.in_ok-same.same
     (Err c.stop_of.result) refl
     (assumption e)
-    (compared_over c.args.nodes c.args.space.now new (path_in c.args.paths.now) subject c.in_ok-same.same
+    (compared_over c.args.nodes c.args.space.now new _ (path_in c.args.paths.now) subject c.in_ok-same.same
     c.in-Err.fault c.stop_of.result e.extends.map e.table c.in-Err.ensures.over
     (record { over = c.stop_of.ensures.over; none = c.stop_of.ensures.none }))

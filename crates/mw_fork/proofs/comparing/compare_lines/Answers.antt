@@ -1,4 +1,4 @@
-use Rattle.std.proofs.Common.{arith, drop, subst, ◌+◌, ◌∙◌}
+use Rattle.std.proofs.Common.{arith, drop, refl, subst, ◌+◌, ◌∙◌}
 use Rattle.std.specs.Prelude.{Err, None, Ok, Some}
 use Rattle.std.proofs.lemmas.Result.{err_from_is_err_and}
 use Rattle.mw_rel.specs.ComparisonWords.{with_line, with_lines}
@@ -12,9 +12,23 @@ use Rattle.mw_fork.specs.OnWay.{path_in}
 use Rattle.mw_fork.proofs.Boundaries.{space_later}
 use Rattle.mw_fork.proofs.ComparingOn.{compares_as, compares_shown, compares_then, comparing_then, sides_compared}
 use Rattle.mw_fork.proofs.ComparingOn.{wide_compared}
+use Rattle.mw_fork.proofs.EventsCompared.{comparing_itself}
 use Rattle.mw_fork.proofs.LinesCompared.{hold_more, inside_kept, lines_behind, lines_done, lines_next, some_at}
 use Rattle.mw_fork.proofs.Related.{reads_rest, seen_line}
 use Rattle.mw_fork.proofs.comparing.compare_lines.Goals as goal
+
+pub loop-line-init : goal.loop-line-init
+loop-line-init c = record {
+  space = c.requires.space;
+  wide = c.requires.wide;
+  paths = c.requires.paths;
+  path = λ given. refl;
+  total = refl;
+  goes = comparing_itself c.args.space.now c.requires.space.workspace;
+  probe = refl;
+  came = λ sides on new result says. says;
+  holds = λ i line below at given on. absurd (omega (arith, below));
+}
 
 pub compare_line-requires-clause-line_of : goal.compare_line-requires-clause-line_of
 compare_line-requires-clause-line_of c =

@@ -80,7 +80,7 @@ returns-in-Err-clause-over c = λ job number elements from valid on asks.
       steps = c.words_are_numbered.ensures.steps;
       comparisons = c.words_of_cases_are_numbered.ensures.comparisons;
     } in
-    stops_by job number c.args.nodes g from way (path_in c.args.paths.now) c.args.term c.in-Err.fault c.stop_of.result
+    stops_by job number c.args.nodes g from way _ (path_in c.args.paths.now) c.args.term c.in-Err.fault c.stop_of.result
     c.over_have_numbers.ensures.over (numbered_case laws job number (bit_values (met_of way)))
     (have_starts job number g valid on.stands) on asks c.in-Err.ensures.over
     (record { over = c.stop_of.ensures.over; none = c.stop_of.ensures.none })

@@ -24,8 +24,8 @@ pub returns-then-is_free-clause-listed : goal.returns-then-is_free-clause-listed
 returns-then-is_free-clause-listed c =
     rw c.if-is_free.true (c.in_ok-variable.ensures.listed c.args.space.now.memory.reads)
 
-pub build-requires : goal.build-requires
-build-requires c = (c.requires.width, pow_pos c.args.width)
+pub write-requires : goal.write-requires
+write-requires c = (c.requires.width, pow_pos c.args.width)
 
 pub returns-clause-wide : goal.returns-clause-wide
 returns-clause-wide c = wide_constant _ _ _ _ _ c.in_ok-zero.ensures.made
@@ -33,7 +33,7 @@ returns-clause-wide c = wide_constant _ _ _ _ _ c.in_ok-zero.ensures.made
 pub returns-clause-of : goal.returns-clause-of
 returns-clause-of c =
     let e = c.in_ok-zero.ensures in
-    (grows_constant c.args.space.now.terms c.build.new.self 0 c.args.width c.in_ok-zero.zero c.args.space.now.words
+    (grows_constant c.args.space.now.terms c.write.new.self 0 c.args.width c.in_ok-zero.zero c.args.space.now.words
     e.appends e.extends e.keeps e.table).of c.requires.of
 
 pub returns-clause-below : goal.returns-clause-below

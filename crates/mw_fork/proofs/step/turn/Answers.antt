@@ -19,7 +19,11 @@ returns-clause-turned c = λ from count come.
 pub returns-clause-paths : goal.returns-clause-paths
 returns-clause-paths c = λ paths are. record {
   there = are.there;
-  of = c.stays_with_terms.ensures _ _ _ _ c.in_ok-turn.ensures.goes.later.extends are.of;
+  share = record {
+    stands = c.stands_with_more.ensures.written _ _ _ _ c.in_ok-turn.ensures.goes.later.extends
+        c.in_ok-turn.ensures.goes.later.keeps are.share.stands;
+    bits = are.share.bits;
+  };
 }
 
 pub returns-clause-goes : goal.returns-clause-goes

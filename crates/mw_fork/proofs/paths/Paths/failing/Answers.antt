@@ -9,7 +9,7 @@ returns-in-Ok-clause-first c =
     let now = c.bits.new.dds in
     let path = c.args.self.now.path in
     let stands =
-    only_stands c.args.terms.now now c.args.term c.only.result _ _ c.requires.wide c.in_ok-bits.ensures.bits
+    only_stands c.args.written.now now c.args.term c.only.result _ _ c.requires.wide c.in_ok-bits.ensures.bits
     c.only.ensures c.deref.ensures.value in
     let same = zero_same c.args.self.now.dds now path c.only.result c.constant-never.result _ c.requires.paths.there
     c.bits.ensures.keeps stands c.constant-never.ensures.exact in
@@ -21,7 +21,7 @@ returns-in-Ok-clause-within c =
     let now = c.bits.new.dds in
     let path = c.args.self.now.path in
     let stands =
-    only_stands c.args.terms.now now c.args.term c.only.result _ _ c.requires.wide c.in_ok-bits.ensures.bits
+    only_stands c.args.written.now now c.args.term c.only.result _ _ c.requires.wide c.in_ok-bits.ensures.bits
     c.only.ensures c.deref.ensures.value in
     let same = zero_same c.args.self.now.dds now path c.only.result c.constant-never.result _ c.requires.paths.there
     c.bits.ensures.keeps stands c.constant-never.ensures.exact in
@@ -32,7 +32,7 @@ returns-in-Err-OverBudget-clause-over c = λ named j is.
     let now = c.bits.new.dds in
     let path = c.args.self.now.path in
     let stands =
-    only_stands c.args.terms.now now c.args.term c.only.result _ _ c.requires.wide c.in_ok-bits.ensures.bits
+    only_stands c.args.written.now now c.args.term c.only.result _ _ c.requires.wide c.in_ok-bits.ensures.bits
     c.only.ensures c.deref.ensures.value in
     let same = zero_same c.args.self.now.dds now path c.only.result c.constant-never.result _ c.requires.paths.there
     c.bits.ensures.keeps stands c.constant-never.ensures.exact in

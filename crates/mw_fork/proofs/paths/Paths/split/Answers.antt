@@ -1,12 +1,16 @@
 use Rattle.std.proofs.Common.{◌≡◌, ap, arith, subst, sym, ◌∙◌, slice_index}
+use Rattle.std.specs.Prelude.{IfErr}
+use mathlib.Core.Path.{fun_ext}
+use Rattle.mw_term.specs.Functions.{Function}
 use Rattle.mw_term.specs.Rows.{bit}
 use Rattle.mw_dd.specs.Nodes.{function_of}
 use Rattle.mw_blast.specs.Bits.{StandsFor}
+use Rattle.mw_blast.specs.Shared.{IsWrittenSplitCause}
 use Rattle.mw_fork.proofs.paths.Paths.split.Goals as goal
 
 pub returns-in-Some-clause-split : goal.returns-in-Some-clause-split
 returns-in-Some-clause-split c =
-    let b = bit c.args.terms.now c.args.term 0 in
+    let b = bit c.args.written.now c.args.term 0 in
     let are = c.in_ok-bits.ensures.bits in
     let first = are.each 0 (omega (arith, are.count, c.requires.wide.width_is)) in
     let at : c.only-bit.result ≡ slice_index c.in_ok-bits.bits.items 0 =
@@ -17,3 +21,10 @@ returns-in-Some-clause-split c =
     record { there = keeps.there path c.requires.paths.there; exact = keeps.same path c.requires.paths.there } in
     c.in-Some.ensures (function_of c.args.self.now.dds path) b c.args.nodes old
     (subst (λ x. StandsFor c.bits.new.dds x b) (sym at) first)
+
+pub returns-clause-over : goal.returns-clause-over
+returns-clause-over c =
+    let path = c.args.self.now.path in
+    let same = fun_ext (c.bits.ensures.keeps.same path c.requires.paths.there) in
+    subst (λ (f : Function). IfErr c.decide.result
+    (IsWrittenSplitCause c.args.written.now c.decide.new.places f c.args.term c.args.nodes)) same c.decide.ensures.over

@@ -1,5 +1,6 @@
 use Rattle.std.proofs.Common.{◌≡◌, ℕ, List, ◌<◌, ◌≤◌, ◌^◌, ap, arith, drop, length, length-take-le, slice_index, subst}
 use Rattle.std.proofs.Common.{sym, take, ◌∙◌}
+use Rattle.mw_board.specs.declared.parts.BoardParts.{BoardParts}
 use Rattle.mw_board.specs.Depth.{depth_of}
 use Rattle.mw_board.specs.Elements.{element_count}
 use Rattle.mw_cycle.specs.BoardTerms.{term_of_part}
@@ -86,4 +87,7 @@ returns-clause-first c =
     )
 
 pub returns-clause-paths : goal.returns-clause-paths
-returns-clause-paths c = c.in_ok-paths.ensures.paths c.in_ok-start.start.space.terms
+returns-clause-paths c =
+    c.in_ok-paths.ensures.paths c.in_ok-start.start.space.terms
+    (c.in_ok-start.ensures.elements.space.map
+    ∙ ap (λ (b : BoardParts). b.map_entries) (sym c.parts.ensures.exact) ∙ sym c.as_slice.ensures)

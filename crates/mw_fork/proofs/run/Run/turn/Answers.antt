@@ -18,5 +18,9 @@ returns-clause-goes c = λ number elements from way on.
 pub returns-clause-paths : goal.returns-clause-paths
 returns-clause-paths c = record {
   there = c.requires.paths.there;
-  of = c.stays_with_terms.ensures _ _ _ _ c.in_ok-turn.ensures.goes.later.extends c.requires.paths.of;
+  share = record {
+    stands = c.stands_with_more.ensures.written _ _ _ _ c.in_ok-turn.ensures.goes.later.extends
+        c.in_ok-turn.ensures.goes.later.keeps c.requires.paths.share.stands;
+    bits = c.requires.paths.share.bits;
+  };
 }
