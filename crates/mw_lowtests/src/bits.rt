@@ -2,14 +2,14 @@
 use mw_base::NoMemory;
 use mw_blast::Blast;
 use mw_dd::Diagrams;
-use mw_term::{Op, Term, Terms, terms_have_widths};
+use mw_term::{Op, ShortcutBook, Term, Terms, terms_have_widths};
 use std::alloc::Global;
 use std::test::Fail;
 
 /// A term with an op. It fits.
 fn build(alloc: Global, terms: &mut Terms, op: Op) -> Result<Term, NoMemory> {
     if terms.fits(&op) {
-        terms.build(alloc, op)
+        terms.build(alloc, op, &ShortcutBook::new(alloc))
     } else {
         Err(NoMemory)
     }
