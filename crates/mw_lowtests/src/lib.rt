@@ -13,8 +13,6 @@ mod sequencers;
 #[cfg(test)]
 mod shared;
 #[cfg(test)]
-mod shortcuts;
-#[cfg(test)]
 mod slices;
 #[cfg(test)]
 mod terms;
