@@ -8,8 +8,12 @@ ghost use Rattle.mw_top.specs.Status.{status_number};
 
 use mw_base::NoMemory;
 use mw_outside::{FolderShelf, ScreenSink};
+use mw_short::{all_constant, double_not, fixed_choice, neutral_constant, same_operands};
+use mw_term::ShortcutBook;
 use mw_top::{Status, bench};
+use std::alloc::Global;
 use std::env::{self, Env};
+use std::fs::Files;
 use std::io::ErrorKind;
 use std::process::ExitCode;
 
@@ -28,6 +32,26 @@ fn words<R: Env + AllocGlobal>(rt: &R) -> Result<Vec<String>, NoMemory> {
     }
 }
 
+/// The shortcuts, in the order in which they are asked.
+fn shortcuts(alloc: Global) -> Result<ShortcutBook, NoMemory> {
+    let mut book = ShortcutBook::new(alloc);
+    book.add(alloc, Box::new(alloc, double_not)?)?;
+    book.add(alloc, Box::new(alloc, same_operands)?)?;
+    book.add(alloc, Box::new(alloc, neutral_constant)?)?;
+    book.add(alloc, Box::new(alloc, fixed_choice)?)?;
+    book.add(alloc, Box::new(alloc, all_constant)?)?;
+    Ok(book)
+}
+
+/// Calls the bench with the words of the command line, over the folder and the screen.
+fn called<R: AllocGlobal + Env + Files + Print>(rt: &R) -> Result<Status, NoMemory> {
+    let words = words(rt)?;
+    let book = shortcuts(rt.alloc())?;
+    let mut shelf = FolderShelf::new(rt);
+    let mut screen = ScreenSink::new(rt);
+    Ok(bench(rt.alloc(), &words, &mut shelf, &mut screen, &book))
+}
+
 /// The code that the process ends with.
 fn exit_code(status: Status) -> ExitCode
     ensures { exit_status result ≡ status_number status }
@@ -36,15 +60,10 @@ fn exit_code(status: Status) -> ExitCode
 }
 
 fn main(rt: HostRuntime) -> ExitCode {
-    let status = match words(&rt) {
-        Ok(words) => {
-            let mut shelf = FolderShelf::new(&rt);
-            let mut screen = ScreenSink::new(&rt);
-            bench(rt.alloc(), &words, &mut shelf, &mut screen)
-        }
+    exit_code(match called(&rt) {
+        Ok(status) => status,
         Err(NoMemory) => Status::NoMemory,
-    };
-    exit_code(status)
+    })
 }
 
 #[cfg(test)]

@@ -1,6 +1,7 @@
 //! The files of the small example, on shelves of these tests.
 ghost use Rattle.std.specs.Prelude.{◌<◌};
 
+use crate::shortcuts;
 use mw_outside::{MemoryShelf, MemorySink};
 use mw_top::bench;
 use std::alloc::Global;
@@ -76,5 +77,6 @@ pub(crate) fn call(
     for &word in words {
         owned.push(String::from_str(alloc, word)?)?;
     }
-    Ok(bench(alloc, &owned, shelf, out).number())
+    let book = shortcuts(alloc).ok().ok_or("shortcuts")?;
+    Ok(bench(alloc, &owned, shelf, out, &book).number())
 }

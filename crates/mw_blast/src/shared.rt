@@ -28,12 +28,13 @@ pub struct Shared {
     pub(crate) blast: Blast,
 }
 
-/// Gives each written term a place, without shortcuts.
+/// Gives each written term a place.
 fn place(
     alloc: Global,
     written: &Written,
     terms: &mut Terms,
     places: &mut Places,
+    book: &ShortcutBook,
 ) -> Result<(), NoMemory>
     requires { StandsIn written.now terms.old places.old }
     ensures stands { StandsIn written.now terms.new places.new }
@@ -41,7 +42,7 @@ fn place(
     ensures more { GrowsInTable terms.old terms.new places.old places.new }
     ensures written { IsTable written.now }
 {
-    places.place_all(alloc, written, terms, &ShortcutBook::new(alloc))
+    places.place_all(alloc, written, terms, book)
 }
 
 /// The least written term that stands at a term of the table, at which one does.
@@ -98,10 +99,10 @@ impl Shared {
         self.terms.map()
     }
 
-    /// The functions of a written term's bits, from the lowest. What was written since is placed first; then the bits of
-    /// the term at which it stands are made, within the budget, where they weren't made. What was placed and made is
-    /// kept, also after a refusal. The written term is one of the list, and the places are those of this list in this
-    /// table. Earlier functions of the diagrams stay as they are.
+    /// The functions of a written term's bits, from the lowest. What was written since is placed first, with this book of
+    /// shortcuts; then the bits of the term at which it stands are made, within the budget, where they weren't made. What
+    /// was placed and made is kept, also after a refusal. The written term is one of the list, and the places are those
+    /// of this list in this table. Earlier functions of the diagrams stay as they are.
     ///
     /// # Errors
     ///
@@ -116,6 +117,7 @@ impl Shared {
         dds: &mut Diagrams,
         term: Term,
         budget: u32,
+        book: &ShortcutBook,
     ) -> Result<Vec<Dd>, BlastFault>
         requires there { term < length written.now.ops }
         requires share { IsShared written.now self.old places.old dds.old }
@@ -127,7 +129,7 @@ impl Shared {
         ensures more { GrowsInTable self.old.terms self.new.terms places.old places.new }
         ensures keeps { Keeps dds.old dds.new }
     {
-        place(alloc, written, &mut self.terms, places)?;
+        place(alloc, written, &mut self.terms, places, book)?;
         let place = places.place_of(term);
         match self.blast.bits(alloc, &self.terms, dds, place, budget) {
             Ok(bits) => Ok(bits),
@@ -152,6 +154,7 @@ impl Shared {
         path: Dd,
         term: Term,
         budget: u32,
+        book: &ShortcutBook,
     ) -> Result<Split, BlastFault>
         requires there { term < length written.now.ops }
         requires one { term_width written.now term ≡ 1 }
@@ -165,7 +168,7 @@ impl Shared {
         ensures more { GrowsInTable self.old.terms self.new.terms places.old places.new }
         ensures keeps { Keeps dds.old dds.new }
     {
-        let bits = self.bits(alloc, written, places, dds, term, budget)?;
+        let bits = self.bits(alloc, written, places, dds, term, budget, book)?;
         match divide(dds, alloc, path, bits[0], budget) {
             Ok(split) => Ok(split),
             Err(fault) => Err(RowFault::at(0, fault).of(term)),

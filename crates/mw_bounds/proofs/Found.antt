@@ -3,7 +3,7 @@ use Rattle.std.proofs.Common.{◌≡◌, ℕ, ◌<◌, List, [], Option, Some, N
 use Rattle.std.specs.Prelude.{Contains, false}
 use Rattle.std.proofs.lemmas.List.Elements.{All-contains}
 use Rattle.mw_term.specs.declared.decided.Decided.{Decided}
-use Rattle.mw_rel.specs.Case.{IsCase, IsStartAt, case_of}
+use Rattle.mw_rel.specs.Case.{IsStartAt, case_of}
 use Rattle.mw_rel.specs.Job.{Job, IsJob}
 use Rattle.mw_rel.specs.OverBudget.{AreWithin}
 use Rattle.mw_rel.specs.Start.{Start}

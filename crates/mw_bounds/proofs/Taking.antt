@@ -1,13 +1,12 @@
 -- From the extreme length of some cases to that with one more.
-use Rattle.std.proofs.Common.{◌≡◌, ◌≢◌, ℕ, List, [], ◌∷◌, ◌++◌, Bool, true, false, Option, Some, None, refl, ap, sym}
+use Rattle.std.proofs.Common.{◌≡◌, ℕ, List, [], ◌∷◌, ◌++◌, Bool, true, false, Option, Some, None, refl, ap, sym}
 use Rattle.std.proofs.Common.{subst, ◌∙◌}
-use Rattle.std.specs.Prelude.{All, Contains}
+use Rattle.std.specs.Prelude.{All}
 use Rattle.std.proofs.lemmas.List.Elements.{All-contains, All-nil, All-push, Contains-append_left, Contains-push}
 use Rattle.mw_term.specs.declared.decided.Decided.{Decided}
 use Rattle.mw_rel.specs.Begin.{Begin}
-use Rattle.mw_rel.specs.Case.{IsBefore, IsStartAt, case_of}
+use Rattle.mw_rel.specs.Case.{IsBefore}
 use Rattle.mw_rel.specs.Job.{Job}
-use Rattle.mw_rel.specs.Start.{Start}
 use Rattle.mw_fork.specs.Begins.{IsFirstOfCase, IsOfCase}
 use Rattle.mw_fork.specs.Forks.{EndsEach}
 use Rattle.mw_fork.specs.Walks.{IsNextBehind}

@@ -9,6 +9,7 @@ ghost use Rattle.mw_bounds.specs.Extremes.{IsExtreme, goes_beyond, goes_beyond_s
 use crate::length::Length;
 use mw_fork::{Case, Fork, ForkFault, Visitor};
 use mw_rel::{Begin, Job};
+use mw_term::ShortcutBook;
 use std::alloc::Global;
 use std::ops::ControlFlow;
 
@@ -61,6 +62,7 @@ fn take(
     case: &Case,
     side: Side,
     shown: &mut Option<Shown>,
+    book: &ShortcutBook,
 ) -> Result<(), ForkFault>
     requires at { IsAtCase (job_of job.now) fork.old case.now }
     ensures same { OnOk result (fork.new ≡ fork.old) }
@@ -74,7 +76,7 @@ fn take(
     if !goes_beyond_shown(side, length, shown) {
         return Ok(());
     }
-    let begin = fork.begin(alloc, job)?;
+    let begin = fork.begin(alloc, job, book)?;
     *shown = Some(Shown { length, begin });
     Ok(())
 }
@@ -106,9 +108,18 @@ impl Visitor for Extremes {
         job: &Job,
         fork: &mut Fork,
         case: &Case,
+        book: &ShortcutBook,
     ) -> Result<ControlFlow<()>, ForkFault> {
-        take(alloc, job, fork, case, Side::Least, &mut self.least)?;
-        take(alloc, job, fork, case, Side::Greatest, &mut self.greatest)?;
+        take(alloc, job, fork, case, Side::Least, &mut self.least, book)?;
+        take(
+            alloc,
+            job,
+            fork,
+            case,
+            Side::Greatest,
+            &mut self.greatest,
+            book,
+        )?;
         Ok(ControlFlow::Continue(()))
     }
 }

@@ -8,11 +8,18 @@ use crate::range::{Bounds, Range};
 use mw_base::{Items, NoMemory};
 use mw_fork::{Budget, Fork, ForkFault};
 use mw_rel::Job;
+use mw_term::ShortcutBook;
 use std::alloc::Global;
 use std::ops::ControlFlow;
 
 /// The range of the boundary of this number, from 0.
-fn range(alloc: Global, job: &Job, boundary: usize, budget: Budget) -> Result<Range, ForkFault>
+fn range(
+    alloc: Global,
+    job: &Job,
+    boundary: usize,
+    budget: Budget,
+    book: &ShortcutBook,
+) -> Result<Range, ForkFault>
     requires there { boundary < length (job_of job.now).relation.boundaries }
     ensures found { IfOk result (IsFoundAt (job_of job.now) boundary budget) }
     ensures not_found { IfErr result (IsNotFound (job_of job.now) budget) }
@@ -21,7 +28,8 @@ fn range(alloc: Global, job: &Job, boundary: usize, budget: Budget) -> Result<Ra
         least: None,
         greatest: None,
     };
-    let ControlFlow::Continue(()) = Fork::walk(alloc, job, boundary, budget, &mut extremes)? else {
+    let ControlFlow::Continue(()) = Fork::walk(alloc, job, boundary, budget, &mut extremes, book)?
+    else {
         // The visitor stops no walk.
         unreachable!()
     };
@@ -40,13 +48,18 @@ fn range(alloc: Global, job: &Job, boundary: usize, budget: Budget) -> Result<Ra
 }
 
 /// Goes through the boundaries, in the order of the relation.
-fn ranges(alloc: Global, job: &Job, budget: Budget) -> Result<Bounds, ForkFault>
+fn ranges(
+    alloc: Global,
+    job: &Job,
+    budget: Budget,
+    book: &ShortcutBook,
+) -> Result<Bounds, ForkFault>
     ensures found { IfOk result (IsAnswer (job_of job.now) budget) }
     ensures not_found { IfErr result (IsNotFound (job_of job.now) budget) }
 {
     let mut ranges = Vec::new(alloc);
     for boundary in 0..job.relation.boundaries().len() {
-        ranges.push(range(alloc, job, boundary, budget)?)?;
+        ranges.push(range(alloc, job, boundary, budget, book)?)?;
     }
     Ok(Bounds::Found(Items::from_vec(ranges)))
 }
@@ -65,10 +78,15 @@ fn ranges(alloc: Global, job: &Job, budget: Budget) -> Result<Bounds, ForkFault>
 /// # Errors
 ///
 /// Memory ran out.
-pub fn bounds(alloc: Global, job: &Job, budget: Budget) -> Result<Bounds, NoMemory>
+pub fn bounds(
+    alloc: Global,
+    job: &Job,
+    budget: Budget,
+    book: &ShortcutBook,
+) -> Result<Bounds, NoMemory>
     ensures { IfOk result (IsAnswer (job_of job.now) budget) }
 {
-    match ranges(alloc, job, budget) {
+    match ranges(alloc, job, budget, book) {
         Ok(bounds) => Ok(bounds),
         Err(ForkFault::Over(over)) => Ok(Bounds::Unknown(over)),
         Err(ForkFault::NoMemory) => Err(NoMemory),

@@ -18,7 +18,7 @@ mod tokens;
 mod trees;
 
 use mw_rowfile::{Fault, File, contents, text_in, wrong};
-use mw_symrows::symbolic;
+use mw_symrows::{shortcuts, symbolic};
 use std::alloc::Global;
 
 /// What a call gives. The first word is its name.
@@ -47,6 +47,7 @@ pub fn made(alloc: Global, words: &[String], files: &[File]) -> Result<Vec<u8>, 
         "cycle" => cycles::run(alloc, given, files),
         "symbolic" => symbolic::run(alloc, given, files),
         "cycle-words" => symbolic::words(alloc, given, files),
+        "terms" => shortcuts::run(alloc, given, text_in(files, "text")?),
         "start" => runs::start(alloc, files),
         "until" => runs::until(alloc, given, files),
         "log" => logs::read(alloc, given, files),

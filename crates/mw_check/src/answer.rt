@@ -23,7 +23,7 @@ use mw_blast::{BlastFault, Shared};
 use mw_dd::{Dd, Diagrams};
 use mw_symmach::expr_term;
 use mw_symmem::{Side, SymMemory, Words};
-use mw_term::{Assignment, Op, Places, Term, WordKind, Written};
+use mw_term::{Assignment, Op, Places, ShortcutBook, Term, WordKind, Written};
 use std::alloc::Global;
 
 /// One variable for each of some widths, at the head of a list.
@@ -140,6 +140,7 @@ fn bits_within(
     dds: &mut Diagrams,
     term: Term,
     budget: u32,
+    book: &ShortcutBook,
 ) -> Result<Vec<Dd>, BlastFault>
     requires { term < length terms.now.ops }
     ensures bits { IfOk result (λ bits. AreBits terms.now dds.new term bits.items) }
@@ -148,7 +149,7 @@ fn bits_within(
 {
     let mut shared = Shared::new(alloc, terms.map())?;
     let mut places = Places::new(alloc);
-    shared.bits(alloc, terms, &mut places, dds, term, budget)
+    shared.bits(alloc, terms, &mut places, dds, term, budget, book)
 }
 
 /// The answer where bits weren't made. A term that is over the budget is a word.
@@ -180,13 +181,14 @@ fn answer(
     words: &Words,
     same: Term,
     budget: u32,
+    book: &ShortcutBook,
 ) -> Result<Equality, NoMemory>
     requires question { IsQuestion (asked_of question.now) }
     requires list { IsListOf (asked_of question.now) terms.now words.now same }
     ensures { IfOk result (IsAnswer (asked_of question.now) budget) }
 {
     let mut dds = Diagrams::new(alloc)?;
-    let bits = match bits_within(alloc, terms, &mut dds, same, budget) {
+    let bits = match bits_within(alloc, terms, &mut dds, same, budget, book) {
         Ok(bits) => bits,
         Err(fault) => return unknown(words, fault),
     };
@@ -212,7 +214,12 @@ fn answer(
 /// # Errors
 ///
 /// Memory ran out.
-pub fn equal(alloc: Global, question: &Question, nodes: u32) -> Result<Equality, NoMemory>
+pub fn equal(
+    alloc: Global,
+    question: &Question,
+    nodes: u32,
+    book: &ShortcutBook,
+) -> Result<Equality, NoMemory>
     requires { IsQuestion (asked_of question.now) }
     ensures yes { IfOk result (λ e. e ≡ equality.Yes → AlwaysAgree (asked_of question.now)) }
     ensures no { IfOk result (λ e. (values : List ℕ) → e ≡ equality.No values
@@ -223,5 +230,5 @@ pub fn equal(alloc: Global, question: &Question, nodes: u32) -> Result<Equality,
     let mut terms = Written::new(alloc, &[])?;
     let mut words = Words::new(alloc);
     let same = question_term(alloc, &mut terms, &mut words, question)?;
-    answer(alloc, question, &terms, &words, same, nodes)
+    answer(alloc, question, &terms, &words, same, nodes, book)
 }

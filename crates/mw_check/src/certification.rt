@@ -11,6 +11,7 @@ use mw_cycle::{Env, Series};
 use mw_fork::{Budget, Case, Fork, ForkFault, Visitor};
 use mw_rel::{Begin, Job};
 use mw_replay::Counter;
+use mw_term::ShortcutBook;
 use std::alloc::Global;
 use std::ops::ControlFlow;
 
@@ -41,8 +42,9 @@ impl Visitor for Found {
         job: &Job,
         fork: &mut Fork,
         case: &Case,
+        book: &ShortcutBook,
     ) -> Result<ControlFlow<Begin>, ForkFault> {
-        if let Some(begin) = fork.differs(alloc, job)? {
+        if let Some(begin) = fork.differs(alloc, job, book)? {
             return Ok(ControlFlow::Break(begin));
         }
         self.summary.cases += 1;
@@ -78,6 +80,7 @@ fn search(
     job: &Job,
     boundary: usize,
     budget: Budget,
+    book: &ShortcutBook,
 ) -> Result<ControlFlow<Counter, Summary>, ForkFault>
     requires there { boundary < length (job_of job.now).relation.boundaries }
     ensures ends { IfOk result (EndsSearch (job_of job.now) boundary budget) }
@@ -90,20 +93,25 @@ fn search(
             cycles: 0,
         },
     };
-    match Fork::walk(alloc, job, boundary, budget, &mut found)? {
+    match Fork::walk(alloc, job, boundary, budget, &mut found, book)? {
         ControlFlow::Continue(()) => Ok(ControlFlow::Continue(found.summary)),
         ControlFlow::Break(begin) => Ok(ControlFlow::Break(counter_at(boundary, begin)?)),
     }
 }
 
 /// Goes through the boundaries, in the order of the relation, up to the first at which a start differs.
-fn search_all(alloc: Global, job: &Job, budget: Budget) -> Result<Verdict, ForkFault>
+fn search_all(
+    alloc: Global,
+    job: &Job,
+    budget: Budget,
+    book: &ShortcutBook,
+) -> Result<Verdict, ForkFault>
     ensures is { IfOk result (IsVerdict (job_of job.now) budget) }
     ensures stops { IfErr result (StopsSearch (job_of job.now) budget) }
 {
     let mut summaries = Vec::new(alloc);
     for boundary in 0..job.relation.boundaries().len() {
-        match search(alloc, job, boundary, budget)? {
+        match search(alloc, job, boundary, budget, book)? {
             ControlFlow::Continue(summary) => summaries.push(summary)?,
             ControlFlow::Break(counter) => return Ok(Verdict::No(counter)),
         }
@@ -127,10 +135,15 @@ fn search_all(alloc: Global, job: &Job, budget: Budget) -> Result<Verdict, ForkF
 /// # Errors
 ///
 /// Memory ran out.
-pub fn certify(alloc: Global, job: &Job, budget: Budget) -> Result<Verdict, NoMemory>
+pub fn certify(
+    alloc: Global,
+    job: &Job,
+    budget: Budget,
+    book: &ShortcutBook,
+) -> Result<Verdict, NoMemory>
     ensures { IfOk result (IsVerdict (job_of job.now) budget) }
 {
-    match search_all(alloc, job, budget) {
+    match search_all(alloc, job, budget, book) {
         Ok(verdict) => Ok(verdict),
         Err(ForkFault::Over(over)) => Ok(Verdict::Unknown(over)),
         Err(ForkFault::NoMemory) => Err(NoMemory),

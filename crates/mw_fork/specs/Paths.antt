@@ -5,13 +5,19 @@ use Rattle.mw_dd.specs.declared.nodes.Node.{Node}
 use Rattle.mw_dd.specs.Nodes.{IsDd}
 use Rattle.mw_blast.specs.declared.shared.Shared.{Shared}
 use Rattle.mw_blast.specs.declared.split.Split.{Split}
+use Rattle.mw_blast.specs.Kept.{IsOf}
 use Rattle.mw_blast.specs.Shared.{IsShared}
+use Rattle.mw_fork.specs.declared.paths.Paths.{Paths}
 
 -- the path is a diagram, what was written stands at these places of the shared table, as far as there are places, and
 -- the bits that were made are right for it and the diagrams
 pub record ArePaths (w : Table) (nodes : List Node) (shared : Shared) (places : List ℕ) (path : ℕ) : Type 0 where
   pub there : IsDd nodes path
   pub share : IsShared w shared places nodes
+
+-- what was made is right for its table and its diagrams, whatever was written
+abbrev pub AreMade : Paths → Type 0
+AreMade paths = IsOf paths.shared.terms paths.dds paths.shared.blast
 
 -- both paths of a split are diagrams
 pub record AreTwo (nodes : List Node) (split : Split) : Type 0 where

@@ -30,6 +30,7 @@ ghost use Rattle.mw_term.specs.Table.{Table};
 ghost use Rattle.mw_fork.specs.Listed.{list_of_space};
 ghost use Rattle.mw_fork.specs.Failing.{ComparisonStops, ComparisonsAreWithin, IsFound, NoneDiffersOf};
 ghost use Rattle.mw_fork.specs.OnWay.{HasMetCase, HavePaths, path_in};
+ghost use Rattle.mw_fork.specs.Paths.{AreMade};
 ghost use Rattle.mw_fork.specs.Ways.{Way, met_of};
 
 use crate::decide::stop_of;
@@ -46,7 +47,7 @@ use mw_rel::{Job, Line, words_of_cases_are_numbered};
 use mw_symboard::{SymBoard, words_of_cycles_are_numbered};
 use mw_symmach::{SymMach, expr_term};
 use mw_symmem::{Side, SymEvent};
-use mw_term::{Assignment, Op, Term, WordKind};
+use mw_term::{Assignment, Op, ShortcutBook, Term, WordKind};
 use std::alloc::Global;
 
 /// The word that an event puts out, if it is none that was taken.
@@ -82,6 +83,7 @@ fn apart(
     a: Term,
     b: Term,
     nodes: u32,
+    book: &ShortcutBook,
 ) -> Result<Option<Assignment>, RunStop>
     requires wide { (width : ℕ) × IsOfWidth space.old.terms width a × IsOfWidth space.old.terms width b }
     requires workspace { IsWorkspace space.old.terms space.old.words space.old.memory }
@@ -97,7 +99,7 @@ fn apart(
     ensures apart { IfOk result (λ o. IfSome o (λ numbers. AreTwoAt space.new.terms (given_by numbers) a b)) }
 {
     let same = space.words.add(alloc, &mut space.terms, Op::Eq(a, b))?;
-    match paths.failing(alloc, &space.terms, same, nodes) {
+    match paths.failing(alloc, &space.terms, same, nodes, book) {
         Ok(found) => Ok(found),
         Err(fault) => Err(stop_of(&space.words, fault)),
     }
@@ -111,6 +113,7 @@ fn compare_pair(
     board: SymEvent,
     machine: SymEvent,
     nodes: u32,
+    book: &ShortcutBook,
 ) -> Result<Option<Assignment>, RunStop>
     requires wide { (a b : ℕ) → board ≡ Out a → machine ≡ Out b
         → (word : ℕ) × IsOfWidth space.old.terms word a × IsOfWidth space.old.terms word b }
@@ -134,7 +137,7 @@ fn compare_pair(
     let Some(b) = out_of(machine) else {
         return Ok(None);
     };
-    apart(alloc, space, paths, a, b, nodes)
+    apart(alloc, space, paths, a, b, nodes, book)
 }
 
 /// Compares the words that both sides put out, pair by pair.
@@ -145,6 +148,7 @@ fn compare_events(
     board: &[SymEvent],
     machine: &[SymEvent],
     nodes: u32,
+    book: &ShortcutBook,
 ) -> Result<Option<Assignment>, RunStop>
     requires alike { are_alike board.now machine.now ≡ true }
     requires wide { (word : ℕ) × AreEventsOf space.old.terms word board.now
@@ -171,6 +175,7 @@ fn compare_events(
             board[number],
             machine[number],
             nodes,
+            book,
         )? {
             return Ok(Some(found));
         }
@@ -187,6 +192,7 @@ fn compare_line(
     elements: &[Term],
     line: &Line,
     nodes: u32,
+    book: &ShortcutBook,
 ) -> Result<Option<Assignment>, RunStop>
     requires line_of { IsLineOf (job_of job.now).relation.shape (line_of line.now) }
     requires few { length space.old.memory.reads + reads (line_of line.now).right < 2 ^ 32 }
@@ -222,6 +228,7 @@ fn compare_line(
         elements[line.left as usize],
         right,
         nodes,
+        book,
     )
 }
 
@@ -234,6 +241,7 @@ fn compare_lines(
     elements: &[Term],
     lines: &[Line],
     nodes: u32,
+    book: &ShortcutBook,
 ) -> Result<Option<Assignment>, RunStop>
     requires lines_of { All (IsLineOf (job_of job.now).relation.shape) (lines_of lines.now) }
     requires few { length space.old.memory.reads + reads_of (lines_of lines.now) < 2 ^ 32 }
@@ -257,7 +265,7 @@ fn compare_lines(
         × FailsAt (job_of job.now).relation.shape space.new elements.now (given_by numbers) line)) }
 {
     for line in lines {
-        if let Some(found) = compare_line(alloc, job, space, paths, elements, line, nodes)? {
+        if let Some(found) = compare_line(alloc, job, space, paths, elements, line, nodes, book)? {
             return Ok(Some(found));
         }
     }
@@ -288,6 +296,7 @@ fn compare_memory(
     space: &mut Space,
     paths: &mut Paths,
     nodes: u32,
+    book: &ShortcutBook,
 ) -> Result<Option<Assignment>, RunStop>
     requires space { IsSpace (job_of job.now) space.old.terms space.old.words space.old.memory }
     requires fresh { term_of space.old.words Probe ≡ None }
@@ -307,7 +316,7 @@ fn compare_memory(
         .fresh(alloc, &mut space.terms, WordKind::Probe, address)?;
     let board = read_at(alloc, space, Side::Board, probe)?;
     let machine = read_at(alloc, space, Side::Machine, probe)?;
-    apart(alloc, space, paths, board, machine, nodes)
+    apart(alloc, space, paths, board, machine, nodes, book)
 }
 
 /// The terms of all elements at the end, by number.
@@ -345,6 +354,7 @@ fn compare_all(
     board: &[SymEvent],
     machine: &[SymEvent],
     nodes: u32,
+    book: &ShortcutBook,
 ) -> Result<Option<Assignment>, RunStop>
     requires alike { are_alike board.now machine.now ≡ true }
     requires events { (word : ℕ) × AreEventsOf space.old.terms word board.now
@@ -357,6 +367,7 @@ fn compare_all(
     requires paths { HavePaths space.old paths.old }
     ensures goes { OnOk result (GoesComparing space.old space.new) }
     ensures own { OnOk result (HaveOwnKinds space.new.words) }
+    ensures made { OnOk result (AreMade paths.new) }
     ensures compared { (sides : Sides) → AreSidesOn elements.now space.old sides → Compares nodes space.old space.new
         (path_in paths.old)
         (compared_all (job_of job.now).relation.shape sides (lines_of lines.now) board.now machine.now) result }
@@ -365,17 +376,17 @@ fn compare_all(
     ensures apart { IfOk result (λ o. IfSome o (λ numbers. AreApart (job_of job.now).relation.shape space.new
         (given_by numbers) elements.now (lines_of lines.now) board.now machine.now)) }
 {
-    if let Some(found) = compare_events(alloc, space, paths, board, machine, nodes)? {
+    if let Some(found) = compare_events(alloc, space, paths, board, machine, nodes, book)? {
         // A call for the proof: no two variables have one kind.
         let _ = space.words.count();
         return Ok(Some(found));
     }
-    if let Some(found) = compare_lines(alloc, job, space, paths, elements, lines, nodes)? {
+    if let Some(found) = compare_lines(alloc, job, space, paths, elements, lines, nodes, book)? {
         // A call for the proof: no two variables have one kind.
         let _ = space.words.count();
         return Ok(Some(found));
     }
-    let compared = compare_memory(alloc, job, space, paths, nodes);
+    let compared = compare_memory(alloc, job, space, paths, nodes, book);
     // A call for the proof: no two variables have one kind.
     let _ = space.words.count();
     compared
@@ -389,12 +400,14 @@ fn compare_sides(
     run: &mut Run,
     step: &SymMach,
     nodes: u32,
+    book: &ShortcutBook,
 ) -> Result<Option<Assignment>, RunStop>
     requires met { (number cycles : ℕ) × (elements : List ℕ) × (from : List Kept) × (late : Bool) × (way : Way)
         × HasMetCase (job_of job.now) number elements from cycles late way run.old (Some step.now) }
     requires few { length run.old.space.memory.reads ≤ 1024 }
     requires fresh { term_of run.old.space.words Probe ≡ None }
     requires paths { HavePaths run.old.space run.old.paths }
+    ensures made { OnOk result (AreMade run.new.paths) }
     ensures none { IfOk result (λ o. o ≡ None
         → (number cycles : ℕ) (elements : List ℕ) (from : List Kept) (late : Bool) (way : Way)
         → HasMetCase (job_of job.now) number elements from cycles late way run.old (Some step.now)
@@ -435,6 +448,7 @@ fn compare_sides(
         run.board.events(),
         step.events(),
         nodes,
+        book,
     )?;
     Ok(found)
 }
@@ -445,6 +459,7 @@ pub(crate) fn first_failing(
     job: &Job,
     traced: &mut Traced,
     nodes: u32,
+    book: &ShortcutBook,
 ) -> Result<Option<Assignment>, RunStop>
     requires met { (number : ℕ) × (elements : List ℕ) × (from : List Kept) × (way : Way)
         × HasMetCase (job_of job.now) number elements from traced.old.cycles traced.old.late way traced.old.run
@@ -452,6 +467,7 @@ pub(crate) fn first_failing(
     requires few { length traced.old.run.space.memory.reads ≤ 1024 }
     requires fresh { term_of traced.old.run.space.words Probe ≡ None }
     requires paths { HavePaths traced.old.run.space traced.old.run.paths }
+    ensures made { OnOk result (AreMade traced.new.run.paths) }
     ensures none { IfOk result (λ o. o ≡ None → (number : ℕ) (elements : List ℕ) (from : List Kept) (way : Way)
         → HasMetCase (job_of job.now) number elements from traced.old.cycles traced.old.late way
         traced.old.run traced.old.step
@@ -472,6 +488,6 @@ pub(crate) fn first_failing(
 {
     match &traced.step {
         None => Ok(traced.run.paths.first_assignment(alloc)?),
-        Some(step) => compare_sides(alloc, job, &mut traced.run, step, nodes),
+        Some(step) => compare_sides(alloc, job, &mut traced.run, step, nodes, book),
     }
 }

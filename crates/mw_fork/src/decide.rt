@@ -23,7 +23,7 @@ use mw_macro::words_are_numbered;
 use mw_rel::words_of_cases_are_numbered;
 use mw_symboard::words_of_cycles_are_numbered;
 use mw_symmem::Words;
-use mw_term::{DecidedKind, Term};
+use mw_term::{DecidedKind, ShortcutBook, Term};
 use std::alloc::Global;
 
 /// The number of an operation's word. That of a constant, which is no word, is the last one before it.
@@ -60,6 +60,7 @@ pub(crate) fn decide(
     term: Term,
     way: &mut Way,
     nodes: u32,
+    book: &ShortcutBook,
 ) -> Result<bool, RunStop>
     requires wide { IsOfWidth space.now.terms 1 term }
     requires paths { HavePaths space.now paths.old }
@@ -88,7 +89,7 @@ pub(crate) fn decide(
     words_of_cycles_are_numbered();
     words_are_numbered();
     over_have_numbers();
-    let split = match paths.split(alloc, &space.terms, term, nodes) {
+    let split = match paths.split(alloc, &space.terms, term, nodes, book) {
         Ok(split) => split,
         Err(fault) => return Err(stop_of(&space.words, fault)),
     };

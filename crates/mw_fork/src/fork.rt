@@ -18,7 +18,9 @@ ghost use Rattle.mw_fork.specs.Forks as forks;
 ghost use Rattle.mw_fork.specs.Forks.{At, Behind, EndsEach, IsForkOf, IsNextCase, IsToCome, LeadNowhere, LeadOn};
 ghost use Rattle.mw_fork.specs.Forks.{NoneIsToCome, OneIsToCome};
 ghost use Rattle.mw_fork.specs.KeptBits.{AreKeptBits};
-ghost use Rattle.mw_fork.specs.OnWay.{HasMetCase, HasMetSegment, HavePaths, IsRunOf};
+ghost use Rattle.mw_fork.specs.OnWay.{HasMetCase, HasMetSegment, HavePaths, IsFirst, IsRunOf};
+ghost use Rattle.mw_fork.specs.Runs.{IsIdle};
+ghost use Rattle.mw_fork.specs.Paths.{AreMade};
 ghost use Rattle.mw_fork.specs.Stops.{IsDecisionOver, StopsBy};
 ghost use Rattle.mw_fork.specs.Ways.{Way as WayOf, met_of};
 ghost use Rattle.mw_fork.specs.Within.{AreDecidedWithin};
@@ -27,6 +29,7 @@ use crate::begin::begin_of;
 use crate::budget::Budget;
 use crate::comparing::first_failing;
 use crate::fault::{ForkFault, Over, RunStop};
+use crate::paths::Paths;
 use crate::run::Run;
 use crate::segment::segment;
 use crate::step::step;
@@ -34,7 +37,7 @@ use crate::way::Way;
 use mw_base::NoMemory;
 use mw_rel::{Begin, Job};
 use mw_symmach::SymMach;
-use mw_term::Prefix;
+use mw_term::{Prefix, ShortcutBook};
 use std::alloc::Global;
 use std::marker::Model;
 
@@ -60,8 +63,9 @@ pub(crate) enum Stage {
     Behind,
 }
 
-/// The feasible cases of a boundary, which are given one after another. Each is run from all starts of the boundary
-/// with terms and diagrams of its own, which are dropped after it; what is kept from case to case are the decided bits.
+/// The feasible cases of a boundary, which are given one after another. Each is run from all starts of the boundary, and
+/// writes terms of its own. What is kept from case to case are the decided bits, and the table of terms with the
+/// diagrams of their bits: what one run has made is there for the next.
 #[derive(Drop)]
 pub struct Fork {
     boundary: usize,
@@ -70,14 +74,20 @@ pub struct Fork {
     given: u32,
     stage: Stage,
     way: Way,
+    /// What the run of the case given last has made.
+    made: Option<Paths>,
 }
 
 impl Model for Fork {
+    ghost use Rattle.std.specs.Prelude.{IfSome};
     ghost use Rattle.mw_fork.specs.Forks as forks;
+    ghost use Rattle.mw_fork.specs.Paths.{AreMade};
 
     ghost Value = { forks.Fork };
 
     ghost view = { λ f. forks.fork_of f.boundary f.budget f.given f.stage f.way.kept };
+
+    ghost invariant = { λ f. IfSome f.made AreMade };
 }
 
 /// A run that has met all bits of a case.
@@ -101,6 +111,7 @@ fn with_step(
     late: bool,
     way: &mut Way,
     nodes: u32,
+    book: &ShortcutBook,
 ) -> Result<Option<SymMach>, RunStop>
     requires under { IsRunOf (job_of job.now) run.old }
     requires some { 0 < run.old.board.place.cycle }
@@ -123,7 +134,57 @@ fn with_step(
     if late {
         return Ok(None);
     }
-    Ok(Some(step(alloc, job, run, way, nodes)?))
+    Ok(Some(step(alloc, job, run, way, nodes, book)?))
+}
+
+/// How a run ends that has met all bits of a case.
+#[derive(Drop)]
+struct Ending {
+    /// How many cycles its segment has.
+    cycles: u32,
+    /// Whether the segment is late.
+    late: bool,
+    /// The described step behind it, where it isn't late.
+    step: Option<SymMach>,
+}
+
+/// Goes along the bits that are kept, and then along the first that are feasible, up to the end of a case. The run
+/// stands at the boundary of this number.
+fn follow(
+    alloc: Global,
+    job: &Job,
+    boundary: usize,
+    run: &mut Run,
+    way: &mut Way,
+    nodes: u32,
+    book: &ShortcutBook,
+) -> Result<Ending, RunStop>
+    requires boundary { boundary < length (job_of job.now).relation.boundaries }
+    requires anew { met_of way.old ≡ [] }
+    requires under { IsRunOf (job_of job.now) run.old }
+    requires idle { IsIdle run.old.board 0 }
+    requires first { (elements : List ℕ) × IsFirst (job_of job.now) boundary elements run.old }
+    requires paths { HavePaths run.old.space run.old.paths }
+    ensures case { IfOk result (λ end. AreKeptBits (job_of job.now) boundary [] way.old.kept
+        → (elements : List ℕ)
+        × HasMetCase (job_of job.now) boundary elements way.old.kept end.cycles end.late way.new run.new end.step) }
+    ensures nodes { OnOk result (AreKeptBits (job_of job.now) boundary [] way.old.kept
+        → AreDecidedWithin (job_of job.now) boundary nodes (met_of way.new)) }
+    ensures over { IfErr result (λ stop. AreKeptBits (job_of job.now) boundary [] way.old.kept
+        → StopsBy (job_of job.now) boundary nodes way.old.kept way.new stop) }
+    ensures few { OnOk result (length run.new.space.memory.reads ≤ 1024) }
+    ensures fresh { OnOk result (term_of run.new.space.words Probe ≡ None) }
+    ensures paths { OnOk result (HavePaths run.new.space run.new.paths) }
+{
+    let bound = job.boundary(boundary).bound;
+    let reached = segment(alloc, job, bound, run, way, nodes, book)?;
+    let late = reached.is_none();
+    let step = with_step(alloc, job, run, late, way, nodes, book)?;
+    Ok(Ending {
+        cycles: reached.unwrap_or(bound),
+        late,
+        step,
+    })
 }
 
 /// Runs a case of the boundary of this number along the bits that are kept, and then along the first that are feasible.
@@ -131,10 +192,13 @@ fn trace(
     alloc: Global,
     job: &Job,
     boundary: usize,
+    made: Option<Paths>,
     way: &mut Way,
     nodes: u32,
+    book: &ShortcutBook,
 ) -> Result<Traced, RunStop>
     requires boundary { boundary < length (job_of job.now).relation.boundaries }
+    requires made { IfSome made AreMade }
     requires anew { met_of way.old ≡ [] }
     ensures case { IfOk result (λ traced. AreKeptBits (job_of job.now) boundary [] way.old.kept
         → (elements : List ℕ)
@@ -148,22 +212,32 @@ fn trace(
     ensures fresh { IfOk result (λ traced. term_of traced.run.space.words Probe ≡ None) }
     ensures paths { IfOk result (λ traced. HavePaths traced.run.space traced.run.paths) }
 {
-    let mut run = Run::new(alloc, job, boundary)?;
-    let bound = job.boundary(boundary).bound;
-    let reached = segment(alloc, job, bound, &mut run, way, nodes)?;
-    let late = reached.is_none();
-    let step = with_step(alloc, job, &mut run, late, way, nodes)?;
-    Ok(Traced {
-        run,
-        cycles: reached.unwrap_or(bound),
-        late,
-        step,
-    })
+    let mut run = Run::new(alloc, job, boundary, made)?;
+    match follow(alloc, job, boundary, &mut run, way, nodes, book) {
+        Ok(Ending { cycles, late, step }) => Ok(Traced {
+            run,
+            cycles,
+            late,
+            step,
+        }),
+        Err(stop) => {
+            drop(run);
+            Err(stop)
+        }
+    }
 }
 
 /// Runs the case given last once more, along its bits, all of which are kept.
-fn trace_again(alloc: Global, job: &Job, boundary: usize, way: &mut Way) -> Result<Traced, NoMemory>
+fn trace_again(
+    alloc: Global,
+    job: &Job,
+    boundary: usize,
+    made: Option<Paths>,
+    way: &mut Way,
+    book: &ShortcutBook,
+) -> Result<Traced, NoMemory>
     requires boundary { boundary < length (job_of job.now).relation.boundaries }
+    requires made { IfSome made AreMade }
     ensures case { IfOk result (λ traced. AreKeptBits (job_of job.now) boundary [] way.old.kept
         → (elements : List ℕ)
         × HasMetCase (job_of job.now) boundary elements way.old.kept traced.cycles traced.late way.new traced.run
@@ -175,7 +249,7 @@ fn trace_again(alloc: Global, job: &Job, boundary: usize, way: &mut Way) -> Resu
     way.begin_anew();
     // The case was run within its budget before. Now the limit is above what a table of nodes holds, so that only
     // memory can run out.
-    match trace(alloc, job, boundary, way, u32::MAX) {
+    match trace(alloc, job, boundary, made, way, u32::MAX, book) {
         Ok(traced) => Ok(traced),
         Err(_) => Err(NoMemory),
     }
@@ -202,12 +276,23 @@ fn first_start(alloc: Global, job: &Job, boundary: usize, run: &Run) -> Result<B
     begin_of(alloc, job, boundary, &run.space, &given)
 }
 
-/// How many cycles the segment of a run has, and whether it is late; the run is dropped.
-fn ending(traced: Traced) -> (u32, bool)
-    ensures cycles { result.0 ≡ traced.cycles }
-    ensures late { result.1 ≡ traced.late }
+/// Hands on what a run has made, in place of what is there; the rest of the run is dropped.
+fn hand_on(made: &mut Option<Paths>, traced: Traced)
+    requires { AreMade traced.run.paths }
+    ensures { IfSome made.new AreMade }
 {
-    (traced.cycles, traced.late)
+    let Traced { run, step, .. } = traced;
+    drop(step);
+    let Run {
+        space,
+        paths,
+        board,
+        registers,
+    } = run;
+    drop(space);
+    drop(board);
+    drop(registers);
+    drop(made.replace(paths));
 }
 
 /// What a start of a case that was run is chosen by, where one differs: the first of those that are sought.
@@ -217,6 +302,7 @@ fn differing(
     boundary: usize,
     traced: &mut Traced,
     nodes: u32,
+    book: &ShortcutBook,
 ) -> Result<Option<Begin>, RunStop>
     requires met { (elements : List ℕ) × (from : List Kept) × (way : WayOf)
         × HasMetCase (job_of job.now) boundary elements from traced.old.cycles traced.old.late way traced.old.run
@@ -224,6 +310,7 @@ fn differing(
     requires few { length traced.old.run.space.memory.reads ≤ 1024 }
     requires fresh { term_of traced.old.run.space.words Probe ≡ None }
     requires paths { HavePaths traced.old.run.space traced.old.run.paths }
+    ensures made { OnOk result (AreMade traced.new.run.paths) }
     ensures none { IfOk result (λ o. o ≡ None → (elements : List ℕ) (from : List Kept) (way : WayOf)
         → HasMetCase (job_of job.now) boundary elements from traced.old.cycles traced.old.late way traced.old.run
         traced.old.step
@@ -245,7 +332,7 @@ fn differing(
         traced.old.step
         → ComparisonStops (job_of job.now) boundary nodes (met_of way) stop) }
 {
-    match first_failing(alloc, job, traced, nodes) {
+    match first_failing(alloc, job, traced, nodes, book) {
         Ok(None) => Ok(None),
         Ok(Some(given)) => {
             let begin = begin_of(alloc, job, boundary, &traced.run.space, &given)?;
@@ -316,6 +403,7 @@ impl Fork {
             given: 0,
             stage: Stage::Before,
             way: Way::new(alloc),
+            made: None,
         })
     }
 
@@ -330,7 +418,12 @@ impl Fork {
     /// - `NoMemory`: memory ran out.
     ///
     /// After an error it may only be dropped.
-    pub fn next_case(&mut self, alloc: Global, job: &Job) -> Result<Option<Case>, ForkFault>
+    pub fn next_case(
+        &mut self,
+        alloc: Global,
+        job: &Job,
+        book: &ShortcutBook,
+    ) -> Result<Option<Case>, ForkFault>
         requires of { IsForkOf (job_of job.now) self.old }
         ensures of { OnOk result (IsForkOf (job_of job.now) self.new) }
         ensures boundary { OnOk result (self.new.boundary ≡ self.old.boundary) }
@@ -371,11 +464,20 @@ impl Fork {
                 limit: self.budget.paths,
             }));
         }
-        let traced = match trace(alloc, job, self.boundary, &mut self.way, self.budget.nodes) {
+        let traced = match trace(
+            alloc,
+            job,
+            self.boundary,
+            self.made.take(),
+            &mut self.way,
+            self.budget.nodes,
+            book,
+        ) {
             Ok(traced) => traced,
             Err(stop) => return Err(fault_of(alloc, self.boundary, &self.way, stop)),
         };
-        let (cycles, late) = ending(traced);
+        let (cycles, late) = (traced.cycles, traced.late);
+        hand_on(&mut self.made, traced);
         let prefix = self.way.prefix(alloc)?;
         self.given += 1;
         self.stage = Stage::At;
@@ -398,7 +500,12 @@ impl Fork {
     /// - `NoMemory`: memory ran out.
     ///
     /// After an error it may only be dropped.
-    pub fn differs(&mut self, alloc: Global, job: &Job) -> Result<Option<Begin>, ForkFault>
+    pub fn differs(
+        &mut self,
+        alloc: Global,
+        job: &Job,
+        book: &ShortcutBook,
+    ) -> Result<Option<Begin>, ForkFault>
         requires of { IsForkOf (job_of job.now) self.old }
         requires given { (last : List Decided) × (self.old.at ≡ At last) }
         ensures same { OnOk result (self.new ≡ self.old) }
@@ -416,15 +523,23 @@ impl Fork {
             × AreNodesOver (job_of job.now) boundary self.old.budget.nodes prefix word bit) }
         ensures paths { IfErr result (λ e. (boundary limit : ℕ) → e ≢ faults.Over (overs.Paths boundary limit)) }
     {
-        let mut traced = trace_again(alloc, job, self.boundary, &mut self.way)?;
-        let begin = match differing(alloc, job, self.boundary, &mut traced, self.budget.nodes) {
+        let made = self.made.take();
+        let mut traced = trace_again(alloc, job, self.boundary, made, &mut self.way, book)?;
+        let begin = match differing(
+            alloc,
+            job,
+            self.boundary,
+            &mut traced,
+            self.budget.nodes,
+            book,
+        ) {
             Ok(begin) => begin,
             Err(stop) => {
                 drop(traced);
                 return Err(fault_of(alloc, self.boundary, &self.way, stop));
             }
         };
-        drop(traced);
+        hand_on(&mut self.made, traced);
         Ok(begin)
     }
 
@@ -434,7 +549,12 @@ impl Fork {
     /// # Errors
     ///
     /// Memory ran out. It may only be dropped then.
-    pub fn begin(&mut self, alloc: Global, job: &Job) -> Result<Begin, ForkFault>
+    pub fn begin(
+        &mut self,
+        alloc: Global,
+        job: &Job,
+        book: &ShortcutBook,
+    ) -> Result<Begin, ForkFault>
         requires of { IsForkOf (job_of job.now) self.old }
         requires given { (last : List Decided) × (self.old.at ≡ At last) }
         ensures same { OnOk result (self.new ≡ self.old) }
@@ -444,9 +564,10 @@ impl Fork {
             → IsFirstOfCase (job_of job.now) self.old.boundary last begin) }
         ensures fault { IfErr result (λ e. e ≡ faults.NoMemory) }
     {
-        let traced = trace_again(alloc, job, self.boundary, &mut self.way)?;
-        let begin = first_start(alloc, job, self.boundary, &traced.run)?;
-        drop(traced);
-        Ok(begin)
+        let made = self.made.take();
+        let traced = trace_again(alloc, job, self.boundary, made, &mut self.way, book)?;
+        let begin = first_start(alloc, job, self.boundary, &traced.run);
+        hand_on(&mut self.made, traced);
+        Ok(begin?)
     }
 }

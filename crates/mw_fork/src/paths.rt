@@ -14,13 +14,13 @@ ghost use Rattle.mw_blast.specs.Bits.{StandsFor};
 ghost use Rattle.mw_blast.specs.declared.fault.BlastFault.TheVariants as faults;
 ghost use Rattle.mw_blast.specs.Shared.{IsWrittenCause, IsWrittenSplitCause};
 ghost use Rattle.mw_blast.specs.Splits.{IsSplit};
-ghost use Rattle.mw_fork.specs.Paths.{ArePaths, AreTwo};
+ghost use Rattle.mw_fork.specs.Paths.{AreMade, ArePaths, AreTwo};
 
 use crate::way::Feasible;
 use mw_base::NoMemory;
 use mw_blast::{BlastFault, Shared, Split};
 use mw_dd::{Dd, DdFault, Diagrams};
-use mw_term::{Assignment, Places, Term, Written, terminal_cases_have_none};
+use mw_term::{Assignment, Places, ShortcutBook, Term, Written, terminal_cases_have_none};
 use std::alloc::Global;
 
 /// The function of the starts that take the path so far, and the functions of bits.
@@ -42,7 +42,7 @@ fn only(bits: &[Dd]) -> Dd
 
 impl Paths {
     /// The path on which no bit is decided: each start takes it. The map is that of the board.
-    pub(crate) fn new(alloc: Global, map: &[u16]) -> Result<Paths, NoMemory>
+    fn new(alloc: Global, map: &[u16]) -> Result<Paths, NoMemory>
         requires { IsMap map.now }
         ensures paths { IfOk result (λ p. (w : Table) → w.map ≡ map.now
             → ArePaths w p.dds p.shared p.places p.path) }
@@ -57,6 +57,44 @@ impl Paths {
             places: Places::new(alloc),
             path,
         })
+    }
+
+    /// The path on which no bit is decided, over what these have made. No written term has a place yet.
+    fn anew(self, alloc: Global) -> Paths
+        requires { AreMade self }
+        ensures paths { (w : Table) → w.map ≡ self.shared.terms.map
+            → ArePaths w result.dds result.shared result.places result.path }
+        ensures always { Agree (function_of result.dds result.path) always }
+    {
+        let path = self.dds.constant(true);
+        Paths {
+            dds: self.dds,
+            shared: self.shared,
+            places: Places::new(alloc),
+            path,
+        }
+    }
+
+    /// Whether what was made is for this map.
+    fn is_for(&self, map: &[u16]) -> bool
+        ensures { result ≡ true → self.now.shared.terms.map ≡ map.now }
+    {
+        self.shared.map() == map
+    }
+
+    /// The path on which no bit is decided: each start takes it. The map is that of the board. What another run made
+    /// for this map serves this one too.
+    pub(crate) fn begun(alloc: Global, map: &[u16], made: Option<Paths>) -> Result<Paths, NoMemory>
+        requires map { IsMap map.now }
+        requires made { IfSome made AreMade }
+        ensures paths { IfOk result (λ p. (w : Table) → w.map ≡ map.now
+            → ArePaths w p.dds p.shared p.places p.path) }
+        ensures always { IfOk result (λ p. Agree (function_of p.dds p.path) always) }
+    {
+        match made {
+            Some(made) if made.is_for(map) => Ok(made.anew(alloc)),
+            _ => Paths::new(alloc, map),
+        }
     }
 
     /// The path in two by a bit that is constant, where it is.
@@ -91,6 +129,7 @@ impl Paths {
         written: &Written,
         term: Term,
         nodes: u32,
+        book: &ShortcutBook,
     ) -> Result<Split, BlastFault>
         requires wide { IsOfWidth written.now 1 term }
         requires paths { ArePaths written.now self.old.dds self.old.shared self.old.places self.old.path }
@@ -102,7 +141,15 @@ impl Paths {
         ensures paths { ArePaths written.now self.new.dds self.new.shared self.new.places self.new.path }
         ensures keeps { Keeps self.old.dds self.new.dds }
     {
-        let bits = self.shared.bits(alloc, written, &mut self.places, &mut self.dds, term, nodes)?;
+        let bits = self.shared.bits(
+            alloc,
+            written,
+            &mut self.places,
+            &mut self.dds,
+            term,
+            nodes,
+            book,
+        )?;
         let bit = only(&bits);
         if let Some(split) = self.fixed(bit) {
             return Ok(split);
@@ -115,6 +162,7 @@ impl Paths {
             self.path,
             term,
             nodes,
+            book,
         )
     }
 
@@ -125,6 +173,7 @@ impl Paths {
         written: &Written,
         term: Term,
         nodes: u32,
+        book: &ShortcutBook,
     ) -> Result<Option<Assignment>, BlastFault>
         requires wide { IsOfWidth written.now 1 term }
         requires paths { ArePaths written.now self.old.dds self.old.shared self.old.places self.old.path }
@@ -142,7 +191,15 @@ impl Paths {
         ensures paths { ArePaths written.now self.new.dds self.new.shared self.new.places self.new.path }
         ensures keeps { Keeps self.old.dds self.new.dds }
     {
-        let bits = self.shared.bits(alloc, written, &mut self.places, &mut self.dds, term, nodes)?;
+        let bits = self.shared.bits(
+            alloc,
+            written,
+            &mut self.places,
+            &mut self.dds,
+            term,
+            nodes,
+            book,
+        )?;
         let never = self.dds.constant(false);
         match self.dds.ite(alloc, only(&bits), never, self.path, nodes) {
             Ok(fails) => Ok(self.dds.some_assignment(alloc, fails)?),

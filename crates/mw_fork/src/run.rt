@@ -1,11 +1,12 @@
 // One case on terms: its board, cycle after cycle, and its described step.
-ghost use Rattle.std.specs.Prelude.{◌≡◌, ◌+◌, ◌<◌, ℕ, List, IfErr, IfOk, OnOk, None, drop, length, take};
+ghost use Rattle.std.specs.Prelude.{◌≡◌, ◌+◌, ◌<◌, ℕ, List, IfErr, IfOk, IfSome, OnOk, None, drop, length, take};
 ghost use Rattle.mw_board.specs.Elements.{element_count};
 ghost use Rattle.mw_symboard.specs.Turns.{Asks};
 ghost use Rattle.mw_rel.specs.Views.{job_of};
 ghost use Rattle.mw_fork.specs.OnWay.{Cycles, CyclesStop, HavePaths, IsFirst, IsRunOf, Settles, SettlesNot};
 ghost use Rattle.mw_fork.specs.OnWay.{SettlesWithin};
 ghost use Rattle.mw_fork.specs.OnWay.{StaysWithin, Turns};
+ghost use Rattle.mw_fork.specs.Paths.{AreMade};
 ghost use Rattle.mw_fork.specs.Runs.{IsIdle, IsTurned};
 
 use crate::decide::decide;
@@ -17,7 +18,7 @@ use mw_base::NoMemory;
 use mw_rel::Job;
 use mw_symboard::SymBoard;
 use mw_symmem::Turn;
-use mw_term::{DecidedKind, Term, stands_with_more};
+use mw_term::{DecidedKind, ShortcutBook, Term, stands_with_more};
 use std::alloc::Global;
 
 /// A run from a boundary, on terms.
@@ -56,9 +57,15 @@ fn register_terms<'a>(job: &Job, terms: &'a [Term]) -> &'a [Term]
 }
 
 impl Run {
-    /// A run that stands at the boundary of this number, and has made no cycle.
-    pub(crate) fn new(alloc: Global, job: &Job, boundary: usize) -> Result<Run, NoMemory>
+    /// A run that stands at the boundary of this number, and has made no cycle. What another run made serves this one.
+    pub(crate) fn new(
+        alloc: Global,
+        job: &Job,
+        boundary: usize,
+        made: Option<Paths>,
+    ) -> Result<Run, NoMemory>
         requires boundary { boundary < length (job_of job.now).relation.boundaries }
+        requires made { IfSome made AreMade }
         ensures under { IfOk result (IsRunOf (job_of job.now)) }
         ensures idle { IfOk result (λ r. IsIdle r.board 0) }
         ensures first { IfOk result (λ r. (elements : List ℕ) × IsFirst (job_of job.now) boundary elements r) }
@@ -74,7 +81,7 @@ impl Run {
             board_terms(job, &start.terms),
         )?;
         let registers = Vec::from_slice(alloc, register_terms(job, &start.terms))?;
-        let paths = Paths::new(alloc, job.board.parts().map_entries.as_slice())?;
+        let paths = Paths::begun(alloc, job.board.parts().map_entries.as_slice(), made)?;
         Ok(Run {
             space: start.space,
             paths,
@@ -118,6 +125,7 @@ impl Run {
         term: Term,
         way: &mut Way,
         nodes: u32,
+        book: &ShortcutBook,
     ) -> Result<(), RunStop>
         requires under { IsRunOf (job_of job.now) self.old }
         requires asks { Asks (job_of job.now).board (job_of job.now).store
@@ -132,7 +140,16 @@ impl Run {
         ensures over { IfErr result (SettlesNot (job_of job.now) nodes way.old way.new self.old kind term) }
         ensures paths { OnOk result (HavePaths self.new.space self.new.paths) }
     {
-        let value = decide(alloc, &self.space, &mut self.paths, kind, term, way, nodes)?;
+        let value = decide(
+            alloc,
+            &self.space,
+            &mut self.paths,
+            kind,
+            term,
+            way,
+            nodes,
+            book,
+        )?;
         self.board.decide(value);
         Ok(())
     }
@@ -144,6 +161,7 @@ impl Run {
         job: &Job,
         way: &mut Way,
         nodes: u32,
+        book: &ShortcutBook,
     ) -> Result<(), RunStop>
         requires under { IsRunOf (job_of job.now) self.old }
         requires idle { self.old.board.asked ≡ None }
@@ -162,7 +180,7 @@ impl Run {
             let Turn::Ask { kind, term } = turn else {
                 return Ok(());
             };
-            self.decide_bit(alloc, job, kind, term, way, nodes)?;
+            self.decide_bit(alloc, job, kind, term, way, nodes, book)?;
         }
     }
 

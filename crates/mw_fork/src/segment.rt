@@ -13,6 +13,7 @@ use crate::reached::is_boundary;
 use crate::run::Run;
 use crate::way::Way;
 use mw_rel::Job;
+use mw_term::ShortcutBook;
 use std::alloc::Global;
 
 /// Makes cycles up to a boundary: how many, or nothing where the bound's number of cycles passes without one.
@@ -23,6 +24,7 @@ pub(crate) fn segment(
     run: &mut Run,
     way: &mut Way,
     nodes: u32,
+    book: &ShortcutBook,
 ) -> Result<Option<u32>, RunStop>
     requires some { 1 ≤ bound }
     requires most { bound ≤ 500 }
@@ -41,7 +43,7 @@ pub(crate) fn segment(
     ensures over { IfErr result (SegmentStops (job_of job.now) nodes way.old way.new run.old bound) }
 {
     for number in 0..bound {
-        run.cycle(alloc, job, way, nodes)?;
+        run.cycle(alloc, job, way, nodes, book)?;
         if is_boundary(job, run.at()) {
             return Ok(Some(number + 1));
         }

@@ -32,7 +32,7 @@ use mw_base::NoMemory;
 use mw_rel::Job;
 use mw_symmach::{SymMach, steps_go_along};
 use mw_symmem::{Turn, Words};
-use mw_term::{DecidedKind, Term, WordKind, Written, stands_with_more};
+use mw_term::{DecidedKind, ShortcutBook, Term, WordKind, Written, stands_with_more};
 use std::alloc::Global;
 
 /// The line of the first cycle, which is the request of the step. `_terms` is for the contract alone.
@@ -115,6 +115,7 @@ fn decide_branch(
     term: Term,
     way: &mut Way,
     nodes: u32,
+    book: &ShortcutBook,
 ) -> Result<(), RunStop>
     requires under { IsUnderway (description_of job.now.machine) space.now.terms space.now.words
         space.now.memory step.old }
@@ -149,7 +150,7 @@ fn decide_branch(
 {
     // A law for the proof: a step goes along the bits that are given to it.
     steps_go_along();
-    let value = decide(alloc, space, paths, kind, term, way, nodes)?;
+    let value = decide(alloc, space, paths, kind, term, way, nodes, book)?;
     step.decide(value);
     Ok(())
 }
@@ -163,6 +164,7 @@ fn finish(
     step: &mut SymMach,
     way: &mut Way,
     nodes: u32,
+    book: &ShortcutBook,
 ) -> Result<(), RunStop>
     requires under { IsUnderway (description_of job.now.machine) space.old.terms space.old.words
         space.old.memory step.old }
@@ -199,7 +201,7 @@ fn finish(
         let Turn::Ask { kind, term } = turn else {
             return Ok(());
         };
-        decide_branch(alloc, job, space, paths, step, kind, term, way, nodes)?;
+        decide_branch(alloc, job, space, paths, step, kind, term, way, nodes, book)?;
     }
 }
 
@@ -210,6 +212,7 @@ pub(crate) fn step(
     run: &mut Run,
     way: &mut Way,
     nodes: u32,
+    book: &ShortcutBook,
 ) -> Result<SymMach, RunStop>
     requires under { IsRunOf (job_of job.now) run.old }
     requires some { 0 < run.old.board.place.cycle }
@@ -238,6 +241,7 @@ pub(crate) fn step(
         &mut step,
         way,
         nodes,
+        book,
     )?;
     Ok(step)
 }

@@ -5,12 +5,14 @@ ghost use Rattle.mw_term.specs.declared.decided.Decided.{Decided};
 ghost use Rattle.mw_rel.specs.Job.{Job as JobParts};
 ghost use Rattle.mw_rel.specs.Views.{job_of};
 ghost use Rattle.mw_fork.specs.declared.budget.Budget.{Budget as BudgetOf};
+ghost use Rattle.mw_fork.specs.Forks.{Before, IsForkOf};
 ghost use Rattle.mw_fork.specs.Walks.{HasStopped, HasWalked, IsAtCase, IsNextBehind, StopsAt, StopsWalk};
 
 use crate::budget::Budget;
 use crate::fault::ForkFault;
 use crate::fork::{Case, Fork};
 use mw_rel::Job;
+use mw_term::ShortcutBook;
 use std::alloc::Global;
 use std::ops::ControlFlow;
 
@@ -41,6 +43,7 @@ pub trait Visitor {
         job: &Job,
         fork: &mut Fork,
         case: &Case,
+        book: &ShortcutBook,
     ) -> Result<ControlFlow<Self::Stop>, ForkFault>
         requires at { IsAtCase (job_of job.now) fork.old case.now }
         requires seen { (before : Self) × (cases : List (List Decided))
@@ -55,6 +58,36 @@ pub trait Visitor {
         ensures stops { IfOk result (λ flow. (stop : Self.Stop) → flow ≡ Break stop
             → stops self.old (job_of job.now) fork.old.boundary fork.old.budget case.now.prefix stop) }
         ensures fault { IfErr result (StopsAt (job_of job.now) fork.old compares case.now.prefix) };
+}
+
+/// Goes through the cases of a fork, of which none was given.
+fn walk_on<V: Visitor>(
+    alloc: Global,
+    job: &Job,
+    fork: &mut Fork,
+    visitor: &mut V,
+    book: &ShortcutBook,
+) -> Result<ControlFlow<V::Stop>, ForkFault>
+    requires of { IsForkOf (job_of job.now) fork.old }
+    requires before { fork.old.at ≡ Before }
+    requires given { fork.old.given ≡ 0 }
+    requires most { fork.old.budget.paths < 2 ^ 32 }
+    requires none { V.has_seen visitor.old visitor.old (job_of job.now) fork.old.boundary fork.old.budget [] }
+    ensures all { IfOk result (λ flow. flow ≡ Continue tt → HasWalked (job_of job.now) fork.old.boundary
+        fork.old.budget.paths (V.has_seen visitor.old visitor.new (job_of job.now) fork.old.boundary fork.old.budget)) }
+    ensures stop { IfOk result (λ flow. (stop : V.Stop) → flow ≡ Break stop → (last : V)
+        × HasStopped (job_of job.now) fork.old.boundary
+        (V.has_seen visitor.old last (job_of job.now) fork.old.boundary fork.old.budget)
+        (λ bits. V.stops last (job_of job.now) fork.old.boundary fork.old.budget bits stop)) }
+    ensures fault { IfErr result (StopsWalk (job_of job.now) fork.old.boundary fork.old.budget V.compares
+        (λ cases. (last : V) × V.has_seen visitor.old last (job_of job.now) fork.old.boundary fork.old.budget cases)) }
+{
+    while let Some(case) = fork.next_case(alloc, job, book)? {
+        if let ControlFlow::Break(stop) = visitor.visit(alloc, job, fork, &case, book)? {
+            return Ok(ControlFlow::Break(stop));
+        }
+    }
+    Ok(ControlFlow::Continue(()))
 }
 
 impl Fork {
@@ -79,6 +112,7 @@ impl Fork {
         boundary: usize,
         budget: Budget,
         visitor: &mut V,
+        book: &ShortcutBook,
     ) -> Result<ControlFlow<V::Stop>, ForkFault>
         requires boundary { boundary < length (job_of job.now).relation.boundaries }
         requires none { V.has_seen visitor.old visitor.old (job_of job.now) boundary budget [] }
@@ -91,11 +125,8 @@ impl Fork {
             (λ cases. (last : V) × V.has_seen visitor.old last (job_of job.now) boundary budget cases)) }
     {
         let mut fork = Fork::start(alloc, job, boundary, budget)?;
-        while let Some(case) = fork.next_case(alloc, job)? {
-            if let ControlFlow::Break(stop) = visitor.visit(alloc, job, &mut fork, &case)? {
-                return Ok(ControlFlow::Break(stop));
-            }
-        }
-        Ok(ControlFlow::Continue(()))
+        let walked = walk_on(alloc, job, &mut fork, visitor, book);
+        drop(fork);
+        walked
     }
 }

@@ -4,23 +4,33 @@
 
 mod outside;
 
+use mw_base::NoMemory;
 use mw_rowfile::{End, Fault, File, Work, Worker, run, wrong};
+use mw_short::{all_constant, double_not, fixed_choice, neutral_constant, same_operands};
+use mw_term::ShortcutBook;
 use mw_top::Status;
 use outside::{Outside, bench_over, steady_status};
 use std::alloc::Global;
 use std::process::ExitCode;
 
-/// Runs commands.
-struct Commands;
+/// Runs commands by the shortcuts of a book.
+struct Commands<'a> {
+    book: &'a ShortcutBook,
+}
 
 /// How a command ends over these files, where each call moves one byte. Unless a file is missing, it has to end so, too,
 /// where nothing can fail.
-fn commanded(alloc: Global, words: &[String], files: &[File]) -> Result<End, Fault> {
-    let end = bench_over(alloc, Outside::moving(1), words, files)?;
+fn commanded(
+    alloc: Global,
+    words: &[String],
+    files: &[File],
+    book: &ShortcutBook,
+) -> Result<End, Fault> {
+    let end = bench_over(alloc, Outside::moving(1), words, files, book)?;
     if end.status == Status::ReadFault.number() {
         return Ok(end);
     }
-    let steady = steady_status(alloc, words, files)?;
+    let steady = steady_status(alloc, words, files, book)?;
     if steady.number() != end.status {
         return Err(wrong("where nothing can fail it ends otherwise"));
     }
@@ -29,7 +39,12 @@ fn commanded(alloc: Global, words: &[String], files: &[File]) -> Result<End, Fau
 
 /// How `fetch N MOST WORDS` and `put N MOST WORDS` end: the words over an outside that moves at most so many bytes a
 /// call, and whose fetch or put of this number fails.
-fn failing(alloc: Global, words: &[String], files: &[File]) -> Result<End, Fault> {
+fn failing(
+    alloc: Global,
+    words: &[String],
+    files: &[File],
+    book: &ShortcutBook,
+) -> Result<End, Fault> {
     let [call, number, most, command @ ..] = words else {
         return Err(wrong("`call` has a call, its number, a number of bytes, and words"));
     };
@@ -42,19 +57,33 @@ fn failing(alloc: Global, words: &[String], files: &[File]) -> Result<End, Fault
         "put" => outside.put = number,
         _ => return Err(wrong("a call of the outside is `fetch` or `put`")),
     }
-    bench_over(alloc, outside, command, files)
+    bench_over(alloc, outside, command, files, book)
 }
 
-impl Worker for Commands {
+impl Worker for Commands<'_> {
     fn ended(&self, alloc: Global, work: &Work, files: &[File]) -> Result<End, Fault> {
         match work {
-            Work::Bench(words) => commanded(alloc, words, files),
-            Work::Call(words) => failing(alloc, words, files),
+            Work::Bench(words) => commanded(alloc, words, files, self.book),
+            Work::Call(words) => failing(alloc, words, files, self.book),
         }
     }
 }
 
+/// The shortcuts of the program.
+fn shortcuts(alloc: Global) -> Result<ShortcutBook, NoMemory> {
+    let mut book = ShortcutBook::new(alloc);
+    book.add(alloc, Box::new(alloc, double_not)?)?;
+    book.add(alloc, Box::new(alloc, same_operands)?)?;
+    book.add(alloc, Box::new(alloc, neutral_constant)?)?;
+    book.add(alloc, Box::new(alloc, fixed_choice)?)?;
+    book.add(alloc, Box::new(alloc, all_constant)?)?;
+    Ok(book)
+}
+
 /// Ends with 0 where each row ends as it says, and with 1 otherwise.
 fn main(rt: HostRuntime) -> ExitCode {
-    run(&rt, &Commands)
+    match shortcuts(rt.alloc()) {
+        Ok(book) => run(&rt, &Commands { book: &book }),
+        Err(NoMemory) => ExitCode::FAILURE,
+    }
 }

@@ -1,6 +1,7 @@
 // What is outside of a command of a row: files and a sink in memory, or such that never fail.
 use mw_outside::{MemoryShelf, MemorySink, SteadyShelf, SteadySink};
 use mw_rowfile::{End, Fault, File, wrong};
+use mw_term::ShortcutBook;
 use mw_top::{Status, bench};
 use std::alloc::Global;
 
@@ -32,6 +33,7 @@ pub(crate) fn bench_over(
     outside: Outside,
     words: &[String],
     files: &[File],
+    book: &ShortcutBook,
 ) -> Result<End, Fault> {
     let Outside { most, fetch, put } = outside;
     if most == 0 {
@@ -42,7 +44,7 @@ pub(crate) fn bench_over(
     for file in files {
         shelf.set(alloc, &file.name, &file.contents)?;
     }
-    let status = bench(alloc, words, &mut shelf, &mut out);
+    let status = bench(alloc, words, &mut shelf, &mut out, book);
     Ok(End {
         status: status.number(),
         report: Vec::from_slice(alloc, out.bytes())?,
@@ -54,10 +56,11 @@ pub(crate) fn steady_status(
     alloc: Global,
     words: &[String],
     files: &[File],
+    book: &ShortcutBook,
 ) -> Result<Status, Fault> {
     let mut shelf = SteadyShelf::new(alloc);
     for file in files {
         shelf.set(alloc, &file.name, &file.contents)?;
     }
-    Ok(bench(alloc, words, &mut shelf, &mut SteadySink::new()))
+    Ok(bench(alloc, words, &mut shelf, &mut SteadySink::new(), book))
 }

@@ -5,6 +5,8 @@
 #[cfg(test)]
 mod cases;
 #[cfg(test)]
+mod certified;
+#[cfg(test)]
 mod computed_questions;
 #[cfg(test)]
 mod descriptions;

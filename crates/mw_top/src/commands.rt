@@ -37,6 +37,7 @@ use mw_board::Board;
 use mw_fork::Budget;
 use mw_outside::Shelf;
 use mw_plan::{Files, Stop};
+use mw_term::ShortcutBook;
 use std::alloc::Global;
 
 /// What a command does, whatever its word and its options.
@@ -128,7 +129,12 @@ fn budget_of(request: &Request) -> Budget
 }
 
 /// Answers a request with what its task made of its files.
-pub(crate) fn answer_with(alloc: Global, request: &Request, work: Work) -> Result<Outcome, NoMemory>
+pub(crate) fn answer_with(
+    alloc: Global,
+    request: &Request,
+    work: Work,
+    book: &ShortcutBook,
+) -> Result<Outcome, NoMemory>
     ensures { IfOk result (λ outcome. IsAnswer (data_of request.now) work outcome.status outcome.report.items) }
 {
     match work {
@@ -145,21 +151,21 @@ pub(crate) fn answer_with(alloc: Global, request: &Request, work: Work) -> Resul
         Work::Run(prepared) => run::report(alloc, prepared, request.cycles, request.parts),
         Work::Trace(trace) => Ok(debug::report(trace)),
         Work::Question(asked) => {
-            let outcome = equal::report(alloc, &asked, request.nodes);
+            let outcome = equal::report(alloc, &asked, request.nodes, book);
             drop(asked);
             outcome
         }
         Work::Certification(given) => {
-            let outcome = certify::report(alloc, &given.job, budget_of(request));
+            let outcome = certify::report(alloc, &given.job, budget_of(request), book);
             drop(given);
             outcome
         }
         Work::Bounds(given) => {
-            let outcome = bounds::report(alloc, &given.job, budget_of(request));
+            let outcome = bounds::report(alloc, &given.job, budget_of(request), book);
             drop(given);
             outcome
         }
-        Work::Generation => generate::report(alloc, request.number, budget_of(request)),
+        Work::Generation => generate::report(alloc, request.number, budget_of(request), book),
         Work::Upgrade(board) => {
             let outcome = upgrade::report(alloc, &board);
             drop(board);

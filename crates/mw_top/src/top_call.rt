@@ -25,10 +25,16 @@ use crate::status::Status;
 use mw_base::NoMemory;
 use mw_outside::{Shelf, Sink, write_all};
 use mw_plan::{Files, Stop};
+use mw_term::ShortcutBook;
 use std::alloc::Global;
 
 /// Does the work of a request.
-fn answer<S: Shelf>(alloc: Global, request: &Request, shelf: &mut S) -> Result<Outcome, NoMemory>
+fn answer<S: Shelf>(
+    alloc: Global,
+    request: &Request,
+    shelf: &mut S,
+    book: &ShortcutBook,
+) -> Result<Outcome, NoMemory>
     requires { HasItsFiles request.now }
     ensures report { (call : Call) → request_of call.words ≡ Some (data_of request.now)
         → call.shelf_before ≡ shelf_shown S.Shelf shelf.old → call.shelf_now ≡ shelf_shown S.Shelf shelf.new
@@ -37,7 +43,7 @@ fn answer<S: Shelf>(alloc: Global, request: &Request, shelf: &mut S) -> Result<O
 {
     let mut files = Files::new(alloc, &request.files);
     match read_files(alloc, request.command.task(), shelf, &mut files) {
-        Ok(work) => answer_with(alloc, request, work),
+        Ok(work) => answer_with(alloc, request, work, book),
         Err(Stop::ReadFault) => read_fault_outcome(alloc, files.next_name()),
         Err(Stop::Refused(fault)) => refusal_outcome(alloc, files.next_name(), &fault),
         Err(Stop::NoMemory) => Err(NoMemory),
@@ -45,14 +51,19 @@ fn answer<S: Shelf>(alloc: Global, request: &Request, shelf: &mut S) -> Result<O
 }
 
 /// Does the work that the words ask for.
-fn work<S: Shelf>(alloc: Global, words: &[String], shelf: &mut S) -> Result<Outcome, NoMemory>
+fn work<S: Shelf>(
+    alloc: Global,
+    words: &[String],
+    shelf: &mut S,
+    book: &ShortcutBook,
+) -> Result<Outcome, NoMemory>
     ensures report { (call : Call) → call.words ≡ map string_bytes words.now
         → call.shelf_before ≡ shelf_shown S.Shelf shelf.old → call.shelf_now ≡ shelf_shown S.Shelf shelf.new
         → IfOk result (λ outcome. IsReport call outcome.status outcome.report.items) }
     ensures later { IsLater (shelf_shown S.Shelf shelf.old) (shelf_shown S.Shelf shelf.new) }
 {
     match read_words(alloc, words)? {
-        Some(request) => answer(alloc, &request, shelf),
+        Some(request) => answer(alloc, &request, shelf, book),
         None => usage_outcome(alloc),
     }
 }
@@ -84,12 +95,18 @@ fn end<K: Sink>(out: &mut K, worked: Result<Outcome, NoMemory>) -> Status
 }
 
 /// Does the work that the words ask for, and ends the call.
-fn run<S: Shelf, K: Sink>(alloc: Global, words: &[String], shelf: &mut S, out: &mut K) -> Status
+fn run<S: Shelf, K: Sink>(
+    alloc: Global,
+    words: &[String],
+    shelf: &mut S,
+    out: &mut K,
+    book: &ShortcutBook,
+) -> Status
     ensures end { IsEnd (call_of S.Shelf K.Sink words.now shelf.old shelf.new out.old out.new) result }
     ensures shelf_later { IsLater (shelf_shown S.Shelf shelf.old) (shelf_shown S.Shelf shelf.new) }
     ensures sink_later { K.faults out.old ≤ K.faults out.new }
 {
-    let worked = work(alloc, words, shelf);
+    let worked = work(alloc, words, shelf, book);
     end(out, worked)
 }
 
@@ -103,6 +120,7 @@ pub fn bench<S: Shelf, K: Sink>(
     words: &[String],
     shelf: &mut S,
     out: &mut K,
+    book: &ShortcutBook,
 ) -> Status
     // `Usage`: the words are no request, and the usage line was taken.
     ensures usage { result ≡ Status.Usage
@@ -200,5 +218,5 @@ pub fn bench<S: Shelf, K: Sink>(
     ensures shelf_later { (name : List ℕ) → S.faults shelf.old name ≤ S.faults shelf.new name }
     ensures sink_later { K.faults out.old ≤ K.faults out.new }
 {
-    run(alloc, words, shelf, out)
+    run(alloc, words, shelf, out, book)
 }

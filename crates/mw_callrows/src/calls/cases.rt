@@ -15,7 +15,7 @@ use mw_fork::{Budget, Case, Decided, Fork, ForkFault, Over};
 use mw_rel::Job;
 use mw_rowfile::named::{hexadecimal_of, word};
 use mw_rowfile::{Fault, File, wrong};
-use mw_term::DecidedKind;
+use mw_term::{DecidedKind, ShortcutBook};
 use std::alloc::Global;
 
 /// More cases than this are not asked for.
@@ -198,7 +198,7 @@ impl Cases {
         requires { IsForkOf (job_of job.now) fork.old }
         ensures { IfOk result (λ more. more ≡ true → IsForkOf (job_of job.now) fork.new) }
     {
-        match fork.next_case(alloc, job) {
+        match fork.next_case(alloc, job, &ShortcutBook::new(alloc)) {
             Ok(Some(case)) => {
                 self.take(alloc, &case)?;
                 Ok(true)

@@ -19,6 +19,7 @@ use mw_fork::{Budget, Fork, ForkFault};
 use mw_rel::{Begin, Job};
 use mw_replay::{Counter, Difference, print_counter, read_counter, replay};
 use mw_rowfile::{Fault, File, wrong};
+use mw_term::ShortcutBook;
 use std::alloc::Global;
 
 /// The counter of a start that differs. It has a value for each free element and a word for each address.
@@ -159,7 +160,7 @@ fn push_differing(
     requires given { (last : List Decided) × (fork.old.at ≡ At last) }
     ensures same { IfOk result (λ more. more ≡ true → fork.new ≡ fork.old) }
 {
-    match fork.differs(alloc, job) {
+    match fork.differs(alloc, job, &ShortcutBook::new(alloc)) {
         Ok(Some(begin)) => {
             let counter = counter_of(job, boundary, begin)?;
             let outcome = push_counter(alloc, report, job, &counter);
@@ -189,7 +190,7 @@ fn push_next(
     ensures of { IfOk result (λ more. more ≡ true → IsForkOf (job_of job.now) fork.new) }
     ensures boundary { IfOk result (λ more. more ≡ true → fork.new.boundary ≡ boundary) }
 {
-    match fork.next_case(alloc, job) {
+    match fork.next_case(alloc, job, &ShortcutBook::new(alloc)) {
         Ok(Some(case)) => {
             push_case(alloc, report, &case)?;
             push_differing(alloc, report, job, boundary, fork)

@@ -23,6 +23,7 @@ use mw_plan::{Files, Stop};
 use mw_rel::{Begin, Job};
 use mw_replay::print_start;
 use mw_sim::append_line;
+use mw_term::ShortcutBook;
 use std::alloc::Global;
 
 /// Reads the job.
@@ -175,10 +176,15 @@ fn status_of(bounds: &Bounds) -> Status
 }
 
 /// Says how long the segments of a job last, within a budget.
-pub(super) fn report(alloc: Global, job: &Job, budget: Budget) -> Result<Outcome, NoMemory>
+pub(super) fn report(
+    alloc: Global,
+    job: &Job,
+    budget: Budget,
+    book: &ShortcutBook,
+) -> Result<Outcome, NoMemory>
     ensures { IfOk result (λ outcome. IsBounding budget (job_of job.now) outcome.status outcome.report.items) }
 {
-    let answer = bounds(alloc, job, budget)?;
+    let answer = bounds(alloc, job, budget, book)?;
     let mut report = Vec::new(alloc);
     append_bounds(alloc, &mut report, job, budget, &answer)?;
     Ok(Outcome {

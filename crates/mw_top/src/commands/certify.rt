@@ -31,6 +31,7 @@ use mw_plan::{Files, Stop};
 use mw_rel::{Boundary, Difference, Job, Line};
 use mw_replay::{Counter, print_counter, replay};
 use mw_sim::append_line;
+use mw_term::ShortcutBook;
 use std::alloc::Global;
 
 /// Reads the job.
@@ -277,10 +278,15 @@ fn append_verdict(
 }
 
 /// Certifies a job within a budget.
-pub(super) fn report(alloc: Global, job: &Job, budget: Budget) -> Result<Outcome, NoMemory>
+pub(super) fn report(
+    alloc: Global,
+    job: &Job,
+    budget: Budget,
+    book: &ShortcutBook,
+) -> Result<Outcome, NoMemory>
     ensures { IfOk result (λ outcome. IsCertification budget (job_of job.now) outcome.status outcome.report.items) }
 {
-    let verdict = certify(alloc, job, budget)?;
+    let verdict = certify(alloc, job, budget, book)?;
     let mut report = Vec::new(alloc);
     append_verdict(alloc, &mut report, job, budget, &verdict)?;
     Ok(Outcome {

@@ -20,6 +20,7 @@ use mw_expr::value;
 use mw_outside::Shelf;
 use mw_plan::{Files, Stop};
 use mw_sim::append_line;
+use mw_term::ShortcutBook;
 use std::alloc::Global;
 use std::marker::Model;
 
@@ -197,10 +198,15 @@ fn append_equality(
 }
 
 /// Answers a question within a budget.
-pub(super) fn report(alloc: Global, asked: &Asked, nodes: u32) -> Result<Outcome, NoMemory>
+pub(super) fn report(
+    alloc: Global,
+    asked: &Asked,
+    nodes: u32,
+    book: &ShortcutBook,
+) -> Result<Outcome, NoMemory>
     ensures { IfOk result (λ outcome. IsEquality nodes asked.now outcome.status outcome.report.items) }
 {
-    let equality = equal(alloc, &asked.question, nodes)?;
+    let equality = equal(alloc, &asked.question, nodes, book)?;
     let mut report = Vec::new(alloc);
     append_equality(alloc, &mut report, asked, &equality)?;
     Ok(Outcome {

@@ -9,6 +9,7 @@ use crate::status::Status;
 use mw_base::NoMemory;
 use mw_cases::generate;
 use mw_fork::Budget;
+use mw_term::ShortcutBook;
 use std::alloc::Global;
 
 /// Appends the number of operations, where the job is certified.
@@ -24,12 +25,17 @@ fn append_operations(alloc: Global, outcome: &mut Outcome, operations: u32) -> R
 }
 
 /// Certifies the job of a number within a budget.
-pub(super) fn report(alloc: Global, number: u16, budget: Budget) -> Result<Outcome, NoMemory>
+pub(super) fn report(
+    alloc: Global,
+    number: u16,
+    budget: Budget,
+    book: &ShortcutBook,
+) -> Result<Outcome, NoMemory>
     ensures { IfOk result (λ outcome. IsGeneration budget number outcome.status outcome.report.items) }
 {
     let made = generate(alloc, number)?;
     let operations = made.operations;
-    let certified = certify::report(alloc, &made.job, budget);
+    let certified = certify::report(alloc, &made.job, budget, book);
     drop(made);
     let mut outcome = certified?;
     append_operations(alloc, &mut outcome, operations)?;

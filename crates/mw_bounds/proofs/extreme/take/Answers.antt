@@ -4,7 +4,7 @@ use Rattle.mw_bounds.proofs.Taking.{has_length, stays, taken}
 use Rattle.mw_bounds.proofs.extreme.take.Goals as goal
 
 pub returns-then-not-goes_beyond_shown-clause-taken : goal.returns-then-not-goes_beyond_shown-clause-taken
-returns-then-not-goes_beyond_shown-clause-taken c = λ cases next is.
+returns-then-not-goes_beyond_shown-clause-taken g c = λ cases next is.
     (let job = job_of c.args.job.now in
     let case = c.args.case.now in
     stays job c.args.fork.now.boundary c.args.side c.in_case-length.result c.args.shown.now cases case.prefix
@@ -13,7 +13,7 @@ returns-then-not-goes_beyond_shown-clause-taken c = λ cases next is.
     c.requires.at.ends)) next)
 
 pub returns-clause-taken : goal.returns-clause-taken
-returns-clause-taken c = λ cases next is.
+returns-clause-taken g c = λ cases next is.
     (let job = job_of c.args.job.now in
     let case = c.args.case.now in
     let at = c.requires.at.at in

@@ -8,7 +8,7 @@ use Rattle.mw_bounds.specs.Answers.{AreFound, IsFoundAt}
 use Rattle.mw_bounds.proofs.finding.ranges.Goals as goal
 
 pub loop-boundary-preserved : goal.loop-boundary-preserved
-loop-boundary-preserved c =
+loop-boundary-preserved g c =
     let was = c.loop-boundary.invariant in
     let range = c.in_ok-range.field-0 in
     rw c.in_ok-push.ensures.items (record {
@@ -18,7 +18,7 @@ loop-boundary-preserved c =
     })
 
 pub returns-clause-found : goal.returns-clause-found
-returns-clause-found c =
+returns-clause-found g c =
     let job = job_of c.args.job.now in
     let ranges = c.loop-boundary.ranges.items in
     let found = c.loop-boundary.invariant in

@@ -5,7 +5,7 @@ use Rattle.mw_bounds.proofs.finding.ranges.Given as goal
 
 -- there are the ranges of the boundaries before this one
 abbrev pub invariant-loop-boundary : goal.invariant-loop-boundary
-invariant-loop-boundary l = record {
+invariant-loop-boundary g l = record {
   are : AreOfFirst (job_of l.job) l.fn.budget l.ranges.items;
   count : length l.ranges.items ≡ l.boundary;
 }

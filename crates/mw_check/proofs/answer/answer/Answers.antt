@@ -8,16 +8,16 @@ use Rattle.mw_check.proofs.Answered.{end_stands, one_bit}
 use Rattle.mw_check.proofs.answer.answer.Goals as goal
 
 pub bits_within-requires : goal.bits_within-requires
-bits_within-requires c = c.requires.list.there
+bits_within-requires g c = c.requires.list.there
 
 pub unknown-requires : goal.unknown-requires
-unknown-requires c =
+unknown-requires g c =
     cause_numbered (asked_of c.args.question.now) c.in-Err.fault c.args.terms.now c.args.words.now
     c.args.same c.args.budget
     c.requires.list c.in-Err.ensures.over
 
 pub returns-in-Err : goal.returns-in-Err
-returns-in-Err c =
+returns-in-Err g c =
     let q = asked_of c.args.question.now in
     IfOk-weaker c.unknown.result _ (IsAnswer q c.args.budget)
     (cause_answer q c.in-Err.fault c.args.terms.now c.args.words.now c.args.same c.args.budget c.requires.list
@@ -25,18 +25,18 @@ returns-in-Err c =
     c.unknown.ensures
 
 pub index-requires : goal.index-requires
-index-requires c =
+index-requires g c =
     let one = one_bit (asked_of c.args.question.now) c.args.terms.now c.args.words.now c.args.same c.bits_within.new.dds
     c.in-Ok.bits.items c.requires.list c.in-Ok.ensures.bits in
     omega (arith, one, c.in-Ok.bits.ok)
 
 pub first_without-requires : goal.first_without-requires
-first_without-requires c =
+first_without-requires g c =
     (end_stands (asked_of c.args.question.now) c.args.terms.now c.args.words.now c.args.same c.bits_within.new.dds
     c.in-Ok.bits.items c.index.result.now c.requires.list c.in-Ok.ensures.bits c.index.ensures).there
 
 pub returns-in-None : goal.returns-in-None
-returns-in-None c =
+returns-in-None g c =
     let q = asked_of c.args.question.now in
     let stands = end_stands q c.args.terms.now c.args.words.now c.args.same c.bits_within.new.dds c.in-Ok.bits.items
     c.index.result.now c.requires.list c.in-Ok.ensures.bits c.index.ensures in
@@ -46,7 +46,7 @@ returns-in-None c =
     (c.in_ok-first_without.ensures.none c.in-None.is)
 
 pub returns : goal.returns
-returns c =
+returns g c =
     let q = asked_of c.args.question.now in
     let stands = end_stands q c.args.terms.now c.args.words.now c.args.same c.bits_within.new.dds c.in-Ok.bits.items
     c.index.result.now c.requires.list c.in-Ok.ensures.bits c.index.ensures in

@@ -11,7 +11,7 @@ use Rattle.mw_check.proofs.Searching.{all_within, certified, none_before, summar
 use Rattle.mw_check.proofs.certification.search_all.Goals as goal
 
 pub returns-in_err-summary-clause-stops : goal.returns-in_err-summary-clause-stops
-returns-in_err-summary-clause-stops c =
+returns-in_err-summary-clause-stops g c =
     let error = err_from_is_err_and c.from_residual.result
     c.from_residual.ensures.1 in
     let was = c.loop-boundary.invariant in
@@ -20,7 +20,7 @@ returns-in_err-summary-clause-stops c =
     was.searched was.count)))
 
 pub loop-boundary-preserved : goal.loop-boundary-preserved
-loop-boundary-preserved c =
+loop-boundary-preserved g c =
     let was = c.loop-boundary.invariant in
     rw c.in_ok-push-in-Continue.ensures.items (record {
       searched = each_with_one_more (λ k s. IsSearched (job_of c.args.job.now) k c.args.budget s)
@@ -30,14 +30,14 @@ loop-boundary-preserved c =
     })
 
 pub returns-in-Break-clause-is : goal.returns-in-Break-clause-is
-returns-in-Break-clause-is c =
+returns-in-Break-clause-is g c =
     let was = c.loop-boundary.invariant in
     (rw c.in-Break.is at c.in_ok-summary.ensures.ends)
     (none_before (job_of c.args.job.now) c.args.budget c.loop-boundary.summaries.items c.loop-boundary.boundary
     was.searched was.count)
 
 pub returns-clause-is : goal.returns-clause-is
-returns-clause-is c =
+returns-clause-is g c =
     let job = job_of c.args.job.now in
     let budget = c.args.budget in
     let summaries = c.loop-boundary.summaries.items in

@@ -12,15 +12,15 @@ use Rattle.mw_fork.proofs.Sharing.{shared_with_more}
 use Rattle.mw_fork.proofs.comparing.apart.Goals as goal
 
 pub add-requires : goal.add-requires
-add-requires c =
+add-requires g c =
     pair_of c.args.space.now.terms c.requires.wide.0 c.args.a c.args.b c.requires.wide.1 c.requires.wide.2
 
 pub failing-requires-clause-wide : goal.failing-requires-clause-wide
-failing-requires-clause-wide c =
+failing-requires-clause-wide g c =
     compared_wide c.args.space.now.terms _ c.args.a c.args.b c.in_ok-same.same c.in_ok-same.ensures.made
 
 pub failing-requires-clause-paths : goal.failing-requires-clause-paths
-failing-requires-clause-paths c =
+failing-requires-clause-paths g c =
     let have = c.requires.paths in
     let e = c.in_ok-same.ensures in
     record {
@@ -30,7 +30,7 @@ failing-requires-clause-paths c =
     }
 
 pub returns-in-Ok-clause-goes : goal.returns-in-Ok-clause-goes
-returns-in-Ok-clause-goes c =
+returns-in-Ok-clause-goes g c =
     let e = c.in_ok-same.ensures in
     record {
       goes = compared_goes _ _ _ _ c.args.space.now.memory c.args.a c.args.b c.in_ok-same.same
@@ -40,12 +40,12 @@ returns-in-Ok-clause-goes c =
     }
 
 pub returns-in-Ok-clause-probe : goal.returns-in-Ok-clause-probe
-returns-in-Ok-clause-probe c =
+returns-in-Ok-clause-probe g c =
     ap (λ ws. term_of ws Probe) c.in_ok-same.ensures.words
     ∙ plain_behind c.args.space.now.words (c.in_ok-same.same ∷ []) Probe
 
 pub returns-in-Ok-clause-compared : goal.returns-in-Ok-clause-compared
-returns-in-Ok-clause-compared c = λ subject.
+returns-in-Ok-clause-compared g c = λ subject.
     let e = c.in_ok-same.ensures in
     let new : Space =
     record { terms = c.add.new.terms; words = c.add.new.self; memory = c.args.space.now.memory } in
@@ -56,19 +56,19 @@ returns-in-Ok-clause-compared c = λ subject.
     e.extends.map c.in-Ok.ensures.none c.in-Ok.ensures.within c.in-Ok.ensures.first)
 
 pub returns-in-Ok-clause-same : goal.returns-in-Ok-clause-same
-returns-in-Ok-clause-same c = λ none.
+returns-in-Ok-clause-same g c = λ none.
     one_on c.args.space.now.terms c.add.new.terms c.args.a c.args.b c.in_ok-same.same (path_in c.args.paths.now)
     c.in_ok-same.ensures.made c.in_ok-same.ensures.keeps c.requires.wide.1.there c.requires.wide.2.there
     (c.in-Ok.ensures.none none)
 
 pub returns-in-Ok-clause-apart : goal.returns-in-Ok-clause-apart
-returns-in-Ok-clause-apart c =
+returns-in-Ok-clause-apart g c =
     two_at_first c.args.space.now.terms c.add.new.terms c.args.a c.args.b c.in_ok-same.same (path_in c.args.paths.now)
     c.in-Ok.found c.in_ok-same.ensures.made c.in_ok-same.ensures.keeps c.requires.wide.1.there c.requires.wide.2.there
     c.in-Ok.ensures.first
 
 pub returns-in-Err-clause-compared : goal.returns-in-Err-clause-compared
-returns-in-Err-clause-compared c = λ subject.
+returns-in-Err-clause-compared g c = λ subject.
     let e = c.in_ok-same.ensures in
     let new : Space =
     record { terms = c.add.new.terms; words = c.add.new.self; memory = c.args.space.now.memory } in

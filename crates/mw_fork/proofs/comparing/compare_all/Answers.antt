@@ -14,7 +14,7 @@ use Rattle.mw_fork.proofs.LinesCompared.{some_at}
 use Rattle.mw_fork.proofs.comparing.compare_all.Goals as goal
 
 pub returns-in_err-found-clause-compared : goal.returns-in_err-found-clause-compared
-returns-in_err-found-clause-compared c =
+returns-in_err-found-clause-compared g c =
     let stop = c.in_err-found.field-0.0 in
     let p = err_from_is_err_and c.from_residual.result c.from_residual.ensures.1 in
     rw (p.1, p.2) (λ sides on.
@@ -23,7 +23,7 @@ returns-in_err-found-clause-compared c =
     (Err stop) tt c.in_err-found.ensures.compared)
 
 pub returns-in-Some-clause-compared : goal.returns-in-Some-clause-compared
-returns-in-Some-clause-compared c = λ sides on.
+returns-in-Some-clause-compared g c = λ sides on.
     let old = c.args.space.now in
     let first = c.compare_events.new.space in
     let path = path_in c.args.paths.now in
@@ -35,17 +35,17 @@ returns-in-Some-clause-compared c = λ sides on.
     c.in_ok-found.ensures.compared)
 
 pub returns-in-Some-clause-apart : goal.returns-in-Some-clause-apart
-returns-in-Some-clause-apart c =
+returns-in-Some-clause-apart g c =
     let at = some_at _ _ _ c.in-Some.is c.in_ok-found.ensures.apart in
     AreApart.put_out at.0 at.1 at.2 at.3 at.4
 
 pub compare_lines-requires-clause-few : goal.compare_lines-requires-clause-few
-compare_lines-requires-clause-few c =
+compare_lines-requires-clause-few g c =
     let same = ap (λ (m : Memory). length m.reads) c.in_ok-found.ensures.memory in
     omega (arith, same, c.requires.few)
 
 pub returns-in_err-found-2-clause-compared : goal.returns-in_err-found-2-clause-compared
-returns-in_err-found-2-clause-compared c =
+returns-in_err-found-2-clause-compared g c =
     let s = (job_of c.args.job.now).relation.shape in
     let lines = lines_of c.args.lines.now in
     let old = c.args.space.now in
@@ -65,12 +65,12 @@ returns-in_err-found-2-clause-compared c =
     (c.in_err-found-2.ensures.compared sides (sides_compared c.args.elements.now old first sides e.goes on))))
 
 pub returns-in-Some-2-clause-goes : goal.returns-in-Some-2-clause-goes
-returns-in-Some-2-clause-goes c =
+returns-in-Some-2-clause-goes g c =
     comparing_then c.args.space.now c.compare_events.new.space c.compare_lines.new.space c.in_ok-found.ensures.goes
     c.in_ok-found-2.ensures.goes
 
 pub returns-in-Some-2-clause-compared : goal.returns-in-Some-2-clause-compared
-returns-in-Some-2-clause-compared c = λ sides on.
+returns-in-Some-2-clause-compared g c = λ sides on.
     let s = (job_of c.args.job.now).relation.shape in
     let lines = lines_of c.args.lines.now in
     let old = c.args.space.now in
@@ -90,17 +90,17 @@ returns-in-Some-2-clause-compared c = λ sides on.
     (c.in_ok-found-2.ensures.compared sides (sides_compared c.args.elements.now old first sides e.goes on))))
 
 pub returns-in-Some-2-clause-apart : goal.returns-in-Some-2-clause-apart
-returns-in-Some-2-clause-apart c =
+returns-in-Some-2-clause-apart g c =
     let at = some_at _ _ _ c.in-Some-2.is c.in_ok-found-2.ensures.apart in
     AreApart.at_line at.0 at.1 at.2 at.3
 
 pub compare_memory-compared-requires-clause-few : goal.compare_memory-compared-requires-clause-few
-compare_memory-compared-requires-clause-few c =
+compare_memory-compared-requires-clause-few g c =
     let same = ap (λ (m : Memory). length m.reads) c.in_ok-found.ensures.memory in
     omega (arith, same, c.requires.few, c.in_ok-found-2.ensures.more)
 
 pub returns-clause-goes : goal.returns-clause-goes
-returns-clause-goes c =
+returns-clause-goes g c =
     let old = c.args.space.now in
     let first = c.compare_events.new.space in
     let second = c.compare_lines.new.space in
@@ -110,11 +110,11 @@ returns-clause-goes c =
     c.compare_memory-compared.ensures.goes
 
 pub returns-clause-own : goal.returns-clause-own
-returns-clause-own c =
+returns-clause-own g c =
     on_ok_weaker c.compare_memory-compared.result (λ goes. c.count-2.ensures.own) c.compare_memory-compared.ensures.goes
 
 pub returns-clause-compared : goal.returns-clause-compared
-returns-clause-compared c = λ sides on.
+returns-clause-compared g c = λ sides on.
     let s = (job_of c.args.job.now).relation.shape in
     let lines = lines_of c.args.lines.now in
     let old = c.args.space.now in
@@ -141,7 +141,7 @@ returns-clause-compared c = λ sides on.
     (c.compare_memory-compared.ensures.compared sides there.writes))
 
 pub returns-clause-same : goal.returns-clause-same
-returns-clause-same c =
+returns-clause-same g c =
     let e = c.in_ok-found.ensures in
     let f = c.in_ok-found-2.ensures in
     one_all (job_of c.args.job.now).relation.shape c.args.space.now c.compare_events.new.space
@@ -153,6 +153,6 @@ returns-clause-same c =
     (e.same c.in_default.is) (f.same c.in_default-2.is) c.compare_memory-compared.ensures.same
 
 pub returns-clause-apart : goal.returns-clause-apart
-returns-clause-apart c =
+returns-clause-apart g c =
     IfOk-weaker c.compare_memory-compared.result _ _
     (λ o two. IfSome_then o two (λ numbers differ. AreApart.in_memory differ)) c.compare_memory-compared.ensures.apart

@@ -11,7 +11,7 @@ use Rattle.mw_fork.proofs.LinesCompared.{some_at}
 use Rattle.mw_fork.proofs.comparing.compare_events.Goals as goal
 
 pub loop-number-init : goal.loop-number-init
-loop-number-init c = record {
+loop-number-init g c = record {
   count = alike_count c.args.board.now c.args.machine.now c.requires.alike;
   alike = c.requires.alike;
   workspace = c.requires.workspace;
@@ -25,7 +25,7 @@ loop-number-init c = record {
 }
 
 pub compare_pair-requires-clause-wide : goal.compare_pair-requires-clause-wide
-compare_pair-requires-clause-wide c = λ a b is_a is_b.
+compare_pair-requires-clause-wide g c = λ a b is_a is_b.
     let inv = c.loop-number.invariant in
     events_wide c.args.space.now c.loop-number.space c.args.board.now c.args.machine.now c.loop-number.number a b
     inv.goes c.requires.wide
@@ -34,7 +34,7 @@ compare_pair-requires-clause-wide c = λ a b is_a is_b.
     (assumption (c.loop-number-test.true, inv.count, c.index-board-number.is, c.index-machine-number.is)) is_a is_b)
 
 pub returns-in_err-found-clause-compared : goal.returns-in_err-found-clause-compared
-returns-in_err-found-clause-compared c =
+returns-in_err-found-clause-compared g c =
     let inv = c.loop-number.invariant in
     let board = c.args.board.now in
     let machine = c.args.machine.now in
@@ -51,18 +51,18 @@ returns-in_err-found-clause-compared c =
     (c.in_err-found.ensures.compared k)))
 
 pub returns-in-Some-clause-goes : goal.returns-in-Some-clause-goes
-returns-in-Some-clause-goes c =
+returns-in-Some-clause-goes g c =
     comparing_then c.args.space.now c.loop-number.space c.compare_pair.new.space c.loop-number.invariant.goes
     c.in_ok-found.ensures.goes
 
 pub returns-in-Some-clause-memory : goal.returns-in-Some-clause-memory
-returns-in-Some-clause-memory c = c.in_ok-found.ensures.memory ∙ c.loop-number.invariant.memory
+returns-in-Some-clause-memory g c = c.in_ok-found.ensures.memory ∙ c.loop-number.invariant.memory
 
 pub returns-in-Some-clause-probe : goal.returns-in-Some-clause-probe
-returns-in-Some-clause-probe c = c.in_ok-found.ensures.probe ∙ c.loop-number.invariant.probe
+returns-in-Some-clause-probe g c = c.in_ok-found.ensures.probe ∙ c.loop-number.invariant.probe
 
 pub returns-in-Some-clause-compared : goal.returns-in-Some-clause-compared
-returns-in-Some-clause-compared c =
+returns-in-Some-clause-compared g c =
     let inv = c.loop-number.invariant in
     let board = c.args.board.now in
     let machine = c.args.machine.now in
@@ -81,7 +81,7 @@ returns-in-Some-clause-compared c =
     (c.in_ok-found.ensures.compared k)))
 
 pub returns-in-Some-clause-apart : goal.returns-in-Some-clause-apart
-returns-in-Some-clause-apart c =
+returns-in-Some-clause-apart g c =
     let two = some_at _ _ _ c.in-Some.is c.in_ok-found.ensures.apart in (
       c.loop-number.number,
       two.0,
@@ -98,7 +98,7 @@ returns-in-Some-clause-apart c =
     )
 
 pub loop-number-preserved : goal.loop-number-preserved
-loop-number-preserved c =
+loop-number-preserved g c =
     let inv = c.loop-number.invariant in
     let board = c.args.board.now in
     let machine = c.args.machine.now in
@@ -135,7 +135,7 @@ loop-number-preserved c =
     }
 
 pub returns-clause-compared : goal.returns-clause-compared
-returns-clause-compared c =
+returns-clause-compared g c =
     let inv = c.loop-number.invariant in
     let board = c.args.board.now in
     let machine = c.args.machine.now in
@@ -147,7 +147,7 @@ returns-clause-compared c =
     (omega (arith, c.loop-number-test.false, c.loop-number.auto.number-end)) inv.count) (λ so_far have. have))
 
 pub returns-clause-same : goal.returns-clause-same
-returns-clause-same c = λ none number a b out.
+returns-clause-same g c = λ none number a b out.
     c.loop-number.invariant.same number a b
     (omega (
       arith,

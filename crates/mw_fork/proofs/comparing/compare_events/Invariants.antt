@@ -10,7 +10,7 @@ use Rattle.mw_fork.proofs.CameTo.{CameTo}
 use Rattle.mw_fork.proofs.comparing.compare_events.Given as goal
 
 abbrev pub invariant-loop-number : goal.invariant-loop-number
-invariant-loop-number l = record {
+invariant-loop-number g l = record {
   count : length l.board ≡ length l.machine;
   alike : are_alike (drop l.number l.board) (drop l.number l.machine) ≡ true;
   workspace : IsWorkspace l.space.terms l.space.words l.space.memory;

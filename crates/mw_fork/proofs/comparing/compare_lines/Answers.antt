@@ -18,7 +18,7 @@ use Rattle.mw_fork.proofs.Related.{reads_rest, seen_line}
 use Rattle.mw_fork.proofs.comparing.compare_lines.Goals as goal
 
 pub loop-line-init : goal.loop-line-init
-loop-line-init c = record {
+loop-line-init g c = record {
   space = c.requires.space;
   wide = c.requires.wide;
   paths = c.requires.paths;
@@ -31,13 +31,13 @@ loop-line-init c = record {
 }
 
 pub compare_line-requires-clause-line_of : goal.compare_line-requires-clause-line_of
-compare_line-requires-clause-line_of c =
+compare_line-requires-clause-line_of g c =
     each_seen (IsLineOf c.args.job.now.relation.shape) line_of c.args.lines.now
     c.loop-line.line-index c.line-item.result
     c.requires.lines_of c.loop-line-test.true c.line-item.is
 
 pub returns-in_err-found-clause-compared : goal.returns-in_err-found-clause-compared
-returns-in_err-found-clause-compared c =
+returns-in_err-found-clause-compared g c =
     let inv = c.loop-line.invariant in
     let s = (job_of c.args.job.now).relation.shape in
     let line = c.line-item.result in
@@ -53,15 +53,15 @@ returns-in_err-found-clause-compared c =
     (sides_compared c.args.elements.now c.args.space.now c.loop-line.space sides inv.goes on))))
 
 pub returns-in-Some-clause-goes : goal.returns-in-Some-clause-goes
-returns-in-Some-clause-goes c =
+returns-in-Some-clause-goes g c =
     comparing_then c.args.space.now c.loop-line.space c.compare_line.new.space c.loop-line.invariant.goes
     c.in_ok-found.ensures.goes
 
 pub returns-in-Some-clause-probe : goal.returns-in-Some-clause-probe
-returns-in-Some-clause-probe c = c.in_ok-found.ensures.probe ∙ c.loop-line.invariant.probe
+returns-in-Some-clause-probe g c = c.in_ok-found.ensures.probe ∙ c.loop-line.invariant.probe
 
 pub returns-in-Some-clause-compared : goal.returns-in-Some-clause-compared
-returns-in-Some-clause-compared c = λ sides on.
+returns-in-Some-clause-compared g c = λ sides on.
     let inv = c.loop-line.invariant in
     let s = (job_of c.args.job.now).relation.shape in
     let line = c.line-item.result in
@@ -78,7 +78,7 @@ returns-in-Some-clause-compared c = λ sides on.
     (sides_compared c.args.elements.now c.args.space.now now sides inv.goes on))))
 
 pub returns-in-Some-clause-apart : goal.returns-in-Some-clause-apart
-returns-in-Some-clause-apart c =
+returns-in-Some-clause-apart g c =
     let s = (job_of c.args.job.now).relation.shape in
     let line = c.line-item.result in (
       c.loop-line.line-index,
@@ -89,7 +89,7 @@ returns-in-Some-clause-apart c =
     )
 
 pub loop-line-preserved : goal.loop-line-preserved
-loop-line-preserved c =
+loop-line-preserved g c =
     let inv = c.loop-line.invariant in
     let job = job_of c.args.job.now in
     let s = job.relation.shape in
@@ -125,7 +125,7 @@ loop-line-preserved c =
     }
 
 pub returns-clause-compared : goal.returns-clause-compared
-returns-clause-compared c = λ sides on.
+returns-clause-compared g c = λ sides on.
     let s = (job_of c.args.job.now).relation.shape in
     let now = c.loop-line.space in
     c.loop-line.invariant.came sides on now (Ok None)
@@ -135,6 +135,6 @@ returns-clause-compared c = λ sides on.
     (omega (arith, c.loop-line-test.false, c.loop-line.auto.line-index-end))) (λ so_far have. have))
 
 pub returns-clause-same : goal.returns-clause-same
-returns-clause-same c = λ none i line at.
+returns-clause-same g c = λ none i line at.
     c.loop-line.invariant.holds i line
     (omega (arith, inside_kept c.args.lines.now i line at, c.loop-line-test.false, c.loop-line.auto.line-index-end)) at

@@ -15,7 +15,7 @@ use Rattle.mw_fork.proofs.CameTo.{CameTo}
 use Rattle.mw_fork.proofs.comparing.compare_lines.Given as goal
 
 abbrev pub invariant-loop-line : goal.invariant-loop-line
-invariant-loop-line l = record {
+invariant-loop-line g l = record {
   space : IsSpace (job_of l.job) l.space.terms l.space.words l.space.memory;
   wide : AreWide l.space.terms (job_of l.job).relation.shape.widths l.elements;
   paths : HavePaths l.space l.paths;

@@ -11,10 +11,11 @@ use Rattle.mw_fork.specs.OnWay.{path_in}
 use Rattle.mw_fork.proofs.Boundaries.{machine_word}
 use Rattle.mw_fork.proofs.ComparingOn.{compares_later, comparing_paths, comparing_then}
 use Rattle.mw_fork.proofs.MemoryCompared.{HasProbe, HasRead, memory_ends, one_at_probe, probe_made, two_in_memory}
+use Rattle.mw_fork.proofs.comparing.compare_memory.Given.{Over}
 use Rattle.mw_fork.proofs.comparing.compare_memory.Goals as goal
 
 pub read_at-requires-clause-workspace : goal.read_at-requires-clause-workspace
-read_at-requires-clause-workspace c =
+read_at-requires-clause-workspace g c =
     let e = c.in_ok-probe.ensures in
     (probe_made c.args.space.now
     (record { terms = c.fresh.new.terms; words = c.fresh.new.self; memory = c.args.space.now.memory }) _ _
@@ -22,7 +23,7 @@ read_at-requires-clause-workspace c =
     e.table).goes.goes.workspace
 
 pub read_at-requires-clause-probe : goal.read_at-requires-clause-probe
-read_at-requires-clause-probe c =
+read_at-requires-clause-probe g c =
     let e = c.in_ok-probe.ensures in
     let wide = (probe_made c.args.space.now
     (record { terms = c.fresh.new.terms; words = c.fresh.new.self; memory = c.args.space.now.memory }) _ _
@@ -33,7 +34,7 @@ read_at-requires-clause-probe c =
     }
 
 pub read_at-requires-2-clause-probe : goal.read_at-requires-2-clause-probe
-read_at-requires-2-clause-probe c =
+read_at-requires-2-clause-probe g c =
     let e = c.in_ok-probe.ensures in
     let has = probe_made c.args.space.now
     (record { terms = c.fresh.new.terms; words = c.fresh.new.self; memory = c.args.space.now.memory }) _ _
@@ -46,36 +47,36 @@ read_at-requires-2-clause-probe c =
           ∙ sym board.reads.address;
     }
 
-abbrev first_space : (c : goal.After-apart) → Space
-first_space c = record { terms = c.fresh.new.terms; words = c.fresh.new.self; memory = c.args.space.now.memory }
+abbrev first_space : (g : Over) (c : goal.After-apart g) → Space
+first_space g c = record { terms = c.fresh.new.terms; words = c.fresh.new.self; memory = c.args.space.now.memory }
 
-probed : (c : goal.After-apart)
-    → HasProbe c.args.space.now (first_space c) c.parts.result.now.address c.in_ok-probe.probe
-probed c =
+probed : (g : Over) (c : goal.After-apart g)
+    → HasProbe c.args.space.now (first_space g c) c.parts.result.now.address c.in_ok-probe.probe
+probed g c =
     let e = c.in_ok-probe.ensures in
-    probe_made c.args.space.now (first_space c) c.parts.result.now.address _ c.in_ok-probe.probe refl
+    probe_made c.args.space.now (first_space g c) c.parts.result.now.address _ c.in_ok-probe.probe refl
     c.requires.space.workspace e.words e.made e.listed e.of e.extends e.keeps e.table
 
-board_read : (c : goal.After-apart)
-    → HasRead (first_space c) c.read_at.new.space sides.Board c.in_ok-probe.probe c.in_ok-board.board
-board_read c =
+board_read : (g : Over) (c : goal.After-apart g)
+    → HasRead (first_space g c) c.read_at.new.space sides.Board c.in_ok-probe.probe c.in_ok-board.board
+board_read g c =
     let e = c.in_ok-board.ensures in
     record { goes = e.goes; there = e.wide.there; means = e.means; listed = e.listed }
 
-machine_read : (c : goal.After-apart)
+machine_read : (g : Over) (c : goal.After-apart g)
     → HasRead c.read_at.new.space c.read_at-2.new.space sides.Machine c.in_ok-probe.probe c.in_ok-machine.machine
-machine_read c =
+machine_read g c =
     let e = c.in_ok-machine.ensures in
     record { goes = e.goes; there = e.wide.there; means = e.means; listed = e.listed }
 
-to_apart : (c : goal.After-apart) → GoesComparing c.args.space.now c.read_at-2.new.space
-to_apart c =
+to_apart : (g : Over) (c : goal.After-apart g) → GoesComparing c.args.space.now c.read_at-2.new.space
+to_apart g c =
     comparing_then c.args.space.now c.read_at.new.space c.read_at-2.new.space
-    (comparing_then c.args.space.now (first_space c) c.read_at.new.space (probed c).goes (board_read c).goes)
-    (machine_read c).goes
+    (comparing_then c.args.space.now (first_space g c) c.read_at.new.space (probed g c).goes (board_read g c).goes)
+    (machine_read g c).goes
 
 pub apart-requires-clause-paths : goal.apart-requires-clause-paths
-apart-requires-clause-paths c =
+apart-requires-clause-paths g c =
     let e = c.in_ok-probe.ensures in
     let s1 : Space = record { terms = c.fresh.new.terms; words = c.fresh.new.self; memory = c.args.space.now.memory } in
     let has =
@@ -86,34 +87,34 @@ apart-requires-clause-paths c =
     (comparing_paths c.args.space.now s1 c.args.paths.now has.goes c.requires.paths))
 
 pub returns-clause-goes : goal.returns-clause-goes
-returns-clause-goes c =
-    on_ok_weaker c.apart.result (comparing_then c.args.space.now c.read_at-2.new.space c.apart.new.space (to_apart c))
+returns-clause-goes g c =
+    on_ok_weaker c.apart.result (comparing_then c.args.space.now c.read_at-2.new.space c.apart.new.space (to_apart g c))
     c.apart.ensures.goes
 
 pub returns-clause-compared : goal.returns-clause-compared
-returns-clause-compared c = λ sides on.
+returns-clause-compared g c = λ sides on.
     let job = job_of c.args.job.now in
     let valid = c.args.job.now.is_job in
     compares_later c.args.nodes c.args.space.now c.read_at-2.new.space c.apart.new.space (path_in c.args.paths.now)
     (memory c.in_ok-probe.probe) c.in_ok-board.board c.in_ok-machine.machine (with_memory job.relation.shape sides)
-    c.apart.result (to_apart c).goes.later.extends.map
-    (λ so_far same. memory_ends job.relation.shape c.args.space.now (first_space c) c.read_at.new.space
+    c.apart.result (to_apart g c).goes.later.extends.map
+    (λ so_far same. memory_ends job.relation.shape c.args.space.now (first_space g c) c.read_at.new.space
     c.read_at-2.new.space c.parts.result.now.address c.in_ok-probe.probe c.in_ok-board.board c.in_ok-machine.machine
     sides so_far (board_address job valid ∙ sym (ap (λ b. b.address) c.parts.ensures.exact))
-    (machine_word job valid ∙ valid.matched.word ∙ sym c.requires.space.word) (probed c) (board_read c) (machine_read c)
+    (machine_word job valid ∙ valid.matched.word ∙ sym c.requires.space.word) (probed g c) (board_read g c) (machine_read g c)
     on same)
     (c.apart.ensures.compared (memory c.in_ok-probe.probe))
 
 pub returns-clause-same : goal.returns-clause-same
-returns-clause-same c =
-    one_at_probe c.args.space.now (first_space c) c.read_at.new.space c.read_at-2.new.space c.apart.new.space
+returns-clause-same g c =
+    one_at_probe c.args.space.now (first_space g c) c.read_at.new.space c.read_at-2.new.space c.apart.new.space
     (path_in c.args.paths.now) _ c.in_ok-probe.probe c.in_ok-board.board c.in_ok-machine.machine c.apart.result
-    (ap (λ b. b.address) c.parts.ensures.exact ∙ sym c.requires.space.address) (probed c)
-    (board_read c) (machine_read c)
+    (ap (λ b. b.address) c.parts.ensures.exact ∙ sym c.requires.space.address) (probed g c)
+    (board_read g c) (machine_read g c)
     c.apart.ensures.goes c.apart.ensures.same
 
 pub returns-clause-apart : goal.returns-clause-apart
-returns-clause-apart c =
-    two_in_memory c.args.space.now (first_space c) c.read_at.new.space c.read_at-2.new.space c.apart.new.space
-    c.parts.result.now.address c.in_ok-probe.probe c.in_ok-board.board c.in_ok-machine.machine c.apart.result (probed c)
-    (board_read c) (machine_read c) c.apart.ensures.goes c.apart.ensures.apart
+returns-clause-apart g c =
+    two_in_memory c.args.space.now (first_space g c) c.read_at.new.space c.read_at-2.new.space c.apart.new.space
+    c.parts.result.now.address c.in_ok-probe.probe c.in_ok-board.board c.in_ok-machine.machine c.apart.result (probed g c)
+    (board_read g c) (machine_read g c) c.apart.ensures.goes c.apart.ensures.apart

@@ -23,10 +23,11 @@ use Rattle.mw_fork.proofs.Numbered.{AreNumbered}
 use Rattle.mw_fork.proofs.Sides.{terms_at_end}
 use Rattle.mw_fork.proofs.SidesCompared.{CompareAll, alike_at, alike_found, alike_stops, alike_within, ends_of}
 use Rattle.mw_fork.proofs.SidesCompared.{same_ends, some_both, unlike_as, unlike_found, unlike_within}
+use Rattle.mw_fork.proofs.comparing.compare_sides.Given.{Over}
 use Rattle.mw_fork.proofs.comparing.compare_sides.Goals as goal
 
 pub unreachable-requires : goal.unreachable-requires
-unreachable-requires c =
+unreachable-requires g c =
     let job = job_of c.args.job.now in
     let run = c.args.run.now in
     let m = c.requires.met in
@@ -36,14 +37,14 @@ unreachable-requires c =
     (ap (boundary_at job) (sym c.at.ensures) ∙ c.in_default.ensures.none refl)
 
 pub returns-then-alike-sp-clause-none : goal.returns-then-alike-sp-clause-none
-returns-then-alike-sp-clause-none c = λ none number cycles elements from late way met.
+returns-then-alike-sp-clause-none g c = λ none number cycles elements from late way met.
     let run = c.args.run.now in
     nowhere_none (job_of c.args.job.now) number elements (met_of way) run.space
     (path_in run.paths) c.args.job.now.is_job
     met.on.stands met.on.cases (c.in_ok-first_assignment.ensures.none none)
 
 pub returns-then-alike-sp-clause-within : goal.returns-then-alike-sp-clause-within
-returns-then-alike-sp-clause-within c = λ none number cycles elements from late way met.
+returns-then-alike-sp-clause-within g c = λ none number cycles elements from late way met.
     let job = job_of c.args.job.now in
     let run = c.args.run.now in
     let step = c.args.step.now in
@@ -59,7 +60,7 @@ returns-then-alike-sp-clause-within c = λ none number cycles elements from late
     there unlike
 
 pub returns-then-alike-sp-clause-found : goal.returns-then-alike-sp-clause-found
-returns-then-alike-sp-clause-found c =
+returns-then-alike-sp-clause-found g c =
     let job = job_of c.args.job.now in
     let run = c.args.run.now in
     let step = c.args.step.now in
@@ -77,7 +78,7 @@ returns-then-alike-sp-clause-found c =
     (ended_met job number elements from cycles late way run step valid met) lines.0 there unlike first)
 
 pub compare_all-requires-clause-events : goal.compare_all-requires-clause-events
-compare_all-requires-clause-events c =
+compare_all-requires-clause-events g c =
     let job = job_of c.args.job.now in
     let run = c.args.run.now in
     let step = c.args.step.now in
@@ -93,7 +94,7 @@ compare_all-requires-clause-events c =
     )
 
 pub compare_all-requires-clause-lines_of : goal.compare_all-requires-clause-lines_of
-compare_all-requires-clause-lines_of c =
+compare_all-requires-clause-lines_of g c =
     let job = job_of c.args.job.now in
     let run = c.args.run.now in
     let step = c.args.step.now in
@@ -106,7 +107,7 @@ compare_all-requires-clause-lines_of c =
     subst (λ ls. All (IsLineOf job.relation.shape) ls) (sym here) lines.0
 
 pub compare_all-requires-clause-few : goal.compare_all-requires-clause-few
-compare_all-requires-clause-few c =
+compare_all-requires-clause-few g c =
     let job = job_of c.args.job.now in
     let run = c.args.run.now in
     let step = c.args.step.now in
@@ -120,7 +121,7 @@ compare_all-requires-clause-few c =
     omega (arith, same, lines.1, c.requires.few)
 
 pub compare_all-requires-clause-wide : goal.compare_all-requires-clause-wide
-compare_all-requires-clause-wide c =
+compare_all-requires-clause-wide g c =
     let job = job_of c.args.job.now in
     let run = c.args.run.now in
     let step = c.args.step.now in
@@ -133,67 +134,67 @@ compare_all-requires-clause-wide c =
 
 -- ---- where all was compared
 
-abbrev reached_in : (c : goal.After-drop-elements-2) → Boundary
-reached_in c = boundary_of c.in-Some.reached.now
+abbrev reached_in : (g : Over) (c : goal.After-drop-elements-2 g) → Boundary
+reached_in g c = boundary_of c.in-Some.reached.now
 
-reached_is : (c : goal.After-drop-elements-2)
-    → boundary_at (job_of c.args.job.now) c.args.run.now.board.place.at ≡ Some (reached_in c)
-reached_is c = ap (boundary_at (job_of c.args.job.now)) (sym c.at.ensures) ∙ c.in-Some.ensures.some
+reached_is : (g : Over) (c : goal.After-drop-elements-2 g)
+    → boundary_at (job_of c.args.job.now) c.args.run.now.board.place.at ≡ Some (reached_in g c)
+reached_is g c = ap (boundary_at (job_of c.args.job.now)) (sym c.at.ensures) ∙ c.in-Some.ensures.some
 
-are_like : (c : goal.After-drop-elements-2)
-    → is_unlike (reached_in c)
+are_like : (g : Over) (c : goal.After-drop-elements-2 g)
+    → is_unlike (reached_in g c)
     (ends_of (job_of c.args.job.now) c.args.run.now.space c.args.run.now.board c.args.step.now) ≡ false
-are_like c =
-    unlike_as (job_of c.args.job.now) c.args.run.now.space c.args.run.now.board c.args.step.now (reached_in c)
+are_like g c =
+    unlike_as (job_of c.args.job.now) c.args.run.now.space c.args.run.now.board c.args.step.now (reached_in g c)
     c.alike.result c.sp.result false (c.alike.ensures ∙ ap₂ are_alike c.events.ensures c.events-2.ensures) c.sp.ensures
     c.if-alike-sp.false
 
 -- what is so of what was handed over is so of what is there at the end
-at_ends : (c : goal.After-drop-elements-2) (P : List ℕ → List Line → (board machine : List SymEvent) → Type 0)
+at_ends : (g : Over) (c : goal.After-drop-elements-2 g) (P : List ℕ → List Line → (board machine : List SymEvent) → Type 0)
     → P c.deref.result.now (lines_of c.as_slice.result.now) c.events-3.result.now c.events-4.result.now
-    → P (terms_at_end (job_of c.args.job.now) c.args.run.now.board c.args.step.now) (reached_in c).lines
+    → P (terms_at_end (job_of c.args.job.now) c.args.run.now.board c.args.step.now) (reached_in g c).lines
     c.args.run.now.board.events c.args.step.now.parts.events
-at_ends c P =
+at_ends g c P =
     same_ends P _ _ _ _ _ _ _ _ (c.deref.ensures.value ∙ c.in_ok-elements.ensures) (ap lines_of c.as_slice.ensures)
     c.events-3.ensures c.events-4.ensures
 
 pub returns-clause-none : goal.returns-clause-none
-returns-clause-none c = λ none number cycles elements from late way met.
+returns-clause-none g c = λ none number cycles elements from late way met.
     let job = job_of c.args.job.now in
     let run = c.args.run.now in
     let step = c.args.step.now in
     let valid = c.args.job.now.is_job in
-    let reached = reached_in c in
+    let reached = reached_in g c in
     let new = c.compare_all.new.space in
     let path = path_in run.paths in
     let e = c.in_ok-found.ensures in
-    let alike = alike_at job run.space run.board step reached (are_like c) in
+    let alike = alike_at job run.space run.board step reached (are_like g c) in
     none_differs job number elements (met_of way) cycles run.space new path run.board step reached valid
     (ended_met job number elements from cycles late way run step valid met) e.goes e.own
-    (lines_at job run.board.place.at reached valid (reached_is c)).0 (reached_is c) alike.0 alike.1
-    (at_ends c (λ t ls b m. AreOne job.relation.shape new path t ls b m) (e.same none))
+    (lines_at job run.board.place.at reached valid (reached_is g c)).0 (reached_is g c) alike.0 alike.1
+    (at_ends g c (λ t ls b m. AreOne job.relation.shape new path t ls b m) (e.same none))
 
 pub returns-clause-within : goal.returns-clause-within
-returns-clause-within c = λ none number cycles elements from late way met.
+returns-clause-within g c = λ none number cycles elements from late way met.
     let job = job_of c.args.job.now in
     let run = c.args.run.now in
     let step = c.args.step.now in
     let new = c.compare_all.new.space in
     let path = path_in run.paths in
-    let compared = at_ends c (CompareAll job c.args.nodes run.space new path (Ok c.in_ok-found.found))
+    let compared = at_ends g c (CompareAll job c.args.nodes run.space new path (Ok c.in_ok-found.found))
     c.in_ok-found.ensures.compared in
-    alike_within job number c.args.nodes elements (met_of way) cycles run.space new path run.board step (reached_in c)
-    (ended_met job number elements from cycles late way run step c.args.job.now.is_job met) (reached_is c) (are_like c)
+    alike_within job number c.args.nodes elements (met_of way) cycles run.space new path run.board step (reached_in g c)
+    (ended_met job number elements from cycles late way run step c.args.job.now.is_job met) (reached_is g c) (are_like g c)
     (subst (λ o. CompareAll job c.args.nodes run.space new path (Ok o) (terms_at_end job run.board step)
-    (reached_in c).lines run.board.events step.parts.events) none compared)
+    (reached_in g c).lines run.board.events step.parts.events) none compared)
 
 pub returns-clause-found : goal.returns-clause-found
-returns-clause-found c =
+returns-clause-found g c =
     let job = job_of c.args.job.now in
     let run = c.args.run.now in
     let step = c.args.step.now in
     let valid = c.args.job.now.is_job in
-    let reached = reached_in c in
+    let reached = reached_in g c in
     let new = c.compare_all.new.space in
     let path = path_in run.paths in
     let nodes = c.args.nodes in
@@ -207,13 +208,13 @@ returns-clause-found c =
     (λ numbers fails apart number cycles elements from late way met.
     alike_found job number nodes elements (met_of way) cycles run.space new path run.board step reached numbers valid
     (ended_met job number elements from cycles late way run step valid met) e.goes e.own
-    (lines_at job run.board.place.at reached valid (reached_is c)).0 (reached_is c) (are_like c) fails apart)
-    (at_ends c (CompareAll job nodes run.space new path (Ok found)) e.compared)
-    (at_ends c (λ t ls b m. IfSome found (λ numbers. AreApart job.relation.shape new (given_by numbers) t ls b m))
+    (lines_at job run.board.place.at reached valid (reached_is g c)).0 (reached_is g c) (are_like g c) fails apart)
+    (at_ends g c (CompareAll job nodes run.space new path (Ok found)) e.compared)
+    (at_ends g c (λ t ls b m. IfSome found (λ numbers. AreApart job.relation.shape new (given_by numbers) t ls b m))
     e.apart)
 
 pub returns-in_err-found-clause-over : goal.returns-in_err-found-clause-over
-returns-in_err-found-clause-over c =
+returns-in_err-found-clause-over g c =
     let job = job_of c.args.job.now in
     let run = c.args.run.now in
     let step = c.args.step.now in

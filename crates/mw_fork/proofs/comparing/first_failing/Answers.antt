@@ -6,13 +6,13 @@ use Rattle.mw_fork.proofs.LateCompared.{found_so, late_found, late_none, none_so
 use Rattle.mw_fork.proofs.comparing.first_failing.Goals as goal
 
 pub returns-in_ok-first_assignment-in-None-clause-none : goal.returns-in_ok-first_assignment-in-None-clause-none
-returns-in_ok-first_assignment-in-None-clause-none c = λ none number elements from way met.
+returns-in_ok-first_assignment-in-None-clause-none g c = λ none number elements from way met.
     let traced = c.args.traced.now in
     late_none (job_of c.args.job.now) number elements from traced.cycles traced.late way traced.run traced.step
     c.args.job.now.is_job met (c.in_ok-first_assignment-in-None.ensures.none none)
 
 pub returns-in_ok-first_assignment-in-None-clause-found : goal.returns-in_ok-first_assignment-in-None-clause-found
-returns-in_ok-first_assignment-in-None-clause-found c =
+returns-in_ok-first_assignment-in-None-clause-found g c =
     let traced = c.args.traced.now in
     IfSome_then c.in_ok-first_assignment-in-None.field-0 c.in_ok-first_assignment-in-None.ensures.first
     (λ numbers first number elements from way met.
@@ -20,7 +20,7 @@ returns-in_ok-first_assignment-in-None-clause-found c =
     c.args.job.now.is_job c.in-None.is met first)
 
 pub returns-in-Some-clause-none : goal.returns-in-Some-clause-none
-returns-in-Some-clause-none c =
+returns-in-Some-clause-none g c =
     let traced = c.args.traced.now in
     let job = job_of c.args.job.now in
     none_so job traced.cycles traced.late traced.run traced.step c.in-Some.step
@@ -28,7 +28,7 @@ returns-in-Some-clause-none c =
     c.compare_sides.ensures.none
 
 pub returns-in-Some-clause-within : goal.returns-in-Some-clause-within
-returns-in-Some-clause-within c =
+returns-in-Some-clause-within g c =
     let traced = c.args.traced.now in
     let job = job_of c.args.job.now in
     none_so job traced.cycles traced.late traced.run traced.step c.in-Some.step
@@ -37,7 +37,7 @@ returns-in-Some-clause-within c =
     c.compare_sides.ensures.within
 
 pub returns-in-Some-clause-found : goal.returns-in-Some-clause-found
-returns-in-Some-clause-found c =
+returns-in-Some-clause-found g c =
     let traced = c.args.traced.now in
     let job = job_of c.args.job.now in
     found_so job traced.cycles traced.late traced.run traced.step c.in-Some.step
@@ -45,7 +45,7 @@ returns-in-Some-clause-found c =
     c.compare_sides.result c.in-Some.is c.compare_sides.ensures.found
 
 pub returns-in-Some-clause-over : goal.returns-in-Some-clause-over
-returns-in-Some-clause-over c =
+returns-in-Some-clause-over g c =
     let traced = c.args.traced.now in
     let job = job_of c.args.job.now in
     stops_so job traced.cycles traced.late traced.run traced.step c.in-Some.step

@@ -17,7 +17,7 @@ use Rattle.mw_fork.proofs.WordPaths.{within_split}
 use Rattle.mw_fork.proofs.decide.decide.Goals as goal
 
 pub returns-clause-goes : goal.returns-clause-goes
-returns-clause-goes c = λ job number elements from valid on asked asks.
+returns-clause-goes g c = λ job number elements from valid on asked asks.
     let g = ground_in c.args.space.now elements in
     let old = c.args.way.now in
     let new = c.take.new.self in
@@ -49,8 +49,8 @@ returns-clause-goes c = λ job number elements from valid on asked asks.
     told taken.within taken.value.1 taken.new))
 
 pub returns-clause-nodes : goal.returns-clause-nodes
-returns-clause-nodes c = λ job number elements from valid on asked asks are.
-    let has = returns-clause-goes c job number elements from valid on asked asks in
+returns-clause-nodes g c = λ job number elements from valid on asked asks are.
+    let has = returns-clause-goes g c job number elements from valid on asked asks in
     let k = decided c.args.kind c.in_ok-value.value in
     subst (AreDecidedWithin job number c.args.nodes) (sym has.met)
     (within_more job number c.args.nodes (met_of c.args.way.now) k are (record {
@@ -71,7 +71,7 @@ returns-clause-nodes c = λ job number elements from valid on asked asks are.
     }))
 
 pub returns-in-Err-clause-over : goal.returns-in-Err-clause-over
-returns-in-Err-clause-over c = λ job number elements from valid on asks.
+returns-in-Err-clause-over g c = λ job number elements from valid on asks.
     let g = ground_in c.args.space.now elements in
     let way = c.args.way.now in
     let laws : AreNumbered = record {

@@ -8,7 +8,7 @@ use Rattle.mw_fork.proofs.MetSegment.{ends_late, has_made_more, has_reached, sto
 use Rattle.mw_fork.proofs.segment.segment.Goals as goal
 
 pub returns-then-is_boundary-clause-goes : goal.returns-then-is_boundary-clause-goes
-returns-then-is_boundary-clause-goes c =
+returns-then-is_boundary-clause-goes g c =
     let job = job_of c.args.job.now in
     let inv = c.loop-number.invariant in
     let e = c.in_ok-cycle.ensures in
@@ -19,7 +19,7 @@ returns-then-is_boundary-clause-goes c =
     (e.idle.cycles ∙ ap (λ (n : ℕ). n + 1) inv.idle.cycles) named
 
 pub returns-clause-goes : goal.returns-clause-goes
-returns-clause-goes c =
+returns-clause-goes g c =
     let job = job_of c.args.job.now in
     let inv = c.loop-number.invariant in
     ends_late job c.args.way.now c.loop-number.way c.args.run.now c.loop-number.run c.args.bound c.loop-number.number
@@ -27,7 +27,7 @@ returns-clause-goes c =
     (omega (arith, c.requires.some)) inv.passed
 
 pub loop-number-preserved : goal.loop-number-preserved
-loop-number-preserved c =
+loop-number-preserved g c =
     let job = job_of c.args.job.now in
     let inv = c.loop-number.invariant in
     let e = c.in_ok-cycle.ensures in
@@ -49,14 +49,14 @@ loop-number-preserved c =
     }
 
 pub returns-then-is_boundary-clause-nodes : goal.returns-then-is_boundary-clause-nodes
-returns-then-is_boundary-clause-nodes c =
+returns-then-is_boundary-clause-nodes g c =
     let inv = c.loop-number.invariant in
     within_made (job_of c.args.job.now) c.args.nodes c.args.way.now c.loop-number.way c.cycle.new.way c.args.run.now
     c.loop-number.run c.args.bound c.loop-number.number inv.goes inv.idle.cycles c.loop-number-test.true
     inv.passed c.in_ok-cycle.ensures.nodes inv.nodes
 
 pub returns-in_err-cycle-clause-over : goal.returns-in_err-cycle-clause-over
-returns-in_err-cycle-clause-over c =
+returns-in_err-cycle-clause-over g c =
     let inv = c.loop-number.invariant in
     let p = err_from_is_err_and c.from_residual.result c.from_residual.ensures.1 in
     rw (p.1, p.2)

@@ -9,7 +9,7 @@ use Rattle.mw_fork.proofs.MetSegment.{HasMade}
 use Rattle.mw_fork.proofs.segment.segment.Given as goal
 
 abbrev pub invariant-loop-number : goal.invariant-loop-number
-invariant-loop-number l = record {
+invariant-loop-number g l = record {
   under : IsRunOf (job_of l.job) l.run;
   idle : IsIdle l.run.board l.number;
   paths : HavePaths l.run.space l.run.paths;

@@ -16,7 +16,7 @@ use Rattle.mw_fork.specs.Within.{AreDecidedWithin}
 use Rattle.mw_fork.proofs.step.finish.Given as goal
 
 abbrev pub invariant-loop-turn : goal.invariant-loop-turn
-invariant-loop-turn l = record {
+invariant-loop-turn g l = record {
   under : IsUnderway (description_of l.job.machine) l.space.terms l.space.words l.space.memory l.step;
   idle : is_asked l.step.pending ≡ false;
   met : l.fn.way.met ≤ l.way.met;
@@ -36,4 +36,4 @@ invariant-loop-turn l = record {
 }
 
 abbrev pub decreases-loop-turn : goal.decreases-loop-turn
-decreases-loop-turn l = total Statements (description_of l.job.machine).acts - (l.way.met - l.fn.way.met)
+decreases-loop-turn g l = total Statements (description_of l.job.machine).acts - (l.way.met - l.fn.way.met)

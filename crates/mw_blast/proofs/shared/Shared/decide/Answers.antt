@@ -8,7 +8,7 @@ use Rattle.mw_blast.proofs.Written.{path_reached, written_path_cause}
 use Rattle.mw_blast.proofs.shared.Shared.decide.Goals as goal
 
 pub returns-in-Ok-clause-split : goal.returns-in-Ok-clause-split
-returns-in-Ok-clause-split c =
+returns-in-Ok-clause-split g c =
     let now = c.bits.new.dds in
     let path = function_of c.args.dds.now c.args.path in
     let b = bit c.args.written.now c.args.term 0 in
@@ -22,7 +22,7 @@ returns-in-Ok-clause-split c =
     (stands_itself c.args.dds.now c.args.path c.requires.path)) stands
 
 pub returns-clause-over : goal.returns-clause-over
-returns-clause-over c =
+returns-clause-over g c =
     let now = c.bits.new.dds in
     let path = function_of c.args.dds.now c.args.path in
     let b = bit c.args.written.now c.args.term 0 in
@@ -38,7 +38,7 @@ returns-clause-over c =
     (stands_itself c.args.dds.now c.args.path c.requires.path)) stands))
 
 pub returns-clause-reached : goal.returns-clause-reached
-returns-clause-reached c =
+returns-clause-reached g c =
     let placed = c.in_ok-bits.ensures.placed in
     rw (c.of.ensures, c.at.ensures)
     (path_reached c.bits.new.self.terms c.bits.new.places c.args.term placed.0 c.in-Err.fault placed.1)

@@ -4,7 +4,7 @@ use Rattle.mw_rel.specs.Views.{job_of}
 use Rattle.mw_bounds.proofs.extreme.ExtremesVisitor.visit.Goals as goal
 
 pub returns-clause-seen : goal.returns-clause-seen
-returns-clause-seen c = λ same before cases next seen.
+returns-clause-seen g c = λ same before cases next seen.
     (let fork = c.args.fork.now in
     record {
       decided = All-push (AreWithin (job_of c.args.job.now) fork.boundary fork.budget.nodes) cases

@@ -4,13 +4,13 @@ use Rattle.mw_check.proofs.Gone.{one_more}
 use Rattle.mw_check.proofs.certification.FoundVisitor.visit.Goals as goal
 
 pub overflow_add-self : goal.overflow_add-self
-overflow_add-self c =
+overflow_add-self g c =
     let seen = c.requires.seen in
     let counted = seen.4.counted in
     omega (arith, seen.3, counted)
 
 pub returns-clause-seen : goal.returns-clause-seen
-returns-clause-seen c = λ same before cases next gone.
+returns-clause-seen g c = λ same before cases next gone.
     let bits = c.args.case.now.prefix in
     let at = c.requires.at in
     rw c.max-self.ensures (one_more (job_of c.args.job.now) c.args.fork.now.boundary c.args.fork.now.budget.nodes

@@ -8,7 +8,7 @@ use Rattle.mw_fork.proofs.Again.{found_over, if_found, run_again, said_again, wi
 use Rattle.mw_fork.proofs.fork.Fork.differs.Goals as goal
 
 pub returns-clause-same : goal.returns-clause-same
-returns-clause-same c =
+returns-clause-same g c =
     let again = run_again (job_of c.args.job.now) _ _ _ _ _ _ _ _ c.trace_again.new.way _ _ _ _ c.args.job.now.is_job
     c.self.view_is c.requires.of c.requires.given.1
     refl c.in_ok-traced.ensures.case in
@@ -17,7 +17,7 @@ returns-clause-same c =
     ∙ c.self.view_is
 
 pub returns-clause-none : goal.returns-clause-none
-returns-clause-none c = λ none last here.
+returns-clause-none g c = λ none last here.
     (let job = job_of c.args.job.now in
     let again = run_again job _ _ _ _ _ _ _ _ c.trace_again.new.way _ _ _ _ c.args.job.now.is_job
     c.self.view_is c.requires.of c.requires.given.1
@@ -26,7 +26,7 @@ returns-clause-none c = λ none last here.
     (c.in-Ok.ensures.none none again.0.0 _ _ again.0.1))
 
 pub returns-clause-within : goal.returns-clause-within
-returns-clause-within c = λ none last here.
+returns-clause-within g c = λ none last here.
     (let again = run_again (job_of c.args.job.now) _ _ _ _ _ _ _ _ c.trace_again.new.way _ _ _ _ c.args.job.now.is_job
     c.self.view_is c.requires.of c.requires.given.1
     refl c.in_ok-traced.ensures.case in
@@ -35,7 +35,7 @@ returns-clause-within c = λ none last here.
     (c.in-Ok.ensures.within none again.0.0 _ _ again.0.1))
 
 pub returns-clause-differs : goal.returns-clause-differs
-returns-clause-differs c =
+returns-clause-differs g c =
     let job = job_of c.args.job.now in
     let again = run_again job _ _ _ _ _ _ _ _ c.trace_again.new.way _ _ _ _ c.args.job.now.is_job
     c.self.view_is c.requires.of c.requires.given.1
@@ -46,7 +46,7 @@ returns-clause-differs c =
     (said again.0.0 _ _ again.0.1)) c.in-Ok.ensures.differs
 
 pub returns-clause-least : goal.returns-clause-least
-returns-clause-least c =
+returns-clause-least g c =
     let job = job_of c.args.job.now in
     let again = run_again job _ _ _ _ _ _ _ _ c.trace_again.new.way _ _ _ _ c.args.job.now.is_job
     c.self.view_is c.requires.of c.requires.given.1
@@ -57,7 +57,7 @@ returns-clause-least c =
     (said again.0.0 _ _ again.0.1)) c.in-Ok.ensures.least
 
 pub returns-in-Err-clause-cause : goal.returns-in-Err-clause-cause
-returns-in-Err-clause-cause c = λ number prefix word j same.
+returns-in-Err-clause-cause g c = λ number prefix word j same.
     (let again = run_again (job_of c.args.job.now) _ _ _ _ _ _ _ _ c.trace_again.new.way _ _ _ _ c.args.job.now.is_job
     c.self.view_is c.requires.of c.requires.given.1
     refl c.in_ok-traced.ensures.case in

@@ -5,7 +5,7 @@ use Rattle.mw_fork.proofs.WordPaths.{at_most_same, made_same}
 use Rattle.mw_fork.proofs.paths.Paths.failing.Goals as goal
 
 pub returns-in-Ok-clause-first : goal.returns-in-Ok-clause-first
-returns-in-Ok-clause-first c =
+returns-in-Ok-clause-first g c =
     let now = c.bits.new.dds in
     let path = c.args.self.now.path in
     let stands =
@@ -17,7 +17,7 @@ returns-in-Ok-clause-first c =
     (λ given. c.in-Ok.ensures.exact given ∙ made_same _ _ same given) c.in_ok-some_assignment-in-Ok.ensures.first
 
 pub returns-in-Ok-clause-within : goal.returns-in-Ok-clause-within
-returns-in-Ok-clause-within c =
+returns-in-Ok-clause-within g c =
     let now = c.bits.new.dds in
     let path = c.args.self.now.path in
     let stands =
@@ -28,7 +28,7 @@ returns-in-Ok-clause-within c =
     at_most_same _ _ c.args.nodes same c.in-Ok.ensures.within
 
 pub returns-in-Err-OverBudget-clause-over : goal.returns-in-Err-OverBudget-clause-over
-returns-in-Err-OverBudget-clause-over c = λ named j is.
+returns-in-Err-OverBudget-clause-over g c = λ named j is.
     let now = c.bits.new.dds in
     let path = c.args.self.now.path in
     let stands =

@@ -9,7 +9,7 @@ use Rattle.mw_blast.specs.Shared.{IsWrittenSplitCause}
 use Rattle.mw_fork.proofs.paths.Paths.split.Goals as goal
 
 pub returns-in-Some-clause-split : goal.returns-in-Some-clause-split
-returns-in-Some-clause-split c =
+returns-in-Some-clause-split g c =
     let b = bit c.args.written.now c.args.term 0 in
     let are = c.in_ok-bits.ensures.bits in
     let first = are.each 0 (omega (arith, are.count, c.requires.wide.width_is)) in
@@ -23,7 +23,7 @@ returns-in-Some-clause-split c =
     (subst (λ x. StandsFor c.bits.new.dds x b) (sym at) first)
 
 pub returns-clause-over : goal.returns-clause-over
-returns-clause-over c =
+returns-clause-over g c =
     let path = c.args.self.now.path in
     let same = fun_ext (c.bits.ensures.keeps.same path c.requires.paths.there) in
     subst (λ (f : Function). IfErr c.decide.result

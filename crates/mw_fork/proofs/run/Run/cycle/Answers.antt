@@ -7,14 +7,14 @@ use Rattle.mw_fork.proofs.OnRun.{asked_at, stays_finished, stays_with, stops_wit
 use Rattle.mw_fork.proofs.run.Run.cycle.Goals as goal
 
 pub returns-in_default-clause-goes : goal.returns-in_default-clause-goes
-returns-in_default-clause-goes c =
+returns-in_default-clause-goes g c =
     let job = job_of c.args.job.now in
     stays_finished job c.args.way.now c.loop-turn.way c.args.self.now c.loop-turn.self c.turn.new.self
     c.args.self.now.board.place.cycle c.in_ok-turn.turn c.in_default.is c.loop-turn.invariant.idle.cycles
     c.loop-turn.invariant.goes c.in_ok-turn.ensures.goes
 
 pub loop-turn-preserved : goal.loop-turn-preserved
-loop-turn-preserved c =
+loop-turn-preserved g c =
     let job = job_of c.args.job.now in
     let e = c.in_ok-decide_bit.ensures in
     let place =
@@ -38,7 +38,7 @@ loop-turn-preserved c =
     }
 
 pub returns-in_err-decide_bit-clause-over : goal.returns-in_err-decide_bit-clause-over
-returns-in_err-decide_bit-clause-over c =
+returns-in_err-decide_bit-clause-over g c =
     let job = job_of c.args.job.now in
     let made = c.loop-turn.invariant.idle.cycles in
     let place =

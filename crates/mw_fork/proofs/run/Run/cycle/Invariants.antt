@@ -6,7 +6,7 @@ use Rattle.mw_fork.proofs.OnRun.{StaysOnRun}
 use Rattle.mw_fork.proofs.run.Run.cycle.Given as goal
 
 abbrev pub invariant-loop-turn : goal.invariant-loop-turn
-invariant-loop-turn l = record {
+invariant-loop-turn g l = record {
   under : IsRunOf (job_of l.job) l.self;
   idle : IsIdle l.self.board l.fn.self.board.place.cycle;
   goes : StaysOnRun (job_of l.job) l.fn.way l.way l.fn.self l.self l.fn.self.board.place.cycle;
@@ -15,4 +15,4 @@ invariant-loop-turn l = record {
 }
 
 abbrev pub decreases-loop-turn : goal.decreases-loop-turn
-decreases-loop-turn l = 14 - length l.self.board.place.decided
+decreases-loop-turn g l = 14 - length l.self.board.place.decided

@@ -1,7 +1,7 @@
 use Rattle.mw_top.proofs.commands.bounds.report.Goals as goal
 
 pub returns : goal.returns
-returns c = record {
+returns g c = record {
   job_is = c.args.job.now.is_job;
   bounds = c.in_ok-answer.answer;
   answers = c.in_ok-answer.ensures;

@@ -1,7 +1,7 @@
 use Rattle.mw_top.proofs.commands.certify.report.Goals as goal
 
 pub returns : goal.returns
-returns c = record {
+returns g c = record {
   job_is = c.args.job.now.is_job;
   verdict = c.in_ok-verdict.verdict;
   answers = c.in_ok-verdict.ensures;

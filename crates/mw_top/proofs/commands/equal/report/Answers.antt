@@ -14,7 +14,7 @@ answer_says q nodes (No values) agrees differs over = differs values refl
 answer_says q nodes (Unknown word bit) agrees differs over = over word bit refl
 
 pub returns : goal.returns
-returns c =
+returns g c =
     let says = c.in_ok-equality.ensures in
     let written = c.in_ok-append_equality.ensures in
     record {
