@@ -4,6 +4,7 @@ mod cycles;
 mod diagrams;
 mod differs;
 mod expressions;
+mod keeps;
 mod logs;
 mod machines;
 mod numbers;
@@ -31,6 +32,7 @@ pub fn made(alloc: Global, words: &[String], files: &[File]) -> Result<Vec<u8>, 
         "expression" => expressions::read(alloc, given, contents(files, "text")?),
         "machine" => machines::read(alloc, contents(files, "text")?),
         "relation" => relations::read(alloc, files),
+        "keep" => keeps::read(alloc, files),
         "pair" => pairs::read(alloc, given, files),
         "plain" => plain::read(alloc, files),
         "number" => numbers::read(alloc, given),

@@ -1,0 +1,14 @@
+//! Revisions of microprograms: what a KEEP text says of an old and a new program on one board.
+#![tactic(auto)]
+
+mod beginning;
+mod block;
+mod element;
+mod keep;
+mod programs;
+mod reading;
+mod said;
+mod site;
+
+pub use keep::{Block, Keep, KeepLine};
+pub use reading::read_keep;
