@@ -14,6 +14,7 @@ use std::alloc::Global;
 use std::process::ExitCode;
 
 /// Runs commands by the shortcuts of a book.
+#[derive(Drop)]
 struct Commands<'a> {
     book: &'a ShortcutBook,
 }
@@ -69,7 +70,7 @@ impl Worker for Commands<'_> {
     }
 }
 
-/// The shortcuts of the program.
+/// The shortcuts of the program, the same as `mw_bench`'s.
 fn shortcuts(alloc: Global) -> Result<ShortcutBook, NoMemory> {
     let mut book = ShortcutBook::new(alloc);
     book.add(alloc, Box::new(alloc, double_not)?)?;
