@@ -7,7 +7,7 @@ ghost use Rattle.std.specs.Process.{exit_status};
 ghost use Rattle.mw_top.specs.Status.{status_number};
 
 use mw_base::NoMemory;
-use mw_outside::{FolderShelf, ScreenSink};
+use mw_outside::{FolderShelf, ScreenSink, Shelf, Sink};
 use mw_short::{all_constant, double_not, fixed_choice, neutral_constant, same_operands};
 use mw_term::ShortcutBook;
 use mw_top::{Status, bench};
@@ -32,24 +32,28 @@ fn words<R: Env + AllocGlobal>(rt: &R) -> Result<Vec<String>, NoMemory> {
     }
 }
 
-/// The shortcuts, in the order in which they are asked.
-fn shortcuts(alloc: Global) -> Result<ShortcutBook, NoMemory> {
+/// Calls the bench, with a book of the shortcuts in the order in which they are asked.
+fn bench_by_shortcuts<S: Shelf, K: Sink>(
+    alloc: Global,
+    words: &[String],
+    shelf: &mut S,
+    out: &mut K,
+) -> Result<Status, NoMemory> {
     let mut book = ShortcutBook::new(alloc);
     book.add(alloc, Box::new(alloc, double_not)?)?;
     book.add(alloc, Box::new(alloc, same_operands)?)?;
     book.add(alloc, Box::new(alloc, neutral_constant)?)?;
     book.add(alloc, Box::new(alloc, fixed_choice)?)?;
     book.add(alloc, Box::new(alloc, all_constant)?)?;
-    Ok(book)
+    Ok(bench(alloc, words, shelf, out, &book))
 }
 
-/// Calls the bench with the words of the command line, over the folder and the screen.
-fn called<R: AllocGlobal + Env + Files + Print>(rt: &R) -> Result<Status, NoMemory> {
+/// Does what the words of the command line say, over the folder and the screen.
+fn run<R: AllocGlobal + Env + Files + Print>(rt: &R) -> Result<Status, NoMemory> {
     let words = words(rt)?;
-    let book = shortcuts(rt.alloc())?;
     let mut shelf = FolderShelf::new(rt);
     let mut screen = ScreenSink::new(rt);
-    Ok(bench(rt.alloc(), &words, &mut shelf, &mut screen, &book))
+    bench_by_shortcuts(rt.alloc(), &words, &mut shelf, &mut screen)
 }
 
 /// The code that the process ends with.
@@ -60,7 +64,7 @@ fn exit_code(status: Status) -> ExitCode
 }
 
 fn main(rt: HostRuntime) -> ExitCode {
-    exit_code(match called(&rt) {
+    exit_code(match run(&rt) {
         Ok(status) => status,
         Err(NoMemory) => Status::NoMemory,
     })

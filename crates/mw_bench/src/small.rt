@@ -1,9 +1,8 @@
 //! The files of the small example, on shelves of these tests.
 ghost use Rattle.std.specs.Prelude.{◌<◌};
 
-use crate::shortcuts;
+use crate::bench_by_shortcuts;
 use mw_outside::{MemoryShelf, MemorySink};
-use mw_top::bench;
 use std::alloc::Global;
 use std::test::Fail;
 
@@ -77,6 +76,6 @@ pub(crate) fn call(
     for &word in words {
         owned.push(String::from_str(alloc, word)?)?;
     }
-    let book = shortcuts(alloc).ok().ok_or("shortcuts")?;
-    Ok(bench(alloc, &owned, shelf, out, &book).number())
+    let status = bench_by_shortcuts(alloc, &owned, shelf, out);
+    Ok(status.ok().ok_or("shortcuts")?.number())
 }

@@ -11,6 +11,8 @@ use mw_term::ShortcutBook;
 use mw_top::Status;
 use outside::{Outside, bench_over, steady_status};
 use std::alloc::Global;
+use std::env::Env;
+use std::fs::Files;
 use std::process::ExitCode;
 
 /// Runs commands by the shortcuts of a book.
@@ -70,21 +72,22 @@ impl Worker for Commands<'_> {
     }
 }
 
-/// The shortcuts of the program, the same as `mw_bench`'s.
-fn shortcuts(alloc: Global) -> Result<ShortcutBook, NoMemory> {
+/// Runs the rows by the shortcuts of `mw_bench`.
+fn run_rows<R: Env + Files + Print + AllocGlobal>(rt: &R) -> Result<ExitCode, NoMemory> {
+    let alloc = rt.alloc();
     let mut book = ShortcutBook::new(alloc);
     book.add(alloc, Box::new(alloc, double_not)?)?;
     book.add(alloc, Box::new(alloc, same_operands)?)?;
     book.add(alloc, Box::new(alloc, neutral_constant)?)?;
     book.add(alloc, Box::new(alloc, fixed_choice)?)?;
     book.add(alloc, Box::new(alloc, all_constant)?)?;
-    Ok(book)
+    Ok(run(rt, &Commands { book: &book }))
 }
 
 /// Ends with 0 where each row ends as it says, and with 1 otherwise.
 fn main(rt: HostRuntime) -> ExitCode {
-    match shortcuts(rt.alloc()) {
-        Ok(book) => run(&rt, &Commands { book: &book }),
+    match run_rows(&rt) {
+        Ok(code) => code,
         Err(NoMemory) => ExitCode::FAILURE,
     }
 }
