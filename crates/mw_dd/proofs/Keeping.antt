@@ -180,3 +180,14 @@ right-adds nodes results more counts counted bounds t r n there is few count res
   counted = counts-adds nodes counts counted t n right.counted (record { there = there; is = few }) count;
   bounded = right.bounded;
 }
+
+-- so for an operation that was counted, behind which nodes and results have grown
+pub right-counted : (old new : List Node) (before results more counts counted : List Slot) (bounds now : List ℕ)
+    (t : Triple) (r n : ℕ) → Grows old new → IsReduced new → AreMade new results → AreBounds old now → AreDds old t
+    → IsResult new t r → HasAtMostCofactors (meaning new t) n → Adds counts counted t n → Adds results more t r
+    → AreRight old before counts bounds → AreRight new more counted now
+right-counted old new before results more counts counted bounds now t r n grows reduced made bounded there is few count
+    result right =
+    right-adds new results more counts counted now t r n (dds-grows old new t grows there) is few count result
+    (right-made old new before results counts now grows reduced made (right-bounds old before counts bounds now bounded
+    right))

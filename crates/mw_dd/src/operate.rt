@@ -46,13 +46,10 @@ pub(crate) fn operate(
         Err(e) => return Err(e),
     };
     let count = notes.memo.triples.len() as u32;
-    counts.put(Slot {
-        triple: t,
-        value: count,
-    });
     notes.results.put(Slot {
         triple: t,
         value: result.position(),
     });
+    counts.keep(alloc, t, count, 0)?;
     Ok(result)
 }

@@ -44,7 +44,7 @@ pub(crate) struct Sources {
 }
 
 /// A bit that was made, and its term.
-#[derive(Drop)]
+#[derive(Clone, Copy)]
 pub(crate) struct MadeBit {
     pub(crate) bit: Bit,
     pub(crate) term: Term,
@@ -56,6 +56,8 @@ impl Model for MadeBit {
     ghost Value = { made.MadeBit };
 
     ghost view = { λ m. record { bit = m.bit; term = m.term } };
+
+    ghost inverse = { λ m. record { bit = m.bit; term = m.term } };
 }
 
 /// The bits of a cycle that were made so far, each once: those that a carry in may read, and those that are made of F.
@@ -115,6 +117,16 @@ fn overflow_op(sources: &Sources) -> Op
 }
 
 impl Bits {
+    /// The same bits once more.
+    pub(crate) fn copy(&self, alloc: Global) -> Result<Bits, NoMemory>
+        ensures { IfOk result (λ copy. copy ≡ self.now) }
+    {
+        Ok(Bits {
+            early: Vec::from_slice(alloc, &self.early)?,
+            late: Vec::from_slice(alloc, &self.late)?,
+        })
+    }
+
     /// No bit.
     pub(crate) fn new(alloc: Global) -> Bits
         ensures early { result.early ≡ [] }

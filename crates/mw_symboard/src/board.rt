@@ -94,6 +94,27 @@ fn write_memory(
 }
 
 impl SymBoard {
+    /// The same board once more. Both go on independently.
+    ///
+    /// # Errors
+    ///
+    /// Memory ran out.
+    pub fn copy(&self, alloc: Global) -> Result<SymBoard, NoMemory>
+        ensures { IfOk result (λ copy. copy ≡ self.now) }
+    {
+        let reading = match &self.reading {
+            Some(reading) => Some(reading.copy(alloc)?),
+            None => None,
+        };
+        Ok(SymBoard {
+            place: self.place.copy(alloc)?,
+            events: Vec::from_slice(alloc, &self.events)?,
+            reading,
+            leaving: self.leaving,
+            asked: self.asked,
+        })
+    }
+
     /// A board at a control address, with so many words on its stack, and with these terms for its elements, by their
     /// numbers. It may go on where the address is below 4,096, the stack has so many words, and each term has its
     /// element's width. No cycle is finished and no input taken.

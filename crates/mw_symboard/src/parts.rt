@@ -97,6 +97,22 @@ impl Parts {
         })
     }
 
+    /// The same terms once more.
+    pub(crate) fn copy(&self, alloc: Global) -> Result<Parts, NoMemory>
+        ensures { IfOk result (λ copy. copy ≡ self.now) }
+    {
+        Ok(Parts {
+            regs: Vec::from_slice(alloc, &self.regs)?,
+            q: self.q,
+            mar: self.mar,
+            ir: self.ir,
+            flips: Vec::from_slice(alloc, &self.flips)?,
+            pc: self.pc,
+            r: self.r,
+            stack: Vec::from_slice(alloc, &self.stack)?,
+        })
+    }
+
     /// The term of an element of the board.
     pub(crate) fn term(&self, board: &Board, element: Element) -> Term
         requires there { IsElement board.now element }

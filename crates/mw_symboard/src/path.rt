@@ -39,6 +39,16 @@ impl Path {
         }
     }
 
+    /// The same bits once more.
+    pub(crate) fn copy(&self) -> Path
+        ensures { result ≡ self.now }
+    {
+        Path {
+            bits: self.bits,
+            count: self.count,
+        }
+    }
+
     /// One bit more.
     pub(crate) fn push(&mut self, bit: Decided)
         requires { length self.old < 14 }

@@ -1,6 +1,10 @@
 // Where a symbolic board is.
+ghost use Rattle.std.specs.Prelude.{◌≡◌, IfOk};
+
 use crate::parts::Parts;
 use crate::path::Path;
+use mw_base::NoMemory;
+use std::alloc::Global;
 use std::marker::Model;
 
 /// Where a symbolic board is.
@@ -33,4 +37,20 @@ impl Model for Progress {
       taken = p.taken;
       decided = p.decided;
     } };
+}
+
+impl Progress {
+    /// The same place once more.
+    pub(crate) fn copy(&self, alloc: Global) -> Result<Progress, NoMemory>
+        ensures { IfOk result (λ copy. copy ≡ self.now) }
+    {
+        Ok(Progress {
+            at: self.at,
+            sp: self.sp,
+            parts: self.parts.copy(alloc)?,
+            cycle: self.cycle,
+            taken: self.taken,
+            decided: self.decided.copy(),
+        })
+    }
 }

@@ -504,6 +504,19 @@ fn y(microword: &Microword, place: &Progress, f: Term) -> Term
 }
 
 impl Reading {
+    /// The same once more.
+    pub(crate) fn copy(&self, alloc: Global) -> Result<Reading, NoMemory>
+        ensures { IfOk result (λ copy. copy ≡ self.now) }
+    {
+        Ok(Reading {
+            sources: self.sources,
+            bits: self.bits.copy(alloc)?,
+            source: self.source,
+            y: self.y,
+            condition: self.condition,
+        })
+    }
+
     /// Reads what the cycle from a place reads: its variables, D, F, the bits and the condition.
     pub(crate) fn new(
         alloc: Global,

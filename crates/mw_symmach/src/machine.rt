@@ -77,6 +77,23 @@ impl Model for SymMach {
 }
 
 impl SymMach {
+    /// The same step once more. Both go on independently.
+    ///
+    /// # Errors
+    ///
+    /// Memory ran out.
+    pub fn copy(&self, alloc: Global) -> Result<SymMach, NoMemory>
+        ensures { IfOk result (λ copy. copy ≡ self.now) }
+    {
+        Ok(SymMach {
+            parts: self.parts.copy(alloc)?,
+            request: self.request,
+            levels: Vec::from_slice(alloc, &self.levels)?,
+            position: self.position,
+            pending: self.pending,
+        })
+    }
+
     /// A step from these terms for the registers, by their numbers, and one for the request. It may go on where each
     /// has its register's width, and the request one bit. There is no event, and no input was taken.
     ///

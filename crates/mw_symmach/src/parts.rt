@@ -73,6 +73,17 @@ fn input_term(
 }
 
 impl Parts {
+    /// The same once more.
+    pub(crate) fn copy(&self, alloc: Global) -> Result<Parts, NoMemory>
+        ensures { IfOk result (λ copy. copy ≡ self.now) }
+    {
+        Ok(Parts {
+            values: Vec::from_slice(alloc, &self.values)?,
+            events: Vec::from_slice(alloc, &self.events)?,
+            taken: self.taken,
+        })
+    }
+
     /// These terms, with room for those of so many elements. There is no event, and no input was taken.
     pub(crate) fn new(alloc: Global, registers: &[Term], elements: usize) -> Result<Parts, NoMemory>
         ensures { IfOk result (λ parts. parts ≡ parts_of registers.now [] 0) }

@@ -1,4 +1,5 @@
 pub mod Choices
+pub mod Copies
 pub mod Forms
 pub mod Growth
 pub mod Images

@@ -62,6 +62,23 @@ impl SymMemory {
         }
     }
 
+    /// The same memory once more. What is read or written in one of the two isn't in the other.
+    ///
+    /// # Errors
+    ///
+    /// Memory ran out.
+    pub fn copy(&self, alloc: Global) -> Result<SymMemory, NoMemory>
+        ensures { IfOk result (λ copy. copy ≡ self.now) }
+    {
+        Ok(SymMemory {
+            address: self.address,
+            word: self.word,
+            reads: Vec::from_slice(alloc, &self.reads)?,
+            board: Vec::from_slice(alloc, &self.board)?,
+            machine: Vec::from_slice(alloc, &self.machine)?,
+        })
+    }
+
     /// The writes of a side, oldest first.
     fn writes(&self, side: Side) -> &[Held]
         ensures { result.now ≡ writes_of self.now side }

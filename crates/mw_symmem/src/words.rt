@@ -116,6 +116,21 @@ impl Words {
         }
     }
 
+    /// The same words once more. What is added to one of the two isn't in the other.
+    ///
+    /// # Errors
+    ///
+    /// Memory ran out.
+    pub fn copy(&self, alloc: Global) -> Result<Words, NoMemory>
+        ensures { IfOk result (λ copy. copy ≡ self.now) }
+    {
+        Ok(Words {
+            words: Vec::from_slice(alloc, &self.words)?,
+            numbers: self.numbers.clone()?,
+            terms: self.terms.clone()?,
+        })
+    }
+
     /// How many words there are.
     pub fn count(&self) -> u64
         ensures exact { result ≡ length self.now }

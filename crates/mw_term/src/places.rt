@@ -56,6 +56,19 @@ impl Places {
         }
     }
 
+    /// The same places once more.
+    ///
+    /// # Errors
+    ///
+    /// Memory ran out.
+    pub fn copy(&self, alloc: Global) -> Result<Places, NoMemory>
+        ensures { IfOk result (λ copy. copy ≡ self.now) }
+    {
+        Ok(Places {
+            places: Vec::from_slice(alloc, &self.places)?,
+        })
+    }
+
     /// The term of the table at which a written term stands, which has a place.
     pub fn place_of(&self, term: Term) -> Term
         requires { term < length self.now }

@@ -50,6 +50,21 @@ impl Written {
         })
     }
 
+    /// The same terms once more. What is written into one of the two isn't in the other.
+    ///
+    /// # Errors
+    ///
+    /// Memory ran out.
+    pub fn copy(&self, alloc: Global) -> Result<Written, NoMemory>
+        ensures { IfOk result (λ copy. copy ≡ self.now) }
+    {
+        Ok(Written {
+            ops: Vec::from_slice(alloc, &self.ops)?,
+            widths: Vec::from_slice(alloc, &self.widths)?,
+            map: Vec::from_slice(alloc, &self.map)?,
+        })
+    }
+
     /// All terms, as those before the next one.
     fn earlier(&self) -> Earlier<'_>
         ensures map { result.map.now ≡ self.now.map }

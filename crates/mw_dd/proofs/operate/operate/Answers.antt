@@ -1,7 +1,7 @@
 use Rattle.std.proofs.Common.{arith, sym, subst, refl}
 use Rattle.mw_dd.specs.Steps.{IsResult}
-use Rattle.mw_dd.proofs.Cofactors.{at_most, at_most_before, dds-grows}
-use Rattle.mw_dd.proofs.Keeping.{end-within, right-adds, right-bounds, right-made}
+use Rattle.mw_dd.proofs.Cofactors.{at_most, at_most_before}
+use Rattle.mw_dd.proofs.Keeping.{end-within, right-bounds, right-counted, right-made}
 use Rattle.mw_dd.proofs.Memos.{end_result}
 use Rattle.mw_dd.proofs.operate.operate.Goals as goal
 
@@ -35,23 +35,29 @@ returns-in-Err-clause-right c =
     (right-bounds c.args.nodes.now before c.args.counts.now c.args.bounds.now c.is_within.new.bounds
     c.is_within.ensures.bounded c.requires.right)
 
+pub returns-in_err-keep-clause-right : goal.returns-in_err-keep-clause-right
+returns-in_err-keep-clause-right c =
+    let counted = c.choose-2.ensures in
+    let ended = c.in-Ok.ensures.ended in
+    right-counted c.args.nodes.now c.choose-2.new.nodes c.args.notes.now.results c.choose-2.new.notes.results
+    c.put.new.self c.args.counts.now c.keep.new.self c.args.bounds.now c.is_within.new.bounds c.args.t c.position.result
+    c.len-count.result counted.grows counted.reduced counted.made c.is_within.ensures.bounded c.requires.there
+    (subst (IsResult c.choose-2.new.nodes c.args.t) (sym c.position.ensures.exact) ended.result)
+    (at_most c.choose-2.new.nodes c.choose-2.new.notes.memo.triples c.args.t c.len-count.result
+    (ended.among c.args.budget refl) (omega (arith, c.len-count.ensures.exact)))
+    c.keep.ensures c.put.ensures c.requires.right
+
 pub returns-clause-right : goal.returns-clause-right
 returns-clause-right c =
     let counted = c.choose-2.ensures in
-    let nodes = c.choose-2.new.nodes in
-    let before = c.args.notes.now.results in
-    let now = c.choose-2.new.notes in
-    let grown = right-made c.args.nodes.now nodes before now.results c.args.counts.now c.is_within.new.bounds
-    counted.grows counted.reduced counted.made
-    (right-bounds c.args.nodes.now before c.args.counts.now c.args.bounds.now c.is_within.new.bounds
-    c.is_within.ensures.bounded c.requires.right) in
-    right-adds nodes now.results c.put-2.new.self c.args.counts.now c.put.new.self c.is_within.new.bounds c.args.t
-    c.position.result c.len-count.result
-    (dds-grows c.args.nodes.now nodes c.args.t counted.grows c.requires.there)
-    (subst (IsResult nodes c.args.t) (sym c.position.ensures.exact) c.in-Ok.ensures.ended.result)
-    (at_most nodes now.memo.triples c.args.t c.len-count.result (c.in-Ok.ensures.ended.among c.args.budget refl)
-    (omega (arith, c.len-count.ensures.exact)))
-    c.put.ensures c.put-2.ensures grown
+    let ended = c.in-Ok.ensures.ended in
+    right-counted c.args.nodes.now c.choose-2.new.nodes c.args.notes.now.results c.choose-2.new.notes.results
+    c.put.new.self c.args.counts.now c.keep.new.self c.args.bounds.now c.is_within.new.bounds c.args.t c.position.result
+    c.len-count.result counted.grows counted.reduced counted.made c.is_within.ensures.bounded c.requires.there
+    (subst (IsResult c.choose-2.new.nodes c.args.t) (sym c.position.ensures.exact) ended.result)
+    (at_most c.choose-2.new.nodes c.choose-2.new.notes.memo.triples c.args.t c.len-count.result
+    (ended.among c.args.budget refl) (omega (arith, c.len-count.ensures.exact)))
+    c.keep.ensures c.put.ensures c.requires.right
 
 pub returns-clause-within : goal.returns-clause-within
 returns-clause-within c =
