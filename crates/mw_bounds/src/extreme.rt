@@ -58,7 +58,7 @@ fn goes_beyond_shown(side: Side, length: Length, shown: &Option<Shown>) -> bool
 fn take(
     alloc: Global,
     job: &Job,
-    fork: &mut Fork,
+    fork: &mut Fork<'_>,
     case: &Case,
     side: Side,
     shown: &mut Option<Shown>,
@@ -106,7 +106,7 @@ impl Visitor for Extremes {
         &mut self,
         alloc: Global,
         job: &Job,
-        fork: &mut Fork,
+        fork: &mut Fork<'_>,
         case: &Case,
         book: &ShortcutBook,
     ) -> Result<ControlFlow<()>, ForkFault> {

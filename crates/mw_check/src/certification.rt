@@ -40,7 +40,7 @@ impl Visitor for Found {
         &mut self,
         alloc: Global,
         job: &Job,
-        fork: &mut Fork,
+        fork: &mut Fork<'_>,
         case: &Case,
         book: &ShortcutBook,
     ) -> Result<ControlFlow<Begin>, ForkFault> {

@@ -55,10 +55,10 @@ pub asks_in_cycle : (job : Job) (number : ℕ) (way : Way) (old : Run) (space : 
     (kind : DecidedKind)
     (term : ℕ) → board.place.cycle ≡ old.board.place.cycle → space.memory.board ≡ old.space.memory.board
     → StopsAt job.board job.store old.space.memory.board old.board board (list_of_space old.space) (list_of_space space)
-    kind term → ComesTo job number (met_of way) (left_in_cycle job number old.space old.registers.items old.board)
+    kind term → ComesTo job number (met_of way) (left_in_cycle job number old.space old.registers old.board)
     → AsksInCycle job number way (record old { space = space; board = board }) kind term
 asks_in_cycle job number way old space board kind term cycle writes stops comes =
-    let registers = old.registers.items in
+    let registers = old.registers in
     let count = old.board.place.cycle + 1 in
     let left = left_in_cycle job number old.space registers old.board in
     record {

@@ -1,19 +1,14 @@
 -- Decided bits that are within a budget of nodes.
-use Rattle.std.proofs.Common.{◌≡◌, ◌⊎◌, inl, inr, ℕ, ◌<◌, List, [], ◌∷◌, ◌++◌, ap, ap₂, false, subst, refl}
+use Rattle.std.proofs.Common.{◌≡◌, ◌⊎◌, inl, inr, ℕ, List, [], ◌∷◌, ◌++◌, ap, ap₂, append_assoc, subst, sym, refl, ◌∙◌}
+use Rattle.std.specs.Prelude.{Bool, Some, true}
+use Rattle.std.proofs.lemmas.List.{map-append}
 use Rattle.mw_term.specs.declared.decided.Decided.{Decided}
-use Rattle.mw_cycle.specs.Boundary.{is_named}
-use Rattle.mw_term.specs.declared.decided.DecidedKind.{DecidedKind}
-use Rattle.mw_symmem.specs.declared.turn.Turn.{Turn}
-use Rattle.mw_symmem.specs.declared.turn.Turn.TheVariants.{Ask}
+use Rattle.mw_cycle.specs.Decided.{decided}
 use Rattle.mw_rel.specs.Job.{Job}
-use Rattle.mw_rel.specs.Start.{addresses_of}
-use Rattle.mw_fork.specs.declared.run.Run.{Run}
-use Rattle.mw_fork.specs.OnWay.{MadeWithin, SettlesWithin, StaysWithin, Turns}
-use Rattle.mw_fork.specs.Ways.{Way}
+use Rattle.mw_fork.specs.declared.way.Kept.{Kept}
+use Rattle.mw_fork.specs.Ways.{bits_of, turned, turned_last}
 use Rattle.mw_fork.specs.Within.{AreDecidedWithin, IsDecidedWithin}
-use Rattle.mw_fork.proofs.MetSegment.{HasMade, on_made}
-use Rattle.mw_fork.proofs.OnRun.{StaysOnRun, asks_then}
-use Rattle.mw_fork.proofs.Ordering.{no_item}
+use Rattle.mw_fork.proofs.Ordering.{no_item, turned_at}
 
 head_of : {A : Type 0} (x y : A) (xs ys : List A) → x ∷ xs ≡ y ∷ ys → x ≡ y
 head_of x y xs ys same = cc
@@ -51,30 +46,41 @@ within_more job number nodes bits k are is before other rest same =
       | inr h ↦ are before other h.0 h.1
     ]
 
--- ---- through the cycles of a board
+-- so are the first of them
+within_front : (job : Job) (number nodes : ℕ) (front behind : List Decided)
+    → AreDecidedWithin job number nodes (front ++ behind) → AreDecidedWithin job number nodes front
+within_front job number nodes front behind are before k rest same =
+    are before k (rest ++ behind) (ap (λ (xs : List Decided). xs ++ behind) same ∙ append_assoc before (k ∷ rest) behind)
 
--- a bit more
-pub within_with : (job : Job) (nodes : ℕ) (old way next : Way) (before run asked : Run) (count : ℕ) (turn : Turn)
-    (kind : DecidedKind) (term : ℕ) → turn ≡ Ask kind term → run.board.place.cycle ≡ count
-    → asked.board.place.cycle ≡ count → StaysOnRun job old way before run count → Turns job run asked turn
-    → SettlesWithin job nodes way next asked kind term → StaysWithin job nodes old way before count
-    → StaysWithin job nodes old next before count
-within_with job nodes old way next before run asked count turn kind term asks made cycle stays turns settles within =
-    λ number elements from on below are.
-    let at =
-    asks_then job old way before run asked count turn kind term asks made cycle stays turns number elements from on
-    below in
-    settles number elements from at.0 at.1 (within number elements from on below are)
+-- a bit is within a budget with either value
+within_either : (job : Job) (number nodes : ℕ) (before : List Decided) (k : Decided) (value : Bool)
+    → IsDecidedWithin job number nodes before k → IsDecidedWithin job number nodes before (decided k.kind value)
+within_either job number nodes before k value is = record {
+  listed = record {
+    basis = is.listed.basis;
+    stands = is.listed.stands;
+    path = is.listed.path;
+    written = is.listed.written;
+    cases = is.listed.cases;
+    term = is.listed.term;
+    asks = is.listed.asks;
+    wide = is.listed.wide;
+    next = is.listed.next;
+  };
+  within = is.within;
+}
 
--- ---- through a segment
-
--- a cycle more
-pub within_made : (job : Job) (nodes : ℕ) (old way next : Way) (before run : Run) (bound n : ℕ)
-    → HasMade job old way before run bound n → run.board.place.cycle ≡ n → n < bound
-    → (0 < n → is_named (addresses_of job) run.board.place.at ≡ false)
-    → StaysWithin job nodes way next run run.board.place.cycle → MadeWithin job nodes old way before bound
-    → MadeWithin job nodes old next before bound
-within_made job nodes old way next before run bound n has made below none cycles within =
-    λ number elements from on same are.
-    let at = on_made job old way before run bound n has made below none number elements from on same in
-    cycles number elements from at.0 at.1 (within number elements from on same are)
+-- so are the bits up to the last one that can be turned, with that one turned
+pub within_turned : (job : Job) (number nodes : ℕ) (old new : List Kept) → turned_last old ≡ Some new
+    → AreDecidedWithin job number nodes (bits_of old) → AreDecidedWithin job number nodes (bits_of new)
+within_turned job number nodes old new turns are =
+    let t = turned_at old new turns in
+    let split : bits_of old ≡ bits_of t.front ++ t.bit.bit ∷ bits_of t.behind =
+    ap bits_of t.kept_is ∙ map-append (λ (x : Kept). x.bit) t.front (t.bit ∷ t.behind) in
+    let all = subst (AreDecidedWithin job number nodes) split are in
+    let one = within_either job number nodes (bits_of t.front) t.bit.bit true
+    (all (bits_of t.front) t.bit.bit (bits_of t.behind) refl) in
+    subst (AreDecidedWithin job number nodes)
+    (sym (ap bits_of t.now_is ∙ map-append (λ (x : Kept). x.bit) t.front (turned t.bit ∷ [])))
+    (within_more job number nodes (bits_of t.front) (decided t.bit.bit.kind true)
+    (within_front job number nodes (bits_of t.front) (t.bit.bit ∷ bits_of t.behind) all) one)

@@ -1,10 +1,8 @@
 -- Which values of the next bit a run may choose, and what it keeps of its choice.
-use Rattle.std.proofs.Common.{◌≡◌, inl, inr, ℕ, zero, suc, ◌+◌, ◌<◌, ◌≤◌, List, [], ◌∷◌, ◌++◌, length, take, drop}
-use Rattle.std.proofs.Common.{append_assoc, append-nil, add-one, length-append, ap, sym, subst, ◌∙◌, arith, refl}
-use Rattle.std.specs.Prelude.{Bool, true, false, ◌==◌, if◌then◌else◌, cond, Some, slice_get}
-use Rattle.std.proofs.lemmas.Bool.{cases_lt}
-use Rattle.std.proofs.lemmas.Bool.Decides.{nat_tests}
-use Rattle.std.proofs.lemmas.List.{map-append, take-append-le, take_all}
+use Rattle.std.proofs.Common.{◌≡◌, ℕ, List, [], ◌∷◌, ◌++◌, length, drop}
+use Rattle.std.proofs.Common.{append_assoc, append-nil, ap, sym, subst, ◌∙◌, refl}
+use Rattle.std.specs.Prelude.{Bool, true, false, ◌==◌, cond, Some}
+use Rattle.std.proofs.lemmas.List.{map-append}
 use Rattle.std.proofs.lemmas.Option.{same_Some}
 use Rattle.mw_term.specs.declared.decided.Decided.{Decided}
 use Rattle.mw_cycle.specs.Decided.{decided}
@@ -20,7 +18,6 @@ use Rattle.mw_dd.specs.Nodes.{function_of}
 use Rattle.mw_blast.specs.declared.split.Split.{Split}
 use Rattle.mw_blast.specs.Splits.{IsSplit}
 use Rattle.mw_symmem.specs.Memory.{IsOfWidth}
-use Rattle.mw_symmem.proofs.Lists.{seam}
 use Rattle.mw_symboard.specs.Paths.{IsBy}
 use Rattle.mw_symboard.specs.Seen.{AreFirst}
 use Rattle.mw_symboard.proofs.OnPaths.{splits_are_by}
@@ -35,9 +32,9 @@ use Rattle.mw_fork.specs.CasePaths.{IsCasePath, IsNextOfCase}
 use Rattle.mw_fork.specs.KeptBits.{AreKeptBits, AreLeast, IsKeptBit, IsWayFrom}
 use Rattle.mw_fork.specs.Listed.{AsksFor}
 use Rattle.mw_fork.specs.OnWay.{HasDecided, IsOnWay}
-use Rattle.mw_fork.specs.Starts.{Ground, HaveStarts, StandsForStart}
-use Rattle.mw_fork.specs.Ways.{Way, bits_of, first_of as first_bit, kept_with, met_of, way_of}
-use Rattle.mw_fork.proofs.Ordering.{kept_feasible}
+use Rattle.mw_fork.specs.Starts.{Ground, HaveStarts, IsGround, StandsForStart}
+use Rattle.mw_fork.specs.Ways.{Way, bits_of, first_of as first_bit, kept_of, met_of, turned_behind, way_of}
+use Rattle.mw_fork.proofs.Ordering.{kept_feasible, way_begins}
 use Rattle.mw_fork.proofs.WordPaths.{written_next}
 
 -- ---- paths and prefixes
@@ -195,33 +192,6 @@ least_one job number before (x ∷ xs) k are is = (
       (sym (append_assoc before (x.bit ∷ []) (bits_of xs))) is),
 )
 
--- the bits up to one that is kept are feasible
-kept_at : (job : Job) (number : ℕ) (before : List Decided) (xs : List Kept) (n : ℕ) (k : Kept)
-    → AreKeptBits job number before xs → slice_get xs n ≡ Some k
-    → IsFeasiblePrefix job number ((before ++ bits_of (take n xs)) ++ k.bit ∷ [])
-kept_at job number before [] n k are at = absurd cc
-kept_at job number before (x ∷ xs) zero k are at =
-    subst (λ (y : Kept). IsFeasiblePrefix job number ((before ++ []) ++ y.bit ∷ [])) (same_Some x k at)
-    (subst (λ (bits : List Decided). IsFeasiblePrefix job number (bits ++ x.bit ∷ []))
-    (sym (append-nil before)) are.0.feasible)
-kept_at job number before (x ∷ xs) (suc n) k are at =
-    subst (λ (bits : List Decided). IsFeasiblePrefix job number (bits ++ k.bit ∷ []))
-    (append_assoc before (x.bit ∷ []) (bits_of (take n xs)))
-    (kept_at job number (before ++ x.bit ∷ []) xs n k are.1 at)
-
--- the bits with the next one
-bits_next : (xs : List Kept) (n : ℕ) (k : Kept) → slice_get xs n ≡ Some k
-    → bits_of (take (suc n) xs) ≡ bits_of (take n xs) ++ k.bit ∷ []
-bits_next [] n k at = absurd cc
-bits_next (x ∷ xs) zero k at = ap (λ (y : Kept). y.bit ∷ []) (same_Some x k at)
-bits_next (x ∷ xs) (suc n) k at = ap (λ (bits : List Decided). x.bit ∷ bits) (bits_next xs n k at)
-
--- so of the bits that a run has met
-met_next : (way : Way) (kept : List Kept) (k : Kept) → slice_get kept way.met ≡ Some k
-    → met_of (way_of kept (way.met + 1)) ≡ bits_of (take way.met kept) ++ k.bit ∷ []
-met_next way kept k at =
-    ap (λ (n : ℕ). bits_of (take n kept)) (add-one way.met) ∙ bits_next kept way.met k at
-
 -- ---- the first value that is feasible
 
 -- it can be kept
@@ -250,98 +220,41 @@ first_least job number before kind false one is = λ value. is.no_zero refl
 
 -- ---- one bit more on a way
 
--- a run has met one bit more, with this value
-pub record HasChosen (job : Job) (number : ℕ) (from : List Kept) (old : Way) (kept : List Kept) (kind : DecidedKind)
-    (value : Bool) : Type 0 where
-  pub bits : IsWayFrom job number from (way_of kept (old.met + 1))
-  pub met : met_of (way_of kept (old.met + 1)) ≡ met_of old ++ decided kind value ∷ []
-
--- behind all that are kept
-chosen_first : (job : Job) (number : ℕ) (from : List Kept) (old : Way) (kind : DecidedKind)
-    (feasible : Feasible) (k : Kept)
+-- the first value that is feasible is kept behind the others
+chosen : (job : Job) (number : ℕ) (from : List Kept) (old : Way) (kind : DecidedKind) (feasible : Feasible)
     → IsFeasiblePrefix job number [] → IsChoice job number (met_of old) kind feasible → IsWayFrom job number from old
-    → old.met ≡ length old.kept → slice_get (old.kept ++ first_bit kind feasible ∷ []) old.met ≡ Some k
-    → HasChosen job number from old (old.kept ++ first_bit kind feasible ∷ []) kind k.bit.value
-chosen_first job number from old kind feasible k none is bits all at =
+    → IsWayFrom job number from (way_of (old.kept ++ first_bit kind feasible ∷ []))
+chosen job number from old kind feasible none is bits =
     let first = first_bit kind feasible in
-    let kept = old.kept ++ first ∷ [] in
-    let whole : met_of old ≡ bits_of old.kept = ap bits_of (take_all old.met old.kept (omega (arith, all))) in
-    let behind : IsChoice job number (bits_of old.kept) kind feasible =
-    subst (λ (ds : List Decided). IsChoice job number ds kind feasible) whole is in
     let split : bits_of old.kept ≡ bits_of from ++ bits_of bits.more =
     ap bits_of bits.kept_is ∙ map-append (λ (x : Kept). x.bit) from bits.more in
-    let same : first ≡ k = same_Some first k (sym (seam old.kept first [])
-    ∙ ap (λ (n : ℕ). slice_get kept n) (sym all) ∙ at) in
     record {
-      bits = record {
-        kept = kept_one job number [] old.kept first bits.kept
-            (first_kept job number (bits_of old.kept) kind feasible.zero feasible.one behind
-            (kept_feasible job number old.kept [] none bits.kept));
-        more = bits.more ++ first ∷ [];
-        kept_is = ap (λ (xs : List Kept). xs ++ first ∷ []) bits.kept_is ∙ append_assoc from bits.more (first ∷ []);
-        least = least_one job number (bits_of from) bits.more first bits.least
-            (subst (λ (ds : List Decided). IsLeast job number ds first) split
-            (first_least job number (bits_of old.kept) kind feasible.zero feasible.one behind));
-        met = inr (omega (arith, all, length-append old.kept (first ∷ [])));
-      };
-      met = met_next old kept k at
-          ∙ ap (λ (xs : List Kept). bits_of xs ++ k.bit ∷ [])
-          (take-append-le old.met old.kept (first ∷ []) (omega (arith, all)))
-          ∙ ap (λ (x : Kept). met_of old ++ decided x.bit.kind k.bit.value ∷ []) (sym same);
+      kept = kept_one job number [] old.kept first bits.kept
+          (first_kept job number (bits_of old.kept) kind feasible.zero feasible.one is
+          (kept_feasible job number old.kept [] none bits.kept));
+      more = bits.more ++ first ∷ [];
+      kept_is = ap (λ (xs : List Kept). xs ++ first ∷ []) bits.kept_is ∙ append_assoc from bits.more (first ∷ []);
+      least = least_one job number (bits_of from) bits.more first bits.least
+          (subst (λ (ds : List Decided). IsLeast job number ds first) split
+          (first_least job number (bits_of old.kept) kind feasible.zero feasible.one is));
     }
 
--- among those that are kept
-chosen_kept : (job : Job) (number : ℕ) (from : List Kept) (old : Way) (kind : DecidedKind)
-    (feasible : Feasible) (k : Kept)
-    → IsChoice job number (met_of old) kind feasible → IsWayFrom job number from old
-    → old.met < length old.kept → slice_get old.kept old.met ≡ Some k
-    → HasChosen job number from old old.kept kind k.bit.value
-chosen_kept job number from old kind feasible k is bits less at = record {
-  bits = record {
-    kept = bits.kept;
-    more = bits.more;
-    kept_is = bits.kept_is;
-    least = bits.least;
-    met = elim bits.met [
-      | inl none ↦ inl none
-      | inr all ↦ absurd (omega (arith, all, less))
-    ];
-  };
-  met = met_next old old.kept k at
-      ∙ ap (λ (own : DecidedKind). met_of old ++ decided own k.bit.value ∷ [])
-      (is.kinds k.bit (kept_at job number [] old.kept old.met k bits.kept at));
-}
+-- a run may begin with the same bits, and behind them with 1 where that is feasible
+chosen_other : (job : Job) (number : ℕ) (old : Way) (kind : DecidedKind) (feasible : Feasible) → feasible.one ≡ true
+    → IsChoice job number (met_of old) kind feasible → AreKeptBits job number [] old.kept
+    → IsWayFrom job number (turned_behind old.kept kind) (way_of (turned_behind old.kept kind))
+chosen_other job number old kind feasible can is kept =
+    way_begins job number (way_of (turned_behind old.kept kind))
+    (kept_one job number [] old.kept (kept_of kind true false) kept (record {
+      feasible = is.one can;
+      zero = λ other. absurd cc;
+      turns = λ other. absurd cc;
+      only = λ other value. absurd cc;
+    }))
 
-kept_new : (way : Way) (kind : DecidedKind) (feasible : Feasible) → way.met ≡ length way.kept
-    → kept_with way kind feasible ≡ way.kept ++ first_bit kind feasible ∷ []
-kept_new way kind feasible all =
-    let test : (way.met == length way.kept) ≡ true = grind (arith, nat_tests) in
-    ap (λ (b : Bool). if b then way.kept ++ first_bit kind feasible ∷ [] else way.kept) test
-
-kept_old : (way : Way) (kind : DecidedKind) (feasible : Feasible) → way.met < length way.kept
-    → kept_with way kind feasible ≡ way.kept
-kept_old way kind feasible less =
-    let test : (way.met == length way.kept) ≡ false = grind (arith, nat_tests) in
-    ap (λ (b : Bool). if b then way.kept ++ first_bit kind feasible ∷ [] else way.kept) test
-
--- either
-chosen : (job : Job) (number : ℕ) (from : List Kept) (old : Way) (kind : DecidedKind) (feasible : Feasible) (k : Kept)
-    → IsFeasiblePrefix job number [] → IsChoice job number (met_of old) kind feasible → IsWayFrom job number from old
-    → old.met ≤ length old.kept → slice_get (kept_with old kind feasible) old.met ≡ Some k
-    → HasChosen job number from old (kept_with old kind feasible) kind k.bit.value
-chosen job number from old kind feasible k none is bits within at = elim (cases_lt old.met (length old.kept)) [
-  | inl less ↦
-      let same = kept_old old kind feasible less in
-      subst (λ (xs : List Kept). HasChosen job number from old xs kind k.bit.value) (sym same)
-      (chosen_kept job number from old kind feasible k is bits less
-      (subst (λ (xs : List Kept). slice_get xs old.met ≡ Some k) same at))
-  | inr more ↦
-      let all : old.met ≡ length old.kept = omega (arith, within, more) in
-      let same = kept_new old kind feasible all in
-      subst (λ (xs : List Kept). HasChosen job number from old xs kind k.bit.value) (sym same)
-      (chosen_first job number from old kind feasible k none is bits all
-      (subst (λ (xs : List Kept). slice_get xs old.met ≡ Some k) same at))
-]
+-- the decided bits with one more
+met_next : (kept : List Kept) (k : Kept) → met_of (way_of (kept ++ k ∷ [])) ≡ bits_of kept ++ k.bit ∷ []
+met_next kept k = map-append (λ (x : Kept). x.bit) kept (k ∷ [])
 
 -- ---- a bit that was decided
 
@@ -359,40 +272,78 @@ made_by_value : (nodes : List Node) (path b : Function) (budget : ℕ) (split : 
 made_by_value nodes path b budget split true is = is.one.exact
 made_by_value nodes path b budget split false is = is.zero.exact
 
--- a path is split, and the way chooses
-pub has_decided : (job : Job) (number : ℕ) (g : Ground) (from : List Kept) (old new : Way) (nodes : List Node)
-    (path : Function) (budget : ℕ) (split : Split) (kind : DecidedKind) (term : ℕ) (feasible : Feasible) (k : Kept)
-    → HaveStarts job number g → IsTable g.table → IsOfWidth g.table 1 term
-    → IsOnWay job number g from old path → IsNextOfCase job number g (met_of old) path kind term
+-- a path is split, and gone on by a value of the bit, with which these bits are kept
+decided_so : (job : Job) (number : ℕ) (g : Ground) (from : List Kept) (old new : Way) (nodes : List Node)
+    (path : Function) (budget : ℕ) (split : Split) (kind : DecidedKind) (term : ℕ) (value : Bool)
+    → IsTable g.table → IsOfWidth g.table 1 term → IsGround job number g → Agree path (path_of job number (met_of old))
+    → IsCasePath job number g (met_of old) path → IsNextOfCase job number g (met_of old) path kind term
     → AsksFor job number (met_of old) g term → IsSplit nodes path (bit g.table term 0) budget split
-    → AreTold feasible (function_of nodes split.zero) (function_of nodes split.one)
-    → old.met ≤ length old.kept → slice_get (kept_with old kind feasible) old.met ≡ Some k
-    → new ≡ way_of (kept_with old kind feasible) (old.met + 1)
-    → HasDecided job number g from old new path (function_of nodes (cond k.bit.value split.one split.zero)) kind term
-    k.bit.value
-has_decided job number g from old new nodes path budget split kind term feasible k starts table wide
-    on asked asks is told
-    within at same =
-    let next = function_of nodes (cond k.bit.value split.one split.zero) in
-    let low = function_of nodes split.zero in
-    let high = function_of nodes split.one in
-    let by_low = (splits_are_by g.table term path low table wide).1 is.zero.exact in
-    let by_high = (splits_are_by g.table term path high table wide).0 is.one.exact in
-    let by = by_value g.table nodes term path split k.bit.value by_low by_high in
-    let free =
-    choice job number g (met_of old) path low high kind term feasible starts on.cases asked by_low by_high told in
-    let more = chosen job number from old kind feasible k (none_feasible job number g starts) free on.bits within at in
-    let met : met_of new ≡ met_of old ++ decided kind k.bit.value ∷ [] = ap met_of same ∙ more.met in
+    → IsWayFrom job number from new → met_of new ≡ met_of old ++ decided kind value ∷ []
+    → HasDecided job number g from old new path (function_of nodes (cond value split.one split.zero)) kind term value
+decided_so job number g from old new nodes path budget split kind term value table wide ground written cases asked asks
+    is bits met =
+    let next = function_of nodes (cond value split.one split.zero) in
+    let by = by_value g.table nodes term path split value
+    ((splits_are_by g.table term path (function_of nodes split.zero) table wide).1 is.zero.exact)
+    ((splits_are_by g.table term path (function_of nodes split.one) table wide).0 is.one.exact) in
     record {
       on = record {
-        stands = on.stands;
+        stands = ground;
         written = subst (λ (bits : List Decided). Agree next (path_of job number bits)) (sym met)
-            (written_next job number (met_of old) g path next kind term k.bit.value on.stands.space.map asks on.written
-            (made_by_value nodes path (bit g.table term 0) budget split k.bit.value is));
+            (written_next job number (met_of old) g path next kind term value ground.space.map asks written
+            (made_by_value nodes path (bit g.table term 0) budget split value is));
         cases = subst (λ (bits : List Decided). IsCasePath job number g bits next) (sym met)
-            (path_by job number g (met_of old) path _ kind term k.bit.value on.cases asked by);
-        bits = subst (λ (way : Way). IsWayFrom job number from way) (sym same) more.bits;
+            (path_by job number g (met_of old) path _ kind term value cases asked by);
+        bits = bits;
       };
       met = met;
       by = by;
     }
+
+-- which values of the bit are feasible
+free_at : (job : Job) (number : ℕ) (g : Ground) (from : List Kept) (old : Way) (nodes : List Node) (path : Function)
+    (budget : ℕ) (split : Split) (kind : DecidedKind) (term : ℕ) (feasible : Feasible) → HaveStarts job number g
+    → IsTable g.table → IsOfWidth g.table 1 term → IsOnWay job number g from old path
+    → IsNextOfCase job number g (met_of old) path kind term → IsSplit nodes path (bit g.table term 0) budget split
+    → AreTold feasible (function_of nodes split.zero) (function_of nodes split.one)
+    → IsChoice job number (met_of old) kind feasible
+free_at job number g from old nodes path budget split kind term feasible starts table wide on asked is told =
+    choice job number g (met_of old) path (function_of nodes split.zero) (function_of nodes split.one) kind term feasible
+    starts on.cases asked
+    ((splits_are_by g.table term path (function_of nodes split.zero) table wide).1 is.zero.exact)
+    ((splits_are_by g.table term path (function_of nodes split.one) table wide).0 is.one.exact) told
+
+-- a path is split, and the first value that is feasible is gone on with
+pub has_decided : (job : Job) (number : ℕ) (g : Ground) (from : List Kept) (old : Way) (nodes : List Node)
+    (path : Function) (budget : ℕ) (split : Split) (kind : DecidedKind) (term : ℕ) (feasible : Feasible)
+    → HaveStarts job number g → IsTable g.table → IsOfWidth g.table 1 term
+    → IsOnWay job number g from old path → IsNextOfCase job number g (met_of old) path kind term
+    → AsksFor job number (met_of old) g term → IsSplit nodes path (bit g.table term 0) budget split
+    → AreTold feasible (function_of nodes split.zero) (function_of nodes split.one)
+    → HasDecided job number g from old (way_of (old.kept ++ first_bit kind feasible ∷ [])) path
+    (function_of nodes (cond (first_bit kind feasible).bit.value split.one split.zero)) kind term
+    (first_bit kind feasible).bit.value
+has_decided job number g from old nodes path budget split kind term feasible starts table wide on asked asks is told =
+    let free = free_at job number g from old nodes path budget split kind term feasible starts table wide on asked is
+    told in
+    decided_so job number g from old _ nodes path budget split kind term (first_bit kind feasible).bit.value table wide
+    on.stands on.written on.cases asked asks is
+    (chosen job number from old kind feasible (none_feasible job number g starts) free on.bits)
+    (met_next old.kept (first_bit kind feasible))
+
+-- and another run may go on with 1, where that is feasible
+pub has_turned : (job : Job) (number : ℕ) (g : Ground) (from : List Kept) (old : Way) (nodes : List Node)
+    (path : Function) (budget : ℕ) (split : Split) (kind : DecidedKind) (term : ℕ) (feasible : Feasible)
+    → feasible.one ≡ true → HaveStarts job number g → IsTable g.table → IsOfWidth g.table 1 term
+    → IsOnWay job number g from old path → IsNextOfCase job number g (met_of old) path kind term
+    → AsksFor job number (met_of old) g term → IsSplit nodes path (bit g.table term 0) budget split
+    → AreTold feasible (function_of nodes split.zero) (function_of nodes split.one)
+    → HasDecided job number g (turned_behind old.kept kind) old (way_of (turned_behind old.kept kind)) path
+    (function_of nodes split.one) kind term true
+has_turned job number g from old nodes path budget split kind term feasible can starts table wide on asked asks is
+    told =
+    let free = free_at job number g from old nodes path budget split kind term feasible starts table wide on asked is
+    told in
+    decided_so job number g (turned_behind old.kept kind) old _ nodes path budget split kind term true table wide
+    on.stands on.written on.cases asked asks is (chosen_other job number old kind feasible can free on.bits.kept)
+    (met_next old.kept (kept_of kind true false))

@@ -2,6 +2,7 @@
 -- step.
 use Rattle.std.proofs.Common.{◌≡◌, ℕ, List, [], Bool, true, Option, None, Some, subst, ◌∙◌}
 use Rattle.std.specs.Prelude.{IfErr, IfOk, IfSome, Result}
+use Rattle.std.specs.Option.{is_none}
 use Rattle.std.proofs.lemmas.Option.{IfSome_then}
 use Rattle.std.proofs.lemmas.Result.{IfErr-weaker, IfOk-weaker}
 use Rattle.mw_dd.specs.Diagrams.{IsFirst}
@@ -12,8 +13,10 @@ use Rattle.mw_term.specs.Assigned.{Numbers}
 use Rattle.mw_term.specs.Cofactors.{Agree}
 use Rattle.mw_term.specs.Functions.{never}
 use Rattle.mw_symmach.specs.Turns.{Stepping}
+use Rattle.mw_fork.specs.declared.course.Course.{Course}
 use Rattle.mw_fork.specs.declared.run.Run.{Run}
 use Rattle.mw_fork.specs.declared.way.Kept.{Kept}
+use Rattle.mw_fork.specs.Courses.{HasGone}
 use Rattle.mw_fork.specs.Ends.{EndsBy}
 use Rattle.mw_fork.specs.Failing.{IsFound, NoneDiffersOf}
 use Rattle.mw_fork.specs.Listed.{list_of_space}
@@ -60,43 +63,43 @@ OfEach job run step Says =
     (number cycles : ℕ) (elements : List ℕ) (from : List Kept) (late : Bool) (way : Way)
     → HasMetCase job number elements from cycles late way run (Some step) → Says number elements way
 
--- what is said of each case that has come to this
-abbrev pub OfEachSo : Job → (cycles : ℕ) → (late : Bool) → Run → Option Stepping
-    → (Says : ℕ → List ℕ → Way → Type 0) → Type 0
-OfEachSo job cycles late run step Says =
-    (number : ℕ) (elements : List ℕ) (from : List Kept) (way : Way)
-    → HasMetCase job number elements from cycles late way run step → Says number elements way
+-- what is said of each case whose bits a course has met
+abbrev pub OfEachGone : Job → (number : ℕ) → Course → (Says : List ℕ → Way → Type 0) → Type 0
+OfEachGone job number course Says =
+    (from : List Kept) (way : Way) → (gone : HasGone job number from way course) → Says gone.elements way
 
-of_so : (job : Job) (cycles : ℕ) (late : Bool) (run : Run) (o : Option Stepping) (step : Stepping)
-    (Says : ℕ → List ℕ → Way → Type 0) → o ≡ Some step → OfEach job run step Says → OfEachSo job cycles late run o Says
-of_so job cycles late run o step Says is each = λ number elements from way met.
-    each number cycles elements from late way
-    (subst (HasMetCase job number elements from cycles late way run) is met)
+of_gone : (job : Job) (number : ℕ) (course : Course) (step : Stepping) (Says : ℕ → List ℕ → Way → Type 0)
+    → course.step ≡ Some step → OfEach job course.run step Says → OfEachGone job number course (Says number)
+of_gone job number course step Says is each = λ from way gone.
+    each number course.cycles gone.elements from (is_none course.step) way
+    (subst (HasMetCase job number gone.elements from course.cycles (is_none course.step) way course.run) is gone.met)
 
 -- where nothing is found
-pub none_so : {A E : Type 0} (job : Job) (cycles : ℕ) (late : Bool) (run : Run) (o : Option Stepping) (step : Stepping)
-    (Says : ℕ → List ℕ → Way → Type 0) (r : Result (Option A) E) → o ≡ Some step
-    → IfOk r (λ found. found ≡ None → OfEach job run step Says)
-    → IfOk r (λ found. found ≡ None → OfEachSo job cycles late run o Says)
-none_so job cycles late run o step Says r is says =
-    IfOk-weaker r (λ found. found ≡ None → OfEach job run step Says)
-    (λ found. found ≡ None → OfEachSo job cycles late run o Says)
-    (λ found each none. of_so job cycles late run o step Says is (each none)) says
+pub none_so : {A E : Type 0} (job : Job) (number : ℕ) (course : Course) (step : Stepping)
+    (Says : ℕ → List ℕ → Way → Type 0) (r : Result (Option A) E) → course.step ≡ Some step
+    → IfOk r (λ found. found ≡ None → OfEach job course.run step Says)
+    → IfOk r (λ found. found ≡ None → OfEachGone job number course (Says number))
+none_so job number course step Says r is says =
+    IfOk-weaker r (λ found. found ≡ None → OfEach job course.run step Says)
+    (λ found. found ≡ None → OfEachGone job number course (Says number))
+    (λ found each none. of_gone job number course step Says is (each none)) says
 
 -- where something is found
-pub found_so : {A E : Type 0} (job : Job) (cycles : ℕ) (late : Bool) (run : Run) (o : Option Stepping) (step : Stepping)
-    (Says : A → ℕ → List ℕ → Way → Type 0) (r : Result (Option A) E) → o ≡ Some step
-    → IfOk r (λ found. IfSome found (λ x. OfEach job run step (Says x)))
-    → IfOk r (λ found. IfSome found (λ x. OfEachSo job cycles late run o (Says x)))
-found_so job cycles late run o step Says r is says =
-    IfOk-weaker r (λ found. IfSome found (λ x. OfEach job run step (Says x)))
-    (λ found. IfSome found (λ x. OfEachSo job cycles late run o (Says x)))
-    (λ found some. IfSome_then found some (λ x each. of_so job cycles late run o step (Says x) is each)) says
+pub found_so : {A E : Type 0} (job : Job) (number : ℕ) (course : Course) (step : Stepping)
+    (Says : A → ℕ → List ℕ → Way → Type 0) (r : Result (Option A) E) → course.step ≡ Some step
+    → IfOk r (λ found. IfSome found (λ x. OfEach job course.run step (Says x)))
+    → IfOk r (λ found. IfSome found (λ x. OfEachGone job number course (Says x number)))
+found_so job number course step Says r is says =
+    IfOk-weaker r (λ found. IfSome found (λ x. OfEach job course.run step (Says x)))
+    (λ found. IfSome found (λ x. OfEachGone job number course (Says x number)))
+    (λ found some. IfSome_then found some (λ x each. of_gone job number course step (Says x) is each)) says
 
 -- where it stops
-pub stops_so : {A E : Type 0} (job : Job) (cycles : ℕ) (late : Bool) (run : Run) (o : Option Stepping) (step : Stepping)
-    (Says : E → ℕ → List ℕ → Way → Type 0) (r : Result A E) → o ≡ Some step
-    → IfErr r (λ stop. OfEach job run step (Says stop)) → IfErr r (λ stop. OfEachSo job cycles late run o (Says stop))
-stops_so job cycles late run o step Says r is says =
-    IfErr-weaker r (λ stop. OfEach job run step (Says stop)) (λ stop. OfEachSo job cycles late run o (Says stop))
-    (λ stop each. of_so job cycles late run o step (Says stop) is each) says
+pub stops_so : {A E : Type 0} (job : Job) (number : ℕ) (course : Course) (step : Stepping)
+    (Says : E → ℕ → List ℕ → Way → Type 0) (r : Result A E) → course.step ≡ Some step
+    → IfErr r (λ stop. OfEach job course.run step (Says stop))
+    → IfErr r (λ stop. OfEachGone job number course (Says stop number))
+stops_so job number course step Says r is says =
+    IfErr-weaker r (λ stop. OfEach job course.run step (Says stop))
+    (λ stop. OfEachGone job number course (Says stop number))
+    (λ stop each. of_gone job number course step (Says stop) is each) says

@@ -14,11 +14,10 @@ use Rattle.mw_rel.specs.Relation.{Boundary}
 use Rattle.mw_rel.specs.Start.{Start, addresses_of}
 use Rattle.mw_fork.specs.declared.run.Run.{Run}
 use Rattle.mw_fork.specs.declared.way.Kept.{Kept}
-use Rattle.mw_fork.specs.Faults.{RunStop}
 use Rattle.mw_fork.specs.CasePaths.{HasNoBoundary}
 use Rattle.mw_fork.specs.Ends.{IsBoardOf}
-use Rattle.mw_fork.specs.OnWay.{Cycles, CyclesStop, HasFinished, HasMetAll, HasMetSegment, IsOnRun, IsRunOf}
-use Rattle.mw_fork.specs.OnWay.{SegmentStops, ground_in, path_in}
+use Rattle.mw_fork.specs.OnWay.{HasFinished, HasMetAll, HasMetSegment, IsOnRun, IsRunOf}
+use Rattle.mw_fork.specs.OnWay.{ground_in, path_in}
 use Rattle.mw_fork.specs.Starts.{StandsForStart, course_of}
 use Rattle.mw_fork.specs.Ways.{Way, met_of}
 use Rattle.mw_fork.proofs.Along.{comes_to_next, left_at_boundary, left_at_end, left_at_none}
@@ -56,7 +55,7 @@ passed_more job number n elements from way run made none on = λ given start is 
     ∙ none)
 
 -- before the next cycle, where the last one is finished at no boundary
-next_of_segment : (job : Job) (number n : ℕ) (elements : List ℕ) (from : List Kept) (way : Way) (run : Run)
+pub next_of_segment : (job : Job) (number n : ℕ) (elements : List ℕ) (from : List Kept) (way : Way) (run : Run)
     → run.board.place.cycle ≡ n + 1 → is_named (addresses_of job) run.board.place.at ≡ false
     → n + 1 < (numbered job number).bound → IsOnRun job number elements from way run n
     → HasFinished job number elements way run → IsOnRun job number elements from way run (n + 1)
@@ -68,7 +67,7 @@ next_of_segment job number n elements from way run made none below on finished =
   unwritten = on.unwritten;
   registers = on.registers;
   listed = λ idle count.
-      let registers = run.registers.items in
+      let registers = run.registers in
       comes_to_next job number ((numbered job number).bound - run.board.place.cycle)
       (met_of way) run.space registers run.board
       finished.before refl (omega (arith, made, below))
@@ -100,7 +99,7 @@ of_board job number count elements from way run under on =
     }
 
 -- a cycle that ended at a boundary
-reached : (job : Job) (number n : ℕ) (elements : List ℕ) (from : List Kept) (way : Way) (run : Run)
+pub reached : (job : Job) (number n : ℕ) (elements : List ℕ) (from : List Kept) (way : Way) (run : Run)
     → IsRunOf job run → run.board.place.cycle ≡ n + 1 → is_named (addresses_of job) run.board.place.at ≡ true
     → n < (numbered job number).bound → IsOnRun job number elements from way run n
     → HasFinished job number elements way run → HasMetSegment job number elements from (n + 1) false way run
@@ -121,14 +120,14 @@ reached job number n elements from way run under made named below on finished = 
   unwritten = on.unwritten;
   registers = on.registers;
   listed = λ same.
-      left_at_boundary job number (met_of way) run.space run.registers.items run.board named finished.left;
+      left_at_boundary job number (met_of way) run.space run.registers run.board named finished.left;
   late_listed = λ same. absurd cc;
   of_board = of_board job number n elements from way run under on;
   made = made;
 }
 
 -- the bound's number of cycles, of which none ended at a boundary
-late : (job : Job) (number n : ℕ) (elements : List ℕ) (from : List Kept) (way : Way) (run : Run)
+pub late : (job : Job) (number n : ℕ) (elements : List ℕ) (from : List Kept) (way : Way) (run : Run)
     → IsRunOf job run → run.board.place.cycle ≡ n + 1 → is_named (addresses_of job) run.board.place.at ≡ false
     → n + 1 ≡ (numbered job number).bound → IsOnRun job number elements from way run n
     → HasFinished job number elements way run → HasMetSegment job number elements from (n + 1) true way run
@@ -148,106 +147,8 @@ late job number n elements from way run under made none bound on finished = reco
   registers = on.registers;
   listed = λ same. absurd cc;
   late_listed = λ same.
-      let left = left_at_none job number (met_of way) run.space run.registers.items run.board none finished.left in
-      left_at_end job number (met_of way) run.space run.registers.items run.board (omega (arith, made, bound)) left;
+      let left = left_at_none job number (met_of way) run.space run.registers run.board none finished.left in
+      left_at_end job number (met_of way) run.space run.registers run.board (omega (arith, made, bound)) left;
   of_board = of_board job number n elements from way run under on;
   made = made;
 }
-
--- ---- cycles
-
--- So many cycles were made: none, or the last one is finished.
-abbrev pub HasMade : Job → (old new : Way) → (before after : Run) → (bound n : ℕ) → Type 0
-HasMade job old new before after bound n =
-    (number : ℕ) (elements : List ℕ) (from : List Kept) → IsOnRun job number elements from old before 0
-    → bound ≡ (numbered job number).bound
-    → (n ≡ 0 → IsOnRun job number elements from new after 0)
-    × ((m : ℕ) → n ≡ m + 1 → IsOnRun job number elements from new after m × HasFinished job number elements new after)
-
--- before one more, which is one of the segment
-pub on_made : (job : Job) (old way : Way) (before run : Run) (bound n : ℕ) → HasMade job old way before run bound n
-    → run.board.place.cycle ≡ n → n < bound → (0 < n → is_named (addresses_of job) run.board.place.at ≡ false)
-    → (number : ℕ) (elements : List ℕ) (from : List Kept) → IsOnRun job number elements from old before 0
-    → bound ≡ (numbered job number).bound
-    → IsOnRun job number elements from way run run.board.place.cycle
-    × (run.board.place.cycle < (numbered job number).bound)
-on_made job old way before run bound n has made below none number elements from on same =
-    let so_far = has number elements from on same in (
-      elim (cases_lt 0 n) [
-        | inl some ↦
-            let one : n ≡ (n - 1) + 1 = omega (arith, some) in
-            let last = so_far.1 (n - 1) one in
-            subst (λ (m : ℕ). IsOnRun job number elements from way run m) (sym one ∙ sym made)
-            (next_of_segment job number (n - 1) elements from way run (made ∙ one) (none some)
-            (omega (arith, one, below, same)) last.0 last.1)
-        | inr first ↦
-            let zero_is : n ≡ 0 = omega (arith, first) in
-            subst (λ (m : ℕ). IsOnRun job number elements from way run m) (sym zero_is ∙ sym made) (so_far.0 zero_is)
-      ],
-      omega (arith, made, below, same),
-    )
-
--- with one more
-cycle_made : (job : Job) (old way next : Way) (before run after : Run) (bound n : ℕ)
-    → HasMade job old way before run bound n → run.board.place.cycle ≡ n → n < bound
-    → (0 < n → is_named (addresses_of job) run.board.place.at ≡ false) → Cycles job way next run after
-    → (number : ℕ) (elements : List ℕ) (from : List Kept) → IsOnRun job number elements from old before 0
-    → bound ≡ (numbered job number).bound
-    → IsOnRun job number elements from next after n × HasFinished job number elements next after
-cycle_made job old way next before run after bound n has made below none cycles number elements from on same =
-    let at = on_made job old way before run bound n has made below none number elements from on same in
-    let both = cycles number elements from at.0 at.1 in
-    (subst (λ (m : ℕ). IsOnRun job number elements from next after m) made both.0, both.1)
-
--- one more
-pub has_made_more : (job : Job) (old way next : Way) (before run after : Run) (bound n : ℕ)
-    → HasMade job old way before run bound n → run.board.place.cycle ≡ n → n < bound
-    → (0 < n → is_named (addresses_of job) run.board.place.at ≡ false) → Cycles job way next run after
-    → HasMade job old next before after bound (n + 1)
-has_made_more job old way next before run after bound n has made below none cycles number elements from on same =
-    let both =
-    cycle_made job old way next before run after bound n has made below none cycles number elements from on same in (
-      λ first. absurd (omega (arith, first)),
-      λ m more.
-          let one : n ≡ m = omega (arith, more) in
-          (subst (λ (k : ℕ). IsOnRun job number elements from next after k) one both.0, both.1),
-    )
-
--- one more, which ended at a boundary
-pub has_reached : (job : Job) (old way next : Way) (before run after : Run) (bound n : ℕ)
-    → HasMade job old way before run bound n → run.board.place.cycle ≡ n → n < bound
-    → (0 < n → is_named (addresses_of job) run.board.place.at ≡ false) → Cycles job way next run after
-    → IsRunOf job after → after.board.place.cycle ≡ n + 1
-    → is_named (addresses_of job) after.board.place.at ≡ true
-    → (number : ℕ) (elements : List ℕ) (from : List Kept) → IsOnRun job number elements from old before 0
-    → bound ≡ (numbered job number).bound → HasMetSegment job number elements from (n + 1) false next after
-has_reached job old way next before run after bound n has made below none cycles under more named
-    number elements from on
-    same =
-    let both =
-    cycle_made job old way next before run after bound n has made below none cycles number elements from on same in
-    reached job number n elements from next after under more named (omega (arith, below, same)) both.0 both.1
-
--- all, and none of them ended at a boundary
-pub ends_late : (job : Job) (old way : Way) (before run : Run) (bound n : ℕ) → HasMade job old way before run bound n
-    → IsRunOf job run → run.board.place.cycle ≡ n → n ≡ bound → 0 < bound
-    → (0 < n → is_named (addresses_of job) run.board.place.at ≡ false)
-    → (number : ℕ) (elements : List ℕ) (from : List Kept) → IsOnRun job number elements from old before 0
-    → bound ≡ (numbered job number).bound → HasMetSegment job number elements from bound true way run
-ends_late job old way before run bound n has under made all some none number elements from on same =
-    let m = bound - 1 in
-    let one : m + 1 ≡ bound = omega (arith, some) in
-    let last = (has number elements from on same).1 m (all ∙ sym one) in
-    subst (λ (k : ℕ). HasMetSegment job number elements from k true way run) one
-    (late job number m elements from way run under (made ∙ all ∙ sym one)
-    (none (omega (arith, all, some))) (one ∙ same) last.0
-    last.1)
-
--- a cycle that stops
-pub stops_made : (job : Job) (nodes : ℕ) (old way next : Way) (before run : Run) (bound n : ℕ) (stop : RunStop)
-    → HasMade job old way before run bound n → run.board.place.cycle ≡ n → n < bound
-    → (0 < n → is_named (addresses_of job) run.board.place.at ≡ false) → CyclesStop job nodes way next run stop
-    → SegmentStops job nodes old next before bound stop
-stops_made job nodes old way next before run bound n stop has made below none stops = λ number elements from on same.
-    let at = on_made job old way before run bound n has made below none number elements from on same in
-    stops number elements from at.0 at.1

@@ -38,11 +38,9 @@ use Rattle.mw_fork.specs.declared.elements.Space.{Space}
 use Rattle.mw_fork.specs.declared.paths.Paths.{Paths}
 use Rattle.mw_fork.specs.declared.run.Run.{Run}
 use Rattle.mw_fork.specs.declared.way.Kept.{Kept}
-use Rattle.mw_fork.specs.Faults.{RunStop}
 use Rattle.mw_fork.specs.Listed.{ComesTo, left_in_cycle, list_of_space}
-use Rattle.mw_fork.specs.OnWay.{CyclesStop, HasDecided, HasFinished, HasMetAll, IsOnRun, IsTurnedOnRun, Settles}
-use Rattle.mw_fork.specs.OnWay.{SettlesNot, Turns, ground_in, path_in}
-use Rattle.mw_fork.specs.Runs.{IsTurned}
+use Rattle.mw_fork.specs.OnWay.{HasDecided, HasMetAll, IsOnRun, IsTurnedOnRun}
+use Rattle.mw_fork.specs.OnWay.{ground_in, path_in}
 use Rattle.mw_fork.specs.Starts.{course_of, origin_of}
 use Rattle.mw_fork.specs.Ways.{Way, met_of}
 use Rattle.mw_fork.proofs.Along.{asks_in_cycle, left_finished}
@@ -104,7 +102,7 @@ turned_on : (job : Job) (number : ℕ) (elements : List ℕ) (from : List Kept) 
     → IsTurn job.board job.store space.terms space.words old.space.memory space.memory old.board board turn
     → ListsTurn job.board job.store old.space.memory space.memory old.board board (list_of_space old.space)
     (list_of_space space)
-    turn → ComesTo job number (met_of way) (left_in_cycle job number old.space old.registers.items old.board)
+    turn → ComesTo job number (met_of way) (left_in_cycle job number old.space old.registers old.board)
     → IsOnRun job number elements from way (record old { space = space; board = board }) old.board.place.cycle
     → ((kind : DecidedKind) (term : ℕ) → turn ≡ Ask kind term
     → IsNextBit job.board job.store space.terms space.words space.memory
@@ -124,7 +122,7 @@ turned_on job number elements from way old space board Finished is lists comes o
   record {
     all = all refl;
     before = lists.before;
-    left = left_finished job number (met_of way) old.registers.items old.space space old.board board is.2 lists comes;
+    left = left_finished job number (met_of way) old.registers old.space space old.board board is.2 lists comes;
   },
 )
 
@@ -191,14 +189,14 @@ next_of_case job number elements from way run kind term below turned given start
     (behind bits front.0 (length (met_of way)) next own)
 
 -- the board with the bit that was decided
-pub on_decided : (job : Job) (number : ℕ) (elements : List ℕ) (from : List Kept) (old new : Way) (run : Run)
+pub on_decided : (job : Job) (number : ℕ) (elements : List ℕ) (from to : List Kept) (old new : Way) (run : Run)
     (paths : Paths) (board : Symbolic) (kind : DecidedKind) (term : ℕ) (value : Bool)
     → board ≡ decided_so run.board kind value
     → IsTurnedOnRun job number elements from old run run.board.place.cycle (Ask kind term)
-    → HasDecided job number (ground_in run.space elements) from old new (path_in run.paths)
+    → HasDecided job number (ground_in run.space elements) to old new (path_in run.paths)
     (path_in paths) kind term value
-    → IsOnRun job number elements from new (record run { paths = paths; board = board }) run.board.place.cycle
-on_decided job number elements from old new run paths board kind term value same turned has =
+    → IsOnRun job number elements to new (record run { paths = paths; board = board }) run.board.place.cycle
+on_decided job number elements from to old new run paths board kind term value same turned has =
     let s = run.space in
     let b = origin_of job number elements in
     let next = path_in paths in
@@ -219,82 +217,9 @@ on_decided job number elements from old new run paths board kind term value same
       unwritten = turned.0.unwritten;
       registers = turned.0.registers;
       listed = λ waits count.
-          subst (λ (o : Symbolic). ComesTo job number (met_of new) (left_in_cycle job number s run.registers.items o))
+          subst (λ (o : Symbolic). ComesTo job number (met_of new) (left_in_cycle job number s run.registers o))
           (sym same)
           (subst
-          (λ (bits : List Decided). ComesTo job number bits (left_in_cycle job number s run.registers.items given_bit))
+          (λ (bits : List Decided). ComesTo job number bits (left_in_cycle job number s run.registers given_bit))
           (sym has.met) (turned.2.on value));
     }
-
--- ---- a cycle
-
--- a run that was within a cycle of the segment is so still
-abbrev pub StaysOnRun : Job → (old new : Way) → (before after : Run) → (count : ℕ) → Type 0
-StaysOnRun job old new before after count =
-    (number : ℕ) (elements : List ℕ) (from : List Kept) → IsOnRun job number elements from old before count
-    → count < (numbered job number).bound → IsOnRun job number elements from new after count
-
--- it asks where it was
-pub asked_at : (job : Job) (at : Progress) (t : Table) (words : List Word) (m : Memory) (o : Symbolic)
-    (registers : List ℕ) (turn : Turn) (kind : DecidedKind) (term : ℕ)
-    → turn ≡ Ask kind term → IsTurned job at t words m o registers turn
-    → o.place ≡ at
-asked_at job at t words m o registers turn kind term asks turned =
-    (subst (λ (next : Turn). IsTurned job at t words m o registers next) asks turned).1
-
--- what it asks for then
-pub asks_then : (job : Job) (old way : Way) (before run asked : Run) (count : ℕ) (turn : Turn)
-    (kind : DecidedKind) (term : ℕ)
-    → turn ≡ Ask kind term → run.board.place.cycle ≡ count → asked.board.place.cycle ≡ count
-    → StaysOnRun job old way before run count → Turns job run asked turn
-    → (number : ℕ) (elements : List ℕ) (from : List Kept) → IsOnRun job number elements from old before count
-    → count < (numbered job number).bound
-    → IsTurnedOnRun job number elements from way asked asked.board.place.cycle (Ask kind term)
-    × (asked.board.place.cycle < (numbered job number).bound)
-asks_then job old way before run asked count turn kind term asks made cycle stays turns number elements from on below =
-    let so_far =
-    subst (λ (n : ℕ). IsOnRun job number elements from way run n) (sym made) (stays number elements from on below) in
-    let at = subst (λ (t : Turn). IsTurnedOnRun job number elements from way asked run.board.place.cycle t) asks
-    (turns number elements from way so_far) in (
-      subst (λ (n : ℕ). IsTurnedOnRun job number elements from way asked n (Ask kind term)) (made ∙ sym cycle) at,
-      subst (λ (n : ℕ). n < (numbered job number).bound) (sym cycle) below,
-    )
-
--- a bit more
-pub stays_with : (job : Job) (old way next : Way) (before run asked after : Run) (count : ℕ) (turn : Turn)
-    (kind : DecidedKind) (term : ℕ) → turn ≡ Ask kind term → run.board.place.cycle ≡ count
-    → asked.board.place.cycle ≡ count → StaysOnRun job old way before run count → Turns job run asked turn
-    → Settles job way next asked after kind term → StaysOnRun job old next before after count
-stays_with job old way next before run asked after count turn kind term asks made cycle stays turns settles =
-    λ number elements from on below.
-    let at =
-    asks_then job old way before run asked count turn kind term asks made cycle stays turns number elements from on
-    below in
-    subst (λ (n : ℕ). IsOnRun job number elements from next after n) cycle (settles number elements from at.0 at.1)
-
--- no bit more
-pub stops_with : (job : Job) (nodes : ℕ) (old way next : Way) (before run asked : Run) (turn : Turn)
-    (kind : DecidedKind)
-    (term : ℕ) (stop : RunStop) → turn ≡ Ask kind term → run.board.place.cycle ≡ before.board.place.cycle
-    → asked.board.place.cycle ≡ before.board.place.cycle → StaysOnRun job old way before run before.board.place.cycle
-    → Turns job run asked turn → SettlesNot job nodes way next asked kind term stop
-    → CyclesStop job nodes old next before stop
-stops_with job nodes old way next before run asked turn kind term stop asks made cycle stays turns settles =
-    λ number elements from on below.
-    let at =
-    asks_then job old way before run asked before.board.place.cycle turn kind term asks made cycle stays turns number
-    elements from on below in
-    settles number elements from at.0 at.1
-
--- the end of the cycle
-pub stays_finished : (job : Job) (old way : Way) (before run after : Run) (count : ℕ) (turn : Turn) → turn ≡ Finished
-    → run.board.place.cycle ≡ count → StaysOnRun job old way before run count → Turns job run after turn
-    → (number : ℕ) (elements : List ℕ) (from : List Kept) → IsOnRun job number elements from old before count
-    → count < (numbered job number).bound
-    → IsOnRun job number elements from way after count × HasFinished job number elements way after
-stays_finished job old way before run after count turn done made stays turns number elements from on below =
-    let so_far =
-    subst (λ (n : ℕ). IsOnRun job number elements from way run n) (sym made) (stays number elements from on below) in
-    subst (λ (n : ℕ). IsOnRun job number elements from way after n × HasFinished job number elements way after) made
-    (subst (λ (t : Turn). IsTurnedOnRun job number elements from way after run.board.place.cycle t) done
-    (turns number elements from way so_far))

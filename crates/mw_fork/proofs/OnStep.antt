@@ -125,10 +125,10 @@ Begins job t m registers request o =
 
 -- A step of which no bit was given is that of each start on the path, behind its segment.
 pub begun_behind : (job : Job) (number cycles : ℕ) (elements : List ℕ) (from : List Kept) (way : Way) (run : Run)
-    (request : ℕ) (o : Stepping) → Begins job run.space.terms run.space.memory run.registers.items request o
+    (request : ℕ) (o : Stepping) → Begins job run.space.terms run.space.memory run.registers request o
     → left_in job.machine o ≡ job.machine.acts
     → underway_of job.machine run.space.terms run.space.words run.space.memory o
-    ≡ begun_words job.machine run.registers.items request run.space.memory.machine (list_of_space run.space)
+    ≡ begun_words job.machine run.registers request run.space.memory.machine (list_of_space run.space)
     → term_of run.space.words (Line 0) ≡ Some request → HasMetSegment job number elements from cycles false way run
     → IsOnStep job number elements from cycles (met_of way) run.board way run.space run.paths o
 begun_behind job number cycles elements from way run request o step left begun line met = record {
@@ -138,12 +138,12 @@ begun_behind job number cycles elements from way run request o step left begun l
   met = sym (append-nil (met_of way));
   in_step = λ given start one at.
       let is = step given (scene_of start) start.pair.machine (slice_index_or start.env.line 0 false)
-      (starts_so job number (ground_in run.space elements) given start run.registers.items request one met.unwritten
+      (starts_so job number (ground_in run.space elements) given start run.registers request one met.unwritten
       met.registers line) in
       record { bits = sym is.0; ends = sym is.1 };
   of_board = met.of_board;
   begun = underway_of job.machine run.space.terms run.space.words run.space.memory o;
-  listed = left_at_start job number (met_of way) run.space run.registers.items run.board request
+  listed = left_at_start job number (met_of way) run.space run.registers run.board request
       (underway_of job.machine run.space.terms run.space.words run.space.memory o)
       (met.listed refl) met.unwritten line begun;
   along = λ idle. along_none job.machine run.space.terms run.space.words run.space.memory o left;
@@ -290,44 +290,6 @@ turns job number cycles elements from segment board way sold snew paths old new 
     let said = says given start one at in
     record { asks = said.1; done = λ finished. (said.2 finished).0; ends = λ finished. (said.2 finished).1 })
 
--- a turn that is the last
-pub whole : (job : Job) (number cycles : ℕ) (elements : List ℕ) (from : List Kept) (segment : List Decided)
-    (board : Symbolic) (way : Way) (space : Space) (paths : Paths) (o : Stepping) (turn : Turn) → turn ≡ Finished
-    → IsTurnedOnStep job number elements from cycles segment board way space paths o turn
-    → IsTurnedOnStep job number elements from cycles segment board way space paths o Finished
-whole job number cycles elements from segment board way space paths o turn is turned =
-    subst (IsTurnedOnStep job number elements from cycles segment board way space paths o) is turned
-
--- a run that was on its way through a step is so still
-abbrev pub StaysOnStep : Job → (wold : Way) → (sold : Space) → (pold : Paths) → (old : Stepping)
-    → (wnew : Way) → (snew : Space)
-    → (pnew : Paths) → (new : Stepping) → Type 0
-StaysOnStep job wold sold pold old wnew snew pnew new =
-    (number cycles : ℕ) (elements : List ℕ) (from : List Kept) (segment : List Decided) (board : Symbolic)
-    → IsOnStep job number elements from cycles segment board wold sold pold old
-    → IsOnStep job number elements from cycles segment board wnew snew pnew new
-
--- a turn of each run that is on its way through a step
-abbrev pub TurnsOnStep : Job → (sold : Space) → (old : Stepping) → (snew : Space) → (new : Stepping) → Turn → Type 0
-TurnsOnStep job sold old snew new turn =
-    (number cycles : ℕ) (elements : List ℕ) (from : List Kept) (segment : List Decided) (board : Symbolic) (way : Way)
-    (paths : Paths) → IsOnStep job number elements from cycles segment board way sold paths old
-    → IsTurnedOnStep job number elements from cycles segment board way snew paths new turn
-
--- a turn that asks for a bit, of a run that was on its way from the step's first statement
-pub asks_on : (job : Job) (number cycles : ℕ) (elements : List ℕ) (from : List Kept) (segment : List Decided)
-    (board : Symbolic) (wold way : Way) (sold before space : Space) (pold paths : Paths) (old o asked : Stepping)
-    (turn : Turn) (kind : DecidedKind) (term : ℕ)
-    → turn ≡ Ask kind term → StaysOnStep job wold sold pold old way before paths o
-    → TurnsOnStep job before o space asked turn
-    → IsOnStep job number elements from cycles segment board wold sold pold old
-    → IsTurnedOnStep job number elements from cycles segment board way space paths asked (Ask kind term)
-asks_on job number cycles elements from segment board wold way sold before space pold paths old o asked turn
-    kind term is stays turns
-    on =
-    subst (IsTurnedOnStep job number elements from cycles segment board way space paths asked) is
-    (turns number cycles elements from segment board way paths (stays number cycles elements from segment board on))
-
 -- ---- a bit
 
 branch_more : (segment : List Decided) (so_far : List Bool) (old new : List Decided) (kind : DecidedKind) (value : Bool)
@@ -356,16 +318,16 @@ asks_where job number cycles elements from segment board way space paths o kind 
     turned.2
 
 -- A bit that the step asked for was decided, and given to it.
-pub takes : (job : Job) (number cycles : ℕ) (elements : List ℕ) (from : List Kept) (segment : List Decided)
+pub takes : (job : Job) (number cycles : ℕ) (elements : List ℕ) (from to : List Kept) (segment : List Decided)
     (board : Symbolic) (wold wnew : Way) (space : Space) (pold pnew : Paths) (old new : Stepping) (kind : DecidedKind)
     (term : ℕ) (value : Bool)
     → Asks job.machine space.terms space.words space.memory old kind term
     → IsDecided job.machine space.terms space.words space.memory old new value
     → BitsGoAlong → new ≡ given_so old value → left_in job.machine new ≡ chosen value (left_in job.machine old)
-    → HasDecided job number (ground_in space elements) from wold wnew (path_in pold) (path_in pnew) kind term value
+    → HasDecided job number (ground_in space elements) to wold wnew (path_in pold) (path_in pnew) kind term value
     → IsTurnedOnStep job number elements from cycles segment board wold space pold old (Ask kind term)
-    → IsOnStep job number elements from cycles segment board wnew space pnew new
-takes job number cycles elements from segment board wold wnew space pold pnew old new kind term value asks
+    → IsOnStep job number elements to cycles segment board wnew space pnew new
+takes job number cycles elements from to segment board wold wnew space pold pnew old new kind term value asks
     decided_so law new_is
     left has turned =
     let on = turned.0 in

@@ -1,15 +1,14 @@
 -- The order of cases, and which of them kept bits lead to.
-use Rattle.std.proofs.Common.{◌≡◌, ◌≢◌, ◌⊎◌, inl, inr, ℕ, zero, suc, ◌<◌, List, [], ◌∷◌, ◌++◌, drop, length, take, Bool}
-use Rattle.std.proofs.Common.{true, false, refl, sym, ap, ap₂, ◌∙◌, subst, arith, append_assoc, append-nil}
+use Rattle.std.proofs.Common.{◌≡◌, ◌≢◌, ◌⊎◌, inl, inr, ℕ, List, [], ◌∷◌, ◌++◌, Bool}
+use Rattle.std.proofs.Common.{true, false, refl, sym, ap, ap₂, ◌∙◌, subst, append_assoc, append-nil}
 use Rattle.std.specs.Prelude.{Option, Some, None, if◌then◌else◌}
-use Rattle.std.proofs.lemmas.Bool.{cases_lt}
-use Rattle.std.proofs.lemmas.List.{map-append, take-append-drop, take_all}
+use Rattle.std.proofs.lemmas.List.{map-append}
 use Rattle.mw_term.specs.declared.decided.DecidedKind.{DecidedKind}
 use Rattle.mw_term.specs.declared.decided.Decided.{Decided}
 use Rattle.mw_cycle.specs.Decided.{decided}
 use Rattle.mw_rel.specs.Case.{IsBefore, IsCase, IsFeasiblePrefix, case_of}
 use Rattle.mw_rel.specs.Job.{Job, IsJob}
-use Rattle.mw_rel.proofs.Cases.{no_case_goes_on, one_case_is_first}
+use Rattle.mw_rel.proofs.Cases.{one_case_is_first}
 use Rattle.mw_fork.specs.declared.way.Kept.{Kept}
 use Rattle.mw_fork.specs.Forks.{At, Before, KeepsFor, LeadsToNext, NoneIsToCome, OneIsToCome}
 use Rattle.mw_fork.specs.KeptBits.{AreKeptBits, AreLeast, IsKeptBit, IsWayFrom}
@@ -97,19 +96,6 @@ kept_feasible job number (k ∷ kept) before f are =
     subst (IsFeasiblePrefix job number) (append_assoc before (k.bit ∷ []) (bits_of kept))
     (kept_feasible job number kept (before ++ k.bit ∷ []) are.0.feasible are.1)
 
--- so are the first ones of them
-kept_front : (job : Job) (number n : ℕ) (kept : List Kept) (before : List Decided) → AreKeptBits job number before kept
-    → AreKeptBits job number before (take n kept)
-kept_front job number zero kept before are = tt
-kept_front job number (suc n) [] before are = tt
-kept_front job number (suc n) (k ∷ kept) before are =
-    (are.0, kept_front job number n kept (before ++ k.bit ∷ []) are.1)
-
-pub front_feasible : (job : Job) (number n : ℕ) (kept : List Kept) → IsFeasiblePrefix job number []
-    → AreKeptBits job number [] kept → IsFeasiblePrefix job number (bits_of (take n kept))
-front_feasible job number n kept none are =
-    kept_feasible job number (take n kept) [] none (kept_front job number n kept [] are)
-
 -- ---- the least bits
 
 -- what is feasible behind some bits doesn't come before the least bits there
@@ -134,7 +120,7 @@ not_turned : (b : Bool) (xs : List Kept) → (if b then Some xs else None) ≡ N
 not_turned true xs is = absurd cc
 not_turned false xs is = refl
 
-none_turned : (k : Kept) (o : Option (List Kept)) → turned_from k o ≡ None → (o ≡ None) × (k.other ≡ false)
+pub none_turned : (k : Kept) (o : Option (List Kept)) → turned_from k o ≡ None → (o ≡ None) × (k.other ≡ false)
 none_turned k (Some rest) is = absurd cc
 none_turned k None is = (refl, not_turned k.other (turned k ∷ []) is)
 
@@ -158,7 +144,7 @@ none_behind job number (k ∷ kept) before (r ∷ rest) are none b f =
 -- ---- the bit that is turned
 
 -- the last bit that can be turned was, and those behind it are dropped
-record IsTurnedAt (kept now : List Kept) : Type 0 where
+pub record IsTurnedAt (kept now : List Kept) : Type 0 where
   pub front : List Kept
   pub bit : Kept
   pub behind : List Kept
@@ -190,7 +176,7 @@ turned_here k rest now None was is there =
     let so = is_turned k.other (turned k ∷ []) now is in
     record { front = []; bit = k; behind = rest; kept_is = refl; now_is = so.1; can = so.0; none = was }
 
-turned_at : (kept now : List Kept) → turned_last kept ≡ Some now → IsTurnedAt kept now
+pub turned_at : (kept now : List Kept) → turned_last kept ≡ Some now → IsTurnedAt kept now
 turned_at [] now is = absurd cc
 turned_at (k ∷ rest) now is = turned_here k rest now (turned_last rest) refl is (turned_at rest)
 
@@ -300,40 +286,10 @@ none_between job number (g ∷ front) k behind more before (r ∷ rest) are none
 
 -- ---- a run that has met a case
 
-split_at : (xs : List Kept) (n : ℕ) → n < length xs → (k : Kept) × (rest : List Kept) × (xs ≡ take n xs ++ k ∷ rest)
-split_at [] n inside = absurd (omega arith)
-split_at (x ∷ xs) zero inside = (x, xs, refl)
-split_at (x ∷ xs) (suc n) inside =
-    let t = split_at xs n (omega arith) in (t.0, t.1, ap (λ (ys : List Kept). x ∷ ys) t.2)
-
--- the bits that it has met are all that are kept
-pub all_met : (job : Job) (number : ℕ) (way : Way) → IsJob job → AreKeptBits job number [] way.kept
-    → IsCase job number (met_of way) → bits_of way.kept ≡ met_of way
-all_met job number way is are whole = elim (cases_lt way.met (length way.kept)) [
-  | inr over ↦ ap (λ (xs : List Kept). bits_of xs) (sym (take_all way.met way.kept over))
-  | inl fewer ↦
-      let more = split_at way.kept way.met fewer in
-      let f = kept_feasible job number way.kept []
-      (feasible_front job number [] (met_of way) (feasible_case job number (met_of way) whole)) are in
-      let bits : bits_of way.kept ≡ met_of way ++ more.0.bit ∷ bits_of more.1 =
-      ap (λ (xs : List Kept). bits_of xs) more.2
-      ∙ map-append (λ (x : Kept). x.bit) (take way.met way.kept) (more.0 ∷ more.1) in
-      absurd (no_case_goes_on job number (met_of way) (case_of job f.start) is whole
-      (record { start = f.start; starts = f.starts; bits_are = refl })
-      (record {
-        next = more.0.bit;
-        rest = bits_of more.1 ++ f.rest;
-        second_is = f.bits_are ∙ ap (λ (xs : List Decided). xs ++ f.rest) bits
-            ∙ append_assoc (met_of way) (more.0.bit ∷ bits_of more.1) f.rest;
-      }))
-]
-
--- a fork keeps them
-pub keeps_met : (job : Job) (number : ℕ) (from : List Kept) (way : Way) → IsJob job → IsWayFrom job number from way
+-- a fork keeps its bits
+pub keeps_met : (job : Job) (number : ℕ) (from : List Kept) (way : Way) → IsWayFrom job number from way
     → IsCase job number (met_of way) → KeepsFor job number (At (bits_of way.kept)) way.kept
-keeps_met job number from way is bits whole =
-    let same = all_met job number way is bits.kept whole in
-    (refl, subst (IsCase job number) (sym same) whole, bits.kept)
+keeps_met job number from way bits whole = (refl, whole, bits.kept)
 
 -- ---- the next case
 
@@ -345,7 +301,6 @@ way_begins job number way are = record {
   more = [];
   kept_is = sym (append-nil way.kept);
   least = tt;
-  met = inl refl;
 }
 
 -- of two different cases the first comes before the other, where that doesn't come before it
@@ -357,27 +312,12 @@ comes_first job number bits other is one two differ never =
       | inr second ↦ absurd (never second)
     ]
 
--- what comes before the bits that a run has met comes before all that it keeps
-before_kept : (way : Way) (other : List Decided) → IsBefore other (met_of way) → IsBefore other (bits_of way.kept)
-before_kept way other before = record {
-  shared = before.shared;
-  kind = before.kind;
-  first_rest = before.first_rest;
-  second_rest = before.second_rest ++ bits_of (drop way.met way.kept);
-  first_is = before.first_is;
-  second_is = ap (λ (xs : List Kept). bits_of xs) (sym (take-append-drop way.met way.kept))
-      ∙ map-append (λ (x : Kept). x.bit) (take way.met way.kept) (drop way.met way.kept)
-      ∙ ap (λ (xs : List Decided). xs ++ bits_of (drop way.met way.kept)) before.second_is
-      ∙ append_assoc before.shared (decided before.kind true ∷ before.second_rest) (bits_of (drop way.met way.kept));
-}
-
 -- no case comes before the bits of a run that began with none
 none_at_first : (job : Job) (number : ℕ) (way : Way) (other : List Decided) → IsWayFrom job number [] way
     → IsCase job number other → ¬ IsBefore other (met_of way)
 none_at_first job number way other bits case before =
-    let more : way.kept ≡ bits.more = bits.kept_is in
     least_first job number bits.more [] other bits.least
-    (subst (IsBefore other) (ap (λ (xs : List Kept). bits_of xs) more) (before_kept way other before))
+    (subst (IsBefore other) (ap (λ (xs : List Kept). bits_of xs) bits.kept_is) before)
     (feasible_case job number other case)
 
 -- nothing kept leads to the first of all
@@ -413,8 +353,7 @@ none_at_turned job number kept now way other are turns bits case come before =
     (feasible_case job number other case)
     (subst (λ (xs : List Kept). IsBefore (bits_of xs) other) t.kept_is come)
     (subst (IsBefore other)
-    (ap (λ (xs : List Kept). bits_of xs) (run_on job number t.front now t.bit way t.now_is bits))
-    (before_kept way other before))
+    (ap (λ (xs : List Kept). bits_of xs) (run_on job number t.front now t.bit way t.now_is bits)) before)
 
 -- turned bits lead to the next one behind the last
 pub leads_behind : (job : Job) (number : ℕ) (kept now : List Kept) → IsJob job
@@ -432,8 +371,7 @@ leads_behind job number kept now is keeps turns =
           (turned_comes job number t.front t.bit t.behind are t.can);
       next = λ way bits whole.
           let met : met_of way ≡ bits_of (t.front ++ turned t.bit ∷ bits.more) =
-          sym (all_met job number way is bits.kept whole)
-          ∙ ap (λ (xs : List Kept). bits_of xs) (run_on job number t.front now t.bit way t.now_is bits) in
+          ap (λ (xs : List Kept). bits_of xs) (run_on job number t.front now t.bit way t.now_is bits) in
           record {
             feasible = whole;
             to_come = subst (λ (xs : List Decided). IsBefore xs (met_of way)) (sym last)

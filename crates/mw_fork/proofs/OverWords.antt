@@ -41,7 +41,7 @@ use Rattle.mw_fork.specs.Stops.{StopsBy}
 use Rattle.mw_fork.specs.Ways.{Way, met_of}
 use Rattle.mw_fork.proofs.Choosing.{none_feasible}
 use Rattle.mw_fork.proofs.GoingOn.{front_itself}
-use Rattle.mw_fork.proofs.Ordering.{front_feasible}
+use Rattle.mw_fork.proofs.Ordering.{kept_feasible}
 use Rattle.mw_fork.proofs.WordPaths.{word_same}
 
 -- ---- numbers of words
@@ -196,7 +196,7 @@ path_over job number nodes bits g path term map asks written feasible over =
 met_feasible : (job : Job) (number : ℕ) (g : Ground) (from : List Kept) (way : Way) (path : Function)
     → HaveStarts job number g → IsOnWay job number g from way path → IsFeasiblePrefix job number (met_of way)
 met_feasible job number g from way path starts on =
-    front_feasible job number way.met way.kept (none_feasible job number g starts) on.bits.kept
+    kept_feasible job number way.kept [] (none_feasible job number g starts) on.bits.kept
 
 -- a stop says the fault of a term by the number of its word
 pub record Tells (words : List Word) (fault : BlastFault) (stop : RunStop) : Type 0 where

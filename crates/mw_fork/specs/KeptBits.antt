@@ -1,5 +1,5 @@
 -- What is kept from case to case, and which cases it stands for.
-use Rattle.std.specs.Prelude.{◌≡◌, ◌⊎◌, List, [], ◌∷◌, ◌++◌, length, ℕ, true, false}
+use Rattle.std.specs.Prelude.{◌≡◌, List, [], ◌∷◌, ◌++◌, ℕ, true, false}
 use Rattle.mw_term.specs.declared.decided.Decided.{Decided}
 use Rattle.mw_cycle.specs.Decided.{decided}
 use Rattle.mw_rel.specs.Case.{IsFeasiblePrefix}
@@ -30,10 +30,9 @@ AreLeast job number before (k ∷ rest) =
     × AreLeast job number (before ++ k.bit ∷ []) rest
 
 -- The bits of a run that began with some bits kept: these stand first, and each that came behind them is the least that
--- is feasible; more have come only where the run has met all.
+-- is feasible.
 pub record IsWayFrom (job : Job) (number : ℕ) (from : List Kept) (way : Way) : Type 0 where
   pub kept : AreKeptBits job number [] way.kept
   pub more : List Kept
   pub kept_is : way.kept ≡ from ++ more
   pub least : AreLeast job number (bits_of from) more
-  pub met : (more ≡ []) ⊎ (way.met ≡ length way.kept)

@@ -1,7 +1,10 @@
 pub mod Begins
 pub mod Boundaries
 pub mod CasePaths
+pub mod Choices
+pub mod Codes
 pub mod Comparing
+pub mod Courses
 pub mod Ends
 pub mod Entries
 pub mod Failing
@@ -13,7 +16,6 @@ pub mod OnWay
 pub mod OwnTerms
 pub mod Paths
 pub mod Runs
-pub mod Segments
 pub mod Starts
 pub mod Steps
 pub mod Stops

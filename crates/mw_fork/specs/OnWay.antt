@@ -36,12 +36,9 @@ use Rattle.mw_fork.specs.Listed.{left_of_cycles, left_of_step}
 use Rattle.mw_fork.specs.Listed.{list_of_space, standing_on}
 use Rattle.mw_fork.specs.Paths.{ArePaths}
 use Rattle.mw_fork.specs.Runs.{IsUnder}
-use Rattle.mw_fork.specs.Faults.{RunStop}
 use Rattle.mw_fork.specs.Starts.{Ground, IsGround, StandsForStart, ground_of, origin_of, registers_of}
 use Rattle.mw_fork.specs.Steps.{said_from}
-use Rattle.mw_fork.specs.Stops.{StopsBy}
 use Rattle.mw_fork.specs.Ways.{Way, met_of}
-use Rattle.mw_fork.specs.Within.{AreDecidedWithin}
 
 -- what a space has, with the terms of the elements at the start
 abbrev pub ground_in : Space → (elements : List ℕ) → Ground
@@ -53,7 +50,7 @@ path_in paths = function_of paths.dds paths.path
 
 -- a run of a job, within a cycle of its board
 abbrev pub IsRunOf : Job → Run → Type 0
-IsRunOf job run = IsUnder job run.space.terms run.space.words run.space.memory run.board run.registers.items
+IsRunOf job run = IsUnder job run.space.terms run.space.words run.space.memory run.board run.registers
 
 -- the paths of a run are diagrams, and its bits are right for what was written in a space
 abbrev pub HavePaths : Space → Paths → Type 0
@@ -86,16 +83,16 @@ pub record IsOnRun (job : Job) (number : ℕ) (elements : List ℕ) (from : List
   pub passed : HasNoBoundary job number (ground_in run.space elements) (path_in run.paths) count
   pub variables : (n : ℕ) → n < run.board.place.cycle → HasVariables job.board run.space.terms run.space.words n
   pub unwritten : run.space.memory.machine ≡ []
-  pub registers : run.registers.items ≡ registers_of job elements
+  pub registers : run.registers ≡ registers_of job elements
   pub listed : run.board.asked ≡ None → run.board.place.cycle ≡ count
-      → ComesTo job number (met_of way) (left_in_cycle job number run.space run.registers.items run.board)
+      → ComesTo job number (met_of way) (left_in_cycle job number run.space run.registers run.board)
 
 -- it asks for a bit where the word list asks for it, and with either value what is left of its cycle is left of the
 -- list
 pub record AsksInCycle (job : Job) (number : ℕ) (way : Way) (run : Run) (kind : DecidedKind) (term : ℕ) : Type 0 where
   pub here : AsksFor job number (met_of way) (ground_in run.space []) term
   pub on : (value : Bool) → ComesTo job number (met_of way ++ decided kind value ∷ [])
-      (left_in_cycle job number run.space run.registers.items (decided_so run.board kind value))
+      (left_in_cycle job number run.space run.registers (decided_so run.board kind value))
 
 -- the bits that it has met are all those of its finished cycles
 abbrev pub HasMetAll : Job → (number : ℕ) → (elements : List ℕ) → Way → Run → Type 0
@@ -109,7 +106,7 @@ HasMetAll job number elements way run =
 pub record HasFinished (job : Job) (number : ℕ) (elements : List ℕ) (way : Way) (run : Run) : Type 0 where
   pub all : HasMetAll job number elements way run
   pub before : run.board.reading ≡ None
-  pub left : ComesTo job number (met_of way) (left_behind_cycle job number run.space run.registers.items run.board)
+  pub left : ComesTo job number (met_of way) (left_behind_cycle job number run.space run.registers run.board)
 
 -- after a turn: it asks for the next bit of the cases on its path, where the cycle is one of their segments; or the
 -- cycle is finished
@@ -130,9 +127,9 @@ pub record HasMetSegment (job : Job) (number : ℕ) (elements : List ℕ) (from 
   pub on : IsOnWay job number (ground_in run.space elements) from way (path_in run.paths)
   pub ended : HasSegment job number (ground_in run.space elements) (path_in run.paths) cycles late (met_of way)
   pub unwritten : run.space.memory.machine ≡ []
-  pub registers : run.registers.items ≡ registers_of job elements
+  pub registers : run.registers ≡ registers_of job elements
   pub listed : late ≡ false
-      → ComesTo job number (met_of way) (left_of_step job run.space run.registers.items run.board)
+      → ComesTo job number (met_of way) (left_of_step job run.space run.registers run.board)
   pub late_listed : late ≡ true
       → case_words job number (met_of way) ≡ whole (list_of_space run.space) (compared_in (list_of_space run.space) [])
   pub of_board : IsBoardOf job number (ground_in run.space elements) run.space (path_in run.paths) run.board
@@ -155,10 +152,10 @@ pub record IsFirst (job : Job) (number : ℕ) (elements : List ℕ) (run : Run) 
   pub in_run : IsPath job.board job.store run.space.terms run.space.words run.space.memory
       (origin_of job number elements) run.board [] (path_in run.paths)
   pub unwritten : run.space.memory.machine ≡ []
-  pub registers : run.registers.items ≡ registers_of job elements
+  pub registers : run.registers ≡ registers_of job elements
   pub before : run.board.reading ≡ None
   pub listed : ComesTo job number []
-      (left_of_cycles job run.space run.registers.items run.board (numbered job number).bound)
+      (left_of_cycles job run.space run.registers run.board (numbered job number).bound)
 
 -- ---- through the described step
 
@@ -213,64 +210,3 @@ Turns job before after turn =
     (number : ℕ) (elements : List ℕ) (from : List Kept) (way : Way)
     → IsOnRun job number elements from way before before.board.place.cycle
     → IsTurnedOnRun job number elements from way after before.board.place.cycle turn
-
--- the bit that was asked for: a run in a cycle of the segment is on its way with it
-abbrev pub Settles : Job → (old new : Way) → (before after : Run) → DecidedKind → (term : ℕ) → Type 0
-Settles job old new before after kind term =
-    (number : ℕ) (elements : List ℕ) (from : List Kept)
-    → IsTurnedOnRun job number elements from old before before.board.place.cycle (Ask kind term)
-    → before.board.place.cycle < (numbered job number).bound
-    → IsOnRun job number elements from new after before.board.place.cycle
-
--- a cycle of the segment: the run is on its way, and the cycle is finished
-abbrev pub Cycles : Job → (old new : Way) → (before after : Run) → Type 0
-Cycles job old new before after =
-    (number : ℕ) (elements : List ℕ) (from : List Kept)
-    → IsOnRun job number elements from old before before.board.place.cycle
-    → before.board.place.cycle < (numbered job number).bound
-    → IsOnRun job number elements from new after before.board.place.cycle × HasFinished job number elements new after
-
--- the bits of a run in a cycle of the segment are within the budget still
-abbrev pub StaysWithin : Job → (nodes : ℕ) → (old new : Way) → (before : Run) → (count : ℕ) → Type 0
-StaysWithin job nodes old new before count =
-    (number : ℕ) (elements : List ℕ) (from : List Kept) → IsOnRun job number elements from old before count
-    → count < (numbered job number).bound → AreDecidedWithin job number nodes (met_of old)
-    → AreDecidedWithin job number nodes (met_of new)
-
--- so are they with the bit that was asked for
-abbrev pub SettlesWithin : Job → (nodes : ℕ) → (old new : Way) → (before : Run) → DecidedKind → (term : ℕ) → Type 0
-SettlesWithin job nodes old new before kind term =
-    (number : ℕ) (elements : List ℕ) (from : List Kept)
-    → IsTurnedOnRun job number elements from old before before.board.place.cycle (Ask kind term)
-    → before.board.place.cycle < (numbered job number).bound
-    → AreDecidedWithin job number nodes (met_of old) → AreDecidedWithin job number nodes (met_of new)
-
--- so are they after cycles from a boundary, up to its bound
-abbrev pub MadeWithin : Job → (nodes : ℕ) → (old new : Way) → (before : Run) → (bound : ℕ) → Type 0
-MadeWithin job nodes old new before bound =
-    (number : ℕ) (elements : List ℕ) (from : List Kept) → IsOnRun job number elements from old before 0
-    → bound ≡ (numbered job number).bound → AreDecidedWithin job number nodes (met_of old)
-    → AreDecidedWithin job number nodes (met_of new)
-
--- ---- where a call stops
-
--- a run stops in a cycle of the segment
-abbrev pub CyclesStop : Job → (nodes : ℕ) → (old new : Way) → (before : Run) → RunStop → Type 0
-CyclesStop job nodes old new before stop =
-    (number : ℕ) (elements : List ℕ) (from : List Kept)
-    → IsOnRun job number elements from old before before.board.place.cycle
-    → before.board.place.cycle < (numbered job number).bound → StopsBy job number nodes from new stop
-
--- it stops at the bit that was asked for
-abbrev pub SettlesNot : Job → (nodes : ℕ) → (old new : Way) → (before : Run) → DecidedKind → (term : ℕ)
-    → RunStop → Type 0
-SettlesNot job nodes old new before kind term stop =
-    (number : ℕ) (elements : List ℕ) (from : List Kept)
-    → IsTurnedOnRun job number elements from old before before.board.place.cycle (Ask kind term)
-    → before.board.place.cycle < (numbered job number).bound → StopsBy job number nodes from new stop
-
--- it stops in a cycle from a boundary, up to its bound
-abbrev pub SegmentStops : Job → (nodes : ℕ) → (old new : Way) → (before : Run) → (bound : ℕ) → RunStop → Type 0
-SegmentStops job nodes old new before bound stop =
-    (number : ℕ) (elements : List ℕ) (from : List Kept) → IsOnRun job number elements from old before 0
-    → bound ≡ (numbered job number).bound → StopsBy job number nodes from new stop

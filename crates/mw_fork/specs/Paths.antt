@@ -1,7 +1,9 @@
 -- What is kept of a path, as diagrams.
-use Rattle.std.specs.Prelude.{ℕ, List}
-use Rattle.mw_term.specs.Table.{Table}
+use Rattle.std.specs.Prelude.{◌≡◌, ℕ, List}
+use Rattle.mw_term.specs.Table.{Extends, Table}
+use Rattle.mw_term.specs.Values as values
 use Rattle.mw_dd.specs.declared.nodes.Node.{Node}
+use Rattle.mw_dd.specs.Diagrams.{Keeps}
 use Rattle.mw_dd.specs.Nodes.{IsDd}
 use Rattle.mw_blast.specs.declared.shared.Shared.{Shared}
 use Rattle.mw_blast.specs.declared.split.Split.{Split}
@@ -18,6 +20,17 @@ pub record ArePaths (w : Table) (nodes : List Node) (shared : Shared) (places : 
 -- what was made is right for its table and its diagrams, whatever was written
 abbrev pub AreMade : Paths → Type 0
 AreMade paths = IsOf paths.shared.terms paths.dds paths.shared.blast
+
+-- What was made has grown: what stood in the table before stands there, and diagrams keep their functions.
+pub record HaveGrown (old new : Paths) : Type 0 where
+  pub nodes : Keeps old.dds new.dds
+  pub extends : Extends old.shared.terms new.shared.terms
+  pub terms : values.Keeps old.shared.terms new.shared.terms
+
+-- so has it, and the path is the same
+pub record StayOnPath (old new : Paths) : Type 0 where
+  pub grown : HaveGrown old new
+  pub path : new.path ≡ old.path
 
 -- both paths of a split are diagrams
 pub record AreTwo (nodes : List Node) (split : Split) : Type 0 where

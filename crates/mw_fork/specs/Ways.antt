@@ -1,20 +1,18 @@
--- The decided bits that are kept from case to case.
-use Rattle.std.specs.Prelude.{ℕ, List, [], ◌∷◌, ◌++◌, length, map, take, Bool, true, false, not, ◌&&◌, ◌==◌}
-use Rattle.std.specs.Prelude.{if◌then◌else◌, Option, Some, None}
+-- The decided bits of a run, and how the next case is found by them.
+use Rattle.std.specs.Prelude.{List, [], ◌∷◌, ◌++◌, map, Bool, true, false, not, ◌&&◌, if◌then◌else◌, Option, Some, None}
 use Rattle.mw_term.specs.declared.decided.DecidedKind.{DecidedKind}
 use Rattle.mw_term.specs.declared.decided.Decided.{Decided}
 use Rattle.mw_cycle.specs.Decided.{decided}
 use Rattle.mw_fork.specs.declared.way.Kept.{Kept}
 use Rattle.mw_fork.specs.declared.way.Feasible.{Feasible}
 
--- kept bits, and how many of them the run at hand has met
+-- the bits that the run at hand has met
 pub record Way : Type 0 where
   pub kept : List Kept
-  pub met : ℕ
 
--- these kept bits
-abbrev pub way_of : List Kept → (met : ℕ) → Way
-way_of kept met = record { kept = kept; met = met }
+-- these bits
+abbrev pub way_of : List Kept → Way
+way_of kept = record { kept = kept }
 
 -- a kept bit
 abbrev pub kept_of : DecidedKind → (value other : Bool) → Kept
@@ -24,21 +22,21 @@ kept_of kind value other = record { bit = decided kind value; other = other }
 abbrev pub bits_of : List Kept → List Decided
 bits_of kept = map (λ k. k.bit) kept
 
--- the bits that the run at hand has met
+-- the decided bits of a run
 abbrev pub met_of : Way → List Decided
-met_of way = bits_of (take way.met way.kept)
+met_of way = bits_of way.kept
 
 -- a bit as 0 where that is feasible, and else as 1
 abbrev pub first_of : DecidedKind → Feasible → Kept
 first_of kind feasible = kept_of kind (not feasible.zero) (feasible.zero && feasible.one)
 
--- what is kept when the run at hand meets one more: the bit that was kept, or else the first that is feasible
-abbrev pub kept_with : Way → DecidedKind → Feasible → List Kept
-kept_with way kind feasible = if way.met == length way.kept then way.kept ++ first_of kind feasible ∷ [] else way.kept
-
 -- a bit as 1
 abbrev pub turned : Kept → Kept
 turned k = kept_of k.bit.kind true false
+
+-- these bits, and behind them one of this kind that was turned
+abbrev pub turned_behind : List Kept → DecidedKind → List Kept
+turned_behind kept kind = kept ++ kept_of kind true false ∷ []
 
 -- a bit before what comes of those behind it: where none of them is turned, it is turned itself, if it can be
 abbrev pub turned_from : Kept → Option (List Kept) → Option (List Kept)
@@ -49,3 +47,9 @@ turned_from k None = if k.other then Some (turned k ∷ []) else None
 abbrev pub turned_last : List Kept → Option (List Kept)
 turned_last [] = None
 turned_last (k ∷ rest) = turned_from k (turned_last rest)
+
+-- the bits up to each that can be turned, with that one turned, in the order of the bits; these stand behind others
+abbrev pub all_turned : (before kept : List Kept) → List (List Kept)
+all_turned before [] = []
+all_turned before (k ∷ rest) =
+    (if k.other then (turned_behind before k.bit.kind) ∷ [] else []) ++ all_turned (before ++ k ∷ []) rest

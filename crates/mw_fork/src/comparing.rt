@@ -23,6 +23,7 @@ ghost use Rattle.mw_fork.specs.Comparing.{AreApart, AreEventsOf, AreOne, AreOneA
 ghost use Rattle.mw_fork.specs.Comparing.{AreSidesOn, AreTwoAt, AreTwoInMemory};
 ghost use Rattle.mw_fork.specs.Comparing.{AreWritesOn, Compares, FailsAt, GoesComparing, HoldsAt};
 ghost use Rattle.mw_fork.specs.Comparing.{compared_all};
+ghost use Rattle.mw_fork.specs.Courses.{HasGone, StaysAs};
 ghost use Rattle.mw_rel.specs.CaseWords.{terms_with};
 ghost use Rattle.mw_symboard.specs.Parts.{AreParts};
 ghost use Rattle.mw_symmem.specs.Words.{HaveOwnKinds};
@@ -30,13 +31,13 @@ ghost use Rattle.mw_term.specs.Table.{Table};
 ghost use Rattle.mw_fork.specs.Listed.{list_of_space};
 ghost use Rattle.mw_fork.specs.Failing.{ComparisonStops, ComparisonsAreWithin, IsFound, NoneDiffersOf};
 ghost use Rattle.mw_fork.specs.OnWay.{HasMetCase, HavePaths, path_in};
-ghost use Rattle.mw_fork.specs.Paths.{AreMade};
+ghost use Rattle.mw_fork.specs.Paths.{AreMade, StayOnPath};
 ghost use Rattle.mw_fork.specs.Ways.{Way, met_of};
 
+use crate::course::Course;
 use crate::decide::stop_of;
 use crate::elements::Space;
 use crate::fault::RunStop;
-use crate::fork::Traced;
 use crate::paths::Paths;
 use crate::reached::boundary_at;
 use crate::run::Run;
@@ -93,6 +94,7 @@ fn apart(
     ensures probe { OnOk result (term_of space.new.words Probe ≡ term_of space.old.words Probe) }
     ensures paths { OnOk result (HavePaths space.new paths.new) }
     ensures path { Agree (path_in paths.new) (path_in paths.old) }
+    ensures stays { OnOk result (StayOnPath paths.old paths.new) }
     ensures compared { (subject : Subject)
         → Compares nodes space.old space.new (path_in paths.old) (with_comparison subject a b) result }
     ensures same { IfOk result (λ o. o ≡ None → AreOneOn space.new.terms (path_in paths.old) a b) }
@@ -122,6 +124,7 @@ fn compare_pair(
     ensures goes { OnOk result (GoesComparing space.old space.new) }
     ensures paths { OnOk result (HavePaths space.new paths.new) }
     ensures path { Agree (path_in paths.new) (path_in paths.old) }
+    ensures stays { OnOk result (StayOnPath paths.old paths.new) }
     ensures memory { OnOk result (space.new.memory ≡ space.old.memory) }
     ensures probe { OnOk result (term_of space.new.words Probe ≡ term_of space.old.words Probe) }
     ensures compared { (number : ℕ) → Compares nodes space.old space.new (path_in paths.old)
@@ -158,6 +161,7 @@ fn compare_events(
     ensures goes { OnOk result (GoesComparing space.old space.new) }
     ensures paths { OnOk result (HavePaths space.new paths.new) }
     ensures path { Agree (path_in paths.new) (path_in paths.old) }
+    ensures stays { OnOk result (StayOnPath paths.old paths.new) }
     ensures memory { OnOk result (space.new.memory ≡ space.old.memory) }
     ensures probe { OnOk result (term_of space.new.words Probe ≡ term_of space.old.words Probe) }
     ensures compared { Compares nodes space.old space.new (path_in paths.old) (with_events 0 board.now machine.now)
@@ -202,6 +206,7 @@ fn compare_line(
     ensures goes { OnOk result (GoesComparing space.old space.new) }
     ensures paths { OnOk result (HavePaths space.new paths.new) }
     ensures path { Agree (path_in paths.new) (path_in paths.old) }
+    ensures stays { OnOk result (StayOnPath paths.old paths.new) }
     ensures probe { OnOk result (term_of space.new.words Probe ≡ term_of space.old.words Probe) }
     ensures compared { (sides : Sides) → AreSidesOn elements.now space.old sides → Compares nodes space.old space.new
         (path_in paths.old) (with_line (job_of job.now).relation.shape sides (line_of line.now)) result }
@@ -251,6 +256,7 @@ fn compare_lines(
     ensures goes { OnOk result (GoesComparing space.old space.new) }
     ensures paths { OnOk result (HavePaths space.new paths.new) }
     ensures path { Agree (path_in paths.new) (path_in paths.old) }
+    ensures stays { OnOk result (StayOnPath paths.old paths.new) }
     ensures probe { OnOk result (term_of space.new.words Probe ≡ term_of space.old.words Probe) }
     ensures compared { (sides : Sides) → AreSidesOn elements.now space.old sides → Compares nodes space.old space.new
         (path_in paths.old) (with_lines (job_of job.now).relation.shape sides (lines_of lines.now)) result }
@@ -305,6 +311,7 @@ fn compare_memory(
     ensures goes { OnOk result (GoesComparing space.old space.new) }
     ensures paths { OnOk result (HavePaths space.new paths.new) }
     ensures path { Agree (path_in paths.new) (path_in paths.old) }
+    ensures stays { OnOk result (StayOnPath paths.old paths.new) }
     ensures compared { (sides : Sides) → AreWritesOn space.old sides → Compares nodes space.old space.new
         (path_in paths.old) (with_memory (job_of job.now).relation.shape sides) result }
     ensures same { IfOk result (λ o. o ≡ None → AreOneAtProbe space.new (path_in paths.old)) }
@@ -368,6 +375,7 @@ fn compare_all(
     ensures goes { OnOk result (GoesComparing space.old space.new) }
     ensures own { OnOk result (HaveOwnKinds space.new.words) }
     ensures made { OnOk result (AreMade paths.new) }
+    ensures stays { OnOk result (StayOnPath paths.old paths.new) }
     ensures compared { (sides : Sides) → AreSidesOn elements.now space.old sides → Compares nodes space.old space.new
         (path_in paths.old)
         (compared_all (job_of job.now).relation.shape sides (lines_of lines.now) board.now machine.now) result }
@@ -408,6 +416,9 @@ fn compare_sides(
     requires fresh { term_of run.old.space.words Probe ≡ None }
     requires paths { HavePaths run.old.space run.old.paths }
     ensures made { OnOk result (AreMade run.new.paths) }
+    ensures stays { OnOk result (StayOnPath run.old.paths run.new.paths) }
+    ensures board { run.new.board ≡ run.old.board }
+    ensures registers { run.new.registers ≡ run.old.registers }
     ensures none { IfOk result (λ o. o ≡ None
         → (number cycles : ℕ) (elements : List ℕ) (from : List Kept) (late : Bool) (way : Way)
         → HasMetCase (job_of job.now) number elements from cycles late way run.old (Some step.now)
@@ -457,37 +468,28 @@ fn compare_sides(
 pub(crate) fn first_failing(
     alloc: Global,
     job: &Job,
-    traced: &mut Traced,
+    boundary: usize,
+    course: &mut Course,
     nodes: u32,
     book: &ShortcutBook,
 ) -> Result<Option<Assignment>, RunStop>
-    requires met { (number : ℕ) × (elements : List ℕ) × (from : List Kept) × (way : Way)
-        × HasMetCase (job_of job.now) number elements from traced.old.cycles traced.old.late way traced.old.run
-        traced.old.step }
-    requires few { length traced.old.run.space.memory.reads ≤ 1024 }
-    requires fresh { term_of traced.old.run.space.words Probe ≡ None }
-    requires paths { HavePaths traced.old.run.space traced.old.run.paths }
-    ensures made { OnOk result (AreMade traced.new.run.paths) }
-    ensures none { IfOk result (λ o. o ≡ None → (number : ℕ) (elements : List ℕ) (from : List Kept) (way : Way)
-        → HasMetCase (job_of job.now) number elements from traced.old.cycles traced.old.late way
-        traced.old.run traced.old.step
-        → NoneDiffersOf (job_of job.now) number (met_of way)) }
-    ensures within { IfOk result (λ o. o ≡ None → (number : ℕ) (elements : List ℕ) (from : List Kept) (way : Way)
-        → HasMetCase (job_of job.now) number elements from traced.old.cycles traced.old.late way
-        traced.old.run traced.old.step
-        → ComparisonsAreWithin (job_of job.now) number nodes (met_of way)) }
-    ensures found { IfOk result
-        (λ o. IfSome o (λ numbers. (number : ℕ) (elements : List ℕ) (from : List Kept) (way : Way)
-        → HasMetCase (job_of job.now) number elements from traced.old.cycles traced.old.late way
-        traced.old.run traced.old.step
-        → IsFound (job_of job.now) number elements (met_of way) traced.new.run.space numbers)) }
-    ensures over { IfErr result (λ stop. (number : ℕ) (elements : List ℕ) (from : List Kept) (way : Way)
-        → HasMetCase (job_of job.now) number elements from traced.old.cycles traced.old.late way
-        traced.old.run traced.old.step
-        → ComparisonStops (job_of job.now) number nodes (met_of way) stop) }
+    requires gone { (from : List Kept) × (way : Way) × HasGone (job_of job.now) boundary from way course.old }
+    ensures stays { OnOk result (StaysAs course.old course.new) }
+    ensures none { IfOk result (λ o. o ≡ None → (from : List Kept) (way : Way)
+        → HasGone (job_of job.now) boundary from way course.old
+        → NoneDiffersOf (job_of job.now) boundary (met_of way)) }
+    ensures within { IfOk result (λ o. o ≡ None → (from : List Kept) (way : Way)
+        → HasGone (job_of job.now) boundary from way course.old
+        → ComparisonsAreWithin (job_of job.now) boundary nodes (met_of way)) }
+    ensures found { IfOk result (λ o. IfSome o (λ numbers. (from : List Kept) (way : Way)
+        → (gone : HasGone (job_of job.now) boundary from way course.old)
+        → IsFound (job_of job.now) boundary gone.elements (met_of way) course.new.run.space numbers)) }
+    ensures over { IfErr result (λ stop. (from : List Kept) (way : Way)
+        → HasGone (job_of job.now) boundary from way course.old
+        → ComparisonStops (job_of job.now) boundary nodes (met_of way) stop) }
 {
-    match &traced.step {
-        None => Ok(traced.run.paths.first_assignment(alloc)?),
-        Some(step) => compare_sides(alloc, job, &mut traced.run, step, nodes, book),
+    match &course.step {
+        None => Ok(course.run.paths.first_assignment(alloc)?),
+        Some(step) => compare_sides(alloc, job, &mut course.run, step, nodes, book),
     }
 }

@@ -55,6 +55,17 @@ impl Space {
             memory: SymMemory::new(alloc, parts.address, parts.width),
         })
     }
+
+    /// The same once more.
+    pub(crate) fn copy(&self, alloc: Global) -> Result<Space, NoMemory>
+        ensures { IfOk result (λ copy. copy ≡ self.now) }
+    {
+        Ok(Space {
+            terms: self.terms.copy(alloc)?,
+            words: self.words.copy(alloc)?,
+            memory: self.memory.copy(alloc)?,
+        })
+    }
 }
 
 /// The term of an element of its own: a variable where it is free. Else it is 0, which no right side reads.

@@ -1,26 +1,28 @@
 // The feasible cases of a boundary, one after another.
-ghost use Rattle.std.specs.Prelude.{◌≡◌, ◌≢◌, ◌+◌, ◌<◌, ◌≤◌, ℕ, List, [], length, IfOk, IfErr, IfSome, IsOk, OnOk};
-ghost use Rattle.std.specs.Prelude.{Bool, None, Option, true, false};
+ghost use Rattle.std.specs.Prelude.{◌≡◌, ◌≢◌, ◌+◌, ◌-◌, ◌<◌, ◌^◌, ◌++◌, ◌∷◌, ℕ, List, [], length, IfOk, IfErr, IfSome};
+ghost use Rattle.std.specs.Prelude.{IsOk, OnOk, Bool, None, Option, true, false};
 ghost use Rattle.mw_term.specs.declared.decided.Decided.{Decided};
-ghost use Rattle.mw_term.specs.declared.kinds.WordKind.TheVariants.{Probe};
-ghost use Rattle.mw_term.specs.WordList.{term_of};
 ghost use Rattle.mw_rel.specs.Case.{IsBefore, IsCase};
+ghost use Rattle.mw_rel.specs.Job as jobs;
+ghost use Rattle.mw_rel.specs.Job.{IsJob};
 ghost use Rattle.mw_fork.specs.Begins.{IsDiffering, IsFirstOfCase, IsLeast, IsOfCase};
 ghost use Rattle.mw_fork.specs.Failing.{ComparisonStops, ComparisonsAreWithin, NoneDiffersOf};
 ghost use Rattle.mw_rel.specs.OverBudget.{AreNodesOver};
 ghost use Rattle.mw_rel.specs.Views.{job_of};
 ghost use Rattle.mw_symmach.specs.Turns.{Stepping};
+ghost use Rattle.mw_fork.specs.declared.course.Waiting as waits;
 ghost use Rattle.mw_fork.specs.declared.fault.Fault.TheVariants as faults;
 ghost use Rattle.mw_fork.specs.declared.fault.Over.TheVariants as overs;
 ghost use Rattle.mw_fork.specs.declared.fork.Stage.TheVariants as stages;
 ghost use Rattle.mw_fork.specs.declared.way.Kept.{Kept};
+ghost use Rattle.mw_fork.specs.Courses.{AreWaiting, HasGone, IsGoing, IsOther, MayBeGiven, Waits, WaitsOnCourse};
+ghost use Rattle.mw_fork.specs.Courses.{StaysAs, over_places};
 ghost use Rattle.mw_fork.specs.Forks as forks;
-ghost use Rattle.mw_fork.specs.Forks.{At, Behind, EndsEach, IsForkOf, IsNextCase, IsToCome, LeadNowhere, LeadOn};
-ghost use Rattle.mw_fork.specs.Forks.{NoneIsToCome, OneIsToCome};
-ghost use Rattle.mw_fork.specs.KeptBits.{AreKeptBits};
-ghost use Rattle.mw_fork.specs.OnWay.{HasMetCase, HasMetSegment, HavePaths, IsFirst, IsRunOf};
-ghost use Rattle.mw_fork.specs.Runs.{IsIdle};
-ghost use Rattle.mw_fork.specs.Paths.{AreMade};
+ghost use Rattle.mw_fork.specs.Forks.{At, Behind, EndsEach, HasGivenLast, HasGoneAt, HasGoneLast, IsForkOf, IsGoingAt};
+ghost use Rattle.mw_fork.specs.Forks.{IsLed, IsNextCase, IsToBegin, IsToCome, LeadNowhere, LeadOn, NoneIsToCome};
+ghost use Rattle.mw_fork.specs.Forks.{OneIsToCome, standing_of};
+ghost use Rattle.mw_fork.specs.declared.budget.Budget as budgets;
+ghost use Rattle.mw_fork.specs.OnWay.{HasMetCase, HavePaths};
 ghost use Rattle.mw_fork.specs.Stops.{IsDecisionOver, StopsBy};
 ghost use Rattle.mw_fork.specs.Ways.{Way as WayOf, met_of};
 ghost use Rattle.mw_fork.specs.Within.{AreDecidedWithin};
@@ -28,18 +30,21 @@ ghost use Rattle.mw_fork.specs.Within.{AreDecidedWithin};
 use crate::begin::begin_of;
 use crate::budget::Budget;
 use crate::comparing::first_failing;
+use crate::course::{Course, Waiting};
+use crate::decide::decide;
+use crate::elements::Space;
 use crate::fault::{ForkFault, Over, RunStop};
-use crate::paths::Paths;
 use crate::run::Run;
-use crate::segment::segment;
-use crate::step::step;
 use crate::way::Way;
 use mw_base::NoMemory;
+use mw_dd::Dd;
 use mw_rel::{Begin, Job};
-use mw_symmach::SymMach;
-use mw_term::{Prefix, ShortcutBook};
+use mw_symmach::steps_go_along;
+use mw_symmem::Turn;
+use mw_term::{DecidedKind, Places, Prefix, ShortcutBook, Term, stands_with_more};
 use std::alloc::Global;
 use std::marker::Model;
+use std::mem::replace;
 
 /// A case of a boundary.
 #[derive(Debug, Drop)]
@@ -53,206 +58,254 @@ pub struct Case {
 }
 
 /// Where a fork stands among the cases of its boundary.
-#[derive(Clone, Copy)]
+#[derive(Drop)]
 pub(crate) enum Stage {
     /// Before all.
     Before,
-    /// At the one given last.
-    At,
+    /// At the one given last, whose course has ended.
+    At(Course),
     /// Behind all.
     Behind,
 }
 
-/// The feasible cases of a boundary, which are given one after another. Each is run from all starts of the boundary, and
-/// writes terms of its own. What is kept from case to case are the decided bits, and the table of terms with the
-/// diagrams of their bits: what one run has made is there for the next.
+/// The feasible cases of a boundary, which are given one after another. A course goes through the bits of a case; at each
+/// that is feasible both ways another one waits with 1, which begins the next case there. All have one table of terms,
+/// with the diagrams of their bits.
 #[derive(Drop)]
-pub struct Fork {
+pub struct Fork<'a> {
+    job: &'a Job,
     boundary: usize,
     budget: Budget,
     /// How many cases were given.
     given: u32,
     stage: Stage,
     way: Way,
-    /// What the run of the case given last has made.
-    made: Option<Paths>,
+    /// The courses that wait, in the order of the bits at which they do.
+    waiting: Vec<Waiting>,
 }
 
-impl Model for Fork {
-    ghost use Rattle.std.specs.Prelude.{IfSome};
+impl<'a> Model for Fork<'a> {
+    ghost use Rattle.mw_fork.specs.Codes.{coded_acts, coded_tree};
     ghost use Rattle.mw_fork.specs.Forks as forks;
-    ghost use Rattle.mw_fork.specs.Paths.{AreMade};
+    ghost use Rattle.mw_rel.specs.Views.{job_of};
+    ghost use Rattle.std.specs.Coded.{codes};
 
     ghost Value = { forks.Fork };
 
-    ghost view = { λ f. forks.fork_of f.boundary f.budget f.given f.stage f.way.kept };
+    ghost coded = { Prim.hlevel (codes, coded_acts, coded_tree) };
 
-    ghost invariant = { λ f. IfSome f.made AreMade };
+    ghost view = { λ f. forks.fork_of (job_of f.job.now) f.boundary f.budget f.given f.stage f.way.kept };
+
+    ghost invariant = { λ f. forks.HasGivenLast (job_of f.job.now) f.boundary f.budget f.stage f.way f.waiting.items };
 }
 
-/// A run that has met all bits of a case.
-#[derive(Drop)]
-pub(crate) struct Traced {
-    /// The run.
-    pub run: Run,
-    /// How many cycles its segment has.
-    pub cycles: u32,
-    /// Whether the segment is late.
-    pub late: bool,
-    /// The described step behind it, where it isn't late.
-    pub step: Option<SymMach>,
-}
-
-/// Makes the described step of a run, where its segment isn't late.
-fn with_step(
+/// Lets one wait, for which the bit that is waited for is 1, where there is a path for that.
+fn wait(
     alloc: Global,
-    job: &Job,
-    run: &mut Run,
-    late: bool,
+    course: &Course,
+    other: Option<Dd>,
+    waiting: &mut Vec<Waiting>,
+) -> Result<(), NoMemory>
+    requires { MayBeGiven course.now.run.board course.now.step }
+    ensures none { OnOk result (other ≡ None → waiting.new.items ≡ waiting.old.items) }
+    ensures one { OnOk result (IfSome other (λ path. (w : waits.Waiting)
+        × (waiting.new.items ≡ waiting.old.items ++ w ∷ []) × IsOther course.now path w)) }
+{
+    let Some(path) = other else {
+        return Ok(());
+    };
+    let other = course.other(alloc, path)?;
+    waiting.push(other)?;
+    Ok(())
+}
+
+/// Decides the bit that a course waits for. Where both values are feasible, another one waits with 1.
+fn decide_bit(
+    alloc: Global,
+    course: &mut Course,
+    kind: DecidedKind,
+    term: Term,
     way: &mut Way,
+    waiting: &mut Vec<Waiting>,
     nodes: u32,
     book: &ShortcutBook,
-) -> Result<Option<SymMach>, RunStop>
-    requires under { IsRunOf (job_of job.now) run.old }
-    requires some { 0 < run.old.board.place.cycle }
-    requires few { run.old.board.place.cycle ≤ 500 }
-    requires paths { HavePaths run.old.space run.old.paths }
-    ensures goes { IfOk result (λ o. (number cycles : ℕ) (elements : List ℕ) (from : List Kept)
-        → HasMetSegment (job_of job.now) number elements from cycles late way.old run.old
-        → HasMetCase (job_of job.now) number elements from cycles late way.new run.new o) }
-    ensures nodes { OnOk result ((number cycles : ℕ) (elements : List ℕ) (from : List Kept)
-        → HasMetSegment (job_of job.now) number elements from cycles late way.old run.old
-        → AreDecidedWithin (job_of job.now) number nodes (met_of way.old)
-        → AreDecidedWithin (job_of job.now) number nodes (met_of way.new)) }
-    ensures over { IfErr result (λ stop. (number cycles : ℕ) (elements : List ℕ) (from : List Kept)
-        → HasMetSegment (job_of job.now) number elements from cycles late way.old run.old
-        → StopsBy (job_of job.now) number nodes from way.new stop) }
-    ensures few { OnOk result (length run.new.space.memory.reads ≤ 1024) }
-    ensures fresh { OnOk result (term_of run.new.space.words Probe ≡ None) }
-    ensures paths { OnOk result (HavePaths run.new.space run.new.paths) }
+) -> Result<(), RunStop>
+    requires waits { (job : jobs.Job) × (number : ℕ) × Waits job number course.old.run course.old.step kind term }
+    requires paths { HavePaths course.old.run.space course.old.run.paths }
+    ensures few { OnOk result (length way.old.kept < 2 ^ 32 - 1) }
+    ensures more { OnOk result (length way.new.kept ≡ length way.old.kept + 1) }
+    ensures goes { OnOk result ((job : jobs.Job) (number : ℕ) (elements : List ℕ) (from : List Kept) → IsJob job
+        → course.old.cycles ≡ course.old.run.board.place.cycle
+        → Waits job number course.old.run course.old.step kind term
+        → WaitsOnCourse job number elements from way.old course.old.run course.old.step kind term
+        → IsGoing job number from way.new course.new) }
+    ensures waiting { OnOk result ((job : jobs.Job) (number : ℕ) (elements : List ℕ) (from : List Kept) → IsJob job
+        → course.old.cycles ≡ course.old.run.board.place.cycle
+        → Waits job number course.old.run course.old.step kind term
+        → WaitsOnCourse job number elements from way.old course.old.run course.old.step kind term
+        → AreWaiting job number course.old.run.paths way.old.kept waiting.old.items
+        → AreWaiting job number course.new.run.paths way.new.kept waiting.new.items) }
+    ensures nodes { OnOk result ((job : jobs.Job) (number : ℕ) (elements : List ℕ) (from : List Kept) → IsJob job
+        → Waits job number course.old.run course.old.step kind term
+        → WaitsOnCourse job number elements from way.old course.old.run course.old.step kind term
+        → AreDecidedWithin job number nodes (met_of way.old) → AreDecidedWithin job number nodes (met_of way.new)) }
+    ensures over { IfErr result (λ stop. (job : jobs.Job) (number : ℕ) (elements : List ℕ) (from : List Kept) → IsJob job
+        → Waits job number course.old.run course.old.step kind term
+        → WaitsOnCourse job number elements from way.old course.old.run course.old.step kind term
+        → StopsBy job number nodes from way.new stop) }
 {
-    if late {
-        return Ok(None);
-    }
-    Ok(Some(step(alloc, job, run, way, nodes, book)?))
+    // Laws for the proof: what stands in a table goes on to stand there when more is in it, and a step goes along the
+    // bits that are given to it.
+    stands_with_more();
+    steps_go_along();
+    let choice = decide(
+        alloc,
+        &course.run.space,
+        &mut course.run.paths,
+        kind,
+        term,
+        way,
+        nodes,
+        book,
+    )?;
+    wait(alloc, course, choice.other, waiting)?;
+    course.decide(choice.value);
+    Ok(())
 }
 
-/// How a run ends that has met all bits of a case.
-#[derive(Drop)]
-struct Ending {
-    /// How many cycles its segment has.
-    cycles: u32,
-    /// Whether the segment is late.
-    late: bool,
-    /// The described step behind it, where it isn't late.
-    step: Option<SymMach>,
-}
-
-/// Goes along the bits that are kept, and then along the first that are feasible, up to the end of a case. The run
-/// stands at the boundary of this number.
+/// Goes on to the end of a case, along the first bits that are feasible.
 fn follow(
     alloc: Global,
     job: &Job,
     boundary: usize,
-    run: &mut Run,
+    course: &mut Course,
     way: &mut Way,
+    waiting: &mut Vec<Waiting>,
     nodes: u32,
     book: &ShortcutBook,
-) -> Result<Ending, RunStop>
+) -> Result<(), RunStop>
     requires boundary { boundary < length (job_of job.now).relation.boundaries }
-    requires anew { met_of way.old ≡ [] }
-    requires under { IsRunOf (job_of job.now) run.old }
-    requires idle { IsIdle run.old.board 0 }
-    requires first { (elements : List ℕ) × IsFirst (job_of job.now) boundary elements run.old }
-    requires paths { HavePaths run.old.space run.old.paths }
-    ensures case { IfOk result (λ end. AreKeptBits (job_of job.now) boundary [] way.old.kept
-        → (elements : List ℕ)
-        × HasMetCase (job_of job.now) boundary elements way.old.kept end.cycles end.late way.new run.new end.step) }
-    ensures nodes { OnOk result (AreKeptBits (job_of job.now) boundary [] way.old.kept
-        → AreDecidedWithin (job_of job.now) boundary nodes (met_of way.new)) }
-    ensures over { IfErr result (λ stop. AreKeptBits (job_of job.now) boundary [] way.old.kept
-        → StopsBy (job_of job.now) boundary nodes way.old.kept way.new stop) }
-    ensures few { OnOk result (length run.new.space.memory.reads ≤ 1024) }
-    ensures fresh { OnOk result (term_of run.new.space.words Probe ≡ None) }
-    ensures paths { OnOk result (HavePaths run.new.space run.new.paths) }
+    requires going { IsGoing (job_of job.now) boundary way.old.kept way.old course.old }
+    requires waiting { AreWaiting (job_of job.now) boundary course.old.run.paths way.old.kept waiting.old.items }
+    requires within { AreDecidedWithin (job_of job.now) boundary nodes (met_of way.old) }
+    ensures gone { OnOk result (HasGone (job_of job.now) boundary way.old.kept way.new course.new) }
+    ensures waiting { OnOk result
+        (AreWaiting (job_of job.now) boundary course.new.run.paths way.new.kept waiting.new.items) }
+    ensures within { OnOk result (AreDecidedWithin (job_of job.now) boundary nodes (met_of way.new)) }
+    ensures over { IfErr result (StopsBy (job_of job.now) boundary nodes way.old.kept way.new) }
 {
-    let bound = job.boundary(boundary).bound;
-    let reached = segment(alloc, job, bound, run, way, nodes, book)?;
-    let late = reached.is_none();
-    let step = with_step(alloc, job, run, late, way, nodes, book)?;
-    Ok(Ending {
-        cycles: reached.unwrap_or(bound),
-        late,
-        step,
+    while let Turn::Ask { kind, term } = course.turn(alloc, job, boundary)? {
+        decide_bit(alloc, course, kind, term, way, waiting, nodes, book)?;
+    }
+    Ok(())
+}
+
+/// Stands at no case any more.
+fn leave(stage: &mut Stage)
+    ensures { stage.new ≡ stages.Behind }
+{
+    *stage = Stage::Behind;
+}
+
+/// Stands at a course.
+fn stand_at(stage: &mut Stage, course: Course)
+    ensures { stage.new ≡ stages.At course }
+{
+    *stage = Stage::At(course);
+}
+
+/// Goes to the course of the next case: the one that begins at the boundary, or the last that waits.
+fn next_course(
+    alloc: Global,
+    job: &Job,
+    boundary: usize,
+    stage: &mut Stage,
+    way: &Way,
+    waiting: &mut Vec<Waiting>,
+) -> Result<(), NoMemory>
+    requires boundary { boundary < length (job_of job.now).relation.boundaries }
+    requires begin { IsToBegin (job_of job.now) boundary stage.old way.now waiting.old.items }
+    ensures going { OnOk result
+        (IsGoingAt (job_of job.now) boundary stage.new way.now.kept way.now waiting.new.items) }
+{
+    match replace(stage, Stage::Behind) {
+        Stage::At(course) => {
+            let Some(next) = waiting.pop() else {
+                // One waits for each bit that can be turned, and one was turned.
+                unreachable!()
+            };
+            stand_at(stage, next.over(course.into_paths()));
+            Ok(())
+        }
+        Stage::Before => {
+            let course = Course::new(alloc, job, boundary)?;
+            stand_at(stage, course);
+            Ok(())
+        }
+        // No case is to come there.
+        Stage::Behind => unreachable!(),
+    }
+}
+
+/// How a case has ended.
+#[derive(Clone, Copy)]
+struct Ended {
+    /// How many cycles its segment has.
+    cycles: u32,
+    /// Whether the segment is late.
+    late: bool,
+}
+
+/// Follows the course at which a fork stands to the end of its case.
+fn finish(
+    alloc: Global,
+    job: &Job,
+    boundary: usize,
+    stage: &mut Stage,
+    way: &mut Way,
+    waiting: &mut Vec<Waiting>,
+    nodes: u32,
+    book: &ShortcutBook,
+) -> Result<Ended, RunStop>
+    requires boundary { boundary < length (job_of job.now).relation.boundaries }
+    requires going { IsGoingAt (job_of job.now) boundary stage.old way.old.kept way.old waiting.old.items }
+    requires within { AreDecidedWithin (job_of job.now) boundary nodes (met_of way.old) }
+    ensures gone { IfOk result (λ end.
+        HasGoneAt (job_of job.now) boundary stage.new way.old.kept way.new waiting.new.items end.cycles end.late) }
+    ensures within { OnOk result (AreDecidedWithin (job_of job.now) boundary nodes (met_of way.new)) }
+    ensures over { IfErr result (StopsBy (job_of job.now) boundary nodes way.old.kept way.new) }
+{
+    let Stage::At(course) = stage else {
+        unreachable!()
+    };
+    follow(alloc, job, boundary, course, way, waiting, nodes, book)?;
+    Ok(Ended {
+        cycles: course.cycles,
+        late: course.step.is_none(),
     })
 }
 
-/// Runs a case of the boundary of this number along the bits that are kept, and then along the first that are feasible.
-fn trace(
+/// Goes on to the next case, whose bits were turned, and follows its course to the end.
+fn advance(
     alloc: Global,
     job: &Job,
     boundary: usize,
-    made: Option<Paths>,
+    stage: &mut Stage,
     way: &mut Way,
+    waiting: &mut Vec<Waiting>,
     nodes: u32,
     book: &ShortcutBook,
-) -> Result<Traced, RunStop>
+) -> Result<Ended, RunStop>
     requires boundary { boundary < length (job_of job.now).relation.boundaries }
-    requires made { IfSome made AreMade }
-    requires anew { met_of way.old ≡ [] }
-    ensures case { IfOk result (λ traced. AreKeptBits (job_of job.now) boundary [] way.old.kept
-        → (elements : List ℕ)
-        × HasMetCase (job_of job.now) boundary elements way.old.kept traced.cycles traced.late way.new traced.run
-        traced.step) }
-    ensures nodes { OnOk result (AreKeptBits (job_of job.now) boundary [] way.old.kept
-        → AreDecidedWithin (job_of job.now) boundary nodes (met_of way.new)) }
-    ensures over { IfErr result (λ stop. AreKeptBits (job_of job.now) boundary [] way.old.kept
-        → StopsBy (job_of job.now) boundary nodes way.old.kept way.new stop) }
-    ensures few { IfOk result (λ traced. length traced.run.space.memory.reads ≤ 1024) }
-    ensures fresh { IfOk result (λ traced. term_of traced.run.space.words Probe ≡ None) }
-    ensures paths { IfOk result (λ traced. HavePaths traced.run.space traced.run.paths) }
+    requires begin { IsToBegin (job_of job.now) boundary stage.old way.old waiting.old.items }
+    requires within { AreDecidedWithin (job_of job.now) boundary nodes (met_of way.old) }
+    ensures gone { IfOk result (λ end.
+        HasGoneAt (job_of job.now) boundary stage.new way.old.kept way.new waiting.new.items end.cycles end.late) }
+    ensures within { OnOk result (AreDecidedWithin (job_of job.now) boundary nodes (met_of way.new)) }
+    ensures over { IfErr result (StopsBy (job_of job.now) boundary nodes way.old.kept way.new) }
 {
-    let mut run = Run::new(alloc, job, boundary, made)?;
-    match follow(alloc, job, boundary, &mut run, way, nodes, book) {
-        Ok(Ending { cycles, late, step }) => Ok(Traced {
-            run,
-            cycles,
-            late,
-            step,
-        }),
-        Err(stop) => {
-            drop(run);
-            Err(stop)
-        }
-    }
-}
-
-/// Runs the case given last once more, along its bits, all of which are kept.
-fn trace_again(
-    alloc: Global,
-    job: &Job,
-    boundary: usize,
-    made: Option<Paths>,
-    way: &mut Way,
-    book: &ShortcutBook,
-) -> Result<Traced, NoMemory>
-    requires boundary { boundary < length (job_of job.now).relation.boundaries }
-    requires made { IfSome made AreMade }
-    ensures case { IfOk result (λ traced. AreKeptBits (job_of job.now) boundary [] way.old.kept
-        → (elements : List ℕ)
-        × HasMetCase (job_of job.now) boundary elements way.old.kept traced.cycles traced.late way.new traced.run
-        traced.step) }
-    ensures few { IfOk result (λ traced. length traced.run.space.memory.reads ≤ 1024) }
-    ensures fresh { IfOk result (λ traced. term_of traced.run.space.words Probe ≡ None) }
-    ensures paths { IfOk result (λ traced. HavePaths traced.run.space traced.run.paths) }
-{
-    way.begin_anew();
-    // The case was run within its budget before. Now the limit is above what a table of nodes holds, so that only
-    // memory can run out.
-    match trace(alloc, job, boundary, made, way, u32::MAX, book) {
-        Ok(traced) => Ok(traced),
-        Err(_) => Err(NoMemory),
-    }
+    next_course(alloc, job, boundary, stage, way, waiting)?;
+    finish(alloc, job, boundary, stage, way, waiting, nodes, book)
 }
 
 /// The first start of a case that was run: what the first assignment gives under which its path holds.
@@ -276,70 +329,130 @@ fn first_start(alloc: Global, job: &Job, boundary: usize, run: &Run) -> Result<B
     begin_of(alloc, job, boundary, &run.space, &given)
 }
 
-/// Hands on what a run has made, in place of what is there; the rest of the run is dropped.
-fn hand_on(made: &mut Option<Paths>, traced: Traced)
-    requires { AreMade traced.run.paths }
-    ensures { IfSome made.new AreMade }
-{
-    let Traced { run, step, .. } = traced;
-    drop(step);
-    let Run {
-        space,
-        paths,
-        board,
-        registers,
-    } = run;
-    drop(space);
-    drop(board);
-    drop(registers);
-    drop(made.replace(paths));
-}
-
 /// What a start of a case that was run is chosen by, where one differs: the first of those that are sought.
-fn differing(
+fn sought(
     alloc: Global,
     job: &Job,
     boundary: usize,
-    traced: &mut Traced,
+    course: &mut Course,
     nodes: u32,
     book: &ShortcutBook,
 ) -> Result<Option<Begin>, RunStop>
-    requires met { (elements : List ℕ) × (from : List Kept) × (way : WayOf)
-        × HasMetCase (job_of job.now) boundary elements from traced.old.cycles traced.old.late way traced.old.run
-        traced.old.step }
-    requires few { length traced.old.run.space.memory.reads ≤ 1024 }
-    requires fresh { term_of traced.old.run.space.words Probe ≡ None }
-    requires paths { HavePaths traced.old.run.space traced.old.run.paths }
-    ensures made { OnOk result (AreMade traced.new.run.paths) }
-    ensures none { IfOk result (λ o. o ≡ None → (elements : List ℕ) (from : List Kept) (way : WayOf)
-        → HasMetCase (job_of job.now) boundary elements from traced.old.cycles traced.old.late way traced.old.run
-        traced.old.step
+    requires gone { (from : List Kept) × (way : WayOf) × HasGone (job_of job.now) boundary from way course.old }
+    ensures stays { OnOk result (StaysAs course.old course.new) }
+    ensures none { IfOk result (λ o. o ≡ None → (from : List Kept) (way : WayOf)
+        → HasGone (job_of job.now) boundary from way course.old
         → NoneDiffersOf (job_of job.now) boundary (met_of way)) }
-    ensures within { IfOk result (λ o. o ≡ None → (elements : List ℕ) (from : List Kept) (way : WayOf)
-        → HasMetCase (job_of job.now) boundary elements from traced.old.cycles traced.old.late way traced.old.run
-        traced.old.step
+    ensures within { IfOk result (λ o. o ≡ None → (from : List Kept) (way : WayOf)
+        → HasGone (job_of job.now) boundary from way course.old
         → ComparisonsAreWithin (job_of job.now) boundary nodes (met_of way)) }
-    ensures differs { IfOk result (λ o. IfSome o (λ begin. (elements : List ℕ) (from : List Kept) (way : WayOf)
-        → HasMetCase (job_of job.now) boundary elements from traced.old.cycles traced.old.late way traced.old.run
-        traced.old.step
+    ensures differs { IfOk result (λ o. IfSome o (λ begin. (from : List Kept) (way : WayOf)
+        → HasGone (job_of job.now) boundary from way course.old
         → IsDiffering (job_of job.now) boundary (met_of way) begin)) }
-    ensures least { IfOk result (λ o. IfSome o (λ begin. (elements : List ℕ) (from : List Kept) (way : WayOf)
-        → HasMetCase (job_of job.now) boundary elements from traced.old.cycles traced.old.late way traced.old.run
-        traced.old.step
+    ensures least { IfOk result (λ o. IfSome o (λ begin. (from : List Kept) (way : WayOf)
+        → HasGone (job_of job.now) boundary from way course.old
         → IsLeast (job_of job.now) boundary (met_of way) begin)) }
-    ensures over { IfErr result (λ stop. (elements : List ℕ) (from : List Kept) (way : WayOf)
-        → HasMetCase (job_of job.now) boundary elements from traced.old.cycles traced.old.late way traced.old.run
-        traced.old.step
+    ensures over { IfErr result (λ stop. (from : List Kept) (way : WayOf)
+        → HasGone (job_of job.now) boundary from way course.old
         → ComparisonStops (job_of job.now) boundary nodes (met_of way) stop) }
 {
-    match first_failing(alloc, job, traced, nodes, book) {
+    match first_failing(alloc, job, boundary, course, nodes, book) {
         Ok(None) => Ok(None),
         Ok(Some(given)) => {
-            let begin = begin_of(alloc, job, boundary, &traced.run.space, &given)?;
+            let begin = begin_of(alloc, job, boundary, &course.run.space, &given)?;
             Ok(Some(begin))
         }
         Err(stop) => Err(stop),
     }
+}
+
+/// Puts back what a course worked on, and where that stands.
+fn restore(course: &mut Course, space: Space, places: Places)
+    ensures space { course.new.run.space ≡ space }
+    ensures paths { course.new.run.paths ≡ over_places course.old.run.paths places }
+    ensures board { course.new.run.board ≡ course.old.run.board }
+    ensures registers { course.new.run.registers ≡ course.old.run.registers }
+    ensures cycles { course.new.cycles ≡ course.old.cycles }
+    ensures step { course.new.step ≡ course.old.step }
+{
+    course.run.space = space;
+    course.run.paths.places = places;
+}
+
+/// The same, with which the course is as it was: what is written for a comparison is no word of the case.
+fn differing(
+    alloc: Global,
+    job: &Job,
+    boundary: usize,
+    course: &mut Course,
+    nodes: u32,
+    book: &ShortcutBook,
+) -> Result<Option<Begin>, RunStop>
+    requires gone { (from : List Kept) × (way : WayOf) × HasGone (job_of job.now) boundary from way course.old }
+    ensures gone { OnOk result ((from : List Kept) (way : WayOf) → HasGone (job_of job.now) boundary from way course.old
+        → HasGone (job_of job.now) boundary from way course.new) }
+    ensures waiting { OnOk result ((kept : List Kept) (waiting : List waits.Waiting)
+        → AreWaiting (job_of job.now) boundary course.old.run.paths kept waiting
+        → AreWaiting (job_of job.now) boundary course.new.run.paths kept waiting) }
+    ensures none { IfOk result (λ o. o ≡ None → (from : List Kept) (way : WayOf)
+        → HasGone (job_of job.now) boundary from way course.old
+        → NoneDiffersOf (job_of job.now) boundary (met_of way)) }
+    ensures within { IfOk result (λ o. o ≡ None → (from : List Kept) (way : WayOf)
+        → HasGone (job_of job.now) boundary from way course.old
+        → ComparisonsAreWithin (job_of job.now) boundary nodes (met_of way)) }
+    ensures differs { IfOk result (λ o. IfSome o (λ begin. (from : List Kept) (way : WayOf)
+        → HasGone (job_of job.now) boundary from way course.old
+        → IsDiffering (job_of job.now) boundary (met_of way) begin)) }
+    ensures least { IfOk result (λ o. IfSome o (λ begin. (from : List Kept) (way : WayOf)
+        → HasGone (job_of job.now) boundary from way course.old
+        → IsLeast (job_of job.now) boundary (met_of way) begin)) }
+    ensures over { IfErr result (λ stop. (from : List Kept) (way : WayOf)
+        → HasGone (job_of job.now) boundary from way course.old
+        → ComparisonStops (job_of job.now) boundary nodes (met_of way) stop) }
+{
+    // A law for the proof: what stands in a table goes on to stand there when more is in it.
+    stands_with_more();
+    let space = course.run.space.copy(alloc)?;
+    let places = course.run.paths.places.copy(alloc)?;
+    let begin = sought(alloc, job, boundary, course, nodes, book)?;
+    restore(course, space, places);
+    Ok(begin)
+}
+
+/// The same of the course at which a fork stands.
+fn differing_at(
+    alloc: Global,
+    job: &Job,
+    boundary: usize,
+    stage: &mut Stage,
+    nodes: u32,
+    book: &ShortcutBook,
+) -> Result<Option<Begin>, RunStop>
+    requires gone { (from : List Kept) × (way : WayOf) × HasGoneLast (job_of job.now) boundary stage.old from way }
+    ensures stays { OnOk result ((budget : budgets.Budget) (way : WayOf) (waiting : List waits.Waiting)
+        → HasGivenLast (job_of job.now) boundary budget stage.old way waiting
+        → HasGivenLast (job_of job.now) boundary budget stage.new way waiting) }
+    ensures at { OnOk result ((kept : List Kept) → standing_of stage.new kept ≡ standing_of stage.old kept) }
+    ensures none { IfOk result (λ o. o ≡ None → (from : List Kept) (way : WayOf)
+        → HasGoneLast (job_of job.now) boundary stage.old from way
+        → NoneDiffersOf (job_of job.now) boundary (met_of way)) }
+    ensures within { IfOk result (λ o. o ≡ None → (from : List Kept) (way : WayOf)
+        → HasGoneLast (job_of job.now) boundary stage.old from way
+        → ComparisonsAreWithin (job_of job.now) boundary nodes (met_of way)) }
+    ensures differs { IfOk result (λ o. IfSome o (λ begin. (from : List Kept) (way : WayOf)
+        → HasGoneLast (job_of job.now) boundary stage.old from way
+        → IsDiffering (job_of job.now) boundary (met_of way) begin)) }
+    ensures least { IfOk result (λ o. IfSome o (λ begin. (from : List Kept) (way : WayOf)
+        → HasGoneLast (job_of job.now) boundary stage.old from way
+        → IsLeast (job_of job.now) boundary (met_of way) begin)) }
+    ensures over { IfErr result (λ stop. (from : List Kept) (way : WayOf)
+        → HasGoneLast (job_of job.now) boundary stage.old from way
+        → ComparisonStops (job_of job.now) boundary nodes (met_of way) stop) }
+{
+    let Stage::At(course) = stage else {
+        unreachable!()
+    };
+    differing(alloc, job, boundary, course, nodes, book)
 }
 
 /// Why a case isn't given, by why its run stopped.
@@ -364,20 +477,20 @@ fn fault_of(alloc: Global, boundary: usize, way: &Way, stop: RunStop) -> ForkFau
 }
 
 /// Turns the bits that are kept to the next case, where one is to come, and says whether there is one.
-fn lead_on(stage: Stage, way: &mut Way) -> bool
-    requires before { stage ≡ stages.Before → way.old.kept ≡ [] }
-    ensures some { result ≡ true → LeadOn stage way.old.kept way.new.kept }
-    ensures none { result ≡ false → LeadNowhere stage way.old.kept }
-    ensures anew { result ≡ true → met_of way.new ≡ [] }
+fn lead_on(stage: &Stage, way: &mut Way) -> bool
+    requires before { stage.now ≡ stages.Before → way.old.kept ≡ [] }
+    ensures some { result ≡ true → LeadOn stage.now way.old.kept way.new.kept }
+    ensures led { result ≡ true → IsLed stage.now way.old.kept way.new.kept }
+    ensures none { result ≡ false → LeadNowhere stage.now way.old.kept }
 {
     match stage {
         Stage::Before => true,
-        Stage::At => way.turn(),
+        Stage::At(_) => way.turn(),
         Stage::Behind => false,
     }
 }
 
-impl Fork {
+impl<'a> Fork<'a> {
     /// The cases of the boundary of this number, from 0, within a budget. None was given yet.
     ///
     /// # Errors
@@ -385,10 +498,10 @@ impl Fork {
     /// There are none.
     pub fn start(
         alloc: Global,
-        job: &Job,
+        job: &'a Job,
         boundary: usize,
         budget: Budget,
-    ) -> Result<Fork, ForkFault>
+    ) -> Result<Fork<'a>, ForkFault>
         requires boundary { boundary < length (job_of job.now).relation.boundaries }
         ensures ok { IsOk result }
         ensures of { IfOk result (IsForkOf (job_of job.now)) }
@@ -398,12 +511,13 @@ impl Fork {
         ensures given { IfOk result (λ f. f.given ≡ 0) }
     {
         Ok(Fork {
+            job,
             boundary,
             budget,
             given: 0,
             stage: Stage::Before,
             way: Way::new(alloc),
-            made: None,
+            waiting: Vec::new(alloc),
         })
     }
 
@@ -454,37 +568,39 @@ impl Fork {
             → e ≡ faults.Over (overs.Nodes boundary prefix word bit) → (other : List Decided)
             → IsCase (job_of job.now) boundary other → IsBefore other prefix → ¬ IsToCome self.old.at other) }
     {
-        if !lead_on(self.stage, &mut self.way) {
-            self.stage = Stage::Behind;
+        if !lead_on(&self.stage, &mut self.way) {
+            leave(&mut self.stage);
             return Ok(None);
         }
         if self.given == self.budget.paths {
+            leave(&mut self.stage);
             return Err(ForkFault::Over(Over::Paths {
                 boundary: self.boundary,
                 limit: self.budget.paths,
             }));
         }
-        let traced = match trace(
+        let ended = match advance(
             alloc,
             job,
             self.boundary,
-            self.made.take(),
+            &mut self.stage,
             &mut self.way,
+            &mut self.waiting,
             self.budget.nodes,
             book,
         ) {
-            Ok(traced) => traced,
-            Err(stop) => return Err(fault_of(alloc, self.boundary, &self.way, stop)),
+            Ok(ended) => ended,
+            Err(stop) => {
+                leave(&mut self.stage);
+                return Err(fault_of(alloc, self.boundary, &self.way, stop));
+            }
         };
-        let (cycles, late) = (traced.cycles, traced.late);
-        hand_on(&mut self.made, traced);
-        let prefix = self.way.prefix(alloc)?;
         self.given += 1;
-        self.stage = Stage::At;
+        let prefix = self.way.prefix(alloc)?;
         Ok(Some(Case {
             prefix,
-            cycles,
-            late,
+            cycles: ended.cycles,
+            late: ended.late,
         }))
     }
 
@@ -523,24 +639,20 @@ impl Fork {
             × AreNodesOver (job_of job.now) boundary self.old.budget.nodes prefix word bit) }
         ensures paths { IfErr result (λ e. (boundary limit : ℕ) → e ≢ faults.Over (overs.Paths boundary limit)) }
     {
-        let made = self.made.take();
-        let mut traced = trace_again(alloc, job, self.boundary, made, &mut self.way, book)?;
-        let begin = match differing(
+        match differing_at(
             alloc,
             job,
             self.boundary,
-            &mut traced,
+            &mut self.stage,
             self.budget.nodes,
             book,
         ) {
-            Ok(begin) => begin,
+            Ok(begin) => Ok(begin),
             Err(stop) => {
-                drop(traced);
-                return Err(fault_of(alloc, self.boundary, &self.way, stop));
+                leave(&mut self.stage);
+                Err(fault_of(alloc, self.boundary, &self.way, stop))
             }
-        };
-        hand_on(&mut self.made, traced);
-        Ok(begin)
+        }
     }
 
     /// The first start of the case given last: what the first assignment gives under which the case's path holds. A case
@@ -564,10 +676,9 @@ impl Fork {
             → IsFirstOfCase (job_of job.now) self.old.boundary last begin) }
         ensures fault { IfErr result (λ e. e ≡ faults.NoMemory) }
     {
-        let made = self.made.take();
-        let traced = trace_again(alloc, job, self.boundary, made, &mut self.way, book)?;
-        let begin = first_start(alloc, job, self.boundary, &traced.run);
-        hand_on(&mut self.made, traced);
-        Ok(begin?)
+        let Stage::At(course) = &self.stage else {
+            unreachable!()
+        };
+        Ok(first_start(alloc, job, self.boundary, &course.run)?)
     }
 }

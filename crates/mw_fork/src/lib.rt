@@ -6,12 +6,14 @@
 mod begin;
 mod budget;
 mod comparing;
+mod course;
 mod decide;
 mod elements;
 mod fault;
 mod fork;
 mod paths;
 mod reached;
+mod registers;
 mod run;
 mod segment;
 mod step;

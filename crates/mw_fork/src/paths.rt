@@ -9,12 +9,12 @@ ghost use Rattle.mw_term.specs.Rows.{bit};
 ghost use Rattle.mw_term.specs.Table.{IsMap, Table};
 ghost use Rattle.mw_symmem.specs.Memory.{IsOfWidth};
 ghost use Rattle.mw_dd.specs.Nodes.{IsDd, function_of};
-ghost use Rattle.mw_dd.specs.Diagrams.{IsFirst, Keeps};
+ghost use Rattle.mw_dd.specs.Diagrams.{IsFirst};
 ghost use Rattle.mw_blast.specs.Bits.{StandsFor};
 ghost use Rattle.mw_blast.specs.declared.fault.BlastFault.TheVariants as faults;
 ghost use Rattle.mw_blast.specs.Shared.{IsWrittenCause, IsWrittenSplitCause};
 ghost use Rattle.mw_blast.specs.Splits.{IsSplit};
-ghost use Rattle.mw_fork.specs.Paths.{AreMade, ArePaths, AreTwo};
+ghost use Rattle.mw_fork.specs.Paths.{ArePaths, AreTwo, HaveGrown};
 
 use crate::way::Feasible;
 use mw_base::NoMemory;
@@ -28,8 +28,8 @@ use std::alloc::Global;
 pub(crate) struct Paths {
     dds: Diagrams,
     shared: Shared,
-    places: Places,
-    path: Dd,
+    pub places: Places,
+    pub path: Dd,
 }
 
 /// The one bit of a term of one bit.
@@ -42,7 +42,7 @@ fn only(bits: &[Dd]) -> Dd
 
 impl Paths {
     /// The path on which no bit is decided: each start takes it. The map is that of the board.
-    fn new(alloc: Global, map: &[u16]) -> Result<Paths, NoMemory>
+    pub(crate) fn new(alloc: Global, map: &[u16]) -> Result<Paths, NoMemory>
         requires { IsMap map.now }
         ensures paths { IfOk result (λ p. (w : Table) → w.map ≡ map.now
             → ArePaths w p.dds p.shared p.places p.path) }
@@ -57,44 +57,6 @@ impl Paths {
             places: Places::new(alloc),
             path,
         })
-    }
-
-    /// The path on which no bit is decided, over what these have made. No written term has a place yet.
-    fn anew(self, alloc: Global) -> Paths
-        requires { AreMade self }
-        ensures paths { (w : Table) → w.map ≡ self.shared.terms.map
-            → ArePaths w result.dds result.shared result.places result.path }
-        ensures always { Agree (function_of result.dds result.path) always }
-    {
-        let path = self.dds.constant(true);
-        Paths {
-            dds: self.dds,
-            shared: self.shared,
-            places: Places::new(alloc),
-            path,
-        }
-    }
-
-    /// Whether what was made is for this map.
-    fn is_for(&self, map: &[u16]) -> bool
-        ensures { result ≡ true → self.now.shared.terms.map ≡ map.now }
-    {
-        self.shared.map() == map
-    }
-
-    /// The path on which no bit is decided: each start takes it. The map is that of the board. What another run made
-    /// for this map serves this one too.
-    pub(crate) fn begun(alloc: Global, map: &[u16], made: Option<Paths>) -> Result<Paths, NoMemory>
-        requires map { IsMap map.now }
-        requires made { IfSome made AreMade }
-        ensures paths { IfOk result (λ p. (w : Table) → w.map ≡ map.now
-            → ArePaths w p.dds p.shared p.places p.path) }
-        ensures always { IfOk result (λ p. Agree (function_of p.dds p.path) always) }
-    {
-        match made {
-            Some(made) if made.is_for(map) => Ok(made.anew(alloc)),
-            _ => Paths::new(alloc, map),
-        }
     }
 
     /// The path in two by a bit that is constant, where it is.
@@ -139,7 +101,7 @@ impl Paths {
             (IsWrittenSplitCause written.now self.new.places (function_of self.old.dds self.old.path) term nodes) }
         ensures path { self.new.path ≡ self.old.path }
         ensures paths { ArePaths written.now self.new.dds self.new.shared self.new.places self.new.path }
-        ensures keeps { Keeps self.old.dds self.new.dds }
+        ensures grown { HaveGrown self.old self.new }
     {
         let bits = self.shared.bits(
             alloc,
@@ -189,7 +151,7 @@ impl Paths {
             (path_zero (function_of self.old.dds self.old.path) (bit written.now term 0)) nodes)) }
         ensures path { self.new.path ≡ self.old.path }
         ensures paths { ArePaths written.now self.new.dds self.new.shared self.new.places self.new.path }
-        ensures keeps { Keeps self.old.dds self.new.dds }
+        ensures grown { HaveGrown self.old self.new }
     {
         let bits = self.shared.bits(
             alloc,
@@ -230,6 +192,21 @@ impl Paths {
         Feasible {
             zero: !self.dds.is_false(split.zero),
             one: !self.dds.is_false(split.one),
+        }
+    }
+
+    /// Another path over what was made, and the places of what was written on it.
+    pub(crate) fn over(self, places: Places, path: Dd) -> Paths
+        ensures dds { result.dds ≡ self.dds }
+        ensures shared { result.shared ≡ self.shared }
+        ensures places { result.places ≡ places }
+        ensures path { result.path ≡ path }
+    {
+        Paths {
+            dds: self.dds,
+            shared: self.shared,
+            places,
+            path,
         }
     }
 

@@ -1,24 +1,18 @@
-// One case on terms: its board, cycle after cycle, and its described step.
-ghost use Rattle.std.specs.Prelude.{◌≡◌, ◌+◌, ◌<◌, ℕ, List, IfErr, IfOk, IfSome, OnOk, None, drop, length, take};
+// A run of a board from a boundary, on terms.
+ghost use Rattle.std.specs.Prelude.{◌≡◌, ◌<◌, ℕ, List, IfOk, OnOk, None, drop, length, take};
 ghost use Rattle.mw_board.specs.Elements.{element_count};
-ghost use Rattle.mw_symboard.specs.Turns.{Asks};
 ghost use Rattle.mw_rel.specs.Views.{job_of};
-ghost use Rattle.mw_fork.specs.OnWay.{Cycles, CyclesStop, HavePaths, IsFirst, IsRunOf, Settles, SettlesNot};
-ghost use Rattle.mw_fork.specs.OnWay.{SettlesWithin};
-ghost use Rattle.mw_fork.specs.OnWay.{StaysWithin, Turns};
-ghost use Rattle.mw_fork.specs.Paths.{AreMade};
+ghost use Rattle.mw_fork.specs.OnWay.{HavePaths, IsFirst, IsRunOf, Turns};
 ghost use Rattle.mw_fork.specs.Runs.{IsIdle, IsTurned};
 
-use crate::decide::decide;
 use crate::elements::{Space, elements_at};
-use crate::fault::RunStop;
 use crate::paths::Paths;
-use crate::way::Way;
+use crate::registers::Registers;
 use mw_base::NoMemory;
 use mw_rel::Job;
 use mw_symboard::SymBoard;
 use mw_symmem::Turn;
-use mw_term::{DecidedKind, ShortcutBook, Term, stands_with_more};
+use mw_term::{Term, stands_with_more};
 use std::alloc::Global;
 
 /// A run from a boundary, on terms.
@@ -31,7 +25,7 @@ pub(crate) struct Run {
     /// The board.
     pub board: SymBoard,
     /// The terms of the machine's registers at the start.
-    pub registers: Vec<Term>,
+    pub registers: Registers,
 }
 
 /// The terms of the board's elements.
@@ -57,15 +51,9 @@ fn register_terms<'a>(job: &Job, terms: &'a [Term]) -> &'a [Term]
 }
 
 impl Run {
-    /// A run that stands at the boundary of this number, and has made no cycle. What another run made serves this one.
-    pub(crate) fn new(
-        alloc: Global,
-        job: &Job,
-        boundary: usize,
-        made: Option<Paths>,
-    ) -> Result<Run, NoMemory>
+    /// A run that stands at the boundary of this number, and has made no cycle.
+    pub(crate) fn new(alloc: Global, job: &Job, boundary: usize) -> Result<Run, NoMemory>
         requires boundary { boundary < length (job_of job.now).relation.boundaries }
-        requires made { IfSome made AreMade }
         ensures under { IfOk result (IsRunOf (job_of job.now)) }
         ensures idle { IfOk result (λ r. IsIdle r.board 0) }
         ensures first { IfOk result (λ r. (elements : List ℕ) × IsFirst (job_of job.now) boundary elements r) }
@@ -80,8 +68,8 @@ impl Run {
             at.sp,
             board_terms(job, &start.terms),
         )?;
-        let registers = Vec::from_slice(alloc, register_terms(job, &start.terms))?;
-        let paths = Paths::begun(alloc, job.board.parts().map_entries.as_slice(), made)?;
+        let registers = Registers::new(alloc, register_terms(job, &start.terms))?;
+        let paths = Paths::new(alloc, job.board.parts().map_entries.as_slice())?;
         Ok(Run {
             space: start.space,
             paths,
@@ -91,15 +79,16 @@ impl Run {
     }
 
     /// Goes on to the next bit of the cycle, or to its end.
-    fn turn(&mut self, alloc: Global, job: &Job) -> Result<Turn, NoMemory>
+    pub(crate) fn turn(&mut self, alloc: Global, job: &Job) -> Result<Turn, NoMemory>
         requires under { IsRunOf (job_of job.now) self.old }
         requires idle { self.old.board.asked ≡ None }
         requires few { self.old.board.place.cycle < 500 }
         requires paths { HavePaths self.old.space self.old.paths }
         ensures turned { IfOk result (IsTurned (job_of job.now) self.old.board.place
-            self.new.space.terms self.new.space.words self.new.space.memory self.new.board self.new.registers.items) }
+            self.new.space.terms self.new.space.words self.new.space.memory self.new.board self.new.registers) }
         ensures goes { IfOk result (Turns (job_of job.now) self.old self.new) }
         ensures paths { OnOk result (HavePaths self.new.space self.new.paths) }
+        ensures made { OnOk result (self.new.paths ≡ self.old.paths) }
     {
         // A law for the proof: what stands in a table goes on to stand there when more is written.
         stands_with_more();
@@ -114,74 +103,6 @@ impl Run {
         // A call for the proof: no two variables have one kind.
         let _ = self.space.words.count();
         Ok(turn)
-    }
-
-    /// Decides the bit that the cycle asks for.
-    fn decide_bit(
-        &mut self,
-        alloc: Global,
-        job: &Job,
-        kind: DecidedKind,
-        term: Term,
-        way: &mut Way,
-        nodes: u32,
-        book: &ShortcutBook,
-    ) -> Result<(), RunStop>
-        requires under { IsRunOf (job_of job.now) self.old }
-        requires asks { Asks (job_of job.now).board (job_of job.now).store
-            self.old.space.terms self.old.space.words self.old.space.memory self.old.board kind term }
-        requires paths { HavePaths self.old.space self.old.paths }
-        ensures under { OnOk result (IsRunOf (job_of job.now) self.new) }
-        ensures idle { OnOk result (IsIdle self.new.board self.old.board.place.cycle) }
-        ensures decided { OnOk result (length self.new.board.place.decided ≡ length self.old.board.place.decided + 1) }
-        ensures few { length self.old.board.place.decided < 14 }
-        ensures goes { OnOk result (Settles (job_of job.now) way.old way.new self.old self.new kind term) }
-        ensures nodes { OnOk result (SettlesWithin (job_of job.now) nodes way.old way.new self.old kind term) }
-        ensures over { IfErr result (SettlesNot (job_of job.now) nodes way.old way.new self.old kind term) }
-        ensures paths { OnOk result (HavePaths self.new.space self.new.paths) }
-    {
-        let value = decide(
-            alloc,
-            &self.space,
-            &mut self.paths,
-            kind,
-            term,
-            way,
-            nodes,
-            book,
-        )?;
-        self.board.decide(value);
-        Ok(())
-    }
-
-    /// Makes a cycle.
-    pub(crate) fn cycle(
-        &mut self,
-        alloc: Global,
-        job: &Job,
-        way: &mut Way,
-        nodes: u32,
-        book: &ShortcutBook,
-    ) -> Result<(), RunStop>
-        requires under { IsRunOf (job_of job.now) self.old }
-        requires idle { self.old.board.asked ≡ None }
-        requires few { self.old.board.place.cycle < 500 }
-        requires paths { HavePaths self.old.space self.old.paths }
-        ensures under { OnOk result (IsRunOf (job_of job.now) self.new) }
-        ensures idle { OnOk result (IsIdle self.new.board (self.old.board.place.cycle + 1)) }
-        ensures goes { OnOk result (Cycles (job_of job.now) way.old way.new self.old self.new) }
-        ensures nodes { OnOk result
-            (StaysWithin (job_of job.now) nodes way.old way.new self.old self.old.board.place.cycle) }
-        ensures over { IfErr result (CyclesStop (job_of job.now) nodes way.old way.new self.old) }
-        ensures paths { OnOk result (HavePaths self.new.space self.new.paths) }
-    {
-        loop {
-            let turn = self.turn(alloc, job)?;
-            let Turn::Ask { kind, term } = turn else {
-                return Ok(());
-            };
-            self.decide_bit(alloc, job, kind, term, way, nodes, book)?;
-        }
     }
 
     /// The control address.

@@ -1,52 +1,70 @@
 // The segment of a case.
-ghost use Rattle.std.specs.Prelude.{◌≡◌, ◌<◌, ◌≤◌, ℕ, List, None, IfErr, IfOk, IfSome, OnOk};
-ghost use Rattle.std.specs.Option.{is_none, unwrap_or};
-ghost use Rattle.mw_rel.specs.Views.{job_of};
+ghost use Rattle.std.specs.Prelude.{◌≡◌, ◌<◌, ℕ, List, None, IfOk, OnOk, length};
 ghost use Rattle.mw_rel.specs.Free.{numbered};
+ghost use Rattle.mw_rel.specs.Views.{job_of};
 ghost use Rattle.mw_fork.specs.declared.way.Kept.{Kept};
-ghost use Rattle.mw_fork.specs.OnWay.{HasMetSegment, HavePaths, IsOnRun, IsRunOf, MadeWithin, SegmentStops};
-ghost use Rattle.mw_fork.specs.Runs.{IsIdle};
-ghost use Rattle.mw_fork.specs.Segments.{HasReached, IsLate};
+ghost use Rattle.mw_fork.specs.Courses.{Comes, IsComeTo};
+ghost use Rattle.mw_fork.specs.OnWay.{HavePaths, IsOnRun, IsRunOf};
+ghost use Rattle.mw_fork.specs.Ways.{Way};
 
-use crate::fault::RunStop;
 use crate::reached::is_boundary;
 use crate::run::Run;
-use crate::way::Way;
+use mw_base::NoMemory;
 use mw_rel::Job;
-use mw_term::ShortcutBook;
+use mw_symmem::Turn;
+use mw_term::{DecidedKind, Term};
 use std::alloc::Global;
 
-/// Makes cycles up to a boundary: how many, or nothing where the bound's number of cycles passes without one.
+/// Where a run comes to in its segment.
+#[derive(Clone, Copy)]
+pub(crate) enum Came {
+    /// It waits for the next bit.
+    Asks {
+        /// What the bit says.
+        kind: DecidedKind,
+        /// A term of one bit, which has the bit's value.
+        term: Term,
+    },
+    /// It is at a boundary.
+    Reached,
+    /// The bound's number of cycles has passed without one.
+    Late,
+}
+
+/// Goes on through the cycles of the segment that began at the boundary of this number: to the next bit, or to the end.
+/// So many cycles are finished.
 pub(crate) fn segment(
     alloc: Global,
     job: &Job,
-    bound: u32,
+    boundary: usize,
     run: &mut Run,
-    way: &mut Way,
-    nodes: u32,
-    book: &ShortcutBook,
-) -> Result<Option<u32>, RunStop>
-    requires some { 1 ≤ bound }
-    requires most { bound ≤ 500 }
+    cycles: &mut u32,
+) -> Result<Came, NoMemory>
+    requires boundary { boundary < length (job_of job.now).relation.boundaries }
     requires under { IsRunOf (job_of job.now) run.old }
-    requires idle { IsIdle run.old.board 0 }
+    requires idle { run.old.board.asked ≡ None }
+    requires cycles { cycles.old ≡ run.old.board.place.cycle }
+    requires below { cycles.old < (numbered (job_of job.now) boundary).bound }
     requires paths { HavePaths run.old.space run.old.paths }
-    ensures under { OnOk result (IsRunOf (job_of job.now) run.new) }
+    ensures cycles { OnOk result (cycles.new ≡ run.new.board.place.cycle) }
     ensures paths { OnOk result (HavePaths run.new.space run.new.paths) }
-    ensures reached { IfOk result (λ o. IfSome o (HasReached (job_of job.now) bound run.new.board)) }
-    ensures late { IfOk result (λ o. o ≡ None → IsLate (job_of job.now) bound run.new.board) }
-    ensures goes { IfOk result (λ o. (number : ℕ) (elements : List ℕ) (from : List Kept)
-        → IsOnRun (job_of job.now) number elements from way.old run.old 0
-        → bound ≡ (numbered (job_of job.now) number).bound
-        → HasMetSegment (job_of job.now) number elements from (unwrap_or o bound) (is_none o) way.new run.new) }
-    ensures nodes { OnOk result (MadeWithin (job_of job.now) nodes way.old way.new run.old bound) }
-    ensures over { IfErr result (SegmentStops (job_of job.now) nodes way.old way.new run.old bound) }
+    ensures made { OnOk result (run.new.paths ≡ run.old.paths) }
+    ensures comes { IfOk result (Comes (job_of job.now) boundary run.new) }
+    ensures goes { IfOk result (λ came. (elements : List ℕ) (from : List Kept) (way : Way)
+        → IsOnRun (job_of job.now) boundary elements from way run.old run.old.board.place.cycle
+        → IsComeTo (job_of job.now) boundary elements from way run.new came) }
 {
-    for number in 0..bound {
-        run.cycle(alloc, job, way, nodes, book)?;
+    let bound = job.boundary(boundary).bound;
+    loop {
+        if let Turn::Ask { kind, term } = run.turn(alloc, job)? {
+            return Ok(Came::Asks { kind, term });
+        }
+        *cycles += 1;
         if is_boundary(job, run.at()) {
-            return Ok(Some(number + 1));
+            return Ok(Came::Reached);
+        }
+        if *cycles == bound {
+            return Ok(Came::Late);
         }
     }
-    Ok(None)
 }

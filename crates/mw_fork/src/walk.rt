@@ -41,7 +41,7 @@ pub trait Visitor {
         &mut self,
         alloc: Global,
         job: &Job,
-        fork: &mut Fork,
+        fork: &mut Fork<'_>,
         case: &Case,
         book: &ShortcutBook,
     ) -> Result<ControlFlow<Self::Stop>, ForkFault>
@@ -64,7 +64,7 @@ pub trait Visitor {
 fn walk_on<V: Visitor>(
     alloc: Global,
     job: &Job,
-    fork: &mut Fork,
+    fork: &mut Fork<'_>,
     visitor: &mut V,
     book: &ShortcutBook,
 ) -> Result<ControlFlow<V::Stop>, ForkFault>
@@ -90,7 +90,7 @@ fn walk_on<V: Visitor>(
     Ok(ControlFlow::Continue(()))
 }
 
-impl Fork {
+impl Fork<'_> {
     /// Goes through the cases of the boundary of this number, from 0, within a budget: each is handed to the visitor
     /// once, in the order of their bits, with the fork that stands at it.
     ///

@@ -1,8 +1,7 @@
-// The decided bits of a case, which are kept for the next one.
-ghost use Rattle.std.specs.Prelude.{◌≡◌, ◌+◌, ◌-◌, ◌<◌, ◌≤◌, [], true, false, length, take, slice_get, slice_set, Some};
-ghost use Rattle.std.specs.Prelude.{None, IfOk, OnOk, OnErr, IfSome};
-ghost use Rattle.mw_fork.specs.declared.way.Kept as keeps;
-ghost use Rattle.mw_fork.specs.Ways.{bits_of, first_of, kept_with, met_of, turned, turned_last, way_of};
+// The decided bits of the case at hand, by which the next one is found.
+ghost use Rattle.std.specs.Prelude.{◌≡◌, ◌-◌, ◌<◌, ◌++◌, ◌∷◌, ◌^◌, [], true, false, length, take, slice_get, slice_set};
+ghost use Rattle.std.specs.Prelude.{Some, None, IfOk, OnOk, OnErr, IfSome};
+ghost use Rattle.mw_fork.specs.Ways.{bits_of, first_of, met_of, turned, turned_last, way_of};
 
 use mw_base::NoMemory;
 use mw_term::{Decided, DecidedKind, Prefix};
@@ -27,23 +26,21 @@ pub(crate) struct Kept {
     pub other: bool,
 }
 
-/// The decided bits of the case given last, up to the one that was turned, and behind them those of the run at hand.
+/// How many bits there can be.
+const MOST: usize = 0xffff_ffff;
+
+/// The bits that the run at hand has met.
 #[derive(Drop)]
 pub(crate) struct Way {
     kept: Vec<Kept>,
-    /// How many of them the run at hand has met.
-    met: usize,
 }
 
 impl Model for Way {
-    ghost use Rattle.std.specs.Prelude.{◌≤◌, length};
     ghost use Rattle.mw_fork.specs.Ways as ways;
 
     ghost Value = { ways.Way };
 
-    ghost view = { λ w. ways.way_of w.kept.items w.met };
-
-    ghost invariant = { λ w. w.met ≤ length w.kept.items };
+    ghost view = { λ w. ways.way_of w.kept.items };
 }
 
 /// A bit as 0 where that is feasible, and else as 1.
@@ -86,46 +83,30 @@ fn bits_of(alloc: Global, kept: &[Kept]) -> Result<Prefix, NoMemory>
 impl Way {
     /// No bit.
     pub(crate) fn new(alloc: Global) -> Way
-        ensures { result ≡ way_of [] 0 }
+        ensures { result ≡ way_of [] }
     {
         Way {
             kept: Vec::new(alloc),
-            met: 0,
         }
     }
 
-    /// Keeps one more bit, where the run at hand has met all that are kept: the first that is feasible.
-    fn extend(&mut self, kind: DecidedKind, feasible: Feasible) -> Result<(), NoMemory>
-        ensures new { OnOk result (self.new ≡ way_of (kept_with self.old kind feasible) self.old.met) }
-        ensures there { OnOk result (self.new.met < length self.new.kept) }
+    /// Keeps one more bit, the first that is feasible.
+    ///
+    /// # Errors
+    ///
+    /// Memory ran out, or there are as many bits as there can be (2^32 - 1).
+    pub(crate) fn take(&mut self, kind: DecidedKind, feasible: Feasible) -> Result<Kept, NoMemory>
+        ensures new { IfOk result (λ kept. self.new ≡ way_of (self.old.kept ++ kept ∷ [])) }
+        ensures first { IfOk result (λ kept. kept ≡ first_of kind feasible) }
+        ensures few { OnOk result (length self.old.kept < 2 ^ 32 - 1) }
         ensures err { OnErr result (self.new ≡ self.old) }
     {
-        if self.met == self.kept.len() {
-            self.kept.push(first_of(kind, feasible))?;
+        if self.kept.len() >= MOST {
+            return Err(NoMemory);
         }
-        Ok(())
-    }
-
-    /// The next bit that the run at hand meets.
-    fn next(&self) -> Kept
-        requires { self.now.met < length self.now.kept }
-        ensures { slice_get self.now.kept self.now.met ≡ Some result }
-    {
-        self.kept[self.met]
-    }
-
-    /// The value of the next bit of the run at hand: the one that is kept, or else the first that is feasible.
-    pub(crate) fn take(&mut self, kind: DecidedKind, feasible: Feasible) -> Result<bool, NoMemory>
-        ensures new { OnOk result (self.new ≡ way_of (kept_with self.old kind feasible) (self.old.met + 1)) }
-        ensures value { IfOk result (λ value. (kept : keeps.Kept)
-            × (slice_get (kept_with self.old kind feasible) self.old.met ≡ Some kept) × (value ≡ kept.bit.value)) }
-        ensures within { OnOk result (self.old.met ≤ length self.old.kept) }
-        ensures err { OnErr result (self.new ≡ self.old) }
-    {
-        self.extend(kind, feasible)?;
-        let next = self.next();
-        self.met += 1;
-        Ok(next.bit.value)
+        let kept = first_of(kind, feasible);
+        self.kept.push(kept)?;
+        Ok(kept)
     }
 
     /// The last bit that is kept.
@@ -138,9 +119,8 @@ impl Way {
 
     /// Drops the last bit.
     fn drop_last(&mut self)
-        requires some { 0 < length self.old.kept }
-        requires none { self.old.met ≡ 0 }
-        ensures { self.new ≡ way_of (take (length self.old.kept - 1) self.old.kept) 0 }
+        requires { 0 < length self.old.kept }
+        ensures { self.new ≡ way_of (take (length self.old.kept - 1) self.old.kept) }
     {
         let count = self.kept.len() - 1;
         self.kept.truncate(count);
@@ -149,20 +129,18 @@ impl Way {
     /// Turns the last bit.
     fn turn_bit(&mut self, last: Kept)
         requires { 0 < length self.old.kept }
-        ensures { self.new ≡ way_of (slice_set self.old.kept (length self.old.kept - 1) (turned last)) self.old.met }
+        ensures { self.new ≡ way_of (slice_set self.old.kept (length self.old.kept - 1) (turned last)) }
     {
         let place = self.kept.len() - 1;
         self.kept[place] = turned(last);
     }
 
     /// Turns the last bit of which another value is feasible, and drops those behind it, where there is one, and says
-    /// whether there is one. The next run meets the bits anew.
+    /// whether there is one.
     pub(crate) fn turn(&mut self) -> bool
         ensures yes { result ≡ true → (turned_last self.old.kept ≡ Some self.new.kept) }
         ensures no { result ≡ false → (turned_last self.old.kept ≡ None) × (self.new.kept ≡ []) }
-        ensures anew { self.new.met ≡ 0 }
     {
-        self.met = 0;
         while let Some(last) = self.last() {
             if last.other {
                 self.turn_bit(last);
@@ -173,17 +151,10 @@ impl Way {
         false
     }
 
-    /// The next run meets the bits anew.
-    pub(crate) fn begin_anew(&mut self)
-        ensures { self.new ≡ way_of self.old.kept 0 }
-    {
-        self.met = 0;
-    }
-
-    /// The bits that the run at hand has met.
+    /// The bits.
     pub(crate) fn prefix(&self, alloc: Global) -> Result<Prefix, NoMemory>
         ensures { IfOk result (λ p. p ≡ met_of self.now) }
     {
-        bits_of(alloc, &self.kept[..self.met])
+        bits_of(alloc, &self.kept)
     }
 }

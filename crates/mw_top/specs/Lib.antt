@@ -2,7 +2,6 @@ pub mod Answer
 pub mod Asked
 pub mod Bounded
 pub mod Call
-pub mod Codes
 pub mod Commands
 pub mod Differences
 pub mod Headline

@@ -194,7 +194,7 @@ impl Cases {
     }
 
     /// Takes the next case of a fork, and answers whether there was one.
-    fn take_next(&mut self, alloc: Global, job: &Job, fork: &mut Fork) -> Result<bool, Fault>
+    fn take_next(&mut self, alloc: Global, job: &Job, fork: &mut Fork<'_>) -> Result<bool, Fault>
         requires { IsForkOf (job_of job.now) fork.old }
         ensures { IfOk result (λ more. more ≡ true → IsForkOf (job_of job.now) fork.new) }
     {
@@ -214,7 +214,7 @@ impl Cases {
 }
 
 /// The cases of a fork.
-fn cases_of(alloc: Global, job: &Job, fork: &mut Fork) -> Result<Cases, Fault>
+fn cases_of(alloc: Global, job: &Job, fork: &mut Fork<'_>) -> Result<Cases, Fault>
     requires { IsForkOf (job_of job.now) fork.old }
 {
     let mut cases = Cases::new(alloc);

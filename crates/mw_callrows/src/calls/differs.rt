@@ -152,7 +152,7 @@ fn push_differing(
     report: &mut Vec<u8>,
     job: &Job,
     boundary: usize,
-    fork: &mut Fork,
+    fork: &mut Fork<'_>,
 ) -> Result<bool, Fault>
     requires of { IsForkOf (job_of job.now) fork.old }
     requires there { boundary < length (job_of job.now).relation.boundaries }
@@ -182,7 +182,7 @@ fn push_next(
     report: &mut Vec<u8>,
     job: &Job,
     boundary: usize,
-    fork: &mut Fork,
+    fork: &mut Fork<'_>,
 ) -> Result<bool, Fault>
     requires of { IsForkOf (job_of job.now) fork.old }
     requires there { boundary < length (job_of job.now).relation.boundaries }
@@ -206,7 +206,7 @@ fn push_cases(
     report: &mut Vec<u8>,
     job: &Job,
     boundary: usize,
-    fork: &mut Fork,
+    fork: &mut Fork<'_>,
 ) -> Result<(), Fault>
     requires of { IsForkOf (job_of job.now) fork.old }
     requires there { boundary < length (job_of job.now).relation.boundaries }

@@ -32,7 +32,7 @@ pub(crate) struct Comparison {
 impl Model for Comparison {
     ghost use Rattle.mw_rel.specs.Views.{job_of};
     ghost use Rattle.mw_replay.specs.Counter.{IsCounter};
-    ghost use Rattle.mw_top.specs.Codes.{coded_acts, coded_tree};
+    ghost use Rattle.mw_fork.specs.Codes.{coded_acts, coded_tree};
     ghost use Rattle.mw_top.specs.Work.{Comparison as ComparisonOf};
     ghost use Rattle.std.specs.Coded.{codes};
 

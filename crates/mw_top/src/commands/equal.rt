@@ -32,7 +32,7 @@ pub(crate) struct Asked {
 
 impl Model for Asked {
     ghost use Rattle.mw_check.specs.Question.{asked_of, Asked as AskedOf, IsQuestion};
-    ghost use Rattle.mw_top.specs.Codes.{coded_tree};
+    ghost use Rattle.mw_fork.specs.Codes.{coded_tree};
     ghost use Rattle.std.specs.Coded.{codes};
 
     ghost Value = { AskedOf };

@@ -37,7 +37,7 @@ struct Described {
 impl Model for Described {
     ghost use Rattle.mw_macro.specs.Described.{description_of};
     ghost use Rattle.mw_macro.specs.Machine.{Description};
-    ghost use Rattle.mw_top.specs.Codes.{coded_acts};
+    ghost use Rattle.mw_fork.specs.Codes.{coded_acts};
     ghost use Rattle.std.specs.Coded.{codes};
 
     ghost Value = { Description };
@@ -56,7 +56,7 @@ struct Related {
 impl Model for Related {
     ghost use Rattle.mw_rel.specs.Relation.{Relation};
     ghost use Rattle.mw_rel.specs.Views.{relation_of};
-    ghost use Rattle.mw_top.specs.Codes.{coded_tree};
+    ghost use Rattle.mw_fork.specs.Codes.{coded_tree};
     ghost use Rattle.std.specs.Coded.{codes};
 
     ghost Value = { Relation };
@@ -76,7 +76,7 @@ pub(crate) struct FileJob {
 impl Model for FileJob {
     ghost use Rattle.mw_rel.specs.Job.{Job as JobOf};
     ghost use Rattle.mw_rel.specs.Views.{job_of};
-    ghost use Rattle.mw_top.specs.Codes.{coded_acts, coded_tree};
+    ghost use Rattle.mw_fork.specs.Codes.{coded_acts, coded_tree};
     ghost use Rattle.std.specs.Coded.{codes};
 
     ghost Value = { JobOf };

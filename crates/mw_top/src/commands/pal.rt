@@ -44,7 +44,7 @@ impl Model for Console {
     ghost use Rattle.mw_pal.specs.Fits.{FitsPal};
     ghost use Rattle.mw_pal.specs.Source.{IsMemory};
     ghost use Rattle.mw_rel.specs.Views.{job_of};
-    ghost use Rattle.mw_top.specs.Codes.{coded_acts, coded_tree};
+    ghost use Rattle.mw_fork.specs.Codes.{coded_acts, coded_tree};
     ghost use Rattle.mw_top.specs.Work.{Console as ConsoleOf};
     ghost use Rattle.std.specs.Coded.{codes};
 

@@ -10,6 +10,7 @@ use Rattle.mw_fork.specs.Comparing.{AreApart, Compares}
 use Rattle.mw_fork.specs.OnWay.{path_in}
 use Rattle.mw_fork.proofs.ComparedAll.{events_shown, events_then, lines_shown, one_all}
 use Rattle.mw_fork.proofs.ComparingOn.{compares_then, comparing_then, sides_compared}
+use Rattle.mw_fork.proofs.Grown.{stays_then}
 use Rattle.mw_fork.proofs.LinesCompared.{some_at}
 use Rattle.mw_fork.proofs.comparing.compare_all.Goals as goal
 
@@ -69,6 +70,11 @@ returns-in-Some-2-clause-goes g c =
     comparing_then c.args.space.now c.compare_events.new.space c.compare_lines.new.space c.in_ok-found.ensures.goes
     c.in_ok-found-2.ensures.goes
 
+pub returns-in-Some-2-clause-stays : goal.returns-in-Some-2-clause-stays
+returns-in-Some-2-clause-stays g c =
+    stays_then c.args.paths.now c.compare_events.new.paths c.compare_lines.new.paths c.in_ok-found.ensures.stays
+    c.in_ok-found-2.ensures.stays
+
 pub returns-in-Some-2-clause-compared : goal.returns-in-Some-2-clause-compared
 returns-in-Some-2-clause-compared g c = λ sides on.
     let s = (job_of c.args.job.now).relation.shape in
@@ -108,6 +114,16 @@ returns-clause-goes g c =
     (comparing_then old second c.compare_memory-compared.new.space
     (comparing_then old first second c.in_ok-found.ensures.goes c.in_ok-found-2.ensures.goes))
     c.compare_memory-compared.ensures.goes
+
+pub returns-clause-stays : goal.returns-clause-stays
+returns-clause-stays g c =
+    let old = c.args.paths.now in
+    let first = c.compare_events.new.paths in
+    let second = c.compare_lines.new.paths in
+    on_ok_weaker c.compare_memory-compared.result
+    (stays_then old second c.compare_memory-compared.new.paths
+    (stays_then old first second c.in_ok-found.ensures.stays c.in_ok-found-2.ensures.stays))
+    c.compare_memory-compared.ensures.stays
 
 pub returns-clause-own : goal.returns-clause-own
 returns-clause-own g c =

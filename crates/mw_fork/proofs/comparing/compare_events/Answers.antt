@@ -7,6 +7,7 @@ use Rattle.mw_fork.specs.OnWay.{path_in}
 use Rattle.mw_fork.proofs.ComparingOn.{compares_as, compares_shown, compares_then, comparing_then}
 use Rattle.mw_fork.proofs.EventsCompared.{AreAt, alike_count, alike_rest, comparing_itself, events_behind, events_done}
 use Rattle.mw_fork.proofs.EventsCompared.{events_next, events_wide, one_more, out_here, out_inside, put_out}
+use Rattle.mw_fork.proofs.Grown.{stays_itself, stays_then}
 use Rattle.mw_fork.proofs.LinesCompared.{some_at}
 use Rattle.mw_fork.proofs.comparing.compare_events.Goals as goal
 
@@ -17,6 +18,7 @@ loop-number-init g c = record {
   workspace = c.requires.workspace;
   paths = c.requires.paths;
   path = λ given. refl;
+  stays = stays_itself c.args.paths.now;
   goes = comparing_itself c.args.space.now c.requires.workspace;
   memory = refl;
   probe = refl;
@@ -57,6 +59,10 @@ returns-in-Some-clause-goes g c =
 
 pub returns-in-Some-clause-memory : goal.returns-in-Some-clause-memory
 returns-in-Some-clause-memory g c = c.in_ok-found.ensures.memory ∙ c.loop-number.invariant.memory
+
+pub returns-in-Some-clause-stays : goal.returns-in-Some-clause-stays
+returns-in-Some-clause-stays g c =
+    stays_then c.args.paths.now c.loop-number.paths c.compare_pair.new.paths c.loop-number.invariant.stays c.in_ok-found.ensures.stays
 
 pub returns-in-Some-clause-probe : goal.returns-in-Some-clause-probe
 returns-in-Some-clause-probe g c = c.in_ok-found.ensures.probe ∙ c.loop-number.invariant.probe
@@ -117,6 +123,7 @@ loop-number-preserved g c =
       workspace = e.goes.goes.workspace;
       paths = e.paths;
       path = λ given. e.path given ∙ inv.path given;
+      stays = stays_then c.args.paths.now c.loop-number.paths c.compare_pair.new.paths inv.stays e.stays;
       goes = comparing_then c.args.space.now now new inv.goes e.goes;
       memory = e.memory ∙ inv.memory;
       probe = e.probe ∙ inv.probe;

@@ -6,6 +6,7 @@ use Rattle.mw_term.specs.Cofactors.{Agree}
 use Rattle.mw_term.specs.WordList.{term_of}
 use Rattle.mw_fork.specs.Comparing.{AreOneOn, ArePutOut, GoesComparing}
 use Rattle.mw_fork.specs.OnWay.{HavePaths, path_in}
+use Rattle.mw_fork.specs.Paths.{StayOnPath}
 use Rattle.mw_fork.proofs.CameTo.{CameTo}
 use Rattle.mw_fork.proofs.comparing.compare_events.Given as goal
 
@@ -16,6 +17,7 @@ invariant-loop-number g l = record {
   workspace : IsWorkspace l.space.terms l.space.words l.space.memory;
   paths : HavePaths l.space l.paths;
   path : Agree (path_in l.paths) (path_in l.fn.paths);
+  stays : StayOnPath l.fn.paths l.paths;
   goes : GoesComparing l.fn.space l.space;
   memory : l.space.memory ≡ l.fn.space.memory;
   probe : term_of l.space.words Probe ≡ term_of l.fn.space.words Probe;

@@ -13,6 +13,7 @@ use Rattle.mw_fork.proofs.Boundaries.{space_later}
 use Rattle.mw_fork.proofs.ComparingOn.{compares_as, compares_shown, compares_then, comparing_then, sides_compared}
 use Rattle.mw_fork.proofs.ComparingOn.{wide_compared}
 use Rattle.mw_fork.proofs.EventsCompared.{comparing_itself}
+use Rattle.mw_fork.proofs.Grown.{stays_itself, stays_then}
 use Rattle.mw_fork.proofs.LinesCompared.{hold_more, inside_kept, lines_behind, lines_done, lines_next, some_at}
 use Rattle.mw_fork.proofs.Related.{reads_rest, seen_line}
 use Rattle.mw_fork.proofs.comparing.compare_lines.Goals as goal
@@ -23,6 +24,7 @@ loop-line-init g c = record {
   wide = c.requires.wide;
   paths = c.requires.paths;
   path = λ given. refl;
+  stays = stays_itself c.args.paths.now;
   total = refl;
   goes = comparing_itself c.args.space.now c.requires.space.workspace;
   probe = refl;
@@ -56,6 +58,10 @@ pub returns-in-Some-clause-goes : goal.returns-in-Some-clause-goes
 returns-in-Some-clause-goes g c =
     comparing_then c.args.space.now c.loop-line.space c.compare_line.new.space c.loop-line.invariant.goes
     c.in_ok-found.ensures.goes
+
+pub returns-in-Some-clause-stays : goal.returns-in-Some-clause-stays
+returns-in-Some-clause-stays g c =
+    stays_then c.args.paths.now c.loop-line.paths c.compare_line.new.paths c.loop-line.invariant.stays c.in_ok-found.ensures.stays
 
 pub returns-in-Some-clause-probe : goal.returns-in-Some-clause-probe
 returns-in-Some-clause-probe g c = c.in_ok-found.ensures.probe ∙ c.loop-line.invariant.probe
@@ -105,6 +111,7 @@ loop-line-preserved g c =
       wide = wide_compared s.widths c.args.elements.now now new e.goes inv.wide;
       paths = e.paths;
       path = λ given. e.path given ∙ inv.path given;
+      stays = stays_then c.args.paths.now c.loop-line.paths c.compare_line.new.paths inv.stays e.stays;
       total = omega (arith, e.more, reads_rest c.args.lines.now k line c.loop-line-test.true c.line-item.is, inv.total);
       goes = comparing_then c.args.space.now now new inv.goes e.goes;
       probe = e.probe ∙ inv.probe;

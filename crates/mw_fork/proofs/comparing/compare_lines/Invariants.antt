@@ -11,6 +11,7 @@ use Rattle.mw_term.specs.WordList.{term_of}
 use Rattle.mw_fork.specs.Boundaries.{AreWide, IsSpace}
 use Rattle.mw_fork.specs.Comparing.{AreSidesOn, GoesComparing, HoldsAt}
 use Rattle.mw_fork.specs.OnWay.{HavePaths, path_in}
+use Rattle.mw_fork.specs.Paths.{StayOnPath}
 use Rattle.mw_fork.proofs.CameTo.{CameTo}
 use Rattle.mw_fork.proofs.comparing.compare_lines.Given as goal
 
@@ -20,6 +21,7 @@ invariant-loop-line g l = record {
   wide : AreWide l.space.terms (job_of l.job).relation.shape.widths l.elements;
   paths : HavePaths l.space l.paths;
   path : Agree (path_in l.paths) (path_in l.fn.paths);
+  stays : StayOnPath l.fn.paths l.paths;
   total : length l.space.memory.reads + reads_of (lines_of (drop l.line-index l.lines))
       ≡ length l.fn.space.memory.reads + reads_of (lines_of l.lines);
   goes : GoesComparing l.fn.space l.space;

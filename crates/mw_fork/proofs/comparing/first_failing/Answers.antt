@@ -1,3 +1,4 @@
+use Rattle.std.specs.Option.{is_none}
 use Rattle.std.proofs.lemmas.Option.{IfSome_then}
 use Rattle.mw_rel.specs.Views.{job_of}
 use Rattle.mw_fork.specs.Failing.{ComparisonStops, ComparisonsAreWithin, IsFound, NoneDiffersOf}
@@ -6,48 +7,43 @@ use Rattle.mw_fork.proofs.LateCompared.{found_so, late_found, late_none, none_so
 use Rattle.mw_fork.proofs.comparing.first_failing.Goals as goal
 
 pub returns-in_ok-first_assignment-in-None-clause-none : goal.returns-in_ok-first_assignment-in-None-clause-none
-returns-in_ok-first_assignment-in-None-clause-none g c = λ none number elements from way met.
-    let traced = c.args.traced.now in
-    late_none (job_of c.args.job.now) number elements from traced.cycles traced.late way traced.run traced.step
-    c.args.job.now.is_job met (c.in_ok-first_assignment-in-None.ensures.none none)
+returns-in_ok-first_assignment-in-None-clause-none g c = λ none from way gone.
+    let course = c.args.course.now in
+    late_none (job_of c.args.job.now) c.args.boundary gone.elements from course.cycles (is_none course.step) way
+    course.run course.step c.args.job.now.is_job gone.met (c.in_ok-first_assignment-in-None.ensures.none none)
 
 pub returns-in_ok-first_assignment-in-None-clause-found : goal.returns-in_ok-first_assignment-in-None-clause-found
 returns-in_ok-first_assignment-in-None-clause-found g c =
-    let traced = c.args.traced.now in
+    let course = c.args.course.now in
     IfSome_then c.in_ok-first_assignment-in-None.field-0 c.in_ok-first_assignment-in-None.ensures.first
-    (λ numbers first number elements from way met.
-    late_found (job_of c.args.job.now) number elements from traced.cycles traced.late way traced.run traced.step numbers
-    c.args.job.now.is_job c.in-None.is met first)
+    (λ numbers first from way gone.
+    late_found (job_of c.args.job.now) c.args.boundary gone.elements from course.cycles (is_none course.step) way
+    course.run course.step numbers c.args.job.now.is_job c.in-None.is gone.met first)
 
 pub returns-in-Some-clause-none : goal.returns-in-Some-clause-none
 returns-in-Some-clause-none g c =
-    let traced = c.args.traced.now in
     let job = job_of c.args.job.now in
-    none_so job traced.cycles traced.late traced.run traced.step c.in-Some.step
+    none_so job c.args.boundary c.args.course.now c.in-Some.step
     (λ number elements way. NoneDiffersOf job number (met_of way)) c.compare_sides.result c.in-Some.is
     c.compare_sides.ensures.none
 
 pub returns-in-Some-clause-within : goal.returns-in-Some-clause-within
 returns-in-Some-clause-within g c =
-    let traced = c.args.traced.now in
     let job = job_of c.args.job.now in
-    none_so job traced.cycles traced.late traced.run traced.step c.in-Some.step
-    (λ number elements way. ComparisonsAreWithin job number c.args.nodes (met_of way))
-    c.compare_sides.result c.in-Some.is
-    c.compare_sides.ensures.within
+    none_so job c.args.boundary c.args.course.now c.in-Some.step
+    (λ number elements way. ComparisonsAreWithin job number c.args.nodes (met_of way)) c.compare_sides.result
+    c.in-Some.is c.compare_sides.ensures.within
 
 pub returns-in-Some-clause-found : goal.returns-in-Some-clause-found
 returns-in-Some-clause-found g c =
-    let traced = c.args.traced.now in
     let job = job_of c.args.job.now in
-    found_so job traced.cycles traced.late traced.run traced.step c.in-Some.step
+    found_so job c.args.boundary c.args.course.now c.in-Some.step
     (λ numbers number elements way. IsFound job number elements (met_of way) c.compare_sides.new.run.space numbers)
     c.compare_sides.result c.in-Some.is c.compare_sides.ensures.found
 
 pub returns-in-Some-clause-over : goal.returns-in-Some-clause-over
 returns-in-Some-clause-over g c =
-    let traced = c.args.traced.now in
     let job = job_of c.args.job.now in
-    stops_so job traced.cycles traced.late traced.run traced.step c.in-Some.step
+    stops_so job c.args.boundary c.args.course.now c.in-Some.step
     (λ stop number elements way. ComparisonStops job number c.args.nodes (met_of way) stop) c.compare_sides.result
     c.in-Some.is c.compare_sides.ensures.over

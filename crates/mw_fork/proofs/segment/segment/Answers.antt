@@ -1,65 +1,65 @@
-use Rattle.std.proofs.Common.{ℕ, ap, arith, sym, ◌+◌, ◌∙◌}
-use Rattle.std.proofs.lemmas.Result.{err_from_is_err_and}
+use Rattle.std.proofs.Common.{ap, arith, refl, sym, ◌∙◌}
 use Rattle.mw_cycle.specs.Boundary.{is_named}
+use Rattle.mw_rel.specs.Relation.{Boundary}
 use Rattle.mw_rel.specs.Start.{addresses_of}
 use Rattle.mw_rel.specs.Views.{job_of}
-use Rattle.mw_fork.proofs.Budgets.{within_made}
-use Rattle.mw_fork.proofs.MetSegment.{ends_late, has_made_more, has_reached, stops_made}
+use Rattle.mw_fork.proofs.Segments.{asks, at_bound, at_boundary, finished, finishes, stays_next}
+use Rattle.mw_fork.proofs.Tracing.{bound_within}
 use Rattle.mw_fork.proofs.segment.segment.Goals as goal
 
+pub turn-requires-clause-few : goal.turn-requires-clause-few
+turn-requires-clause-few c =
+    let within = bound_within (job_of c.args.job.now) c.args.boundary _ c.args.job.now.is_job c.requires.boundary refl in
+    let inv = c.loop-kind.invariant in
+    omega (arith, within.1, inv.below, inv.cycles)
+
+pub returns-in-Ask-clause-goes : goal.returns-in-Ask-clause-goes
+returns-in-Ask-clause-goes c =
+    let e = c.in_ok-kind.ensures in
+    asks (job_of c.args.job.now) c.args.boundary c.args.run.now c.loop-kind.run c.turn.new.self c.in_ok-kind.field-0
+    c.in-Ask.kind c.in-Ask.term c.in-Ask.is e.turned c.loop-kind.invariant.stays e.goes
+
 pub returns-then-is_boundary-clause-goes : goal.returns-then-is_boundary-clause-goes
-returns-then-is_boundary-clause-goes g c =
+returns-then-is_boundary-clause-goes c =
     let job = job_of c.args.job.now in
-    let inv = c.loop-number.invariant in
-    let e = c.in_ok-cycle.ensures in
-    let named =
-    ap (is_named (addresses_of job)) (sym c.at.ensures) ∙ sym c.is_boundary.ensures ∙ c.if-is_boundary.true in
-    has_reached job c.args.way.now c.loop-number.way c.cycle.new.way c.args.run.now c.loop-number.run c.cycle.new.self
-    c.args.bound c.loop-number.number inv.goes inv.idle.cycles c.loop-number-test.true inv.passed e.goes e.under
-    (e.idle.cycles ∙ ap (λ (n : ℕ). n + 1) inv.idle.cycles) named
+    let inv = c.loop-kind.invariant in
+    let after = finished job c.loop-kind.run c.turn.new.self c.in_ok-kind.field-0 c.in_default.is
+    c.in_ok-kind.ensures.turned in
+    at_boundary job c.args.boundary c.loop-kind.run.board.place.cycle c.args.run.now c.turn.new.self after.0
+    after.1.cycles
+    (ap (is_named (addresses_of job)) (sym c.at.ensures) ∙ sym c.is_boundary.ensures ∙ c.if-is_boundary.true)
+    (omega (arith, inv.below, inv.cycles)) (finishes job c.args.boundary c.args.run.now c.loop-kind.run
+    c.turn.new.self c.in_ok-kind.field-0 c.in_default.is inv.stays c.in_ok-kind.ensures.goes)
 
-pub returns-clause-goes : goal.returns-clause-goes
-returns-clause-goes g c =
+pub returns-then-cycles-bound-clause-goes : goal.returns-then-cycles-bound-clause-goes
+returns-then-cycles-bound-clause-goes c =
     let job = job_of c.args.job.now in
-    let inv = c.loop-number.invariant in
-    ends_late job c.args.way.now c.loop-number.way c.args.run.now c.loop-number.run c.args.bound c.loop-number.number
-    inv.goes inv.under inv.idle.cycles (omega (arith, c.loop-number-test.false, c.loop-number.auto.number-end))
-    (omega (arith, c.requires.some)) inv.passed
+    let inv = c.loop-kind.invariant in
+    let after = finished job c.loop-kind.run c.turn.new.self c.in_ok-kind.field-0 c.in_default.is
+    c.in_ok-kind.ensures.turned in
+    let bound = ap (λ (b : Boundary). b.bound) c.boundary.ensures in
+    at_bound job c.args.boundary c.loop-kind.run.board.place.cycle c.args.run.now c.turn.new.self after.0 after.1.cycles
+    (ap (is_named (addresses_of job)) (sym c.at.ensures) ∙ sym c.is_boundary.ensures ∙ c.if-is_boundary.false)
+    (omega (arith, inv.cycles, c.if-cycles-bound.true, bound)) (finishes job c.args.boundary c.args.run.now c.loop-kind.run
+    c.turn.new.self c.in_ok-kind.field-0 c.in_default.is inv.stays c.in_ok-kind.ensures.goes)
 
-pub loop-number-preserved : goal.loop-number-preserved
-loop-number-preserved g c =
+pub loop-kind-preserved : goal.loop-kind-preserved
+loop-kind-preserved c =
     let job = job_of c.args.job.now in
-    let inv = c.loop-number.invariant in
-    let e = c.in_ok-cycle.ensures in
-    let none =
-    ap (is_named (addresses_of job)) (sym c.at.ensures) ∙ sym c.is_boundary.ensures ∙ c.if-is_boundary.false in
-    let more = e.idle.cycles ∙ ap (λ (n : ℕ). n + 1) inv.idle.cycles in
+    let inv = c.loop-kind.invariant in
+    let e = c.in_ok-kind.ensures in
+    let after = finished job c.loop-kind.run c.turn.new.self c.in_ok-kind.field-0 c.in_default.is e.turned in
+    let bound = ap (λ (b : Boundary). b.bound) c.boundary.ensures in
     record {
-      under = e.under;
-      idle = record { idle = e.idle.idle; cycles = more };
+      under = after.0;
+      idle = after.1.idle;
+      cycles = omega (arith, inv.cycles, after.1.cycles);
+      below = omega (arith, inv.below, c.if-cycles-bound.false, bound);
       paths = e.paths;
-      passed = λ some. none;
-      nodes =
-          within_made job c.args.nodes c.args.way.now c.loop-number.way c.cycle.new.way c.args.run.now c.loop-number.run
-          c.args.bound c.loop-number.number inv.goes inv.idle.cycles c.loop-number-test.true inv.passed e.nodes
-          inv.nodes;
-      goes = has_made_more job c.args.way.now c.loop-number.way c.cycle.new.way c.args.run.now c.loop-number.run
-          c.cycle.new.self c.args.bound c.loop-number.number inv.goes inv.idle.cycles c.loop-number-test.true inv.passed
-          e.goes;
+      made = e.made ∙ inv.made;
+      stays = stays_next job c.args.boundary c.loop-kind.run.board.place.cycle c.args.run.now c.turn.new.self
+          after.1.cycles
+          (ap (is_named (addresses_of job)) (sym c.at.ensures) ∙ sym c.is_boundary.ensures ∙ c.if-is_boundary.false)
+          (omega (arith, inv.below, inv.cycles, c.if-cycles-bound.false, bound)) (finishes job c.args.boundary c.args.run.now c.loop-kind.run
+          c.turn.new.self c.in_ok-kind.field-0 c.in_default.is inv.stays c.in_ok-kind.ensures.goes);
     }
-
-pub returns-then-is_boundary-clause-nodes : goal.returns-then-is_boundary-clause-nodes
-returns-then-is_boundary-clause-nodes g c =
-    let inv = c.loop-number.invariant in
-    within_made (job_of c.args.job.now) c.args.nodes c.args.way.now c.loop-number.way c.cycle.new.way c.args.run.now
-    c.loop-number.run c.args.bound c.loop-number.number inv.goes inv.idle.cycles c.loop-number-test.true
-    inv.passed c.in_ok-cycle.ensures.nodes inv.nodes
-
-pub returns-in_err-cycle-clause-over : goal.returns-in_err-cycle-clause-over
-returns-in_err-cycle-clause-over g c =
-    let inv = c.loop-number.invariant in
-    let p = err_from_is_err_and c.from_residual.result c.from_residual.ensures.1 in
-    rw (p.1, p.2)
-    (stops_made (job_of c.args.job.now) c.args.nodes c.args.way.now c.loop-number.way c.cycle.new.way c.args.run.now
-    c.loop-number.run c.args.bound c.loop-number.number c.in_err-cycle.field-0.0 inv.goes inv.idle.cycles
-    c.loop-number-test.true inv.passed c.in_err-cycle.ensures.over)

@@ -1,19 +1,21 @@
-use Rattle.std.proofs.Common.{◌≡◌, ◌<◌}
-use Rattle.std.specs.Prelude.{false}
-use Rattle.mw_cycle.specs.Boundary.{is_named}
-use Rattle.mw_rel.specs.Start.{addresses_of}
+use Rattle.std.proofs.Common.{◌≡◌, ◌-◌, ◌<◌}
+use Rattle.std.specs.Prelude.{None}
+use Rattle.mw_rel.specs.Free.{numbered}
 use Rattle.mw_rel.specs.Views.{job_of}
-use Rattle.mw_fork.specs.OnWay.{HavePaths, IsRunOf, MadeWithin}
-use Rattle.mw_fork.specs.Runs.{IsIdle}
-use Rattle.mw_fork.proofs.MetSegment.{HasMade}
+use Rattle.mw_fork.specs.OnWay.{HavePaths, IsRunOf}
+use Rattle.mw_fork.proofs.Segments.{StaysOnRun}
 use Rattle.mw_fork.proofs.segment.segment.Given as goal
 
-abbrev pub invariant-loop-number : goal.invariant-loop-number
-invariant-loop-number g l = record {
+abbrev pub invariant-loop-kind : goal.invariant-loop-kind
+invariant-loop-kind l = record {
   under : IsRunOf (job_of l.job) l.run;
-  idle : IsIdle l.run.board l.number;
+  idle : l.run.board.asked ≡ None;
+  cycles : l.cycles ≡ l.run.board.place.cycle;
+  below : l.cycles < (numbered (job_of l.job) l.boundary).bound;
   paths : HavePaths l.run.space l.run.paths;
-  passed : 0 < l.number → is_named (addresses_of (job_of l.job)) l.run.board.place.at ≡ false;
-  nodes : MadeWithin (job_of l.job) l.nodes l.fn.way l.way l.fn.run l.bound;
-  goes : HasMade (job_of l.job) l.fn.way l.way l.fn.run l.run l.bound l.number;
+  made : l.run.paths ≡ l.fn.run.paths;
+  stays : StaysOnRun (job_of l.job) l.boundary l.fn.run l.run;
 }
+
+abbrev pub decreases-loop-kind : goal.decreases-loop-kind
+decreases-loop-kind l = (numbered (job_of l.job) l.boundary).bound - l.cycles

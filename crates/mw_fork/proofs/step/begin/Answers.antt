@@ -20,7 +20,7 @@ returns-clause-under c =
     (e.stepping run.space.terms run.space.words run.space.memory
     (subst
     (λ registers. Waits job.machine run.space.terms run.space.words run.space.memory registers c.request-request.result)
-    (sym c.deref.ensures.value) waits))
+    (sym c.as_slice.ensures) waits))
 
 pub returns-clause-goes : goal.returns-clause-goes
 returns-clause-goes c = λ number cycles elements from way met.
@@ -30,8 +30,8 @@ returns-clause-goes c = λ number cycles elements from way met.
     let e = c.in_ok-step.ensures in
     begun_behind job number cycles elements from way run request c.in_ok-step.step
     (subst (λ registers. Begins job run.space.terms run.space.memory registers request c.in_ok-step.step)
-    c.deref.ensures.value (e.step run.space.terms run.space.memory)) e.left
+    c.as_slice.ensures (e.step run.space.terms run.space.memory)) e.left
     (subst (λ registers. underway_of job.machine run.space.terms run.space.words run.space.memory c.in_ok-step.step
     ≡ begun_words job.machine registers request run.space.memory.machine (list_of_space run.space))
-    c.deref.ensures.value
+    c.as_slice.ensures
     (e.listed run.space.terms run.space.words run.space.memory)) c.request-request.ensures.line met

@@ -1,20 +1,13 @@
 use Rattle.mw_macro.specs.Described.{description_of}
 use Rattle.mw_rel.specs.Views.{job_of}
 use Rattle.mw_fork.proofs.OnStep.{turns}
-use Rattle.mw_fork.proofs.Steps.{turned, underway_later}
+use Rattle.mw_fork.proofs.Steps.{underway_later}
 use Rattle.mw_fork.proofs.step.turn.Goals as goal
 
 pub returns-clause-under : goal.returns-clause-under
 returns-clause-under c =
     let e = c.in_ok-turn.ensures in
     underway_later (description_of c.args.job.now.machine) _ _ _ _ _ _ _ _ c.requires.under e.goes e.few e.stepping
-
-pub returns-clause-turned : goal.returns-clause-turned
-returns-clause-turned c = λ from count come.
-    let e = c.in_ok-turn.ensures in
-    turned (description_of c.args.job.now.machine) from count _ _ _ _ _ _ _ _ _
-    c.steps_go_along.ensures.turns come e.turn
-    e.listed e.done e.begun
 
 pub returns-clause-paths : goal.returns-clause-paths
 returns-clause-paths c = λ paths are. record {

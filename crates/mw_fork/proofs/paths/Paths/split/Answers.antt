@@ -6,6 +6,8 @@ use Rattle.mw_term.specs.Rows.{bit}
 use Rattle.mw_dd.specs.Nodes.{function_of}
 use Rattle.mw_blast.specs.Bits.{StandsFor}
 use Rattle.mw_blast.specs.Shared.{IsWrittenSplitCause}
+use Rattle.mw_fork.specs.declared.paths.Paths.{Paths}
+use Rattle.mw_fork.proofs.Grown.{grown_in_table, grown_then}
 use Rattle.mw_fork.proofs.paths.Paths.split.Goals as goal
 
 pub returns-in-Some-clause-split : goal.returns-in-Some-clause-split
@@ -28,3 +30,13 @@ returns-clause-over g c =
     let same = fun_ext (c.bits.ensures.keeps.same path c.requires.paths.there) in
     subst (λ (f : Function). IfErr c.decide.result
     (IsWrittenSplitCause c.args.written.now c.decide.new.places f c.args.term c.args.nodes)) same c.decide.ensures.over
+
+pub returns-clause-grown : goal.returns-clause-grown
+returns-clause-grown g c =
+    let old = c.args.self.now in
+    let mid : Paths =
+    record { dds = c.bits.new.dds; shared = c.bits.new.self; places = c.bits.new.places; path = old.path } in
+    let new : Paths =
+    record { dds = c.decide.new.dds; shared = c.decide.new.self; places = c.decide.new.places; path = old.path } in
+    grown_then old mid new (grown_in_table old mid c.bits.ensures.more c.bits.ensures.keeps)
+    (grown_in_table mid new c.decide.ensures.more c.decide.ensures.keeps)

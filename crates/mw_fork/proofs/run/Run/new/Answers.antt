@@ -48,7 +48,7 @@ returns-clause-under c =
     let symbolic = e.symbolic job.store t words start.space.memory address pointer elements
     (start_inputs job.board t words are.kinds) (start_no_later words are.kinds) in
     under_first job t words start.space.memory _ start.terms.items _ valid are symbolic e.cycle e.taken e.decided
-    (c.in_ok-registers.ensures.items ∙ c.register_terms.ensures ∙ ap (drop k) c.deref-2.ensures.value)
+    (c.in_ok-registers.ensures ∙ c.register_terms.ensures ∙ ap (drop k) c.deref-2.ensures.value)
 
 pub returns-clause-first : goal.returns-clause-first
 returns-clause-first c =
@@ -62,7 +62,7 @@ returns-clause-first c =
     let at = e.at ∙ ap (λ (b : Boundary). b.address) here in
     let sp = e.sp ∙ ap (λ (b : Boundary). b.sp) here in
     let none = c.in_ok-start.ensures.unwritten.0 in
-    let registers = c.in_ok-registers.ensures.items ∙ c.register_terms.ensures ∙ ap (drop k) c.deref-2.ensures.value in
+    let registers = c.in_ok-registers.ensures ∙ c.register_terms.ensures ∙ ap (drop k) c.deref-2.ensures.value in
     let new : IsNew job.board (take k terms) c.in_ok-board.board = record {
       elements = subst (λ (ts : List ℕ). (n : ℕ) → n < k
           → term_of_part c.in_ok-board.board.place.parts (element_of job.board n) ≡ slice_index ts n) same e.elements;

@@ -7,16 +7,13 @@ use Rattle.mw_fork.proofs.way.Way.turn.Goals as goal
 pub returns-then-last-clause-yes : goal.returns-then-last-clause-yes
 returns-then-last-clause-yes c = λ same.
     let at = c.in-Some.ensures.some in
-    c.loop-last.invariant.same
+    c.loop-last.invariant
     ∙ turned_there c.loop-last.self.kept c.in-Some.last (some_there _ _ _ at) at c.if-last.true
     ∙ sym (ap (λ (w : Way). Some w.kept) c.turn_bit.ensures)
 
 pub loop-last-preserved : goal.loop-last-preserved
 loop-last-preserved c =
     let at = c.in-Some.ensures.some in
-    record {
-      same = c.loop-last.invariant.same
-          ∙ dropped_there c.loop-last.self.kept c.in-Some.last (some_there _ _ _ at) at c.if-last.false
-          ∙ sym (ap (λ (w : Way). turned_last w.kept) c.drop_last.ensures);
-      anew = ap (λ (w : Way). w.met) c.drop_last.ensures;
-    }
+    c.loop-last.invariant
+    ∙ dropped_there c.loop-last.self.kept c.in-Some.last (some_there _ _ _ at) at c.if-last.false
+    ∙ sym (ap (λ (w : Way). turned_last w.kept) c.drop_last.ensures)

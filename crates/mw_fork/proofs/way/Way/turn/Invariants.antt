@@ -3,10 +3,7 @@ use Rattle.mw_fork.specs.Ways.{turned_last}
 use Rattle.mw_fork.proofs.way.Way.turn.Given as goal
 
 abbrev pub invariant-loop-last : goal.invariant-loop-last
-invariant-loop-last l = record {
-  same : turned_last l.fn.self.kept ≡ turned_last l.self.kept;
-  anew : l.self.met ≡ 0;
-}
+invariant-loop-last l = turned_last l.fn.self.kept ≡ turned_last l.self.kept
 
 abbrev pub decreases-loop-last : goal.decreases-loop-last
 decreases-loop-last l = length l.self.kept

@@ -1,0 +1,146 @@
+-- A bit that a course takes.
+use Rattle.std.proofs.Common.{◌≡◌, ℕ, ◌+◌, ◌≤◌, List, ap, subst, sym, arith}
+use Rattle.std.specs.Prelude.{Bool, true, false, Option, Some, None}
+use Rattle.mw_base.specs.Words.{num}
+use Rattle.mw_cycle.specs.declared.microword.Microword.{Microword}
+use Rattle.mw_cycle.specs.Decided.{decides_counter, decides_pass}
+use Rattle.mw_term.specs.declared.decided.DecidedKind.{DecidedKind}
+use Rattle.mw_symmem.specs.Memory.{IsOfWidth}
+use Rattle.mw_symboard.specs.Cycle.{bits_before}
+use Rattle.mw_symboard.specs.Seen.{microword_of}
+use Rattle.mw_symboard.specs.Turns as board
+use Rattle.mw_symboard.specs.Turns.{Symbolic, decided_so}
+use Rattle.mw_symmach.specs.Along.{BitsGoAlong}
+use Rattle.mw_symmach.specs.Turns.{Stepping, is_asked}
+use Rattle.mw_rel.specs.Job.{Job}
+use Rattle.mw_fork.specs.declared.paths.Paths.{Paths}
+use Rattle.mw_fork.specs.declared.run.Run.{Run}
+use Rattle.mw_fork.specs.declared.way.Kept.{Kept}
+use Rattle.mw_fork.specs.CasePaths.{IsNextOfCase}
+use Rattle.mw_fork.specs.Courses.{IsGiven, IsOnCourse, IsReady, MayBeGiven, Waits, WaitsOnCourse}
+use Rattle.mw_fork.specs.Listed.{AsksFor}
+use Rattle.mw_fork.specs.OnWay.{HasDecided, IsOnRun, IsOnStep, IsOnWay, ground_in, path_in}
+use Rattle.mw_fork.specs.Ways.{Way, met_of}
+use Rattle.mw_fork.proofs.OnRun.{next_of_case, on_decided}
+use Rattle.mw_fork.proofs.OnStep.{asks_where, takes}
+use Rattle.mw_fork.proofs.Runs.{decided_under}
+use Rattle.mw_fork.proofs.Steps.{decided_underway}
+
+-- ---- what is waited for
+
+-- a term of one bit
+pub waits_wide : (job : Job) (number : ℕ) (run : Run) (step : Option Stepping) (kind : DecidedKind) (term : ℕ)
+    → Waits job number run step kind term → IsOfWidth run.space.terms 1 term
+waits_wide job number run None kind term waits = waits.2.wide
+waits_wide job number run (Some o) kind term waits = waits.1.wide
+
+-- so many bits stand before those of an address at most
+few_before : (microword : Microword) → bits_before microword ≤ 2
+few_before microword = few (decides_pass microword) (decides_counter microword)
+  where
+    few : (a b : Bool) → num a + num b ≤ 2
+    few true true = omega arith
+    few true false = omega arith
+    few false true = omega arith
+    few false false = omega arith
+
+-- it may be given
+pub may_be_given : (job : Job) (number : ℕ) (run : Run) (step : Option Stepping) (kind : DecidedKind) (term : ℕ)
+    → Waits job number run step kind term → MayBeGiven run.board step
+may_be_given job number run None kind term waits = ((kind, waits.2.asked), omega (arith, waits.2.few, few_before (microword_of job.board job.store run.board.place)))
+may_be_given job number run (Some o) kind term waits = waits.1.asked
+
+-- it is the next bit of the cases on the path, and the word list asks for it
+pub record IsNextOn (job : Job) (number : ℕ) (elements : List ℕ) (from : List Kept) (way : Way) (run : Run)
+    (kind : DecidedKind) (term : ℕ) : Type 0 where
+  pub on : IsOnWay job number (ground_in run.space elements) from way (path_in run.paths)
+  pub next : IsNextOfCase job number (ground_in run.space elements) (met_of way) (path_in run.paths) kind term
+  pub asks : AsksFor job number (met_of way) (ground_in run.space elements) term
+
+pub next_on : (job : Job) (number : ℕ) (elements : List ℕ) (from : List Kept) (way : Way) (run : Run)
+    (step : Option Stepping) (kind : DecidedKind) (term : ℕ) → Waits job number run step kind term
+    → WaitsOnCourse job number elements from way run step kind term
+    → IsNextOn job number elements from way run kind term
+next_on job number elements from way run None kind term waits turned = record {
+  on = turned.0.on;
+  next = next_of_case job number elements from way run kind term waits.1 turned;
+  asks = turned.2.here;
+}
+next_on job number elements from way run (Some o) kind term waits turned = record {
+  on = turned.1.0.on;
+  next = turned.1.1;
+  asks = asks_where job number run.board.place.cycle elements from turned.0 run.board way run.space run.paths o kind term
+      turned.1;
+}
+
+-- ---- a bit that is given
+
+-- a run with these paths and this board
+abbrev pub run_with : Run → Paths → Symbolic → Run
+run_with run paths o = record run { paths = paths; board = o }
+
+-- the course goes on with it, and waits for no bit
+pub record GoesOnWith (job : Job) (number : ℕ) (run : Run) (paths : Paths) (o : Symbolic) (step : Option Stepping)
+    : Type 0 where
+  pub ready : IsReady job number (run_with run paths o) step
+  pub cycles : o.place.cycle ≡ run.board.place.cycle
+
+ready_by : (job : Job) (number : ℕ) (run : Run) (paths : Paths) (o : Symbolic) (kind : DecidedKind) (term : ℕ)
+    (value : Bool) → Waits job number run None kind term → o ≡ decided_so run.board kind value
+    → board.IsSymbolic job.board job.store run.space.terms run.space.words run.space.memory o
+    → GoesOnWith job number run paths o None
+ready_by job number run paths o kind term value waits is symbolic =
+    let cycle : o.place.cycle ≡ run.board.place.cycle = ap (λ (b : Symbolic). b.place.cycle) is in
+    record {
+      ready = (
+        decided_under job run.space.terms run.space.words run.space.memory run.board o run.registers kind value term is
+            waits.0 waits.2 symbolic,
+        ap (λ (b : Symbolic). b.asked) is,
+        omega (arith, cycle, waits.1),
+      );
+      cycles = cycle;
+    }
+
+pub given_ready : (job : Job) (number : ℕ) (run : Run) (paths : Paths) (o : Symbolic) (before after : Option Stepping)
+    (kind : DecidedKind) (term : ℕ) (value : Bool) → Waits job number run before kind term
+    → IsGiven value run.board o before after → GoesOnWith job number run paths o after
+given_ready job number run paths o None after kind term value waits given =
+    subst (GoesOnWith job number run paths o) (sym given.0)
+    (ready_by job number run paths o kind term value waits (given.1.new_is kind waits.2.asked)
+    (given.1.symbolic job.board job.store run.space.terms run.space.words run.space.memory kind term waits.2
+    waits.0.symbolic))
+given_ready job number run paths o (Some step) after kind term value waits given =
+    let took = given.3 in
+    let t = run.space in
+    let decided = took.decided job.machine t.terms t.words t.memory waits.0.stepping in
+    subst (GoesOnWith job number run paths o) (sym given.1) (record {
+      ready = (
+        decided_underway job.machine t.terms t.words t.memory step given.0 value waits.0 decided,
+        ap (λ (b : Stepping). is_asked b.pending) took.new_is,
+      );
+      cycles = ap (λ (b : Symbolic). b.place.cycle) given.2;
+    })
+
+pub given_on : (job : Job) (number : ℕ) (elements : List ℕ) (from to : List Kept) (old new : Way) (run : Run)
+    (paths : Paths) (o : Symbolic) (before after : Option Stepping) (kind : DecidedKind) (term : ℕ) (value : Bool)
+    → BitsGoAlong → Waits job number run before kind term → WaitsOnCourse job number elements from old run before kind term
+    → IsGiven value run.board o before after
+    → HasDecided job number (ground_in run.space elements) to old new (path_in run.paths) (path_in paths) kind term value
+    → IsOnCourse job number elements to new (run_with run paths o) after
+given_on job number elements from to old new run paths o None after kind term value law waits turned given has =
+    let is = given.1.new_is kind waits.2.asked in
+    subst (IsOnCourse job number elements to new (run_with run paths o)) (sym given.0)
+    (subst (λ (n : ℕ). IsOnRun job number elements to new (run_with run paths o) n)
+    (sym (ap (λ (b : Symbolic). b.place.cycle) is))
+    (on_decided job number elements from to old new run paths o kind term value is turned has))
+given_on job number elements from to old new run paths o (Some step) after kind term value law waits turned given has =
+    let took = given.3 in
+    let t = run.space in
+    let stepping = waits.0.stepping in
+    subst (IsOnCourse job number elements to new (run_with run paths o)) (sym given.1) (
+      turned.0,
+      subst (λ (b : Symbolic). IsOnStep job number elements to b.place.cycle turned.0 b new t paths given.0) (sym given.2)
+          (takes job number run.board.place.cycle elements from to turned.0 run.board old new t run.paths paths step
+          given.0 kind term value waits.1 (took.decided job.machine t.terms t.words t.memory stepping) law took.new_is
+          (took.left job.machine t.terms t.words t.memory stepping) has turned.1),
+    )

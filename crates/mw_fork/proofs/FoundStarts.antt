@@ -1,0 +1,42 @@
+-- The start that is found of a case.
+use Rattle.std.proofs.Common.{ℕ, List}
+use Rattle.mw_term.specs.declared.decided.Decided.{Decided}
+use Rattle.mw_rel.specs.Begin.{Begin}
+use Rattle.mw_rel.specs.Job.{Job}
+use Rattle.mw_rel.specs.Start.{Start}
+use Rattle.mw_term.specs.Assigned.{Numbers, given_by}
+use Rattle.mw_fork.specs.declared.elements.Space.{Space}
+use Rattle.mw_fork.specs.Begins.{IsAssigned, IsChosen, IsDiffering, IsLeast}
+use Rattle.mw_fork.specs.Failing.{IsFound}
+use Rattle.mw_fork.specs.Listed.{list_of_space}
+use Rattle.mw_fork.specs.OnWay.{ground_in}
+use Rattle.mw_fork.specs.Starts.{IsGround, StandsForStart}
+
+-- what was found of a start that differs
+pub found_differs : (job : Job) (boundary : ℕ) (elements : List ℕ) (space : Space) (numbers : Numbers) (begin : Begin)
+    (bits : List Decided) → IsFound job boundary elements bits space numbers
+    → ((elements : List ℕ) → IsGround job boundary (ground_in space elements)
+    → (start : Start) × IsChosen job boundary begin start
+    × StandsForStart job boundary (ground_in space elements) (given_by numbers) start)
+    → IsDiffering job boundary bits begin
+found_differs job boundary elements space numbers begin bits found begins =
+    let is = begins elements found.stands in
+    record {
+      start = is.0;
+      chosen = is.1;
+      of_case = found.of_case is.0 is.2;
+      differs = found.differs is.0 is.2;
+    }
+
+-- it is the least
+pub found_least : (job : Job) (boundary : ℕ) (elements : List ℕ) (space : Space) (numbers : Numbers) (begin : Begin)
+    (bits : List Decided) → IsFound job boundary elements bits space numbers
+    → IsAssigned job boundary (list_of_space space) (given_by numbers) begin → IsLeast job boundary bits begin
+found_least job boundary elements space numbers begin bits found assigned = record {
+  sought = found.sought;
+  list = list_of_space space;
+  among = found.among;
+  numbers = numbers;
+  first = found.first;
+  assigned = assigned;
+}

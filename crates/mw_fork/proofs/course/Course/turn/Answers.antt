@@ -1,0 +1,11 @@
+use Rattle.std.proofs.lemmas.Result.{IfOk-weaker}
+use Rattle.mw_rel.specs.Views.{job_of}
+use Rattle.mw_fork.proofs.Courses.{come_on}
+use Rattle.mw_fork.proofs.course.Course.turn.Goals as goal
+
+pub returns-clause-goes : goal.returns-clause-goes
+returns-clause-goes c =
+    IfOk-weaker c.turn_step.result _ _ (λ turn goes elements from way on.
+    goes c.args.boundary elements from way
+    (come_on (job_of c.args.job.now) c.args.boundary c.args.self.now c.to_step.new.self c.in_ok-turn.field-0
+    c.in_default.is c.in_ok-turn.ensures.come elements from way on)) c.turn_step.ensures.goes

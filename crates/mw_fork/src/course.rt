@@ -1,0 +1,241 @@
+// The run of a case: through the cycles of its segment, and behind that through the described step.
+ghost use Rattle.std.specs.Prelude.{◌≡◌, ◌<◌, ℕ, List, [], Some, IfOk, OnOk, length, true};
+ghost use Rattle.mw_symmach.specs.Turns.{Stepping};
+ghost use Rattle.mw_rel.specs.Views.{job_of};
+ghost use Rattle.mw_fork.specs.declared.way.Kept.{Kept};
+ghost use Rattle.mw_fork.specs.Courses.{HaveCome, IsGiven, IsGoing, IsOnCourse, IsOther, IsReady, IsTurned};
+ghost use Rattle.mw_fork.specs.Courses.{IsTurnedOnCourse, MayBeGiven, course_over, with_board};
+ghost use Rattle.mw_fork.specs.OnWay.{HavePaths};
+ghost use Rattle.mw_fork.specs.Ways.{Way, way_of};
+
+use crate::elements::Space;
+use crate::paths::Paths;
+use crate::registers::Registers;
+use crate::run::Run;
+use crate::segment::{Came, segment};
+use crate::step::{begin, turn};
+use mw_base::NoMemory;
+use mw_dd::Dd;
+use mw_rel::Job;
+use mw_symboard::SymBoard;
+use mw_symmach::SymMach;
+use mw_symmem::Turn;
+use mw_term::Places;
+use std::alloc::Global;
+
+/// A run of a case.
+#[derive(Drop)]
+pub(crate) struct Course {
+    /// The board's.
+    pub run: Run,
+    /// How many cycles of the segment are finished.
+    pub cycles: u32,
+    /// The described step, once the segment has ended at a boundary.
+    pub step: Option<SymMach>,
+}
+
+/// One that waits, over what all have made.
+#[derive(Drop)]
+pub(crate) struct Waiting {
+    /// What it works on.
+    pub space: Space,
+    /// Where the terms that it wrote stand in the table.
+    pub places: Places,
+    /// The starts that take its path.
+    pub path: Dd,
+    /// The board.
+    pub board: SymBoard,
+    /// The terms of the machine's registers at the start.
+    pub registers: Registers,
+    /// How many cycles of the segment are finished.
+    pub cycles: u32,
+    /// The described step, once the segment has ended at a boundary.
+    pub step: Option<SymMach>,
+}
+
+/// Gives the bit that is waited for its value.
+fn give(board: &mut SymBoard, step: &mut Option<SymMach>, value: bool)
+    requires { MayBeGiven board.old step.old }
+    ensures { IsGiven value board.old board.new step.old step.new }
+{
+    match step {
+        Some(step) => step.decide(value),
+        None => board.decide(value),
+    }
+}
+
+/// Goes on to the next bit of the step, which is there, or to its end.
+fn turn_step(
+    alloc: Global,
+    job: &Job,
+    run: &mut Run,
+    step: &mut Option<SymMach>,
+) -> Result<Turn, NoMemory>
+    requires ready { (number : ℕ) × (there : Stepping) × (step.old ≡ Some there)
+        × IsReady (job_of job.now) number run.old (Some there) }
+    requires paths { HavePaths run.old.space run.old.paths }
+    ensures paths { OnOk result (HavePaths run.new.space run.new.paths) }
+    ensures made { OnOk result (run.new.paths ≡ run.old.paths) }
+    ensures board { OnOk result (run.new.board ≡ run.old.board) }
+    ensures turned { IfOk result (λ turn. (number : ℕ) → IsTurned (job_of job.now) number run.new step.new turn) }
+    ensures goes { IfOk result (λ turn. (number : ℕ) (elements : List ℕ) (from : List Kept) (way : Way)
+        → IsOnCourse (job_of job.now) number elements from way run.old step.old
+        → IsTurnedOnCourse (job_of job.now) number elements from way run.new step.new turn) }
+{
+    match step {
+        Some(step) => turn(alloc, job, &mut run.space, step),
+        None => unreachable!(),
+    }
+}
+
+/// The same step once more, if there is one.
+fn copied(alloc: Global, step: &Option<SymMach>) -> Result<Option<SymMach>, NoMemory>
+    ensures { IfOk result (λ copy. copy ≡ step.now) }
+{
+    match step {
+        Some(step) => Ok(Some(step.copy(alloc)?)),
+        None => Ok(None),
+    }
+}
+
+impl Course {
+    /// One that stands at the boundary of this number, and has made no cycle.
+    pub(crate) fn new(alloc: Global, job: &Job, boundary: usize) -> Result<Course, NoMemory>
+        requires { boundary < length (job_of job.now).relation.boundaries }
+        ensures { IfOk result (IsGoing (job_of job.now) boundary [] (way_of [])) }
+    {
+        Ok(Course {
+            run: Run::new(alloc, job, boundary)?,
+            cycles: 0,
+            step: None,
+        })
+    }
+
+    /// Goes on to where the described step begins, if that isn't there yet: nothing where it is there then, and else
+    /// what is waited for, or that the segment is late.
+    fn to_step(
+        &mut self,
+        alloc: Global,
+        job: &Job,
+        boundary: usize,
+    ) -> Result<Option<Turn>, NoMemory>
+        requires boundary { boundary < length (job_of job.now).relation.boundaries }
+        requires cycles { self.old.cycles ≡ self.old.run.board.place.cycle }
+        requires ready { IsReady (job_of job.now) boundary self.old.run self.old.step }
+        requires paths { HavePaths self.old.run.space self.old.run.paths }
+        ensures cycles { OnOk result (self.new.cycles ≡ self.new.run.board.place.cycle) }
+        ensures paths { OnOk result (HavePaths self.new.run.space self.new.run.paths) }
+        ensures made { OnOk result (self.new.run.paths ≡ self.old.run.paths) }
+        ensures come { IfOk result (HaveCome (job_of job.now) boundary self.old self.new) }
+    {
+        if self.step.is_some() {
+            return Ok(None);
+        }
+        match segment(alloc, job, boundary, &mut self.run, &mut self.cycles)? {
+            Came::Asks { kind, term } => Ok(Some(Turn::Ask { kind, term })),
+            Came::Late => Ok(Some(Turn::Finished)),
+            Came::Reached => {
+                self.step = Some(begin(alloc, job, &self.run)?);
+                Ok(None)
+            }
+        }
+    }
+
+    /// Goes on to the next bit of the case, or to its end.
+    pub(crate) fn turn(
+        &mut self,
+        alloc: Global,
+        job: &Job,
+        boundary: usize,
+    ) -> Result<Turn, NoMemory>
+        requires boundary { boundary < length (job_of job.now).relation.boundaries }
+        requires cycles { self.old.cycles ≡ self.old.run.board.place.cycle }
+        requires ready { IsReady (job_of job.now) boundary self.old.run self.old.step }
+        requires paths { HavePaths self.old.run.space self.old.run.paths }
+        ensures cycles { OnOk result (self.new.cycles ≡ self.new.run.board.place.cycle) }
+        ensures paths { OnOk result (HavePaths self.new.run.space self.new.run.paths) }
+        ensures made { OnOk result (self.new.run.paths ≡ self.old.run.paths) }
+        ensures turned { IfOk result (IsTurned (job_of job.now) boundary self.new.run self.new.step) }
+        ensures goes { IfOk result (λ turn. (elements : List ℕ) (from : List Kept) (way : Way)
+            → IsOnCourse (job_of job.now) boundary elements from way self.old.run self.old.step
+            → IsTurnedOnCourse (job_of job.now) boundary elements from way self.new.run self.new.step turn) }
+    {
+        if let Some(turn) = self.to_step(alloc, job, boundary)? {
+            return Ok(turn);
+        }
+        turn_step(alloc, job, &mut self.run, &mut self.step)
+    }
+
+    /// Gives the bit that is waited for its value.
+    pub(crate) fn decide(&mut self, value: bool)
+        requires { MayBeGiven self.old.run.board self.old.step }
+        ensures given { IsGiven value self.old.run.board self.new.run.board self.old.step self.new.step }
+        ensures run { self.new.run ≡ with_board self.old.run self.new.run.board }
+        ensures cycles { self.new.cycles ≡ self.old.cycles }
+    {
+        give(&mut self.run.board, &mut self.step, value);
+    }
+
+    /// One that waits, for which the bit that is waited for is 1. Its path is this one.
+    pub(crate) fn other(&self, alloc: Global, path: Dd) -> Result<Waiting, NoMemory>
+        requires { MayBeGiven self.now.run.board self.now.step }
+        ensures { IfOk result (IsOther self.now path) }
+    {
+        let mut other = Waiting {
+            space: self.run.space.copy(alloc)?,
+            places: self.run.paths.places.copy(alloc)?,
+            path,
+            board: self.run.board.copy(alloc)?,
+            registers: self.run.registers.copy(alloc)?,
+            cycles: self.cycles,
+            step: copied(alloc, &self.step)?,
+        };
+        give(&mut other.board, &mut other.step, true);
+        Ok(other)
+    }
+
+    /// What it has made; the rest of it is dropped.
+    pub(crate) fn into_paths(self) -> Paths
+        ensures { result ≡ self.run.paths }
+    {
+        let Course { run, step, .. } = self;
+        drop(step);
+        let Run {
+            space,
+            paths,
+            board,
+            registers,
+        } = run;
+        drop(space);
+        drop(board);
+        drop(registers);
+        paths
+    }
+}
+
+impl Waiting {
+    /// It goes on, over what was made.
+    pub(crate) fn over(self, made: Paths) -> Course
+        ensures { result ≡ course_over made self }
+    {
+        let Waiting {
+            space,
+            places,
+            path,
+            board,
+            registers,
+            cycles,
+            step,
+        } = self;
+        Course {
+            run: Run {
+                space,
+                paths: made.over(places, path),
+                board,
+                registers,
+            },
+            cycles,
+            step,
+        }
+    }
+}
