@@ -1,0 +1,52 @@
+-- Lists without the entries whose numbers pass a test.
+use Rattle.std.proofs.Common.{◌≡◌, ℕ, zero, suc, ◌+◌, List, [], ◌∷◌, Bool, true, false, cond, refl, sym, ap, ◌∙◌}
+use Rattle.std.proofs.Common.{add-zero, arith}
+use Rattle.std.specs.Prelude.{slice_index_or}
+use Rattle.mw_ready.specs.Thinned.{without_from}
+
+-- how many of so many numbers, from n on, fail a test
+abbrev pub left : (ℕ → Bool) → ℕ → ℕ → ℕ
+left test n zero = 0
+left test n (suc count) = cond (test n) (left test (n + 1) count) (suc (left test (n + 1) count))
+
+-- one more is left, where the last number fails the test
+with_last : (first last : Bool) (count : ℕ)
+    → cond first (cond last count (suc count)) (suc (cond last count (suc count)))
+    ≡ cond last (cond first count (suc count)) (suc (cond first count (suc count)))
+with_last true last count = refl
+with_last false true count = refl
+with_last false false count = refl
+
+-- of one number more
+pub left_more : (test : ℕ → Bool) (n count : ℕ)
+    → left test n (suc count) ≡ cond (test (n + count)) (left test n count) (suc (left test n count))
+left_more test n zero = rw (add-zero n) refl
+left_more test n (suc count) =
+    let place : n + 1 + count ≡ n + suc count = omega arith in
+    ap (λ rest. cond (test n) rest (suc rest)) (left_more test (n + 1) count ∙ rw place refl)
+    ∙ with_last (test n) (test (n + suc count)) (left test (n + 1) count)
+
+-- what follows an entry that is left, or not
+entry_behind : {A : Type 0} (first : Bool) (x : A) (rest xs : List A) (count at : ℕ) (other : A)
+    → slice_index_or rest count other ≡ slice_index_or xs at other
+    → slice_index_or (cond first rest (x ∷ rest)) (cond first count (suc count)) other ≡ slice_index_or xs at other
+entry_behind true x rest xs count at other same = same
+entry_behind false x rest xs count at other same = same
+
+-- an entry that fails the test stands behind what is left of those before it
+pub entry_left : {A : Type 0} (test : ℕ → Bool) (n : ℕ) (xs : List A) (at : ℕ) (other : A) → test (n + at) ≡ false
+    → slice_index_or (without_from test n xs) (left test n at) other ≡ slice_index_or xs at other
+entry_left test n [] at other fails = refl
+entry_left test n (x ∷ xs) zero other fails =
+    let first : test n ≡ false = ap test (sym (add-zero n)) ∙ fails in
+    rw first refl
+entry_left test n (x ∷ xs) (suc at) other fails =
+    let place : n + 1 + at ≡ n + suc at = omega arith in
+    entry_behind (test n) x (without_from test (n + 1) xs) xs (left test (n + 1) at) at other
+    (entry_left test (n + 1) xs at other (ap test place ∙ fails))
+
+-- where no number passes, each entry is left
+pub all_left : {A : Type 0} (test : ℕ → Bool) (n : ℕ) (xs : List A) → ((i : ℕ) → test i ≡ false)
+    → without_from test n xs ≡ xs
+all_left test n [] none = refl
+all_left test n (x ∷ xs) none = rw (none n) (ap (λ rest. x ∷ rest) (all_left test (n + 1) xs none))

@@ -1,0 +1,4 @@
+pub mod Environment
+pub mod Run
+pub mod Thinned
+pub mod Laws
