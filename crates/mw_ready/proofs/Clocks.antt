@@ -132,7 +132,7 @@ cycles_pass board store env start (suc n) =
     rw next (omega (arith, more, cycles_pass board store env start n))
 
 -- before the first clock no cycle is made
-no_cycle : (board : BoardParts) (store : List ℕ) (env : ReadyEnvironment) (start : BoardState)
+pub no_cycle : (board : BoardParts) (store : List ℕ) (env : ReadyEnvironment) (start : BoardState)
     → cycles_in board store env start 0 ≡ 0
 unfolding run_of_clocks
 no_cycle board store env start = refl

@@ -1,7 +1,7 @@
 -- Lists without the entries whose numbers pass a test.
-use Rattle.std.proofs.Common.{◌≡◌, ℕ, zero, suc, ◌+◌, List, [], ◌∷◌, Bool, true, false, cond, refl, sym, ap, ◌∙◌}
+use Rattle.std.proofs.Common.{◌≡◌, ℕ, zero, suc, ◌+◌, ◌<◌, List, [], ◌∷◌, Bool, true, false, cond, refl, sym, ap, ◌∙◌}
 use Rattle.std.proofs.Common.{add-zero, arith}
-use Rattle.std.specs.Prelude.{slice_index_or}
+use Rattle.std.specs.Prelude.{slice_index, slice_index_or}
 use Rattle.mw_ready.specs.Thinned.{without_from}
 
 -- how many of so many numbers, from n on, fail a test
@@ -50,3 +50,20 @@ pub all_left : {A : Type 0} (test : ℕ → Bool) (n : ℕ) (xs : List A) → ((
     → without_from test n xs ≡ xs
 all_left test n [] none = refl
 all_left test n (x ∷ xs) none = rw (none n) (ap (λ rest. x ∷ rest) (all_left test (n + 1) xs none))
+
+-- ---- bounds
+
+-- what is put before numbers below a bound, or not, leaves them below it
+below_behind : (first : Bool) (x : ℕ) (rest : List ℕ) (bound : ℕ) → x < bound
+    → ((i : ℕ) → slice_index rest i < bound) → (i : ℕ) → slice_index (cond first rest (x ∷ rest)) i < bound
+below_behind true x rest bound here each i = each i
+below_behind false x rest bound here each zero = here
+below_behind false x rest bound here each (suc i) = each i
+
+-- what is left of numbers below a bound is below it
+pub left_below : (test : ℕ → Bool) (n : ℕ) (xs : List ℕ) (bound : ℕ) → ((i : ℕ) → slice_index xs i < bound)
+    → (i : ℕ) → slice_index (without_from test n xs) i < bound
+left_below test n [] bound each i = each i
+left_below test n (x ∷ xs) bound each i =
+    below_behind (test n) x (without_from test (n + 1) xs) bound (each 0)
+    (left_below test (n + 1) xs bound (λ j. each (suc j))) i

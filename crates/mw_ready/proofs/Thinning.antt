@@ -1,6 +1,6 @@
 -- A run with waits is the run without them, over what is left of the lists.
 use Rattle.std.proofs.Common.{◌≡◌, ℕ, zero, suc, ◌+◌, ◌++◌, List, Bool, true, cond, Option, Some, None}
-use Rattle.std.proofs.Common.{refl, sym, ap, ◌∙◌, false, slice_index_or, arith}
+use Rattle.std.proofs.Common.{refl, sym, ap, ◌∙◌, subst, ◌-◌, ◌<◌, false, slice_index_or, arith}
 use Rattle.std.specs.Option.{option_to_list}
 use Rattle.mw_base.specs.declared.event.Event.{Event}
 use Rattle.mw_base.specs.declared.event.Event.TheVariants.{Out, Taken}
@@ -12,10 +12,10 @@ use Rattle.mw_cycle.specs.Environment.{Environment, given_at}
 use Rattle.mw_cycle.specs.Run.{BoardRun, clock_after, longer_run, run_of}
 use Rattle.mw_ready.specs.Environment.{ReadyEnvironment, ReadyClock, given_to_clock}
 use Rattle.mw_ready.specs.Run.{ReadyRun, with_wait, with_cycle, clock_of_cycle, with_clock, run_of_clocks, cycles_in}
-use Rattle.mw_ready.specs.Run.{clocks_for}
+use Rattle.mw_ready.specs.Run.{clocks_for, line_of_cycle}
 use Rattle.mw_ready.specs.Thinned.{without_from, was_wait, thinned, place_of, but_clocks}
-use Rattle.mw_ready.specs.Laws.{RunsAreThinned}
-use Rattle.mw_ready.proofs.Clocks.{cycles_more, clocks_are, cycles_come}
+use Rattle.mw_ready.specs.Laws.{IsLeastFor, RunsAreThinned}
+use Rattle.mw_ready.proofs.Clocks.{no_cycle, cycles_more, clocks_are, cycles_come}
 use Rattle.mw_ready.proofs.Entries.{left, left_more, entry_left}
 
 -- as many cycles were made as clocks were no waits
@@ -106,3 +106,38 @@ runs_are_thinned board store env start n =
     let clocks = clocks_for board store env start n in
     clocks_thinned board store env start clocks
     ∙ ap (run_of board store (thinned board store env start) start) (cycles_come board store env start n).made
+
+-- ---- the clock that makes a cycle
+
+-- a clock that makes a cycle is no wait
+makes : (n before : ℕ) (wait : Bool) → cond wait before (suc before) ≡ n + 1 → before < n + 1
+    → (wait ≡ false) × (before ≡ n)
+makes n before true made less = absurd (omega arith)
+makes n before false made less = (refl, omega arith)
+
+-- the clock with this number makes cycle n
+record Makes (board : BoardParts) (store : List ℕ) (env : ReadyEnvironment) (start : BoardState) (n clock : ℕ) : Type 0 where
+  no_wait : was_wait board store env start clock ≡ false
+  cycles : cycles_in board store env start clock ≡ n
+
+makes_last : (board : BoardParts) (store : List ℕ) (env : ReadyEnvironment) (start : BoardState) (n clocks : ℕ)
+    → IsLeastFor board store env start (n + 1) clocks → Makes board store env start n (clocks - 1)
+makes_last board store env start n zero least =
+    let none = no_cycle board store env start in
+    let made = least.made in
+    absurd (omega arith)
+makes_last board store env start n (suc clock) least =
+    let number : suc clock - 1 ≡ clock = omega arith in
+    let is = makes n (cycles_in board store env start clock) (was_wait board store env start clock)
+    (sym (cycles_more board store env start clock) ∙ least.made)
+    (least.least clock (omega arith)) in
+    subst (Makes board store env start n) (sym number) (record { no_wait = is.0; cycles = is.1 })
+
+-- the line of a cycle is what the thinned line has for it
+pub line_thinned : (board : BoardParts) (store : List ℕ) (env : ReadyEnvironment) (start : BoardState) (n : ℕ)
+    → line_of_cycle board store env start n ≡ slice_index_or (thinned board store env start).line n false
+line_thinned board store env start n =
+    let clocks = clocks_for board store env start (n + 1) in
+    let last = makes_last board store env start n clocks (cycles_come board store env start (n + 1)) in
+    sym (entry_thinned board store env start (clocks - 1) env.line false last.no_wait)
+    ∙ ap (λ at. slice_index_or (thinned board store env start).line at false) last.cycles

@@ -4,4 +4,7 @@
 
 mod laws;
 
-pub use laws::{cycles_come, runs_are_thinned};
+pub use laws::{
+    certified_alike, cycles_come, differences_are_thinned, runs_are_thinned,
+    starts_differ_as_thinned, starts_without_waits_are_starts, thinned_are_starts,
+};

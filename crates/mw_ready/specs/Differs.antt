@@ -1,0 +1,45 @@
+-- When a start with waits differs: by the first difference between the board's first segment and one described step.
+use Rattle.std.specs.Prelude.{◌≡◌, Option, Some, None, option_map}
+use Rattle.mw_cycle.specs.Boundary.{first_boundary}
+use Rattle.mw_macro.specs.DescribedStep.{Stepped, step_of}
+use Rattle.mw_rel.specs.Certified.{boundary_at}
+use Rattle.mw_rel.specs.Differs.{difference_at}
+use Rattle.mw_rel.specs.Job.{Job}
+use Rattle.mw_rel.specs.Relation.{Boundary}
+use Rattle.mw_rel.specs.Start.{addresses_of}
+use Rattle.mw_rel.specs.declared.difference.Difference.{Difference}
+use Rattle.mw_rel.specs.declared.difference.Difference.TheVariants as differences
+use Rattle.mw_ready.specs.Certified.{ready_run, ready_at, ready_line}
+use Rattle.mw_ready.specs.Run.{ReadyRun}
+use Rattle.mw_ready.specs.Start.{ReadyStart, IsReadyStart}
+use Rattle.mw_ready.specs.Thinned.{but_clocks}
+
+-- the described step of a start: its request is the line of the clock that makes the segment's first cycle, and its
+-- inputs begin at number 0
+abbrev pub ready_step : Job → ReadyStart → Stepped
+ready_step job start = step_of job.machine start.pair.machine (ready_line job start 0) start.env.inputs 0
+
+-- a start's first segment, where it keeps its bound, in which waits aren't counted; nothing where the bound's number of
+-- cycles passes without a boundary
+abbrev pub ready_segment_of : Job → ReadyStart → Option ReadyRun
+ready_segment_of job start = option_map (ready_run job start)
+    (first_boundary (addresses_of job) (ready_at job start) start.boundary.bound)
+
+-- what a run shows that stands at a boundary; a segment ends at one, so there is one
+abbrev pub ready_shown_at : Job → ReadyStart → ReadyRun → Option Boundary → Option Difference
+ready_shown_at job start run None = Some differences.Late
+ready_shown_at job start run (Some boundary) = difference_at job boundary (but_clocks run) (ready_step job start)
+
+-- what a first segment shows: one that isn't there is late
+abbrev pub ready_shown_by : Job → ReadyStart → Option ReadyRun → Option Difference
+ready_shown_by job start None = Some differences.Late
+ready_shown_by job start (Some run) = ready_shown_at job start run (boundary_at job run.state.at)
+
+-- the first difference that a start shows
+unfoldable pub ready_difference_of : Job → ReadyStart → Option Difference
+ready_difference_of job start = ready_shown_by job start (ready_segment_of job start)
+
+-- a start of the job differs: it shows this difference
+pub record ReadyDiffers (job : Job) (start : ReadyStart) (difference : Difference) : Type 0 where
+  pub begins : IsReadyStart job start
+  pub shows : ready_difference_of job start ≡ Some difference
