@@ -7,12 +7,12 @@ use Rattle.mw_cycle.specs.Run.{BoardRun}
 use Rattle.mw_macro.specs.DescribedStep.{Stepped}
 use Rattle.mw_macro.specs.Machine.{Description}
 use Rattle.mw_macro.specs.State.{MachineState}
-use Rattle.mw_rel.specs.Certified.{Certified, IsKept, at_cycle, boundary_at}
+use Rattle.mw_rel.specs.Certified.{Certified, IsBoundaryOf, IsKept, boundary_at}
 use Rattle.mw_rel.specs.DescribedRun.{IsDescribedRun}
 use Rattle.mw_rel.specs.InRelation.{InRelation, pair_of}
 use Rattle.mw_rel.specs.Job.{Job}
 use Rattle.mw_rel.specs.Start.{addresses_of}
-use Rattle.mw_ready.specs.Certified.{IsReadyKept, ReadyCertified, ready_at, ready_line}
+use Rattle.mw_ready.specs.Certified.{IsReadyBoundaryOf, IsReadyKept, ReadyCertified, ready_at, ready_line}
 use Rattle.mw_ready.specs.DescribedRun.{IsReadyDescribedRun, with_request}
 use Rattle.mw_ready.specs.Start.{ReadyStart, always_ready, thinned_start}
 use Rattle.mw_ready.specs.Laws.{CertifiedAlike}
@@ -53,7 +53,7 @@ kept_with job start k kept =
     let thin = thinned_start job start in
     let same = at_thinned job start in
     let run = run_thinned job start kept.cycle in
-    let alike : (j c : ℕ) → IsBoundary addresses (ready_at job start) j c → IsBoundary addresses (at_cycle job thin) j c =
+    let alike : (j c : ℕ) → IsReadyBoundaryOf job start j c → IsBoundaryOf job thin j c =
     λ j c. subst (λ at. IsBoundary addresses at j c) same in
     record {
       cycle = kept.cycle;
@@ -80,7 +80,7 @@ kept_without job start k kept =
     let thin = thinned_start job start in
     let same = at_thinned job start in
     let run = run_thinned job start kept.cycle in
-    let alike : (j c : ℕ) → IsBoundary addresses (at_cycle job thin) j c → IsBoundary addresses (ready_at job start) j c =
+    let alike : (j c : ℕ) → IsBoundaryOf job thin j c → IsReadyBoundaryOf job start j c =
     λ j c. subst (λ at. IsBoundary addresses at j c) (sym same) in
     record {
       cycle = kept.cycle;

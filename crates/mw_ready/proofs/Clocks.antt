@@ -58,7 +58,7 @@ met count n from (suc more) up before here end =
     met_at count n from (least_from (λ at. count at == n) (from + 1) more) (count from == n) refl before
     (λ other.
     let less = less_number (count from) n other here in
-    let next : count (from + 1) ≤ suc (count from) = subst (λ x. count x ≤ suc (count from)) (sym (add-one from)) (up from) in
+    let next : count (from + 1) ≤ suc (count from) = rw (add-one from) (up from) in
     let last : count (from + 1 + more) ≡ count (from + suc more) = ap count (omega arith) in
     met count n (from + 1) more up (below_next count n from before less) (omega arith) (omega arith))
 

@@ -29,7 +29,7 @@ pub at_thinned : (job : Job) (start : ReadyStart) → ready_at job start ≡ at_
 at_thinned job start = λ i n. (run_thinned job start n i).state.at
 
 -- the described step is that of the start without waits
-step_thinned : (job : Job) (start : ReadyStart) → ready_step job start ≡ first_step job (thinned_start job start)
+pub step_thinned : (job : Job) (start : ReadyStart) → ready_step job start ≡ first_step job (thinned_start job start)
 step_thinned job start =
     ap (λ line. step_of job.machine start.pair.machine line start.env.inputs 0)
     (line_thinned job.board job.store start.env start.pair.board 0)
@@ -42,7 +42,7 @@ mapped : (job : Job) (start : ReadyStart) (found : Option ℕ) → option_map bu
 mapped job start None = refl
 mapped job start (Some n) = ap Some (run_thinned job start n)
 
-segment_thinned : (job : Job) (start : ReadyStart)
+pub segment_thinned : (job : Job) (start : ReadyStart)
     → option_map but_clocks (ready_segment_of job start) ≡ segment_of job (thinned_start job start)
 unfolding first_segment
 segment_thinned job start =

@@ -1,6 +1,6 @@
 -- Lists without the entries whose numbers pass a test.
-use Rattle.std.proofs.Common.{◌≡◌, ℕ, zero, suc, ◌+◌, ◌<◌, List, [], ◌∷◌, Bool, true, false, cond, refl, sym, ap, ◌∙◌}
-use Rattle.std.proofs.Common.{add-zero, arith}
+use Rattle.std.proofs.Common.{◌≡◌, ℕ, zero, suc, ◌+◌, ◌<◌, List, [], ◌∷◌, Bool, true, false, cond, refl, sym, ap}
+use Rattle.std.proofs.Common.{ap₂, ◌∙◌, add-zero, arith, drop}
 use Rattle.std.specs.Prelude.{slice_index, slice_index_or}
 use Rattle.mw_ready.specs.Thinned.{without_from}
 
@@ -50,6 +50,41 @@ pub all_left : {A : Type 0} (test : ℕ → Bool) (n : ℕ) (xs : List A) → ((
     → without_from test n xs ≡ xs
 all_left test n [] none = refl
 all_left test n (x ∷ xs) none = rw (none n) (ap (λ rest. x ∷ rest) (all_left test (n + 1) xs none))
+
+-- what is left behind an entry is left of the entries behind it
+nothing_behind : {A : Type 0} (test : ℕ → Bool) (n at count : ℕ)
+    → drop {A = A} count [] ≡ without_from test n (drop at [])
+nothing_behind test n zero zero = refl
+nothing_behind test n zero (suc count) = refl
+nothing_behind test n (suc at) zero = refl
+nothing_behind test n (suc at) (suc count) = refl
+
+behind : {A : Type 0} (first : Bool) (x : A) (rest : List A) (count : ℕ)
+    → drop (cond first count (suc count)) (cond first rest (x ∷ rest)) ≡ drop count rest
+behind true x rest count = refl
+behind false x rest count = refl
+
+pub left_behind : {A : Type 0} (test : ℕ → Bool) (n : ℕ) (xs : List A) (at : ℕ)
+    → drop (left test n at) (without_from test n xs) ≡ without_from test (n + at) (drop at xs)
+left_behind test n [] at = nothing_behind test (n + at) at (left test n at)
+left_behind test n (x ∷ xs) zero = rw (add-zero n) refl
+left_behind test n (x ∷ xs) (suc at) =
+    let place : n + 1 + at ≡ n + suc at = omega arith in
+    behind (test n) x (without_from test (n + 1) xs) (left test (n + 1) at)
+    ∙ left_behind test (n + 1) xs at
+    ∙ ap (λ from. without_from test from (drop at xs)) place
+
+-- tests that agree from two numbers on leave the same entries
+pub left_alike : {A : Type 0} (one other : ℕ → Bool) (n m : ℕ) (xs : List A) → ((i : ℕ) → one (n + i) ≡ other (m + i))
+    → without_from one n xs ≡ without_from other m xs
+left_alike one other n m [] same = refl
+left_alike one other n m (x ∷ xs) same =
+    let here : one n ≡ other m = ap one (sym (add-zero n)) ∙ same 0 ∙ ap other (add-zero m) in
+    let rest = left_alike one other (n + 1) (m + 1) xs (λ i.
+    let before : n + 1 + i ≡ n + (i + 1) = omega arith in
+    let after : m + (i + 1) ≡ m + 1 + i = omega arith in
+    ap one before ∙ same (i + 1) ∙ ap other after) in
+    ap₂ (λ first others. cond first others (x ∷ others)) here rest
 
 -- ---- bounds
 

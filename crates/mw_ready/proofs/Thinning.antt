@@ -76,7 +76,8 @@ cycle_but board store env thin run same =
     rw (clock_but (event (given_to_clock env run.clock)) run.clock) (ap longer same)
 
 -- a clock more
-clock_thinned : (board : BoardParts) (store : List ℕ) (env : ReadyEnvironment) (start : BoardState) (n : ℕ) (wait : Bool)
+clock_thinned : (board : BoardParts) (store : List ℕ) (env : ReadyEnvironment) (start : BoardState) (n : ℕ)
+    (wait : Bool)
     → (let run = run_of_clocks board store env start n in let thin = thinned board store env start in
     was_wait board store env start n ≡ wait
     → but_clocks run ≡ run_of board store thin start run.clock.cycle
@@ -116,7 +117,8 @@ makes n before true made less = absurd (omega arith)
 makes n before false made less = (refl, omega arith)
 
 -- the clock with this number makes cycle n
-record Makes (board : BoardParts) (store : List ℕ) (env : ReadyEnvironment) (start : BoardState) (n clock : ℕ) : Type 0 where
+record Makes (board : BoardParts) (store : List ℕ) (env : ReadyEnvironment) (start : BoardState)
+    (n clock : ℕ) : Type 0 where
   no_wait : was_wait board store env start clock ≡ false
   cycles : cycles_in board store env start clock ≡ n
 

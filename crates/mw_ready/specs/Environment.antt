@@ -1,5 +1,5 @@
 -- The outside of a run whose memory may not be ready.
-use Rattle.std.specs.Prelude.{ℕ, ◌<◌, ◌^◌, List, Bool, false, slice_index, slice_index_or}
+use Rattle.std.specs.Prelude.{ℕ, ◌<◌, ◌^◌, List, Bool, false, slice_index, slice_index_or, drop}
 use Rattle.mw_board.specs.declared.parts.BoardParts.{BoardParts}
 use Rattle.mw_cycle.specs.declared.state.CycleIn.{CycleIn}
 
@@ -32,6 +32,15 @@ given_to_clock env place = record {
 -- the wait bit of the clock at a place
 abbrev pub wait_bit : ReadyEnvironment → ReadyClock → Bool
 wait_bit env place = slice_index_or env.wait place.clocks false
+
+-- what is left of the environment at a place
+abbrev pub ready_rest_at : ReadyEnvironment → ReadyClock → ReadyEnvironment
+ready_rest_at env place = record {
+  line = drop place.clocks env.line;
+  noise = drop place.clocks env.noise;
+  wait = drop place.clocks env.wait;
+  inputs = drop place.taken env.inputs;
+}
 
 -- each noise word is below 2^14, and each input word has the board's width
 pub record IsReadyEnvironment (board : BoardParts) (env : ReadyEnvironment) : Type 0 where

@@ -1,19 +1,20 @@
 -- Laws of runs with waits.
-use Rattle.std.specs.Prelude.{◌≡◌, ◌↔◌, ℕ, ◌<◌, List}
+use Rattle.std.specs.Prelude.{◌≡◌, ◌↔◌, ℕ, ◌+◌, ◌<◌, List}
 use Rattle.mw_board.specs.declared.parts.BoardParts.{BoardParts}
+use Rattle.mw_cycle.specs.Environment.{rest_at}
 use Rattle.mw_cycle.specs.Run.{run_of}
 use Rattle.mw_cycle.specs.State.{BoardState}
 use Rattle.mw_rel.specs.Certified.{Certified}
-use Rattle.mw_rel.specs.Differs.{Differs, difference_of}
-use Rattle.mw_rel.specs.Job.{Job}
+use Rattle.mw_rel.specs.Differs.{Differs, DiffersAt, difference_of}
+use Rattle.mw_rel.specs.Job.{Job, IsJob}
 use Rattle.mw_rel.specs.Start.{Start, IsStart}
 use Rattle.mw_rel.specs.declared.difference.Difference.{Difference}
 use Rattle.mw_ready.specs.Certified.{ReadyCertified}
-use Rattle.mw_ready.specs.Differs.{ReadyDiffers, ready_difference_of}
-use Rattle.mw_ready.specs.Environment.{ReadyEnvironment}
-use Rattle.mw_ready.specs.Run.{cycles_in, clocks_for, run_of_cycles}
+use Rattle.mw_ready.specs.Differs.{ReadyDiffers, ReadyDiffersAt, ready_difference_of}
+use Rattle.mw_ready.specs.Environment.{ReadyEnvironment, IsReadyEnvironment, ReadyClock, ready_rest_at}
+use Rattle.mw_ready.specs.Run.{cycles_in, clocks_for, run_of_cycles, then_ready_run}
 use Rattle.mw_ready.specs.Start.{ReadyStart, IsReadyStart, thinned_start, always_ready}
-use Rattle.mw_ready.specs.Thinned.{thinned, but_clocks}
+use Rattle.mw_ready.specs.Thinned.{thinned, but_clocks, place_of}
 
 -- so many clocks make n cycles, and fewer make fewer
 pub record IsLeastFor (board : BoardParts) (store : List ℕ) (env : ReadyEnvironment) (start : BoardState)
@@ -31,6 +32,31 @@ CyclesCome = (board : BoardParts) (store : List ℕ) (env : ReadyEnvironment) (s
 abbrev pub RunsAreThinned : Type 0
 RunsAreThinned = (board : BoardParts) (store : List ℕ) (env : ReadyEnvironment) (start : BoardState) (n : ℕ)
     → but_clocks (run_of_cycles board store env start n) ≡ run_of board store (thinned board store env start) start n
+
+-- clocks are the least that make n cycles only where they are those of the run
+abbrev pub ClocksAreOne : Type 0
+ClocksAreOne = (board : BoardParts) (store : List ℕ) (env : ReadyEnvironment) (start : BoardState) (n clocks : ℕ)
+    → IsLeastFor board store env start n clocks → clocks ≡ clocks_for board store env start n
+
+-- A run of n + m cycles is a run of n, and then of m from the state that it reached, over what is left of the
+-- environment at the place that it reached.
+abbrev pub ReadyRunsGoOn : Type 0
+ReadyRunsGoOn = (board : BoardParts) (store : List ℕ) (env : ReadyEnvironment) (start : BoardState) (n m : ℕ)
+    → let first = run_of_cycles board store env start n in
+    run_of_cycles board store env start (n + m)
+    ≡ then_ready_run first (run_of_cycles board store (ready_rest_at env first.clock) first.state m)
+
+-- what is left of an environment is again one
+abbrev pub ReadyRestsAreEnvironments : Type 0
+ReadyRestsAreEnvironments = (board : BoardParts) (env : ReadyEnvironment) (place : ReadyClock)
+    → IsReadyEnvironment board env → IsReadyEnvironment board (ready_rest_at env place)
+
+-- what is left of an environment after n cycles is, without its waits, what is left of it without its waits
+abbrev pub RestsAreThinned : Type 0
+RestsAreThinned = (board : BoardParts) (store : List ℕ) (env : ReadyEnvironment) (start : BoardState) (n : ℕ)
+    → let run = run_of_cycles board store env start n in
+    thinned board store (ready_rest_at env run.clock) run.state
+    ≡ rest_at (thinned board store env start) (place_of run.clock)
 
 -- without its waits a start of a job is one without waits
 abbrev pub ThinnedAreStarts : Type 0
@@ -54,6 +80,19 @@ DifferencesAreThinned = (job : Job) (start : ReadyStart)
 abbrev pub StartsDifferAsThinned : Type 0
 StartsDifferAsThinned = (job : Job) (start : ReadyStart) (difference : Difference) → IsReadyStart job start
     → ReadyDiffers job start difference ↔ Differs job (thinned_start job start) difference
+
+-- a start differs at a step exactly where it does without its waits, by the same difference
+abbrev pub StepsDifferAsThinned : Type 0
+StepsDifferAsThinned = (job : Job) (start : ReadyStart) (step : ℕ) (difference : Difference) → IsReadyStart job start
+    → ReadyDiffersAt job start step difference ↔ DiffersAt job (thinned_start job start) step difference
+
+-- no start differs
+abbrev pub NoReadyStartDiffers : Job → Type 0
+NoReadyStartDiffers job = (start : ReadyStart) (difference : Difference) → ¬ ReadyDiffers job start difference
+
+-- a job is certified over all environments exactly where none of its starts differs
+abbrev pub ReadyCertifiedWhereNoneDiffers : Type 0
+ReadyCertifiedWhereNoneDiffers = (job : Job) → IsJob job → ReadyCertified job ↔ NoReadyStartDiffers job
 
 -- a job is certified over all environments exactly where it is over those without waits
 abbrev pub CertifiedAlike : Type 0

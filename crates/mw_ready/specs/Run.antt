@@ -91,3 +91,21 @@ run_of_cycles board store env start n = run_of_clocks board store env start (clo
 -- the line in cycle n: that of the clock that makes it, which is the last of the least number that makes n + 1 cycles
 abbrev pub line_of_cycle : BoardParts → List ℕ → ReadyEnvironment → BoardState → ℕ → Bool
 line_of_cycle board store env start n = slice_index_or env.line (clocks_for board store env start (n + 1) - 1) false
+
+-- ---- the law of suffixes
+
+-- the place of a run that goes on from one place by another
+abbrev pub further_clock : ReadyClock → ReadyClock → ReadyClock
+further_clock place by = record {
+  cycle = place.cycle + by.cycle;
+  taken = place.taken + by.taken;
+  clocks = place.clocks + by.clocks;
+}
+
+-- a run, and then another that begins where it ended
+abbrev pub then_ready_run : ReadyRun → ReadyRun → ReadyRun
+then_ready_run first second = record {
+  state = second.state;
+  events = first.events ++ second.events;
+  clock = further_clock first.clock second.clock;
+}

@@ -5,6 +5,8 @@
 mod laws;
 
 pub use laws::{
-    certified_alike, cycles_come, differences_are_thinned, runs_are_thinned,
-    starts_differ_as_thinned, starts_without_waits_are_starts, thinned_are_starts,
+    certified_alike, clocks_are_one, cycles_come, differences_are_thinned,
+    ready_certified_where_none_differs, ready_rests_are_environments, ready_runs_go_on,
+    rests_are_thinned, runs_are_thinned, starts_differ_as_thinned, starts_without_waits_are_starts,
+    steps_differ_as_thinned, thinned_are_starts,
 };
