@@ -15,9 +15,9 @@ use Rattle.mw_rel.specs.Start.{addresses_of}
 use Rattle.mw_ready.specs.Certified.{IsReadyBoundaryOf, IsReadyKept, ReadyCertified, ready_at, ready_line}
 use Rattle.mw_ready.specs.DescribedRun.{IsReadyDescribedRun, with_request}
 use Rattle.mw_ready.specs.Start.{ReadyStart, always_ready, thinned_start}
-use Rattle.mw_ready.specs.Laws.{CertifiedAlike}
+use Rattle.mw_ready.specs.StartLaws.{CertifiedAlike}
 use Rattle.mw_ready.proofs.Differences.{at_thinned, run_thinned}
-use Rattle.mw_ready.proofs.Starts.{starts_without_waits_are_starts, thinned_are_starts}
+use Rattle.mw_ready.proofs.Begins.{starts_without_waits_are_starts, thinned_are_starts}
 use Rattle.mw_ready.proofs.Thinning.{line_thinned}
 
 -- ---- described runs whose requests are the same lines

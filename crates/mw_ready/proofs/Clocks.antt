@@ -14,7 +14,7 @@ use Rattle.mw_ready.specs.Environment.{ReadyEnvironment, ReadyClock, given_to_cl
 use Rattle.mw_ready.specs.Run.{ReadyRun, uses_memory, with_wait, with_cycle, clock_of_cycle, with_clock}
 use Rattle.mw_ready.specs.Run.{run_of_clocks, cycles_in, least_from}
 use Rattle.mw_ready.specs.Thinned.{was_wait}
-use Rattle.mw_ready.specs.Laws.{CyclesCome}
+use Rattle.mw_ready.specs.RunLaws.{CyclesCome, ClocksAreBounded}
 
 -- ---- the least number
 
@@ -61,6 +61,16 @@ met count n from (suc more) up before here end =
     let next : count (from + 1) ≤ suc (count from) = rw (add-one from) (up from) in
     let last : count (from + 1 + more) ≡ count (from + suc more) = ap count (omega arith) in
     met count n (from + 1) more up (below_next count n from before less) (omega arith) (omega arith))
+
+-- the least number comes within the numbers
+at_within : (b : Bool) (from rest more : ℕ) → rest ≤ from + 1 + more → cond b from rest ≤ from + suc more
+at_within true from rest more within = omega arith
+at_within false from rest more within = omega arith
+
+least_within : (test : ℕ → Bool) (from more : ℕ) → least_from test from more ≤ from + more
+least_within test from zero = omega arith
+least_within test from (suc more) =
+    at_within (test from) from (least_from test (from + 1) more) more (least_within test (from + 1) more)
 
 -- ---- how many cycles clocks make
 
@@ -148,3 +158,8 @@ cycles_come board store env start n =
     (omega arith)
     (rw behind (cycles_pass board store env start n)) in
     record { made = first.made; least = first.least }
+
+pub clocks_are_bounded : ClocksAreBounded
+clocks_are_bounded board store env start n =
+    let within = least_within (λ clocks. cycles_in board store env start clocks == n) 0 (length env.wait + n) in
+    omega arith

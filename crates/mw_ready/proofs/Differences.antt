@@ -7,14 +7,15 @@ use Rattle.mw_rel.specs.Job.{Job}
 use Rattle.mw_rel.specs.Relation.{Boundary}
 use Rattle.mw_rel.specs.Start.{addresses_of}
 use Rattle.mw_macro.specs.DescribedStep.{step_of}
+use Rattle.mw_ready.specs.Boundary.{ready_first_segment}
 use Rattle.mw_ready.specs.Certified.{ready_run, ready_at}
 use Rattle.mw_ready.specs.Differs.{ready_step, ready_segment_of, ready_shown_at, ready_shown_by}
 use Rattle.mw_ready.specs.Differs.{ready_difference_of}
 use Rattle.mw_ready.specs.Run.{ReadyRun}
 use Rattle.mw_ready.specs.Start.{ReadyStart, thinned_start}
 use Rattle.mw_ready.specs.Thinned.{but_clocks}
-use Rattle.mw_ready.specs.Laws.{DifferencesAreThinned, StartsDifferAsThinned}
-use Rattle.mw_ready.proofs.Starts.{thinned_are_starts}
+use Rattle.mw_ready.specs.StartLaws.{DifferencesAreThinned, StartsDifferAsThinned}
+use Rattle.mw_ready.proofs.Begins.{thinned_are_starts}
 use Rattle.mw_ready.proofs.Thinning.{runs_are_thinned, line_thinned}
 
 -- ---- runs of starts
@@ -44,7 +45,7 @@ mapped job start (Some n) = ap Some (run_thinned job start n)
 
 pub segment_thinned : (job : Job) (start : ReadyStart)
     → option_map but_clocks (ready_segment_of job start) ≡ segment_of job (thinned_start job start)
-unfolding first_segment
+unfolding first_segment ready_first_segment
 segment_thinned job start =
     mapped job start (first_boundary (addresses_of job) (ready_at job start) start.boundary.bound)
     ∙ ap (λ at. option_map (board_run job (thinned_start job start))

@@ -14,7 +14,7 @@ use Rattle.mw_ready.specs.Environment.{ReadyEnvironment, ReadyClock, given_to_cl
 use Rattle.mw_ready.specs.Environment.{at_first_clock}
 use Rattle.mw_ready.specs.Run.{ReadyRun, is_wait, with_wait, with_cycle, clock_of_cycle, with_clock}
 use Rattle.mw_ready.specs.Run.{run_of_clocks, cycles_in, clocks_for, further_clock, then_ready_run}
-use Rattle.mw_ready.specs.Laws.{IsLeastFor, ClocksAreOne, ReadyRunsGoOn, ReadyRestsAreEnvironments}
+use Rattle.mw_ready.specs.RunLaws.{IsLeastFor, ClocksAreOne, ReadyRunsGoOn, ReadyRestsAreEnvironments}
 use Rattle.mw_ready.proofs.Clocks.{cycles_come}
 
 -- ---- one clock

@@ -1,9 +1,9 @@
+pub mod Begins
 pub mod Certifying
 pub mod Clocks
 pub mod Differences
 pub mod Entries
 pub mod Further
 pub mod Rests
-pub mod Starts
 pub mod Steps
 pub mod Thinning

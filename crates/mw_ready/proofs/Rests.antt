@@ -6,7 +6,7 @@ use Rattle.mw_cycle.specs.Environment.{rest_at}
 use Rattle.mw_ready.specs.Environment.{ReadyEnvironment, ready_rest_at}
 use Rattle.mw_ready.specs.Run.{run_of_clocks, clocks_for, is_wait}
 use Rattle.mw_ready.specs.Thinned.{without_from, was_wait, thinned, place_of}
-use Rattle.mw_ready.specs.Laws.{RestsAreThinned}
+use Rattle.mw_ready.specs.RunLaws.{RestsAreThinned}
 use Rattle.mw_ready.proofs.Clocks.{clocks_are}
 use Rattle.mw_ready.proofs.Entries.{left_behind, left_alike}
 use Rattle.mw_ready.proofs.Further.{clocks_further, wait_further}

@@ -10,18 +10,20 @@ use Rattle.mw_rel.specs.Relation.{Boundary}
 use Rattle.mw_rel.specs.Start.{Start, IsStart, addresses_of}
 use Rattle.mw_rel.specs.declared.difference.Difference.{Difference}
 use Rattle.mw_rel.proofs.Law as relations
+use Rattle.mw_ready.specs.Boundary.{ready_first_segment}
 use Rattle.mw_ready.specs.Certified.{ready_run, ready_at}
 use Rattle.mw_ready.specs.Differs.{ReadyDiffersAt, ready_segment_of, ready_start_after}
 use Rattle.mw_ready.specs.Environment.{IsReadyEnvironment}
 use Rattle.mw_ready.specs.Run.{ReadyRun}
 use Rattle.mw_ready.specs.Start.{ReadyStart, IsReadyStart, always_ready, thinned_start}
 use Rattle.mw_ready.specs.Thinned.{but_clocks}
-use Rattle.mw_ready.specs.Laws.{StepsDifferAsThinned, NoReadyStartDiffers, ReadyCertifiedWhereNoneDiffers}
+use Rattle.mw_ready.specs.StartLaws.{StepsDifferAsThinned, NoReadyStartDiffers, ReadyCertifiedWhereNoneDiffers}
 use Rattle.mw_ready.proofs.Certifying.{certified_alike}
-use Rattle.mw_ready.proofs.Differences.{differences_are_thinned, segment_thinned, starts_differ_as_thinned, step_thinned}
+use Rattle.mw_ready.proofs.Differences.{differences_are_thinned, segment_thinned, starts_differ_as_thinned}
+use Rattle.mw_ready.proofs.Differences.{step_thinned}
+use Rattle.mw_ready.proofs.Begins.{starts_without_waits_are_starts, thinned_are_starts}
 use Rattle.mw_ready.proofs.Further.{ready_rests_are_environments}
 use Rattle.mw_ready.proofs.Rests.{rests_are_thinned}
-use Rattle.mw_ready.proofs.Starts.{starts_without_waits_are_starts, thinned_are_starts}
 
 -- ---- the start of the next segment
 
@@ -35,6 +37,12 @@ made_run : (job : Job) (start : ReadyStart) (run : ReadyRun) (found : Option ℕ
 made_run job start run None is = cc
 made_run job start run (Some n) is = record { cycles = n; is = let same : ready_run job start n ≡ run = cc in same }
 
+segment_made : (job : Job) (start : ReadyStart) (run : ReadyRun) → ready_segment_of job start ≡ Some run
+    → IsRun job start run
+unfolding ready_first_segment
+segment_made job start run segment = made_run job start run
+    (first_boundary (addresses_of job) (ready_at job start) start.boundary.bound) segment
+
 -- the start after n cycles
 after_cycles : (job : Job) (start : ReadyStart) (boundary : Boundary) (n : ℕ)
     → thinned_start job (ready_start_after job start (ready_run job start n) boundary)
@@ -47,8 +55,7 @@ after_thinned : (job : Job) (start : ReadyStart) (run : ReadyRun) (boundary : Bo
     → ready_segment_of job start ≡ Some run → thinned_start job (ready_start_after job start run boundary)
     ≡ start_after job (thinned_start job start) (but_clocks run) boundary
 after_thinned job start run boundary segment =
-    let made = made_run job start run
-    (first_boundary (addresses_of job) (ready_at job start) start.boundary.bound) segment in
+    let made = segment_made job start run segment in
     subst (λ (r : ReadyRun). thinned_start job (ready_start_after job start r boundary)
     ≡ start_after job (thinned_start job start) (but_clocks r) boundary) made.is
     (after_cycles job start boundary made.cycles)
@@ -60,7 +67,8 @@ steps_without : (job : Job) (start : ReadyStart) (step : ℕ) (difference : Diff
 steps_without job start step difference (ReadyDiffersAt.here one other differs) =
     DiffersAt.here (thinned_start job start) difference
     ((starts_differ_as_thinned job start difference differs.begins).0 differs)
-steps_without job start step difference (ReadyDiffersAt.later one run boundary before other is none segment there rest) =
+steps_without job start step difference
+    (ReadyDiffersAt.later one run boundary before other is none segment there rest) =
     DiffersAt.later (thinned_start job start) (but_clocks run) boundary before difference
     (thinned_are_starts job start is) (sym (differences_are_thinned job start) ∙ none)
     (sym (segment_thinned job start) ∙ ap (option_map but_clocks) segment) there

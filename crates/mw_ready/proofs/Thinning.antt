@@ -14,7 +14,7 @@ use Rattle.mw_ready.specs.Environment.{ReadyEnvironment, ReadyClock, given_to_cl
 use Rattle.mw_ready.specs.Run.{ReadyRun, with_wait, with_cycle, clock_of_cycle, with_clock, run_of_clocks, cycles_in}
 use Rattle.mw_ready.specs.Run.{clocks_for, line_of_cycle}
 use Rattle.mw_ready.specs.Thinned.{without_from, was_wait, thinned, place_of, but_clocks}
-use Rattle.mw_ready.specs.Laws.{IsLeastFor, RunsAreThinned}
+use Rattle.mw_ready.specs.RunLaws.{IsLeastFor, RunsAreThinned}
 use Rattle.mw_ready.proofs.Clocks.{no_cycle, cycles_more, clocks_are, cycles_come}
 use Rattle.mw_ready.proofs.Entries.{left, left_more, entry_left}
 

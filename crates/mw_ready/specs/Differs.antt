@@ -1,6 +1,5 @@
 -- When a start with waits differs: by the first difference between the board's first segment and one described step.
-use Rattle.std.specs.Prelude.{◌≡◌, ℕ, ◌+◌, Option, Some, None, option_map}
-use Rattle.mw_cycle.specs.Boundary.{first_boundary}
+use Rattle.std.specs.Prelude.{◌≡◌, ℕ, ◌+◌, Option, Some, None}
 use Rattle.mw_macro.specs.DescribedStep.{Stepped, step_of}
 use Rattle.mw_rel.specs.Certified.{boundary_at}
 use Rattle.mw_rel.specs.Differs.{difference_at}
@@ -10,7 +9,8 @@ use Rattle.mw_rel.specs.Relation.{Boundary}
 use Rattle.mw_rel.specs.Start.{addresses_of}
 use Rattle.mw_rel.specs.declared.difference.Difference.{Difference}
 use Rattle.mw_rel.specs.declared.difference.Difference.TheVariants as differences
-use Rattle.mw_ready.specs.Certified.{ready_run, ready_at, ready_line}
+use Rattle.mw_ready.specs.Boundary.{ready_first_segment}
+use Rattle.mw_ready.specs.Certified.{ready_line}
 use Rattle.mw_ready.specs.Environment.{ready_rest_at}
 use Rattle.mw_ready.specs.Run.{ReadyRun}
 use Rattle.mw_ready.specs.Start.{ReadyStart, IsReadyStart}
@@ -21,11 +21,11 @@ use Rattle.mw_ready.specs.Thinned.{but_clocks}
 abbrev pub ready_step : Job → ReadyStart → Stepped
 ready_step job start = step_of job.machine start.pair.machine (ready_line job start 0) start.env.inputs 0
 
--- a start's first segment, where it keeps its bound, in which waits aren't counted; nothing where the bound's number of
--- cycles passes without a boundary
+-- a start's first segment, where it keeps its bound; nothing where the bound's number of cycles passes without a
+-- boundary
 abbrev pub ready_segment_of : Job → ReadyStart → Option ReadyRun
-ready_segment_of job start = option_map (ready_run job start)
-    (first_boundary (addresses_of job) (ready_at job start) start.boundary.bound)
+ready_segment_of job start = ready_first_segment job.board job.store start.env start.pair.board
+    (addresses_of job) start.boundary.bound
 
 -- what a run shows that stands at a boundary; a segment ends at one, so there is one
 abbrev pub ready_shown_at : Job → ReadyStart → ReadyRun → Option Boundary → Option Difference

@@ -2,11 +2,15 @@
 //! how many clocks a run takes.
 #![tactic(auto)]
 
-mod laws;
+mod runs;
+mod starts;
 
-pub use laws::{
-    certified_alike, clocks_are_one, cycles_come, differences_are_thinned,
-    ready_certified_where_none_differs, ready_rests_are_environments, ready_runs_go_on,
-    rests_are_thinned, runs_are_thinned, starts_differ_as_thinned, starts_without_waits_are_starts,
-    steps_differ_as_thinned, thinned_are_starts,
+pub use runs::{
+    clocks_are_bounded, clocks_are_one, cycles_come, ready_rests_are_environments,
+    ready_runs_go_on, rests_are_thinned, runs_are_thinned,
+};
+pub use starts::{
+    certified_alike, differences_are_thinned, ready_certified_where_none_differs,
+    starts_differ_as_thinned, starts_without_waits_are_starts, steps_differ_as_thinned,
+    thinned_are_starts,
 };

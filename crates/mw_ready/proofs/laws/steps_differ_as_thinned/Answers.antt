@@ -1,5 +1,0 @@
-use Rattle.mw_ready.proofs.Steps.{steps_differ_as_thinned}
-use Rattle.mw_ready.proofs.laws.steps_differ_as_thinned.Goals as goal
-
-pub returns : goal.returns
-returns c = steps_differ_as_thinned

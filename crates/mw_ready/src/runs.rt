@@ -1,0 +1,42 @@
+// Laws of runs with waits.
+ghost use Rattle.mw_ready.specs.RunLaws.{ClocksAreBounded, ClocksAreOne, CyclesCome, ReadyRestsAreEnvironments};
+ghost use Rattle.mw_ready.specs.RunLaws.{ReadyRunsGoOn, RestsAreThinned, RunsAreThinned};
+
+/// The law of waits: each wait ends, so that each number of cycles is made, and the clocks that a run of so many cycles
+/// has are the least that make them.
+pub fn cycles_come()
+    ensures { CyclesCome }
+{}
+
+/// The law of the end: a run of n cycles has at most n clocks beside those of the wait list.
+pub fn clocks_are_bounded()
+    ensures { ClocksAreBounded }
+{}
+
+/// The law of clocks: only the clocks of the run of n cycles are the least that make n cycles.
+pub fn clocks_are_one()
+    ensures { ClocksAreOne }
+{}
+
+/// The law of runs with waits: a run of n cycles has the state, the events and the inputs taken of the run of n cycles
+/// without waits, over the lists from which the clocks that were waits are taken out.
+pub fn runs_are_thinned()
+    ensures { RunsAreThinned }
+{}
+
+/// The law of suffixes: a run of n + m cycles is a run of n, and then of m from the state that it reached, over what is
+/// left of the environment at the place that it reached.
+pub fn ready_runs_go_on()
+    ensures { ReadyRunsGoOn }
+{}
+
+/// The law of what is left: at each place, what is left of an environment is again one.
+pub fn ready_rests_are_environments()
+    ensures { ReadyRestsAreEnvironments }
+{}
+
+/// The law of what is left without waits: after n cycles, what is left of an environment is, without its waits, what is
+/// left of it without its waits.
+pub fn rests_are_thinned()
+    ensures { RestsAreThinned }
+{}
