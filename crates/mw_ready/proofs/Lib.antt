@@ -4,6 +4,7 @@ pub mod Clocks
 pub mod Differences
 pub mod Entries
 pub mod Further
+pub mod OnLiterals
 pub mod Rests
 pub mod Steps
 pub mod Thinning

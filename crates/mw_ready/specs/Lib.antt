@@ -8,3 +8,4 @@ pub mod DescribedRun
 pub mod Certified
 pub mod Differs
 pub mod StartLaws
+pub mod Examples

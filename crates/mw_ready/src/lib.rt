@@ -2,9 +2,11 @@
 //! how many clocks a run takes.
 #![tactic(auto)]
 
+mod examples;
 mod runs;
 mod starts;
 
+pub use examples::waits_are_worked;
 pub use runs::{
     clocks_are_bounded, clocks_are_one, cycles_come, ready_rests_are_environments,
     ready_runs_go_on, rests_are_thinned, runs_are_thinned,
