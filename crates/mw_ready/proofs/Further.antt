@@ -1,5 +1,5 @@
 -- Runs with waits go on from the place that they have reached.
-use Rattle.std.proofs.Common.{◌≡◌, ℕ, zero, suc, ◌+◌, ◌≤◌, ◌-◌, List, [], ◌++◌, Bool, true, false, cond, Option}
+use Rattle.std.proofs.Common.{◌≡◌, ℕ, zero, suc, ◌+◌, ◌<◌, ◌≤◌, ◌-◌, List, [], ◌++◌, Bool, true, false, cond, Option}
 use Rattle.std.proofs.Common.{Some, None, refl, ap, ap₂, sym, ◌∙◌, add-zero, add_assoc, append_assoc, arith, inl, inr}
 use Rattle.std.specs.Option.{option_to_list}
 use Rattle.std.proofs.lemmas.Bool.{cases_lt}
@@ -14,7 +14,7 @@ use Rattle.mw_ready.specs.Environment.{ReadyEnvironment, ReadyClock, given_to_cl
 use Rattle.mw_ready.specs.Environment.{at_first_clock}
 use Rattle.mw_ready.specs.Run.{ReadyRun, is_wait, with_wait, with_cycle, clock_of_cycle, with_clock}
 use Rattle.mw_ready.specs.Run.{run_of_clocks, cycles_in, clocks_for, further_clock, then_ready_run}
-use Rattle.mw_ready.specs.RunLaws.{IsLeastFor, ClocksAreOne, ReadyRunsGoOn, ReadyRestsAreEnvironments}
+use Rattle.mw_ready.specs.RunLaws.{IsLeastFor, ClocksAreOne, ReadyRunsGoOn, ClocksGoOn, ReadyRestsAreEnvironments}
 use Rattle.mw_ready.proofs.Clocks.{cycles_come}
 
 -- ---- one clock
@@ -155,6 +155,44 @@ ready_runs_go_on board store env start n m =
     clocks_are_one board store env start (n + m) (a + b) (least_further board store env start n m a b
     (cycles_come board store env start n) (cycles_come board store rest first.state m)) in
     ap (run_of_clocks board store env start) (sym both) ∙ clocks_further board store env start a b
+
+-- more clocks make no fewer cycles
+no_fewer : (board : BoardParts) (store : List ℕ) (env : ReadyEnvironment) (start : BoardState) (n m : ℕ)
+    → n ≤ m → cycles_in board store env start n ≤ cycles_in board store env start m
+no_fewer board store env start n m within =
+    let number : n + (m - n) ≡ m = omega arith in
+    let both = cycles_further board store env start n (m - n) in
+    let same = ap (cycles_in board store env start) number in
+    omega arith
+
+-- the least clocks of a run that begins with some, and goes on for a cycle at least
+least_behind : (board : BoardParts) (store : List ℕ) (env : ReadyEnvironment) (start : BoardState) (a m b : ℕ) → 0 < m
+    → (let first = run_of_clocks board store env start a in
+    IsLeastFor board store (ready_rest_at env first.clock) first.state m b
+    → IsLeastFor board store env start (first.clock.cycle + m) (a + b))
+least_behind board store env start a m b some second =
+    let cycles = cycles_further board store env start a in
+    record {
+      made = cycles b ∙ ap (λ x. cycles_in board store env start a + x) second.made;
+      least = λ fewer below. elim (cases_lt fewer a) [
+        | inl less ↦ (let before = no_fewer board store env start fewer a (omega arith) in omega arith)
+        | inr past ↦ (let number : a + (fewer - a) ≡ fewer = omega arith in
+            let before = second.least (fewer - a) (omega arith) in
+            let both = cycles (fewer - a) in
+            let same = ap (cycles_in board store env start) number in
+            omega arith)
+      ];
+    }
+
+pub clocks_go_on : ClocksGoOn
+clocks_go_on board store env start clocks m some =
+    let first = run_of_clocks board store env start clocks in
+    let rest = ready_rest_at env first.clock in
+    let more = clocks_for board store rest first.state m in
+    let both : clocks + more ≡ clocks_for board store env start (first.clock.cycle + m) =
+    clocks_are_one board store env start (first.clock.cycle + m) (clocks + more)
+    (least_behind board store env start clocks m more some (cycles_come board store rest first.state m)) in
+    ap (run_of_clocks board store env start) (sym both) ∙ clocks_further board store env start clocks more
 
 pub ready_rests_are_environments : ReadyRestsAreEnvironments
 ready_rests_are_environments board env place is = record {

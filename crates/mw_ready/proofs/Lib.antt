@@ -1,4 +1,5 @@
 pub mod Begins
+pub mod Cases
 pub mod Certifying
 pub mod Clocks
 pub mod Differences

@@ -12,7 +12,7 @@ use Rattle.mw_cycle.specs.Environment.{Environment, given_at}
 use Rattle.mw_cycle.specs.Run.{BoardRun, clock_after, longer_run, run_of}
 use Rattle.mw_ready.specs.Environment.{ReadyEnvironment, ReadyClock, given_to_clock}
 use Rattle.mw_ready.specs.Run.{ReadyRun, with_wait, with_cycle, clock_of_cycle, with_clock, run_of_clocks, cycles_in}
-use Rattle.mw_ready.specs.Run.{clocks_for, line_of_cycle}
+use Rattle.mw_ready.specs.Run.{clocks_for, line_of_cycle, clock_making, given_to_cycle}
 use Rattle.mw_ready.specs.Thinned.{without_from, was_wait, thinned, place_of, but_clocks}
 use Rattle.mw_ready.specs.RunLaws.{IsLeastFor, RunsAreThinned}
 use Rattle.mw_ready.proofs.Clocks.{no_cycle, cycles_more, clocks_are, cycles_come}
@@ -135,11 +135,28 @@ makes_last board store env start n (suc clock) least =
     (least.least clock (omega arith)) in
     subst (Makes board store env start n) (sym number) (record { no_wait = is.0; cycles = is.1 })
 
+making : (board : BoardParts) (store : List ℕ) (env : ReadyEnvironment) (start : BoardState) (n : ℕ)
+    → Makes board store env start n (clock_making board store env start n)
+making board store env start n =
+    makes_last board store env start n (clocks_for board store env start (n + 1))
+    (cycles_come board store env start (n + 1))
+
 -- the line of a cycle is what the thinned line has for it
 pub line_thinned : (board : BoardParts) (store : List ℕ) (env : ReadyEnvironment) (start : BoardState) (n : ℕ)
     → line_of_cycle board store env start n ≡ slice_index_or (thinned board store env start).line n false
 line_thinned board store env start n =
-    let clocks = clocks_for board store env start (n + 1) in
-    let last = makes_last board store env start n clocks (cycles_come board store env start (n + 1)) in
-    sym (entry_thinned board store env start (clocks - 1) env.line false last.no_wait)
+    let last = making board store env start n in
+    sym (entry_thinned board store env start (clock_making board store env start n) env.line false last.no_wait)
     ∙ ap (λ at. slice_index_or (thinned board store env start).line at false) last.cycles
+
+-- and so is all that a cycle is given
+pub cycle_given : (board : BoardParts) (store : List ℕ) (env : ReadyEnvironment) (start : BoardState) (n : ℕ)
+    → (let thin = thinned board store env start in
+    given_to_cycle board store env start n ≡ given_at thin (run_of board store thin start n).clock)
+cycle_given board store env start n =
+    let thin = thinned board store env start in
+    let clock = clock_making board store env start n in
+    let last = making board store env start n in
+    given_thinned board store env start clock last.no_wait
+    ∙ ap (λ (run : BoardRun). given_at thin run.clock) (clocks_thinned board store env start clock
+    ∙ ap (run_of board store thin start) last.cycles)

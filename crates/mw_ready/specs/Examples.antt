@@ -18,7 +18,7 @@ memory_board = record small_board { d = record { from = sources.Memory; mask = N
 abbrev pub before_sums : BoardState
 before_sums = (pair_with (9 ∷ 8 ∷ [])).board
 
--- Clocks 0, 1 and 3 have a wait bit. The lines of the first five differ from clock to clock, and so do their noise words.
+-- clocks 0, 1 and 3 have the wait bit 1; the noise of each clock is another
 abbrev pub waiting : ReadyEnvironment
 waiting = record {
   line = true ∷ false ∷ true ∷ false ∷ false ∷ true ∷ [];

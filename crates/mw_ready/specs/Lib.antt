@@ -7,5 +7,6 @@ pub mod Start
 pub mod DescribedRun
 pub mod Certified
 pub mod Differs
+pub mod Case
 pub mod StartLaws
 pub mod Examples

@@ -8,6 +8,7 @@ use Rattle.mw_board.specs.declared.bit.DFrom.{DFrom}
 use Rattle.mw_board.specs.declared.bit.DFrom.TheVariants as sources
 use Rattle.mw_board.specs.declared.parts.BoardParts.{BoardParts}
 use Rattle.mw_cycle.specs.declared.microword.Microword.{Microword}
+use Rattle.mw_cycle.specs.declared.state.CycleIn.{CycleIn}
 use Rattle.mw_cycle.specs.State.{BoardState}
 use Rattle.mw_cycle.specs.Cycle.{microword_at, state_after, nets_of}
 use Rattle.mw_ready.specs.Environment.{ReadyEnvironment, ReadyClock, at_first_clock, given_to_clock, wait_bit}
@@ -88,9 +89,18 @@ clocks_for board store env start n =
 abbrev pub run_of_cycles : BoardParts → List ℕ → ReadyEnvironment → BoardState → ℕ → ReadyRun
 run_of_cycles board store env start n = run_of_clocks board store env start (clocks_for board store env start n)
 
--- the line in cycle n: that of the clock that makes it, which is the last of the least number that makes n + 1 cycles
+-- the number of the clock that makes cycle n: of the clocks of n + 1 cycles it is the last
+abbrev pub clock_making : BoardParts → List ℕ → ReadyEnvironment → BoardState → ℕ → ℕ
+clock_making board store env start n = clocks_for board store env start (n + 1) - 1
+
+-- the line in cycle n: that of the clock that makes it
 abbrev pub line_of_cycle : BoardParts → List ℕ → ReadyEnvironment → BoardState → ℕ → Bool
-line_of_cycle board store env start n = slice_index_or env.line (clocks_for board store env start (n + 1) - 1) false
+line_of_cycle board store env start n = slice_index_or env.line (clock_making board store env start n) false
+
+-- what the environment has for cycle n: what it has for the clock that makes it
+abbrev pub given_to_cycle : BoardParts → List ℕ → ReadyEnvironment → BoardState → ℕ → CycleIn
+given_to_cycle board store env start n =
+    given_to_clock env (run_of_clocks board store env start (clock_making board store env start n)).clock
 
 -- ---- the law of suffixes
 

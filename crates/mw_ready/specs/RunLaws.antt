@@ -5,7 +5,7 @@ use Rattle.mw_cycle.specs.Environment.{rest_at}
 use Rattle.mw_cycle.specs.Run.{run_of}
 use Rattle.mw_cycle.specs.State.{BoardState}
 use Rattle.mw_ready.specs.Environment.{ReadyEnvironment, IsReadyEnvironment, ReadyClock, ready_rest_at}
-use Rattle.mw_ready.specs.Run.{cycles_in, clocks_for, run_of_cycles, then_ready_run}
+use Rattle.mw_ready.specs.Run.{cycles_in, clocks_for, run_of_clocks, run_of_cycles, then_ready_run}
 use Rattle.mw_ready.specs.Thinned.{thinned, but_clocks, place_of}
 
 -- so many clocks make n cycles, and fewer make fewer
@@ -41,6 +41,13 @@ abbrev pub ReadyRunsGoOn : Type 0
 ReadyRunsGoOn = (board : BoardParts) (store : List ℕ) (env : ReadyEnvironment) (start : BoardState) (n m : ℕ)
     → let first = run_of_cycles board store env start n in
     run_of_cycles board store env start (n + m)
+    ≡ then_ready_run first (run_of_cycles board store (ready_rest_at env first.clock) first.state m)
+
+-- A run may also be parted behind any of its clocks, a wait too, where one more cycle at least follows.
+abbrev pub ClocksGoOn : Type 0
+ClocksGoOn = (board : BoardParts) (store : List ℕ) (env : ReadyEnvironment) (start : BoardState) (clocks m : ℕ)
+    → let first = run_of_clocks board store env start clocks in
+    0 < m → run_of_cycles board store env start (first.clock.cycle + m)
     ≡ then_ready_run first (run_of_cycles board store (ready_rest_at env first.clock) first.state m)
 
 -- what is left of an environment is again one

@@ -1,10 +1,13 @@
 -- Laws of starts with waits, and of what is certified over all environments.
-use Rattle.std.specs.Prelude.{◌≡◌, ◌↔◌, ℕ}
+use Rattle.std.specs.Prelude.{◌≡◌, ◌↔◌, ℕ, List}
+use Rattle.mw_term.specs.declared.decided.Decided.{Decided}
+use Rattle.mw_rel.specs.Case.{IsCase, case_of, cycles_of, is_late}
 use Rattle.mw_rel.specs.Certified.{Certified}
 use Rattle.mw_rel.specs.Differs.{Differs, DiffersAt, difference_of}
 use Rattle.mw_rel.specs.Job.{Job, IsJob}
 use Rattle.mw_rel.specs.Start.{Start, IsStart}
 use Rattle.mw_rel.specs.declared.difference.Difference.{Difference}
+use Rattle.mw_ready.specs.Case.{IsReadyCase, is_ready_late, ready_case_of, ready_cycles_of}
 use Rattle.mw_ready.specs.Certified.{ReadyCertified}
 use Rattle.mw_ready.specs.Differs.{ReadyDiffers, ReadyDiffersAt, ready_difference_of}
 use Rattle.mw_ready.specs.Start.{ReadyStart, IsReadyStart, thinned_start, always_ready}
@@ -36,6 +39,20 @@ StartsDifferAsThinned = (job : Job) (start : ReadyStart) (difference : Differenc
 abbrev pub StepsDifferAsThinned : Type 0
 StepsDifferAsThinned = (job : Job) (start : ReadyStart) (step : ℕ) (difference : Difference) → IsReadyStart job start
     → ReadyDiffersAt job start step difference ↔ DiffersAt job (thinned_start job start) step difference
+
+-- a start has as many cycles, is late, and decides what it decides, as without its waits
+pub record HasCaseOfThinned (job : Job) (start : ReadyStart) : Type 0 where
+  pub cycles : ready_cycles_of job start ≡ cycles_of job (thinned_start job start)
+  pub late : is_ready_late job start ≡ is_late job (thinned_start job start)
+  pub bits : ready_case_of job start ≡ case_of job (thinned_start job start)
+
+-- so is each
+abbrev pub CasesAreThinned : Type 0
+CasesAreThinned = (job : Job) (start : ReadyStart) → HasCaseOfThinned job start
+
+-- the cases of a boundary over all environments are those over the ones without waits
+abbrev pub CasesAreAlike : Type 0
+CasesAreAlike = (job : Job) (number : ℕ) (bits : List Decided) → IsReadyCase job number bits ↔ IsCase job number bits
 
 -- no start differs
 abbrev pub NoReadyStartDiffers : Job → Type 0

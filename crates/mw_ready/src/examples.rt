@@ -1,12 +1,11 @@
 // A worked run with waits, computed on the definitions.
 ghost use Rattle.std.specs.Prelude.{◌≡◌, [], ◌∷◌, false, true};
 ghost use Rattle.mw_board.specs.Examples.{small_board};
-ghost use Rattle.mw_ready.specs.Environment.{ReadyEnvironment};
 ghost use Rattle.mw_ready.specs.Examples.{first_lines, left_of_waiting, lists_as, memory_board};
 ghost use Rattle.mw_ready.specs.Examples.{reached, reached_as, waiting};
 
-/// Where each word uses memory, the clocks 0, 1 and 3 are waits: a run of one cycle has three clocks, and one of two has
-/// five. The cycles have the lines of the clocks 2 and 4, which are left, with those from 5 on. Where no word uses
+/// Where each word uses memory, the clocks 0, 1 and 3 are waits: a run of one cycle has three clocks, and one of two
+/// has five. The cycles have the lines of the clocks 2 and 4, which are left, with those from 5 on. Where no word uses
 /// memory, no clock is a wait.
 pub fn waits_are_worked()
     ensures one_cycle { reached memory_board 1 ≡ reached_as 1 3 1 1 2 }

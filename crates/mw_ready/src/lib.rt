@@ -8,11 +8,11 @@ mod starts;
 
 pub use examples::waits_are_worked;
 pub use runs::{
-    clocks_are_bounded, clocks_are_one, cycles_come, ready_rests_are_environments,
+    clocks_are_bounded, clocks_are_one, clocks_go_on, cycles_come, ready_rests_are_environments,
     ready_runs_go_on, rests_are_thinned, runs_are_thinned,
 };
 pub use starts::{
-    certified_alike, differences_are_thinned, ready_certified_where_none_differs,
-    starts_differ_as_thinned, starts_without_waits_are_starts, steps_differ_as_thinned,
-    thinned_are_starts,
+    cases_are_alike, cases_are_thinned, certified_alike, differences_are_thinned,
+    ready_certified_where_none_differs, starts_differ_as_thinned, starts_without_waits_are_starts,
+    steps_differ_as_thinned, thinned_are_starts,
 };

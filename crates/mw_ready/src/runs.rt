@@ -1,6 +1,6 @@
 // Laws of runs with waits.
-ghost use Rattle.mw_ready.specs.RunLaws.{ClocksAreBounded, ClocksAreOne, CyclesCome, ReadyRestsAreEnvironments};
-ghost use Rattle.mw_ready.specs.RunLaws.{ReadyRunsGoOn, RestsAreThinned, RunsAreThinned};
+ghost use Rattle.mw_ready.specs.RunLaws.{ClocksAreBounded, ClocksAreOne, ClocksGoOn, CyclesCome};
+ghost use Rattle.mw_ready.specs.RunLaws.{ReadyRestsAreEnvironments, ReadyRunsGoOn, RestsAreThinned, RunsAreThinned};
 
 /// The law of waits: each wait ends, so that each number of cycles is made, and the clocks that a run of so many cycles
 /// has are the least that make them.
@@ -28,6 +28,12 @@ pub fn runs_are_thinned()
 /// left of the environment at the place that it reached.
 pub fn ready_runs_go_on()
     ensures { ReadyRunsGoOn }
+{}
+
+/// The law of suffixes by clocks: a run may also be parted behind any of its clocks, a wait too, where one more cycle at
+/// least follows.
+pub fn clocks_go_on()
+    ensures { ClocksGoOn }
 {}
 
 /// The law of what is left: at each place, what is left of an environment is again one.

@@ -1,5 +1,5 @@
 // Laws of starts with waits, and of what is certified over all environments.
-ghost use Rattle.mw_ready.specs.StartLaws.{CertifiedAlike, DifferencesAreThinned};
+ghost use Rattle.mw_ready.specs.StartLaws.{CasesAreAlike, CasesAreThinned, CertifiedAlike, DifferencesAreThinned};
 ghost use Rattle.mw_ready.specs.StartLaws.{ReadyCertifiedWhereNoneDiffers, StartsDifferAsThinned};
 ghost use Rattle.mw_ready.specs.StartLaws.{StartsWithoutWaitsAreStarts, StepsDifferAsThinned, ThinnedAreStarts};
 
@@ -27,6 +27,16 @@ pub fn starts_differ_as_thinned()
 /// difference.
 pub fn steps_differ_as_thinned()
     ensures { StepsDifferAsThinned }
+{}
+
+/// The law of cases with waits: a start has as many cycles, is late, and decides what it decides, as without its waits.
+pub fn cases_are_thinned()
+    ensures { CasesAreThinned }
+{}
+
+/// The law of all cases: the cases of a boundary over all environments are those over the ones without waits.
+pub fn cases_are_alike()
+    ensures { CasesAreAlike }
 {}
 
 /// The law of certification: a job is certified over all environments exactly where none of its starts differs.
