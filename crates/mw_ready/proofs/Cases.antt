@@ -27,8 +27,8 @@ unfolding ready_bits_of_cycles runs.bits_of_cycles
 bits_thinned job start zero = refl
 bits_thinned job start (suc n) =
     ap₂ (λ before bits. before ++ bits) (bits_thinned job start n)
-    (ap₂ (λ (run : BoardRun) (given : CycleIn). decided_of job.board job.store run.state given) (run_thinned job start n)
-    (cycle_given job.board job.store start.env start.pair.board n))
+    (ap₂ (λ (run : BoardRun) (given : CycleIn). decided_of job.board job.store run.state given)
+    (run_thinned job start n) (cycle_given job.board job.store start.env start.pair.board n))
 
 -- its end
 end_thinned : (job : Job) (start : ReadyStart) → ready_end_of job start ≡ end_of job (thinned_start job start)

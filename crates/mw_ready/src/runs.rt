@@ -30,8 +30,8 @@ pub fn ready_runs_go_on()
     ensures { ReadyRunsGoOn }
 {}
 
-/// The law of suffixes by clocks: a run may also be parted behind any of its clocks, a wait too, where one more cycle at
-/// least follows.
+/// The law of suffixes by clocks: a run may also be parted behind any of its clocks, a wait too, where one more cycle
+/// at least follows.
 pub fn clocks_go_on()
     ensures { ClocksGoOn }
 {}
