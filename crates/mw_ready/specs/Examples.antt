@@ -1,7 +1,8 @@
 -- A worked run with waits, as values on which the definitions compute.
-use Rattle.std.specs.Prelude.{ℕ, List, [], ◌∷◌, Bool, true, false, None, slice_index}
-use Rattle.mw_board.specs.Examples.{small_board}
+use Rattle.std.specs.Prelude.{ℕ, List, [], ◌∷◌, Bool, true, false, Some, None, slice_index}
+use Rattle.mw_board.specs.Examples.{small_board, small_points}
 use Rattle.mw_board.specs.declared.bit.DFrom.TheVariants as sources
+use Rattle.mw_board.specs.declared.control.Control.TheVariants.{Fixed}
 use Rattle.mw_board.specs.declared.parts.BoardParts.{BoardParts}
 use Rattle.mw_cycle.specs.Environment.{Environment}
 use Rattle.mw_cycle.specs.State.{BoardState}
@@ -10,9 +11,17 @@ use Rattle.mw_ready.specs.Environment.{ReadyEnvironment}
 use Rattle.mw_ready.specs.Run.{run_of_cycles, line_of_cycle}
 use Rattle.mw_ready.specs.Thinned.{thinned}
 
--- the small board, whose D is the memory, so that each word uses it
+-- the small board whose D is the memory, so that each word uses it
 unfoldable pub memory_board : BoardParts
 memory_board = record small_board { d = record { from = sources.Memory; mask = None } ∷ [] }
+
+-- the small board whose D is the memory behind a mask
+unfoldable pub masked_board : BoardParts
+masked_board = record small_board { d = record { from = sources.Memory; mask = Some 1 } ∷ [] }
+
+-- the small board that writes to the memory in each cycle
+unfoldable pub writing_board : BoardParts
+writing_board = record small_board { control = record small_points { memory_write = Fixed 1 } }
 
 -- at the first word, with 9 and 8 in the first two registers
 abbrev pub before_sums : BoardState

@@ -26,3 +26,11 @@ returns-clause-without_memory c = refl
 pub returns-clause-all_left : goal.returns-clause-all_left
 unfolding cycle_on_literals waits_on_literals
 returns-clause-all_left c = refl
+
+pub returns-clause-masked : goal.returns-clause-masked
+unfolding cycle_on_literals waits_on_literals
+returns-clause-masked c = refl
+
+pub returns-clause-written : goal.returns-clause-written
+unfolding cycle_on_literals waits_on_literals
+returns-clause-written c = refl
