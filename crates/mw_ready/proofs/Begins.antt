@@ -14,7 +14,8 @@ use Rattle.mw_ready.specs.Environment.{ReadyEnvironment, IsReadyEnvironment}
 use Rattle.mw_ready.specs.Start.{thinned_start, always_ready}
 use Rattle.mw_ready.specs.Thinned.{was_wait, thinned}
 use Rattle.mw_ready.specs.StartLaws.{ThinnedAreStarts, StartsWithoutWaitsAreStarts}
-use Rattle.mw_ready.proofs.Entries.{left_below, all_left}
+use Rattle.mw_ready.proofs.Entries.{left_below}
+use Rattle.mw_ready.proofs.Steady.{nothing_is_thinned}
 
 -- what is left of an environment is one
 thinned_below : (board : BoardParts) (store : List ℕ) (env : ReadyEnvironment) (start : BoardState)
@@ -32,11 +33,8 @@ thinned_are_starts job start is = record {
   env = record { values = thinned_below job.board job.store start.env start.pair.board is.env };
 }
 
--- where no wait bit is 1, each entry is left
-nothing_thinned : (job : Job) (start : Start) → thinned_start job (always_ready start) ≡ start
-nothing_thinned job start =
-    let waits = was_wait job.board job.store (always_ready start).env start.pair.board in
-    rw (all_left waits 0 start.env.line (λ n. refl), all_left waits 0 start.env.noise (λ n. refl)) refl
+itself : (job : Job) (start : Start) → thinned_start job (always_ready start) ≡ start
+itself job start = rw (nothing_is_thinned job.board job.store start.env start.pair.board) refl
 
 pub starts_without_waits_are_starts : StartsWithoutWaitsAreStarts
 starts_without_waits_are_starts job start is = record {
@@ -45,5 +43,5 @@ starts_without_waits_are_starts job start is = record {
     related = is.related;
     env = record { noise = is.env.values Noise; inputs = is.env.values Inputs };
   };
-  itself = nothing_thinned job start;
+  itself = itself job start;
 }

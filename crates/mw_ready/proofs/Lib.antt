@@ -7,5 +7,6 @@ pub mod Entries
 pub mod Further
 pub mod OnLiterals
 pub mod Rests
+pub mod Steady
 pub mod Steps
 pub mod Thinning

@@ -1,12 +1,12 @@
 -- Laws of runs with waits.
 use Rattle.std.specs.Prelude.{◌≡◌, ℕ, ◌+◌, ◌<◌, ◌≤◌, List, length}
 use Rattle.mw_board.specs.declared.parts.BoardParts.{BoardParts}
-use Rattle.mw_cycle.specs.Environment.{rest_at}
+use Rattle.mw_cycle.specs.Environment.{Environment, rest_at}
 use Rattle.mw_cycle.specs.Run.{run_of}
 use Rattle.mw_cycle.specs.State.{BoardState}
 use Rattle.mw_ready.specs.Environment.{ReadyEnvironment, IsReadyEnvironment, ReadyClock, ready_rest_at}
 use Rattle.mw_ready.specs.Run.{cycles_in, clocks_for, run_of_clocks, run_of_cycles, then_ready_run}
-use Rattle.mw_ready.specs.Thinned.{thinned, but_clocks, place_of}
+use Rattle.mw_ready.specs.Thinned.{thinned, but_clocks, place_of, never_waiting}
 
 -- so many clocks make n cycles, and fewer make fewer
 pub record IsLeastFor (board : BoardParts) (store : List ℕ) (env : ReadyEnvironment) (start : BoardState)
@@ -61,3 +61,13 @@ RestsAreThinned = (board : BoardParts) (store : List ℕ) (env : ReadyEnvironmen
     → let run = run_of_cycles board store env start n in
     thinned board store (ready_rest_at env run.clock) run.state
     ≡ rest_at (thinned board store env start) (place_of run.clock)
+
+-- nothing is taken out of an environment without waits
+abbrev pub NothingIsThinned : Type 0
+NothingIsThinned = (board : BoardParts) (store : List ℕ) (env : Environment) (start : BoardState)
+    → thinned board store (never_waiting env) start ≡ env
+
+-- and a run over it has as many clocks as cycles
+abbrev pub ClocksAreCycles : Type 0
+ClocksAreCycles = (board : BoardParts) (store : List ℕ) (env : Environment) (start : BoardState) (n : ℕ)
+    → clocks_for board store (never_waiting env) start n ≡ n

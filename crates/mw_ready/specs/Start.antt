@@ -1,11 +1,11 @@
 -- Starts of a job whose memory may not be ready.
-use Rattle.std.specs.Prelude.{◌≡◌, ℕ, [], Some, slice_get}
+use Rattle.std.specs.Prelude.{◌≡◌, ℕ, Some, slice_get}
 use Rattle.mw_rel.specs.InRelation.{Pair, InRelation}
 use Rattle.mw_rel.specs.Job.{Job}
 use Rattle.mw_rel.specs.Relation.{Boundary}
 use Rattle.mw_rel.specs.Start.{Start}
 use Rattle.mw_ready.specs.Environment.{ReadyEnvironment, IsReadyEnvironment}
-use Rattle.mw_ready.specs.Thinned.{thinned}
+use Rattle.mw_ready.specs.Thinned.{thinned, never_waiting}
 
 -- a boundary, a pair of states and an environment
 pub record ReadyStart : Type 0 where
@@ -32,5 +32,5 @@ abbrev pub always_ready : Start → ReadyStart
 always_ready start = record {
   boundary = start.boundary;
   pair = start.pair;
-  env = record { line = start.env.line; noise = start.env.noise; wait = []; inputs = start.env.inputs };
+  env = never_waiting start.env;
 }

@@ -8,6 +8,10 @@ use Rattle.mw_cycle.specs.State.{BoardState}
 use Rattle.mw_ready.specs.Environment.{ReadyEnvironment, ReadyClock}
 use Rattle.mw_ready.specs.Run.{ReadyRun, is_wait, run_of_clocks}
 
+-- an environment without waits, as one that might have some
+abbrev pub never_waiting : Environment → ReadyEnvironment
+never_waiting env = record { line = env.line; noise = env.noise; wait = []; inputs = env.inputs }
+
 -- a list without the entries whose numbers, counted from n, pass a test
 abbrev pub without_from : {A : Type 0} → (ℕ → Bool) → ℕ → List A → List A
 without_from test n [] = []

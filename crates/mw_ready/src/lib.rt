@@ -8,8 +8,9 @@ mod starts;
 
 pub use examples::waits_are_worked;
 pub use runs::{
-    clocks_are_bounded, clocks_are_one, clocks_go_on, cycles_come, ready_rests_are_environments,
-    ready_runs_go_on, rests_are_thinned, runs_are_thinned,
+    clocks_are_bounded, clocks_are_cycles, clocks_are_one, clocks_go_on, cycles_come,
+    nothing_is_thinned, ready_rests_are_environments, ready_runs_go_on, rests_are_thinned,
+    runs_are_thinned,
 };
 pub use starts::{
     cases_are_alike, cases_are_thinned, certified_alike, differences_are_thinned,

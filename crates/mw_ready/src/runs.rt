@@ -1,6 +1,7 @@
 // Laws of runs with waits.
-ghost use Rattle.mw_ready.specs.RunLaws.{ClocksAreBounded, ClocksAreOne, ClocksGoOn, CyclesCome};
-ghost use Rattle.mw_ready.specs.RunLaws.{ReadyRestsAreEnvironments, ReadyRunsGoOn, RestsAreThinned, RunsAreThinned};
+ghost use Rattle.mw_ready.specs.RunLaws.{ClocksAreBounded, ClocksAreCycles, ClocksAreOne, ClocksGoOn, CyclesCome};
+ghost use Rattle.mw_ready.specs.RunLaws.{NothingIsThinned, ReadyRestsAreEnvironments, ReadyRunsGoOn, RestsAreThinned};
+ghost use Rattle.mw_ready.specs.RunLaws.{RunsAreThinned};
 
 /// The law of waits: each wait ends, so that each number of cycles is made, and the clocks that a run of so many cycles
 /// has are the least that make them.
@@ -45,4 +46,14 @@ pub fn ready_rests_are_environments()
 /// left of it without its waits.
 pub fn rests_are_thinned()
     ensures { RestsAreThinned }
+{}
+
+/// The law of environments without waits: nothing is taken out of one.
+pub fn nothing_is_thinned()
+    ensures { NothingIsThinned }
+{}
+
+/// The law of runs without waits: one has as many clocks as cycles.
+pub fn clocks_are_cycles()
+    ensures { ClocksAreCycles }
 {}
