@@ -176,6 +176,35 @@ fn push_differing(
     }
 }
 
+/// Appends a start of the case given last that differs, and answers whether more may come. It is asked for twice: a
+/// second answer that isn't the first stands behind it.
+fn push_twice(
+    alloc: Global,
+    report: &mut Vec<u8>,
+    job: &Job,
+    boundary: usize,
+    fork: &mut Fork<'_>,
+) -> Result<bool, Fault>
+    requires of { IsForkOf (job_of job.now) fork.old }
+    requires there { boundary < length (job_of job.now).relation.boundaries }
+    requires boundary { fork.old.boundary ≡ boundary }
+    requires given { (last : List Decided) × (fork.old.at ≡ At last) }
+    ensures same { IfOk result (λ more. more ≡ true → fork.new ≡ fork.old) }
+{
+    let mut first = Vec::new(alloc);
+    let more = push_differing(alloc, &mut first, job, boundary, fork)?;
+    report.extend_from_slice(&first)?;
+    if !more {
+        return Ok(false);
+    }
+    let mut second = Vec::new(alloc);
+    let more = push_differing(alloc, &mut second, job, boundary, fork)?;
+    if second.as_slice() != first.as_slice() {
+        report.extend_from_slice(&second)?;
+    }
+    Ok(more)
+}
+
 /// Appends the next case of a fork with a start that differs, and answers whether more may come.
 fn push_next(
     alloc: Global,
@@ -193,7 +222,7 @@ fn push_next(
     match fork.next_case(alloc, job, &ShortcutBook::new(alloc)) {
         Ok(Some(case)) => {
             push_case(alloc, report, &case)?;
-            push_differing(alloc, report, job, boundary, fork)
+            push_twice(alloc, report, job, boundary, fork)
         }
         Ok(None) => Ok(false),
         Err(fault) => push_fault(alloc, report, &fault),

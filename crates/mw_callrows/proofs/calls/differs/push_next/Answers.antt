@@ -3,8 +3,8 @@ use Rattle.std.specs.Prelude.{IfSome}
 use Rattle.mw_fork.specs.Forks.{At}
 use Rattle.mw_callrows.proofs.calls.differs.push_next.Goals as goal
 
-pub push_differing-requires-clause-given : goal.push_differing-requires-clause-given
-push_differing-requires-clause-given c = (
+pub push_twice-requires-clause-given : goal.push_twice-requires-clause-given
+push_twice-requires-clause-given c = (
   c.in-Ok-Some.case.prefix,
   subst (λ found. IfSome found (λ case. c.next_case.new.self.at ≡ At case.prefix)) c.in-Ok-Some.field-0-is
       c.in-Ok-Some.ensures.at,
