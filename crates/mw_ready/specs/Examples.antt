@@ -2,7 +2,7 @@
 use Rattle.std.specs.Prelude.{ℕ, List, [], ◌∷◌, Bool, true, false, Some, None, slice_index}
 use Rattle.mw_board.specs.Examples.{small_board, small_points}
 use Rattle.mw_board.specs.declared.bit.DFrom.TheVariants as sources
-use Rattle.mw_board.specs.declared.control.Control.TheVariants.{Fixed}
+use Rattle.mw_board.specs.declared.control.Control.TheVariants.{Field, Fixed}
 use Rattle.mw_board.specs.declared.parts.BoardParts.{BoardParts}
 use Rattle.mw_cycle.specs.Environment.{Environment}
 use Rattle.mw_cycle.specs.State.{BoardState}
@@ -18,6 +18,17 @@ memory_board = record small_board { d = record { from = sources.Memory; mask = N
 -- the small board whose D is the memory behind a mask
 unfoldable pub masked_board : BoardParts
 masked_board = record small_board { d = record { from = sources.Memory; mask = Some 1 } ∷ [] }
+
+-- the small board whose D is the memory at the first word of `sums`, and 0 at the second
+unfoldable pub mixed_board : BoardParts
+mixed_board = record small_board {
+  control = record small_points { d = Field 6 };
+  d = record { from = sources.Memory; mask = None } ∷ record { from = sources.Zero; mask = None } ∷ [];
+}
+
+-- the small board whose D is the input, so that each word takes one
+unfoldable pub taking_board : BoardParts
+taking_board = record small_board { d = record { from = sources.Input; mask = None } ∷ [] }
 
 -- the small board that writes to the memory in each cycle
 unfoldable pub writing_board : BoardParts

@@ -34,3 +34,15 @@ returns-clause-masked c = refl
 pub returns-clause-written : goal.returns-clause-written
 unfolding cycle_on_literals waits_on_literals
 returns-clause-written c = refl
+
+pub returns-clause-mixed : goal.returns-clause-mixed
+unfolding cycle_on_literals waits_on_literals
+returns-clause-mixed c = refl
+
+pub returns-clause-mixed_left : goal.returns-clause-mixed_left
+unfolding cycle_on_literals waits_on_literals
+returns-clause-mixed_left c = refl
+
+pub returns-clause-taking : goal.returns-clause-taking
+unfolding cycle_on_literals waits_on_literals
+returns-clause-taking c = refl
