@@ -75,7 +75,7 @@ impl Diagrams {
     ///
     /// # Errors
     ///
-    /// Memory ran out, or there are as many nodes as there can be (2^32 - 16).
+    /// Memory ran out, there are as many nodes as there can be (2^32 - 16), or the word's number is 2^32 or more.
     pub fn variable(&mut self, alloc: Global, bit: u8, word: u64) -> Result<Dd, NoMemory>
         requires { bit < 32 }
         ensures there { IfOk result (IsDd self.new) }
@@ -83,11 +83,13 @@ impl Diagrams {
         ensures keeps { Keeps self.old self.new }
         ensures canonical { IsCanonical self.new }
     {
+        let nodes = &mut self.nodes;
+        let variable = Variable::of(bit, word)?;
         make(
-            &mut self.nodes,
+            nodes,
             alloc,
             Node {
-                variable: Variable { bit, word },
+                variable,
                 low: Dd::at(0),
                 high: Dd::at(1),
             },

@@ -22,8 +22,9 @@ fn raise(assignment: &mut Assignment, alloc: Global, variable: Variable) -> Resu
     ensures others { OnOk result ((u : cofactors.Variable) → ¬ (u ≡ variable)
         → value_of u (given_by assignment.new) ≡ value_of u (given_by assignment.old)) }
 {
-    let number = assignment.number(variable.word) | 1 << variable.bit;
-    assignment.set(alloc, variable.word, number)
+    let word = u64::from(variable.word);
+    let number = assignment.number(word) | 1 << variable.bit;
+    assignment.set(alloc, word, number)
 }
 
 /// Whether the first assignment raises a node's variable: where its low branch holds never.

@@ -118,7 +118,7 @@ fn go_on(
             high: made,
         };
         let joined = make(nodes, alloc, node)?;
-        notes.end(alloc, &waiting, joined, nodes.len(), budget)?;
+        notes.end(alloc, &waiting, joined, nodes.len() / 4, budget)?;
         return Ok(Next::Return(joined));
     }
     notes.wait(Waiting {

@@ -42,7 +42,7 @@ impl Key for Node {
         let high = self.high.position();
         let distance = u64::from(self.low.position()) + (1 << 32) - u64::from(high);
         scatter_near(
-            self.variable.word,
+            u64::from(self.variable.word),
             u64::from(self.variable.bit),
             distance,
             high,

@@ -1,11 +1,12 @@
 // Variables, and their order.
+use mw_base::NoMemory;
 use std::marker::Model;
 
 /// A Boolean variable: a bit of a word.
 #[derive(Clone, Copy)]
 pub(crate) struct Variable {
     pub bit: u8,
-    pub word: u64,
+    pub word: u32,
 }
 
 impl Model for Variable {
@@ -19,8 +20,23 @@ impl Model for Variable {
 }
 
 impl Variable {
-    ghost use Rattle.std.specs.Prelude.{◌≡◌, ◌↔◌, IsTrue};
+    ghost use Rattle.std.specs.Prelude.{◌≡◌, ◌↔◌, IsTrue, IfOk};
+    ghost use Rattle.mw_term.specs.Cofactors.{variable};
     ghost use Rattle.mw_term.specs.Cofactors as order;
+
+    /// A bit of the word of this number.
+    ///
+    /// # Errors
+    ///
+    /// The number has no room: it is 2^32 or more.
+    pub(crate) fn of(bit: u8, word: u64) -> Result<Variable, NoMemory>
+        ensures { IfOk result (λ made. made ≡ variable bit word) }
+    {
+        match u32::try_from(word) {
+            Ok(word) => Ok(Variable { bit, word }),
+            Err(_) => Err(NoMemory),
+        }
+    }
 
     /// Whether it is the same.
     pub(crate) fn is(self, other: Variable) -> bool
