@@ -1,0 +1,4 @@
+pub mod Cases
+pub mod Explorers
+pub mod KeptBits
+pub mod Ways
