@@ -8,10 +8,10 @@ use Rattle.mw_explore.specs.declared.stage.Stage.{Stage}
 use Rattle.mw_explore.specs.declared.stage.Stage.TheVariants as stages
 use Rattle.mw_explore.specs.declared.way.Kept.{Kept}
 use Rattle.mw_explore.specs.Explorers.{AreWaiting, IsToBegin, Keeps, LeadsToNext, Stands, StandsAt, standing_of}
-use Rattle.mw_explore.specs.Cases.{Before, IsNext, Leads, NoneIsToCome, Standing}
+use Rattle.mw_explore.specs.Cases.{AreInOrder, Before, Leads, NoneIsToCome}
 use Rattle.mw_explore.specs.KeptBits.{AreKeptBits, IsWayFrom}
 use Rattle.mw_explore.specs.Ways.{all_turned, bits_of, turned_last}
-use Rattle.mw_explore.proofs.Ordering.{AreInOrder, leads_behind, leads_to_first, none_left}
+use Rattle.mw_explore.proofs.Ordering.{leads_behind, leads_to_first, none_left}
 use Rattle.mw_explore.proofs.Taking.{all_wait_on}
 use Rattle.mw_explore.proofs.Waiting.{last_turned, some_last, zip_last}
 
@@ -111,17 +111,6 @@ pub leads_nowhere : {Course : Type 0} (IsCase : List Decided → Type 0) (stage 
     → NoneIsToCome IsCase (standing_of stage old)
 leads_nowhere {Course} IsCase stage course old kept at none =
     subst (λ (s : Stage Course). NoneIsToCome IsCase (standing_of s old)) (sym at) (none_left IsCase old kept none)
-
--- ---- what was gone through
-
--- a course that has gone through a case stands at the next one
-pub is_next : {Course Waiting : Type 0} (IsCase : List Decided → Type 0) (HasGone : Course → List Decided → Type 0)
-    (IsWaiting : Course → Waiting → List Decided → Type 0) (at : Standing) (from way : List Kept) (stage : Stage Course)
-    (waiting : List Waiting) → ((course : Course) (bits : List Decided) → HasGone course bits → IsCase bits)
-    → LeadsToNext IsCase at from → IsWayFrom IsCase from way → StandsAt IsCase HasGone IsWaiting stage way waiting
-    → IsNext IsCase at (bits_of way)
-is_next IsCase HasGone IsWaiting at from way stage waiting are leads bits stands =
-    leads.next way bits (are stands.course (bits_of way) stands.stands.has)
 
 -- before all cases no bit is kept
 pub none_kept : {Course Waiting : Type 0} (IsCase : List Decided → Type 0) (HasGone : Course → List Decided → Type 0)

@@ -8,7 +8,7 @@ use Rattle.mw_term.specs.declared.decided.Decided.{Decided}
 use Rattle.mw_cycle.specs.Decided.{decided}
 use Rattle.mw_rel.specs.Case.{IsBefore}
 use Rattle.mw_explore.specs.declared.way.Kept.{Kept}
-use Rattle.mw_explore.specs.Cases.{At, Before, IsNext, Leads, NoneIsToCome, OneIsToCome}
+use Rattle.mw_explore.specs.Cases.{AreInOrder, At, Before, IsNext, Leads, NoneIsToCome, OneIsToCome}
 use Rattle.mw_explore.specs.Explorers.{LeadsToNext}
 use Rattle.mw_explore.specs.KeptBits.{AreKeptBits, AreLeast, IsKeptBit, IsWayFrom}
 use Rattle.mw_explore.specs.Ways.{bits_of, turned, turned_from, turned_last}
@@ -278,10 +278,6 @@ none_between IsCase (g ∷ front) k behind more before (r ∷ rest) are none lea
     ]
 
 -- ---- the next case
-
--- of two cases one comes before the other
-abbrev pub AreInOrder : (IsCase : List Decided → Type 0) → Type 0
-AreInOrder IsCase = (one two : List Decided) → IsCase one → IsCase two → one ≢ two → IsBefore one two ⊎ IsBefore two one
 
 -- of two different cases the first comes before the other, where that doesn't come before it
 comes_first : (IsCase : List Decided → Type 0) (bits other : List Decided) → AreInOrder IsCase → IsCase bits

@@ -1,5 +1,5 @@
 -- Cases, told apart by their decided bits, one after another.
-use Rattle.std.specs.Prelude.{◌≡◌, ◌≢◌, List, [], ◌∷◌, ◌++◌, Bool, true, false}
+use Rattle.std.specs.Prelude.{◌≡◌, ◌≢◌, ◌⊎◌, List, [], ◌∷◌, ◌++◌, Bool, true, false}
 use Rattle.mw_term.specs.declared.decided.DecidedKind.{DecidedKind}
 use Rattle.mw_term.specs.declared.decided.Decided.{Decided}
 use Rattle.mw_cycle.specs.Decided.{decided}
@@ -21,6 +21,10 @@ IsToCome Behind bits = ⊥
 pub record Leads (IsCase : List Decided → Type 0) (bits : List Decided) : Type 0 where
   pub rest : List Decided
   pub case : IsCase (bits ++ rest)
+
+-- of two cases one comes before the other
+abbrev pub AreInOrder : (IsCase : List Decided → Type 0) → Type 0
+AreInOrder IsCase = (one two : List Decided) → IsCase one → IsCase two → one ≢ two → IsBefore one two ⊎ IsBefore two one
 
 -- it is the next one: a case that is to come, and comes before each other one that is
 pub record IsNext (IsCase : List Decided → Type 0) (at : Standing) (bits : List Decided) : Type 0 where

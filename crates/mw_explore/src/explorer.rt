@@ -83,10 +83,12 @@ fn follow<T: CaseTree>(
     ensures gone { OnOk result (Stands (T.is_case tree.now) (T.has_gone tree.now) (T.is_waiting tree.now) course.new
         trail.new.way trail.new.waiting.items) }
     ensures way { OnOk result (IsWayFrom (T.is_case tree.now) trail.old.way trail.new.way) }
+    ensures case { OnOk result (T.is_case tree.now (bits_of trail.new.way)) }
     ensures over { IfErr result (λ fault. (place : T.Place) → fault ≡ faults.Over place
         → IsWayFrom (T.is_case tree.now) trail.old.way trail.new.way
         × T.is_over tree.now (bits_of trail.new.way) place) }
 {
+    tree.are_in_order();
     while let Turn::Ask { kind, term } = tree.turn(alloc, course)? {
         let choice = tree.decide(alloc, course, kind, term, book)?;
         trail.take(kind, choice)?;
@@ -139,6 +141,7 @@ fn advance<T: CaseTree>(
     ensures stands { OnOk result (StandsAt (T.is_case tree.now) (T.has_gone tree.now) (T.is_waiting tree.now) stage.new
         trail.new.way trail.new.waiting.items) }
     ensures way { OnOk result (IsWayFrom (T.is_case tree.now) trail.old.way trail.new.way) }
+    ensures case { OnOk result (T.is_case tree.now (bits_of trail.new.way)) }
     ensures ends { IfOk result (T.ends tree.now (bits_of trail.new.way)) }
     ensures over { IfErr result (λ fault. (place : T.Place) → fault ≡ faults.Over place
         → IsWayFrom (T.is_case tree.now) trail.old.way trail.new.way
@@ -152,17 +155,17 @@ fn advance<T: CaseTree>(
     Ok(tree.end(course))
 }
 
-/// Turns the bits that are kept to the next case, where one is to come, and says whether there is one. `_tree` is for the
-/// contract alone.
-fn lead_on<T: CaseTree>(_tree: &T, stage: &Stage<T::Course>, trail: &mut Trail<T::Waiting>) -> bool
-    requires { Keeps (T.is_case _tree.now) (T.has_gone _tree.now) (T.is_waiting _tree.now) stage.now
+/// Turns the bits that are kept to the next case, where one is to come, and says whether there is one.
+fn lead_on<T: CaseTree>(tree: &T, stage: &Stage<T::Course>, trail: &mut Trail<T::Waiting>) -> bool
+    requires { Keeps (T.is_case tree.now) (T.has_gone tree.now) (T.is_waiting tree.now) stage.now
         trail.old.way trail.old.waiting.items }
     ensures leads { result ≡ true
-        → LeadsToNext (T.is_case _tree.now) (standing_of stage.now trail.old.way) trail.new.way }
+        → LeadsToNext (T.is_case tree.now) (standing_of stage.now trail.old.way) trail.new.way }
     ensures begin { result ≡ true
-        → IsToBegin (T.is_waiting _tree.now) stage.now trail.new.way trail.new.waiting.items }
-    ensures none { result ≡ false → NoneIsToCome (T.is_case _tree.now) (standing_of stage.now trail.old.way) }
+        → IsToBegin (T.is_waiting tree.now) stage.now trail.new.way trail.new.waiting.items }
+    ensures none { result ≡ false → NoneIsToCome (T.is_case tree.now) (standing_of stage.now trail.old.way) }
 {
+    tree.are_in_order();
     match stage {
         Stage::Before => true,
         Stage::At(_) => trail.way.turn(),
@@ -234,6 +237,13 @@ impl<T: CaseTree> Explorer<T> {
         ensures { result.now ≡ self.now.tree }
     {
         &self.tree
+    }
+
+    /// How many cases may be given.
+    pub fn limit(&self) -> u32
+        ensures { result ≡ self.now.limit }
+    {
+        self.limit
     }
 
     /// The next case, in the order of their bits, 0 before 1; nothing exactly after the last.

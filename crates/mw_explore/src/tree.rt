@@ -1,13 +1,12 @@
 // What has cases, and how a course goes through one.
-ghost use Rattle.std.specs.Prelude.{◌≡◌, ◌≢◌, ◌⊎◌, ◌++◌, ◌∷◌, ℕ, List, [], true, IfOk, IfErr, IfSome, OnOk, Option};
+ghost use Rattle.std.specs.Prelude.{◌≡◌, ◌++◌, ◌∷◌, ℕ, List, [], true, IfOk, IfErr, IfSome, OnOk, Option};
 ghost use Rattle.std.specs.Option.{is_some};
 ghost use Rattle.mw_term.specs.declared.decided.Decided.{Decided};
 ghost use Rattle.mw_term.specs.declared.decided.DecidedKind.{DecidedKind as Kind};
 ghost use Rattle.mw_cycle.specs.Decided.{decided};
 ghost use Rattle.mw_symmem.specs.declared.turn.Turn.TheVariants as turns;
-ghost use Rattle.mw_rel.specs.Case.{IsBefore};
 ghost use Rattle.mw_explore.specs.declared.fault.Fault.TheVariants as faults;
-ghost use Rattle.mw_explore.specs.Cases.{IsChosen, Leads};
+ghost use Rattle.mw_explore.specs.Cases.{AreInOrder, IsChosen, Leads};
 
 use crate::fault::Fault;
 use mw_base::NoMemory;
@@ -69,6 +68,11 @@ pub trait CaseTree: Drop {
     /// The comparison of the case is over its budget there.
     ghost is_comparison_over: { Self → (bits : List Decided) → Self.Place → Type 0 };
 
+    /// A law for the proof: there is a case, and of two cases one comes before the other.
+    fn are_in_order(&self)
+        ensures some { Leads (is_case self.now) [] }
+        ensures order { AreInOrder (is_case self.now) };
+
     /// A course on which no bit was decided.
     ///
     /// # Errors
@@ -88,6 +92,8 @@ pub trait CaseTree: Drop {
             → (bits : List Decided) → has_come self.now course.old bits → asks self.now course.new bits kind term) }
         ensures gone { IfOk result (λ turn. turn ≡ turns.Finished
             → (bits : List Decided) → has_come self.now course.old bits → has_gone self.now course.new bits) }
+        ensures case { IfOk result (λ turn. turn ≡ turns.Finished
+            → (bits : List Decided) → has_come self.now course.old bits → is_case self.now bits) }
         ensures waiting { OnOk result ((w : Self.Waiting) (bits : List Decided)
             → is_waiting self.now course.old w bits → is_waiting self.now course.new w bits) };
 
@@ -149,15 +155,4 @@ pub trait CaseTree: Drop {
             → has_gone self.now course.old bits → is_found self.now bits found) }
         ensures over { IfErr result (λ fault. (place : Self.Place) → fault ≡ faults.Over place
             → (bits : List Decided) → has_gone self.now course.old bits → is_comparison_over self.now bits place) };
-
-    /// What was gone through is a case.
-    ghost gone_is_case: { (tree : Self) (course : Self.Course) (bits : List Decided) → has_gone tree course bits
-        → is_case tree bits };
-
-    /// There is a case.
-    ghost some_case: { (tree : Self) → Leads (is_case tree) [] };
-
-    /// Of two cases one comes before the other.
-    ghost in_order: { (tree : Self) (one two : List Decided) → is_case tree one → is_case tree two → one ≢ two
-        → IsBefore one two ⊎ IsBefore two one };
 }

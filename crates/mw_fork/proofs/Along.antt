@@ -19,7 +19,6 @@ use Rattle.mw_fork.specs.declared.elements.Space.{Space}
 use Rattle.mw_fork.specs.declared.run.Run.{Run}
 use Rattle.mw_fork.specs.Listed.{ComesTo, left_behind_cycle, left_in_cycle, left_of_cycles, left_of_step, list_of_space}
 use Rattle.mw_fork.specs.OnWay.{AsksInCycle}
-use Rattle.mw_fork.specs.Ways.{Way, met_of}
 
 -- ---- along bits
 
@@ -51,21 +50,21 @@ behind_words job number registers begun come =
     behind_cycle job registers come.asked come (along_cycles job registers ((numbered job number).bound - begun))
 
 -- it asks for a bit
-pub asks_in_cycle : (job : Job) (number : ℕ) (way : Way) (old : Run) (space : Space) (board : Symbolic)
+pub asks_in_cycle : (job : Job) (number : ℕ) (bits : List Decided) (old : Run) (space : Space) (board : Symbolic)
     (kind : DecidedKind)
     (term : ℕ) → board.place.cycle ≡ old.board.place.cycle → space.memory.board ≡ old.space.memory.board
     → StopsAt job.board job.store old.space.memory.board old.board board (list_of_space old.space) (list_of_space space)
-    kind term → ComesTo job number (met_of way) (left_in_cycle job number old.space old.registers old.board)
-    → AsksInCycle job number way (record old { space = space; board = board }) kind term
-asks_in_cycle job number way old space board kind term cycle writes stops comes =
+    kind term → ComesTo job number bits (left_in_cycle job number old.space old.registers old.board)
+    → AsksInCycle job number bits (record old { space = space; board = board }) kind term
+asks_in_cycle job number bits old space board kind term cycle writes stops comes =
     let registers = old.registers in
     let count = old.board.place.cycle + 1 in
     let left = left_in_cycle job number old.space registers old.board in
     record {
-      here = comes_here job number (met_of way) left comes ∙ ap (behind_words job number registers count) stops.here;
+      here = comes_here job number bits left comes ∙ ap (behind_words job number registers count) stops.here;
       on = λ value.
           let now = decided_so board kind value in
-          comes_with job number (met_of way) kind value left (left_in_cycle job number space registers now) (λ further.
+          comes_with job number bits kind value left (left_in_cycle job number space registers now) (λ further.
           ap (behind_words job number registers count) (stops.on value further)
           ∙ ap (λ (held : List Held). behind_words job number registers count
           (words_left job.board job.store now held further (list_of_space space))) (sym writes)

@@ -10,7 +10,8 @@ use Rattle.mw_rel.specs.Free.{numbered}
 use Rattle.mw_rel.specs.Job.{Job, IsJob}
 use Rattle.mw_rel.specs.Start.{Start}
 use Rattle.mw_rel.proofs.Choices.{each_choice_gives_a_pair}
-use Rattle.mw_fork.specs.Forks.{Before, OneIsToCome}
+use Rattle.mw_explore.specs.Cases.{Before}
+use Rattle.mw_fork.specs.Forks.{OneIsToCome}
 use Rattle.mw_fork.proofs.Grounds.{numbered_is}
 
 -- where all is 0

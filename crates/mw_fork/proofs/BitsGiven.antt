@@ -1,9 +1,10 @@
 -- A bit that a course takes.
-use Rattle.std.proofs.Common.{◌≡◌, ℕ, ◌+◌, ◌≤◌, List, ap, subst, sym, arith}
+use Rattle.std.proofs.Common.{◌≡◌, ℕ, ◌+◌, ◌≤◌, ◌++◌, ◌∷◌, List, [], ap, subst, sym, arith}
 use Rattle.std.specs.Prelude.{Bool, true, false, Option, Some, None}
+use Rattle.mw_term.specs.declared.decided.Decided.{Decided}
 use Rattle.mw_base.specs.Words.{num}
 use Rattle.mw_cycle.specs.declared.microword.Microword.{Microword}
-use Rattle.mw_cycle.specs.Decided.{decides_counter, decides_pass}
+use Rattle.mw_cycle.specs.Decided.{decided, decides_counter, decides_pass}
 use Rattle.mw_term.specs.declared.decided.DecidedKind.{DecidedKind}
 use Rattle.mw_symmem.specs.Memory.{IsOfWidth}
 use Rattle.mw_symboard.specs.Cycle.{bits_before}
@@ -15,12 +16,10 @@ use Rattle.mw_symmach.specs.Turns.{Stepping, is_asked}
 use Rattle.mw_rel.specs.Job.{Job}
 use Rattle.mw_fork.specs.declared.paths.Paths.{Paths}
 use Rattle.mw_fork.specs.declared.run.Run.{Run}
-use Rattle.mw_fork.specs.declared.way.Kept.{Kept}
 use Rattle.mw_fork.specs.CasePaths.{IsNextOfCase}
 use Rattle.mw_fork.specs.Courses.{IsGiven, IsOnCourse, IsReady, MayBeGiven, Waits, WaitsOnCourse}
 use Rattle.mw_fork.specs.Listed.{AsksFor}
 use Rattle.mw_fork.specs.OnWay.{HasDecided, IsOnRun, IsOnStep, IsOnWay, ground_in, path_in}
-use Rattle.mw_fork.specs.Ways.{Way, met_of}
 use Rattle.mw_fork.proofs.OnRun.{next_of_case, on_decided}
 use Rattle.mw_fork.proofs.OnStep.{asks_where, takes}
 use Rattle.mw_fork.proofs.Runs.{decided_under}
@@ -51,25 +50,25 @@ may_be_given job number run None kind term waits = ((kind, waits.2.asked), omega
 may_be_given job number run (Some o) kind term waits = waits.1.asked
 
 -- it is the next bit of the cases on the path, and the word list asks for it
-pub record IsNextOn (job : Job) (number : ℕ) (elements : List ℕ) (from : List Kept) (way : Way) (run : Run)
+pub record IsNextOn (job : Job) (number : ℕ) (elements : List ℕ) (bits : List Decided) (run : Run)
     (kind : DecidedKind) (term : ℕ) : Type 0 where
-  pub on : IsOnWay job number (ground_in run.space elements) from way (path_in run.paths)
-  pub next : IsNextOfCase job number (ground_in run.space elements) (met_of way) (path_in run.paths) kind term
-  pub asks : AsksFor job number (met_of way) (ground_in run.space elements) term
+  pub on : IsOnWay job number (ground_in run.space elements) bits (path_in run.paths)
+  pub next : IsNextOfCase job number (ground_in run.space elements) bits (path_in run.paths) kind term
+  pub asks : AsksFor job number bits (ground_in run.space elements) term
 
-pub next_on : (job : Job) (number : ℕ) (elements : List ℕ) (from : List Kept) (way : Way) (run : Run)
+pub next_on : (job : Job) (number : ℕ) (elements : List ℕ) (bits : List Decided) (run : Run)
     (step : Option Stepping) (kind : DecidedKind) (term : ℕ) → Waits job number run step kind term
-    → WaitsOnCourse job number elements from way run step kind term
-    → IsNextOn job number elements from way run kind term
-next_on job number elements from way run None kind term waits turned = record {
+    → WaitsOnCourse job number elements bits run step kind term
+    → IsNextOn job number elements bits run kind term
+next_on job number elements bits run None kind term waits turned = record {
   on = turned.0.on;
-  next = next_of_case job number elements from way run kind term waits.1 turned;
+  next = next_of_case job number elements bits run kind term waits.1 turned;
   asks = turned.2.here;
 }
-next_on job number elements from way run (Some o) kind term waits turned = record {
+next_on job number elements bits run (Some o) kind term waits turned = record {
   on = turned.1.0.on;
   next = turned.1.1;
-  asks = asks_where job number run.board.place.cycle elements from turned.0 run.board way run.space run.paths o kind term
+  asks = asks_where job number run.board.place.cycle elements turned.0 run.board bits run.space run.paths o kind term
       turned.1;
 }
 
@@ -121,26 +120,26 @@ given_ready job number run paths o (Some step) after kind term value waits given
       cycles = ap (λ (b : Symbolic). b.place.cycle) given.2;
     })
 
-pub given_on : (job : Job) (number : ℕ) (elements : List ℕ) (from to : List Kept) (old new : Way) (run : Run)
+pub given_on : (job : Job) (number : ℕ) (elements : List ℕ) (bits : List Decided) (run : Run)
     (paths : Paths) (o : Symbolic) (before after : Option Stepping) (kind : DecidedKind) (term : ℕ) (value : Bool)
-    → BitsGoAlong → Waits job number run before kind term → WaitsOnCourse job number elements from old run before kind term
+    → BitsGoAlong → Waits job number run before kind term → WaitsOnCourse job number elements bits run before kind term
     → IsGiven value run.board o before after
-    → HasDecided job number (ground_in run.space elements) to old new (path_in run.paths) (path_in paths) kind term value
-    → IsOnCourse job number elements to new (run_with run paths o) after
-given_on job number elements from to old new run paths o None after kind term value law waits turned given has =
+    → HasDecided job number (ground_in run.space elements) bits (path_in run.paths) (path_in paths) kind term value
+    → IsOnCourse job number elements (bits ++ decided kind value ∷ []) (run_with run paths o) after
+given_on job number elements bits run paths o None after kind term value law waits turned given has =
     let is = given.1.new_is kind waits.2.asked in
-    subst (IsOnCourse job number elements to new (run_with run paths o)) (sym given.0)
-    (subst (λ (n : ℕ). IsOnRun job number elements to new (run_with run paths o) n)
+    subst (IsOnCourse job number elements (bits ++ decided kind value ∷ []) (run_with run paths o)) (sym given.0)
+    (subst (λ (n : ℕ). IsOnRun job number elements (bits ++ decided kind value ∷ []) (run_with run paths o) n)
     (sym (ap (λ (b : Symbolic). b.place.cycle) is))
-    (on_decided job number elements from to old new run paths o kind term value is turned has))
-given_on job number elements from to old new run paths o (Some step) after kind term value law waits turned given has =
+    (on_decided job number elements bits run paths o kind term value is turned has))
+given_on job number elements bits run paths o (Some step) after kind term value law waits turned given has =
     let took = given.3 in
     let t = run.space in
     let stepping = waits.0.stepping in
-    subst (IsOnCourse job number elements to new (run_with run paths o)) (sym given.1) (
+    subst (IsOnCourse job number elements (bits ++ decided kind value ∷ []) (run_with run paths o)) (sym given.1) (
       turned.0,
-      subst (λ (b : Symbolic). IsOnStep job number elements to b.place.cycle turned.0 b new t paths given.0) (sym given.2)
-          (takes job number run.board.place.cycle elements from to turned.0 run.board old new t run.paths paths step
+      subst (λ (b : Symbolic). IsOnStep job number elements b.place.cycle turned.0 b (bits ++ decided kind value ∷ []) t paths given.0) (sym given.2)
+          (takes job number run.board.place.cycle elements turned.0 run.board bits t run.paths paths step
           given.0 kind term value waits.1 (took.decided job.machine t.terms t.words t.memory stepping) law took.new_is
           (took.left job.machine t.terms t.words t.memory stepping) has turned.1),
     )

@@ -5,10 +5,8 @@ use Rattle.std.proofs.lemmas.List.{map-append}
 use Rattle.mw_term.specs.declared.decided.Decided.{Decided}
 use Rattle.mw_cycle.specs.Decided.{decided}
 use Rattle.mw_rel.specs.Job.{Job}
-use Rattle.mw_fork.specs.declared.way.Kept.{Kept}
-use Rattle.mw_fork.specs.Ways.{bits_of, turned, turned_last}
 use Rattle.mw_fork.specs.Within.{AreDecidedWithin, IsDecidedWithin}
-use Rattle.mw_fork.proofs.Ordering.{no_item, turned_at}
+use Rattle.mw_explore.proofs.Ordering.{no_item}
 
 head_of : {A : Type 0} (x y : A) (xs ys : List A) → x ∷ xs ≡ y ∷ ys → x ≡ y
 head_of x y xs ys same = cc
@@ -46,14 +44,8 @@ within_more job number nodes bits k are is before other rest same =
       | inr h ↦ are before other h.0 h.1
     ]
 
--- so are the first of them
-within_front : (job : Job) (number nodes : ℕ) (front behind : List Decided)
-    → AreDecidedWithin job number nodes (front ++ behind) → AreDecidedWithin job number nodes front
-within_front job number nodes front behind are before k rest same =
-    are before k (rest ++ behind) (ap (λ (xs : List Decided). xs ++ behind) same ∙ append_assoc before (k ∷ rest) behind)
-
 -- a bit is within a budget with either value
-within_either : (job : Job) (number nodes : ℕ) (before : List Decided) (k : Decided) (value : Bool)
+pub within_either : (job : Job) (number nodes : ℕ) (before : List Decided) (k : Decided) (value : Bool)
     → IsDecidedWithin job number nodes before k → IsDecidedWithin job number nodes before (decided k.kind value)
 within_either job number nodes before k value is = record {
   listed = record {
@@ -69,18 +61,3 @@ within_either job number nodes before k value is = record {
   };
   within = is.within;
 }
-
--- so are the bits up to the last one that can be turned, with that one turned
-pub within_turned : (job : Job) (number nodes : ℕ) (old new : List Kept) → turned_last old ≡ Some new
-    → AreDecidedWithin job number nodes (bits_of old) → AreDecidedWithin job number nodes (bits_of new)
-within_turned job number nodes old new turns are =
-    let t = turned_at old new turns in
-    let split : bits_of old ≡ bits_of t.front ++ t.bit.bit ∷ bits_of t.behind =
-    ap bits_of t.kept_is ∙ map-append (λ (x : Kept). x.bit) t.front (t.bit ∷ t.behind) in
-    let all = subst (AreDecidedWithin job number nodes) split are in
-    let one = within_either job number nodes (bits_of t.front) t.bit.bit true
-    (all (bits_of t.front) t.bit.bit (bits_of t.behind) refl) in
-    subst (AreDecidedWithin job number nodes)
-    (sym (ap bits_of t.now_is ∙ map-append (λ (x : Kept). x.bit) t.front (turned t.bit ∷ [])))
-    (within_more job number nodes (bits_of t.front) (decided t.bit.bit.kind true)
-    (within_front job number nodes (bits_of t.front) (t.bit.bit ∷ bits_of t.behind) all) one)

@@ -46,13 +46,11 @@ use Rattle.mw_fork.specs.CasePaths.{HasCase, HasSegment, IsCasePath}
 use Rattle.mw_fork.specs.Comparing.{AreApart, AreOne, AreOneAtProbe, FailsFirst, GoesComparing}
 use Rattle.mw_fork.specs.declared.elements.Space.{Space}
 use Rattle.mw_fork.specs.declared.run.Run.{Run}
-use Rattle.mw_fork.specs.declared.way.Kept.{Kept}
 use Rattle.mw_fork.specs.Ends.{HaveEnded}
 use Rattle.mw_fork.specs.Failing.{IsFound, NoneDiffersOf}
 use Rattle.mw_fork.specs.Listed.{list_of_space}
 use Rattle.mw_fork.specs.OnWay.{HasMetCase, ground_in, path_in}
 use Rattle.mw_fork.specs.Starts.{IsGround, StandsForStart}
-use Rattle.mw_fork.specs.Ways.{Way, met_of}
 use Rattle.mw_fork.proofs.ComparingOn.{wide_compared}
 use Rattle.mw_fork.proofs.Differing.{AreEven, even_where_nothing, nothing_shown, terms_there, wide_at_end}
 use Rattle.mw_fork.proofs.Grounds.{have_starts}
@@ -73,15 +71,15 @@ pub record IsEnded (job : Job) (number : ℕ) (elements : List ℕ) (bits : List
   pub of_segment : HasSegment job number (ground_in space elements) path cycles false segment
   pub ended : HaveEnded job number (ground_in space elements) bits cycles space path board step
 
-pub ended_met : (job : Job) (number : ℕ) (elements : List ℕ) (from : List Kept) (cycles : ℕ) (late : Bool) (way : Way)
-    (run : Run) (step : Stepping) → IsJob job → HasMetCase job number elements from cycles late way run (Some step)
-    → IsEnded job number elements (met_of way) cycles run.space (path_in run.paths) run.board step
-ended_met job number elements from cycles late way run step valid met = record {
+pub ended_met : (job : Job) (number : ℕ) (elements : List ℕ) (cycles : ℕ) (late : Bool) (bits : List Decided)
+    (run : Run) (step : Stepping) → IsJob job → HasMetCase job number elements cycles late bits run (Some step)
+    → IsEnded job number elements bits cycles run.space (path_in run.paths) run.board step
+ended_met job number elements cycles late bits run step valid met = record {
   stands = met.on.stands;
   cases = met.on.cases;
   written = met.on.written;
   whole = met.whole;
-  feasible = case_met job number elements from cycles late way run (Some step) valid met;
+  feasible = case_met job number elements cycles late bits run (Some step) valid met;
   segment = met.segment;
   of_segment = subst (λ (b : Bool). HasSegment job number (ground_in run.space elements) (path_in run.paths) cycles b
       met.segment) met.ends.0 met.ended;

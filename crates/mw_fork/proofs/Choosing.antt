@@ -1,7 +1,7 @@
 -- Which values of the next bit a run may choose, and what it keeps of its choice.
 use Rattle.std.proofs.Common.{◌≡◌, ℕ, List, [], ◌∷◌, ◌++◌, length, drop}
 use Rattle.std.proofs.Common.{append_assoc, append-nil, ap, sym, subst, ◌∙◌, refl}
-use Rattle.std.specs.Prelude.{Bool, true, false, ◌==◌, cond, Some}
+use Rattle.std.specs.Prelude.{Bool, true, false, not, ◌&&◌, ◌==◌, cond, Some}
 use Rattle.std.proofs.lemmas.List.{map-append}
 use Rattle.std.proofs.lemmas.Option.{same_Some}
 use Rattle.mw_term.specs.declared.decided.Decided.{Decided}
@@ -22,19 +22,16 @@ use Rattle.mw_symboard.specs.Paths.{IsBy}
 use Rattle.mw_symboard.specs.Seen.{AreFirst}
 use Rattle.mw_symboard.proofs.OnPaths.{splits_are_by}
 use Rattle.mw_symboard.proofs.RunBits.{and_rest, first_before, first_next, first_of}
-use Rattle.mw_rel.specs.Case.{IsFeasiblePrefix, case_of}
+use Rattle.mw_explore.specs.Cases.{IsChosen, Leads}
+use Rattle.mw_rel.specs.Case.{IsCase, IsFeasiblePrefix, case_of}
 use Rattle.mw_rel.specs.Job.{Job}
 use Rattle.mw_rel.specs.PathWords.{path_of, path_word}
 use Rattle.mw_rel.specs.Start.{Start}
-use Rattle.mw_fork.specs.declared.way.Feasible.{Feasible}
-use Rattle.mw_fork.specs.declared.way.Kept.{Kept}
+use Rattle.mw_fork.specs.declared.paths.Feasible.{Feasible}
 use Rattle.mw_fork.specs.CasePaths.{IsCasePath, IsNextOfCase}
-use Rattle.mw_fork.specs.KeptBits.{AreKeptBits, AreLeast, IsKeptBit, IsWayFrom}
 use Rattle.mw_fork.specs.Listed.{AsksFor}
 use Rattle.mw_fork.specs.OnWay.{HasDecided, IsOnWay}
 use Rattle.mw_fork.specs.Starts.{Ground, HaveStarts, IsGround, StandsForStart}
-use Rattle.mw_fork.specs.Ways.{Way, bits_of, first_of as first_bit, kept_of, met_of, turned_behind, way_of}
-use Rattle.mw_fork.proofs.Ordering.{kept_feasible, way_begins}
 use Rattle.mw_fork.proofs.WordPaths.{written_next}
 
 -- ---- paths and prefixes
@@ -160,101 +157,48 @@ choice job number g bits path low high kind term feasible starts cases asked by_
           ap (λ (x : Decided). x.kind) (same_Some d (decided kind _) (sym split.1 ∙ next));
     }
 
--- ---- bits that are kept
-
--- one bit more is kept
-kept_one : (job : Job) (number : ℕ) (before : List Decided) (xs : List Kept) (k : Kept)
-    → AreKeptBits job number before xs
-    → IsKeptBit job number (before ++ bits_of xs) k → AreKeptBits job number before (xs ++ k ∷ [])
-kept_one job number before [] k are is =
-    (subst (λ (bits : List Decided). IsKeptBit job number bits k) (append-nil before) is, tt)
-kept_one job number before (x ∷ xs) k are is = (
-  are.0,
-  kept_one job number (before ++ x.bit ∷ []) xs k are.1
-      (subst (λ (bits : List Decided). IsKeptBit job number bits k)
-      (sym (append_assoc before (x.bit ∷ []) (bits_of xs))) is),
-)
-
--- it is 1 only where 0 isn't feasible
-abbrev IsLeast : Job → (number : ℕ) → (before : List Decided) → Kept → Type 0
-IsLeast job number before k =
-    k.bit.value ≡ true → ¬ IsFeasiblePrefix job number (before ++ decided k.bit.kind false ∷ [])
-
--- one bit more is the least
-least_one : (job : Job) (number : ℕ) (before : List Decided) (xs : List Kept) (k : Kept) → AreLeast job number before xs
-    → IsLeast job number (before ++ bits_of xs) k → AreLeast job number before (xs ++ k ∷ [])
-least_one job number before [] k are is =
-    (subst (λ (bits : List Decided). IsLeast job number bits k) (append-nil before) is, tt)
-least_one job number before (x ∷ xs) k are is = (
-  are.0,
-  least_one job number (before ++ x.bit ∷ []) xs k are.1
-      (subst (λ (bits : List Decided). IsLeast job number bits k)
-      (sym (append_assoc before (x.bit ∷ []) (bits_of xs))) is),
-)
-
 -- ---- the first value that is feasible
 
--- it can be kept
-first_kept : (job : Job) (number : ℕ) (before : List Decided) (kind : DecidedKind) (zero one : Bool)
-    → IsChoice job number before kind (record { zero = zero; one = one }) → IsFeasiblePrefix job number before
-    → IsKeptBit job number before (first_bit kind (record { zero = zero; one = one }))
-first_kept job number before kind true one is feasible = record {
-  feasible = is.zero refl;
-  zero = λ other. refl;
-  turns = λ other. is.one other;
-  only = λ other value. is.no_one other;
+-- feasible bits are those with which a case begins
+pub leads_by : (job : Job) (number : ℕ) (bits : List Decided) → IsFeasiblePrefix job number bits
+    → Leads (IsCase job number) bits
+leads_by job number bits f =
+    record { rest = f.rest; case = record { start = f.start; starts = f.starts; bits_are = f.bits_are } }
+
+feasible_by : (job : Job) (number : ℕ) (bits : List Decided) → Leads (IsCase job number) bits
+    → IsFeasiblePrefix job number bits
+feasible_by job number bits leads = record {
+  start = leads.case.start;
+  starts = leads.case.starts;
+  rest = leads.rest;
+  bits_are = leads.case.bits_are;
 }
-first_kept job number before kind false one is feasible = record {
-  feasible = is.one (is.some feasible refl);
+
+-- the first value is feasible
+first_feasible : (job : Job) (number : ℕ) (before : List Decided) (kind : DecidedKind) (zero one : Bool)
+    → IsChoice job number before kind (record { zero = zero; one = one }) → IsFeasiblePrefix job number before
+    → IsFeasiblePrefix job number (before ++ decided kind (not zero) ∷ [])
+first_feasible job number before kind true one is feasible = is.zero refl
+first_feasible job number before kind false one is feasible = is.one (is.some feasible refl)
+
+-- it is what is chosen, and may be turned where both are
+first_chosen : (job : Job) (number : ℕ) (before : List Decided) (kind : DecidedKind) (zero one : Bool)
+    → IsChoice job number before kind (record { zero = zero; one = one }) → IsFeasiblePrefix job number before
+    → IsChosen (IsCase job number) before kind (not zero) (zero && one)
+first_chosen job number before kind true one is feasible = record {
+  leads = leads_by job number _ (is.zero refl);
+  least = λ value. absurd cc;
+  zero = λ other. refl;
+  turns = λ other. leads_by job number _ (is.one other);
+  only = λ other value leads. is.no_one other (feasible_by job number _ leads);
+}
+first_chosen job number before kind false one is feasible = record {
+  leads = leads_by job number _ (is.one (is.some feasible refl));
+  least = λ value leads. is.no_zero refl (feasible_by job number _ leads);
   zero = λ other. absurd cc;
   turns = λ other. absurd cc;
   only = λ other value. absurd cc;
 }
-
--- it is the least
-first_least : (job : Job) (number : ℕ) (before : List Decided) (kind : DecidedKind) (zero one : Bool)
-    → IsChoice job number before kind (record { zero = zero; one = one })
-    → IsLeast job number before (first_bit kind (record { zero = zero; one = one }))
-first_least job number before kind true one is = λ value. absurd cc
-first_least job number before kind false one is = λ value. is.no_zero refl
-
--- ---- one bit more on a way
-
--- the first value that is feasible is kept behind the others
-chosen : (job : Job) (number : ℕ) (from : List Kept) (old : Way) (kind : DecidedKind) (feasible : Feasible)
-    → IsFeasiblePrefix job number [] → IsChoice job number (met_of old) kind feasible → IsWayFrom job number from old
-    → IsWayFrom job number from (way_of (old.kept ++ first_bit kind feasible ∷ []))
-chosen job number from old kind feasible none is bits =
-    let first = first_bit kind feasible in
-    let split : bits_of old.kept ≡ bits_of from ++ bits_of bits.more =
-    ap bits_of bits.kept_is ∙ map-append (λ (x : Kept). x.bit) from bits.more in
-    record {
-      kept = kept_one job number [] old.kept first bits.kept
-          (first_kept job number (bits_of old.kept) kind feasible.zero feasible.one is
-          (kept_feasible job number old.kept [] none bits.kept));
-      more = bits.more ++ first ∷ [];
-      kept_is = ap (λ (xs : List Kept). xs ++ first ∷ []) bits.kept_is ∙ append_assoc from bits.more (first ∷ []);
-      least = least_one job number (bits_of from) bits.more first bits.least
-          (subst (λ (ds : List Decided). IsLeast job number ds first) split
-          (first_least job number (bits_of old.kept) kind feasible.zero feasible.one is));
-    }
-
--- a run may begin with the same bits, and behind them with 1 where that is feasible
-chosen_other : (job : Job) (number : ℕ) (old : Way) (kind : DecidedKind) (feasible : Feasible) → feasible.one ≡ true
-    → IsChoice job number (met_of old) kind feasible → AreKeptBits job number [] old.kept
-    → IsWayFrom job number (turned_behind old.kept kind) (way_of (turned_behind old.kept kind))
-chosen_other job number old kind feasible can is kept =
-    way_begins job number (way_of (turned_behind old.kept kind))
-    (kept_one job number [] old.kept (kept_of kind true false) kept (record {
-      feasible = is.one can;
-      zero = λ other. absurd cc;
-      turns = λ other. absurd cc;
-      only = λ other value. absurd cc;
-    }))
-
--- the decided bits with one more
-met_next : (kept : List Kept) (k : Kept) → met_of (way_of (kept ++ k ∷ [])) ≡ bits_of kept ++ k.bit ∷ []
-met_next kept k = map-append (λ (x : Kept). x.bit) kept (k ∷ [])
 
 -- ---- a bit that was decided
 
@@ -272,78 +216,66 @@ made_by_value : (nodes : List Node) (path b : Function) (budget : ℕ) (split : 
 made_by_value nodes path b budget split true is = is.one.exact
 made_by_value nodes path b budget split false is = is.zero.exact
 
--- a path is split, and gone on by a value of the bit, with which these bits are kept
-decided_so : (job : Job) (number : ℕ) (g : Ground) (from : List Kept) (old new : Way) (nodes : List Node)
-    (path : Function) (budget : ℕ) (split : Split) (kind : DecidedKind) (term : ℕ) (value : Bool)
-    → IsTable g.table → IsOfWidth g.table 1 term → IsGround job number g → Agree path (path_of job number (met_of old))
-    → IsCasePath job number g (met_of old) path → IsNextOfCase job number g (met_of old) path kind term
-    → AsksFor job number (met_of old) g term → IsSplit nodes path (bit g.table term 0) budget split
-    → IsWayFrom job number from new → met_of new ≡ met_of old ++ decided kind value ∷ []
-    → HasDecided job number g from old new path (function_of nodes (cond value split.one split.zero)) kind term value
-decided_so job number g from old new nodes path budget split kind term value table wide ground written cases asked asks
-    is bits met =
+-- a path is split, and gone on by a value of the bit that is feasible
+decided_so : (job : Job) (number : ℕ) (g : Ground) (bits : List Decided) (nodes : List Node) (path : Function)
+    (budget : ℕ) (split : Split) (kind : DecidedKind) (term : ℕ) (value : Bool) → IsTable g.table
+    → IsOfWidth g.table 1 term → IsOnWay job number g bits path → IsNextOfCase job number g bits path kind term
+    → AsksFor job number bits g term → IsSplit nodes path (bit g.table term 0) budget split
+    → IsFeasiblePrefix job number (bits ++ decided kind value ∷ [])
+    → HasDecided job number g bits path (function_of nodes (cond value split.one split.zero)) kind term value
+decided_so job number g bits nodes path budget split kind term value table wide on asked asks is feasible =
     let next = function_of nodes (cond value split.one split.zero) in
     let by = by_value g.table nodes term path split value
     ((splits_are_by g.table term path (function_of nodes split.zero) table wide).1 is.zero.exact)
     ((splits_are_by g.table term path (function_of nodes split.one) table wide).0 is.one.exact) in
     record {
       on = record {
-        stands = ground;
-        written = subst (λ (bits : List Decided). Agree next (path_of job number bits)) (sym met)
-            (written_next job number (met_of old) g path next kind term value ground.space.map asks written
-            (made_by_value nodes path (bit g.table term 0) budget split value is));
-        cases = subst (λ (bits : List Decided). IsCasePath job number g bits next) (sym met)
-            (path_by job number g (met_of old) path _ kind term value cases asked by);
-        bits = bits;
+        stands = on.stands;
+        written = written_next job number bits g path next kind term value on.stands.space.map asks on.written
+            (made_by_value nodes path (bit g.table term 0) budget split value is);
+        cases = path_by job number g bits path _ kind term value on.cases asked by;
+        feasible = feasible;
       };
-      met = met;
       by = by;
     }
 
 -- which values of the bit are feasible
-free_at : (job : Job) (number : ℕ) (g : Ground) (from : List Kept) (old : Way) (nodes : List Node) (path : Function)
+pub free_at : (job : Job) (number : ℕ) (g : Ground) (bits : List Decided) (nodes : List Node) (path : Function)
     (budget : ℕ) (split : Split) (kind : DecidedKind) (term : ℕ) (feasible : Feasible) → HaveStarts job number g
-    → IsTable g.table → IsOfWidth g.table 1 term → IsOnWay job number g from old path
-    → IsNextOfCase job number g (met_of old) path kind term → IsSplit nodes path (bit g.table term 0) budget split
+    → IsTable g.table → IsOfWidth g.table 1 term → IsOnWay job number g bits path
+    → IsNextOfCase job number g bits path kind term → IsSplit nodes path (bit g.table term 0) budget split
     → AreTold feasible (function_of nodes split.zero) (function_of nodes split.one)
-    → IsChoice job number (met_of old) kind feasible
-free_at job number g from old nodes path budget split kind term feasible starts table wide on asked is told =
-    choice job number g (met_of old) path (function_of nodes split.zero) (function_of nodes split.one) kind term feasible
-    starts on.cases asked
-    ((splits_are_by g.table term path (function_of nodes split.zero) table wide).1 is.zero.exact)
+    → IsChoice job number bits kind feasible
+free_at job number g bits nodes path budget split kind term feasible starts table wide on asked is told =
+    choice job number g bits path (function_of nodes split.zero) (function_of nodes split.one) kind term feasible starts
+    on.cases asked ((splits_are_by g.table term path (function_of nodes split.zero) table wide).1 is.zero.exact)
     ((splits_are_by g.table term path (function_of nodes split.one) table wide).0 is.one.exact) told
 
--- a path is split, and the first value that is feasible is gone on with
-pub has_decided : (job : Job) (number : ℕ) (g : Ground) (from : List Kept) (old : Way) (nodes : List Node)
-    (path : Function) (budget : ℕ) (split : Split) (kind : DecidedKind) (term : ℕ) (feasible : Feasible)
-    → HaveStarts job number g → IsTable g.table → IsOfWidth g.table 1 term
-    → IsOnWay job number g from old path → IsNextOfCase job number g (met_of old) path kind term
-    → AsksFor job number (met_of old) g term → IsSplit nodes path (bit g.table term 0) budget split
-    → AreTold feasible (function_of nodes split.zero) (function_of nodes split.one)
-    → HasDecided job number g from old (way_of (old.kept ++ first_bit kind feasible ∷ [])) path
-    (function_of nodes (cond (first_bit kind feasible).bit.value split.one split.zero)) kind term
-    (first_bit kind feasible).bit.value
-has_decided job number g from old nodes path budget split kind term feasible starts table wide on asked asks is told =
-    let free = free_at job number g from old nodes path budget split kind term feasible starts table wide on asked is
-    told in
-    decided_so job number g from old _ nodes path budget split kind term (first_bit kind feasible).bit.value table wide
-    on.stands on.written on.cases asked asks is
-    (chosen job number from old kind feasible (none_feasible job number g starts) free on.bits)
-    (met_next old.kept (first_bit kind feasible))
+-- the first value that is feasible is chosen
+pub is_chosen : (job : Job) (number : ℕ) (g : Ground) (bits : List Decided) (path : Function) (kind : DecidedKind)
+    (feasible : Feasible) → IsOnWay job number g bits path → IsChoice job number bits kind feasible
+    → IsChosen (IsCase job number) bits kind (not feasible.zero) (feasible.zero && feasible.one)
+is_chosen job number g bits path kind feasible on is =
+    first_chosen job number bits kind feasible.zero feasible.one is on.feasible
 
--- and another run may go on with 1, where that is feasible
-pub has_turned : (job : Job) (number : ℕ) (g : Ground) (from : List Kept) (old : Way) (nodes : List Node)
-    (path : Function) (budget : ℕ) (split : Split) (kind : DecidedKind) (term : ℕ) (feasible : Feasible)
-    → feasible.one ≡ true → HaveStarts job number g → IsTable g.table → IsOfWidth g.table 1 term
-    → IsOnWay job number g from old path → IsNextOfCase job number g (met_of old) path kind term
-    → AsksFor job number (met_of old) g term → IsSplit nodes path (bit g.table term 0) budget split
-    → AreTold feasible (function_of nodes split.zero) (function_of nodes split.one)
-    → HasDecided job number g (turned_behind old.kept kind) old (way_of (turned_behind old.kept kind)) path
-    (function_of nodes split.one) kind term true
-has_turned job number g from old nodes path budget split kind term feasible can starts table wide on asked asks is
-    told =
-    let free = free_at job number g from old nodes path budget split kind term feasible starts table wide on asked is
-    told in
-    decided_so job number g (turned_behind old.kept kind) old _ nodes path budget split kind term true table wide
-    on.stands on.written on.cases asked asks is (chosen_other job number old kind feasible can free on.bits.kept)
-    (met_next old.kept (kept_of kind true false))
+-- a path is split, and the first value that is feasible is gone on with
+pub has_decided : (job : Job) (number : ℕ) (g : Ground) (bits : List Decided) (nodes : List Node) (path : Function)
+    (budget : ℕ) (split : Split) (kind : DecidedKind) (term : ℕ) (feasible : Feasible)
+    → IsTable g.table → IsOfWidth g.table 1 term → IsOnWay job number g bits path
+    → IsNextOfCase job number g bits path kind term → AsksFor job number bits g term
+    → IsSplit nodes path (bit g.table term 0) budget split → IsChoice job number bits kind feasible
+    → HasDecided job number g bits path (function_of nodes (cond (not feasible.zero) split.one split.zero)) kind term
+    (not feasible.zero)
+has_decided job number g bits nodes path budget split kind term feasible table wide on asked asks is free =
+    decided_so job number g bits nodes path budget split kind term (not feasible.zero) table wide on asked asks is
+    (first_feasible job number bits kind feasible.zero feasible.one free on.feasible)
+
+-- and another course may go on with 1, where that is feasible
+pub has_turned : (job : Job) (number : ℕ) (g : Ground) (bits : List Decided) (nodes : List Node) (path : Function)
+    (budget : ℕ) (split : Split) (kind : DecidedKind) (term : ℕ) (feasible : Feasible) → feasible.one ≡ true
+    → IsTable g.table → IsOfWidth g.table 1 term → IsOnWay job number g bits path
+    → IsNextOfCase job number g bits path kind term → AsksFor job number bits g term
+    → IsSplit nodes path (bit g.table term 0) budget split → IsChoice job number bits kind feasible
+    → HasDecided job number g bits path (function_of nodes split.one) kind term true
+has_turned job number g bits nodes path budget split kind term feasible can table wide on asked asks is free =
+    decided_so job number g bits nodes path budget split kind term true table wide on asked asks is (free.one can)

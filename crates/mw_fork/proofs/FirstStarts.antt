@@ -1,6 +1,7 @@
 -- The first start of a case that was run.
 use Rattle.std.proofs.Common.{◌≡◌, ℕ, List, Bool, true, false, Option, None, Some, ap, subst, sym, ◌∙◌, length, arith}
 use Rattle.std.proofs.lemmas.List.{take_all}
+use Rattle.mw_term.specs.declared.decided.Decided.{Decided}
 use Rattle.mw_rel.specs.Begin.{Begin}
 use Rattle.mw_rel.specs.CaseWords.{CaseWords, case_words}
 use Rattle.mw_rel.specs.Job.{Job, IsJob}
@@ -14,22 +15,20 @@ use Rattle.mw_dd.specs.Diagrams.{IsFirst}
 use Rattle.mw_symboard.specs.Seen.{AreFirst}
 use Rattle.mw_symmach.specs.Turns.{Stepping}
 use Rattle.mw_fork.specs.declared.run.Run.{Run}
-use Rattle.mw_fork.specs.declared.way.Kept.{Kept}
 use Rattle.mw_fork.specs.Begins.{IsAssigned, IsChosen, IsFirstOfCase, IsOfCase}
 use Rattle.mw_fork.specs.Listed.{list_of_space}
 use Rattle.mw_fork.specs.OnWay.{HasMetCase, ground_in, path_in}
 use Rattle.mw_fork.specs.Starts.{IsGround, StandsForStart}
-use Rattle.mw_fork.specs.Ways.{Way, met_of}
 use Rattle.mw_fork.proofs.Grounds.{have_starts}
 use Rattle.mw_fork.proofs.Tracing.{case_met}
 
 -- a case that was met has a start, so its path is true somewhere
-pub not_nowhere : (job : Job) (number : ℕ) (elements : List ℕ) (from : List Kept) (cycles : ℕ) (late : Bool)
-    (way : Way) (run : Run) (step : Option Stepping) → IsJob job
-    → HasMetCase job number elements from cycles late way run step → Agree (path_in run.paths) never → ⊥
-not_nowhere job number elements from cycles late way run step valid met nowhere =
-    let bits = met_of way in
-    let case = case_met job number elements from cycles late way run step valid met in
+pub not_nowhere : (job : Job) (number : ℕ) (elements : List ℕ) (cycles : ℕ) (late : Bool)
+    (bits : List Decided) (run : Run) (step : Option Stepping) → IsJob job
+    → HasMetCase job number elements cycles late bits run step → Agree (path_in run.paths) never → ⊥
+not_nowhere job number elements cycles late bits run step valid met nowhere =
+    let bits = bits in
+    let case = case_met job number elements cycles late bits run step valid met in
     let one = (have_starts job number (ground_in run.space elements) valid met.on.stands).reached
     case.start case.starts in
     let on = met.on.cases.only one.0 case.start one.1
@@ -38,12 +37,12 @@ not_nowhere job number elements from cycles late way run step valid met nowhere 
     absurd cc
 
 -- the list of what was run is that of the case before anything is compared
-uncompared_is : (job : Job) (number : ℕ) (elements : List ℕ) (from : List Kept) (cycles : ℕ) (late : Bool) (way : Way)
-    (run : Run) (step : Option Stepping) → HasMetCase job number elements from cycles late way run step
-    → (case_words job number (met_of way)).uncompared ≡ list_of_space run.space
-uncompared_is job number elements from cycles late way run None met =
+uncompared_is : (job : Job) (number : ℕ) (elements : List ℕ) (cycles : ℕ) (late : Bool) (bits : List Decided)
+    (run : Run) (step : Option Stepping) → HasMetCase job number elements cycles late bits run step
+    → (case_words job number bits).uncompared ≡ list_of_space run.space
+uncompared_is job number elements cycles late bits run None met =
     ap (λ (w : CaseWords). w.uncompared) met.ends.1
-uncompared_is job number elements from cycles late way run (Some step) met =
+uncompared_is job number elements cycles late bits run (Some step) met =
     ap (λ (w : CaseWords). w.uncompared) met.ends.1.listed
 
 -- the first under which one function holds is so of each that agrees with it
@@ -54,26 +53,26 @@ first_same f g numbers same is = record {
 }
 
 -- the start that the first assignment on the path gives has the case
-pub of_case : (job : Job) (number : ℕ) (elements : List ℕ) (from : List Kept) (cycles : ℕ) (late : Bool) (way : Way)
+pub of_case : (job : Job) (number : ℕ) (elements : List ℕ) (cycles : ℕ) (late : Bool) (bits : List Decided)
     (run : Run) (step : Option Stepping) (numbers : Numbers) (begin : Begin)
-    → HasMetCase job number elements from cycles late way run step → IsFirst (path_in run.paths) numbers
+    → HasMetCase job number elements cycles late bits run step → IsFirst (path_in run.paths) numbers
     → ((elements : List ℕ) → IsGround job number (ground_in run.space elements)
     → (start : Start) × IsChosen job number begin start
     × StandsForStart job number (ground_in run.space elements) (given_by numbers) start)
-    → IsOfCase job number (met_of way) begin
-of_case job number elements from cycles late way run step numbers begin met first begins =
+    → IsOfCase job number bits begin
+of_case job number elements cycles late bits run step numbers begin met first begins =
     let is = begins elements met.on.stands in
     record { start = is.0; chosen = is.1; of_case = met.whole (given_by numbers) is.0 is.2 first.holds }
 
 -- it is the first of the case
-pub first_of_case : (job : Job) (number : ℕ) (elements : List ℕ) (from : List Kept) (cycles : ℕ) (late : Bool)
-    (way : Way) (run : Run) (step : Option Stepping) (numbers : Numbers) (begin : Begin)
-    → HasMetCase job number elements from cycles late way run step → IsFirst (path_in run.paths) numbers
+pub first_of_case : (job : Job) (number : ℕ) (elements : List ℕ) (cycles : ℕ) (late : Bool)
+    (bits : List Decided) (run : Run) (step : Option Stepping) (numbers : Numbers) (begin : Begin)
+    → HasMetCase job number elements cycles late bits run step → IsFirst (path_in run.paths) numbers
     → IsAssigned job number (list_of_space run.space) (given_by numbers) begin
-    → IsFirstOfCase job number (met_of way) begin
-first_of_case job number elements from cycles late way run step numbers begin met first assigned = record {
+    → IsFirstOfCase job number bits begin
+first_of_case job number elements cycles late bits run step numbers begin met first assigned = record {
   numbers = numbers;
-  first = first_same (path_in run.paths) (path_of job number (met_of way)) numbers met.on.written first;
+  first = first_same (path_in run.paths) (path_of job number bits) numbers met.on.written first;
   assigned = subst (λ (l : WordList). IsAssigned job number l (given_by numbers) begin)
-      (sym (uncompared_is job number elements from cycles late way run step met)) assigned;
+      (sym (uncompared_is job number elements cycles late bits run step met)) assigned;
 }

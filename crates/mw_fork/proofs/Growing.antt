@@ -32,11 +32,9 @@ use Rattle.mw_symboard.proofs.Environments.{either}
 use Rattle.mw_fork.specs.Boundaries.{AreWide}
 use Rattle.mw_fork.specs.CasePaths.{IsCasePath, OnPath}
 use Rattle.mw_fork.specs.declared.elements.Space.{Space}
-use Rattle.mw_fork.specs.declared.way.Kept.{Kept}
 use Rattle.mw_fork.specs.OnWay.{IsOnWay, ground_in}
 use Rattle.mw_fork.specs.Starts.{GoesTo, Ground, HaveValues, IsGround, StandsForStart, course_of, origin_of}
 use Rattle.mw_fork.specs.Starts.{registers_of}
-use Rattle.mw_fork.specs.Ways.{Way, met_of}
 use Rattle.mw_fork.proofs.Boundaries.{space_later}
 use Rattle.mw_fork.proofs.Runs.{board_elements}
 
@@ -186,12 +184,12 @@ cases_later job number old new bits path is ground goes cases = record {
       cases.only given start (start_before job number old new given start is ground goes one);
 }
 
-pub way_later : (job : Job) (number : ℕ) (old new : Ground) (from : List Kept) (way : Way) (path : Function)
+pub way_later : (job : Job) (number : ℕ) (old new : Ground) (bits : List Decided) (path : Function)
     (cycles : ℕ) → IsJob job → GoesTo old new → HaveVariables job.board new.table new.words cycles
-    → IsOnWay job number old from way path → IsOnWay job number new from way path
-way_later job number old new from way path cycles is goes have on = record {
+    → IsOnWay job number old bits path → IsOnWay job number new bits path
+way_later job number old new bits path cycles is goes have on = record {
   stands = ground_later job number old new cycles is on.stands goes have;
   written = on.written;
-  cases = cases_later job number old new (met_of way) path is on.stands goes on.cases;
-  bits = on.bits;
+  cases = cases_later job number old new bits path is on.stands goes on.cases;
+  feasible = on.feasible;
 }

@@ -2,7 +2,6 @@ pub mod Along
 pub mod AlongStep
 pub mod AnyStart
 pub mod Apart
-pub mod Beginning
 pub mod Begun
 pub mod BitsGiven
 pub mod Boundaries
@@ -26,9 +25,7 @@ pub mod GoingOn
 pub mod Grounds
 pub mod Growing
 pub mod Grown
-pub mod LastGiven
 pub mod LateCompared
-pub mod Leading
 pub mod LineCompared
 pub mod LinesCompared
 pub mod LongerRows
@@ -40,8 +37,6 @@ pub mod OnRun
 pub mod OnStep
 pub mod OtherPaths
 pub mod OthersWait
-pub mod OneMore
-pub mod Ordering
 pub mod OverCompared
 pub mod OverWords
 pub mod OwnTerms
@@ -50,18 +45,18 @@ pub mod Probes
 pub mod Related
 pub mod Restored
 pub mod Runs
+pub mod Seen
 pub mod Segments
 pub mod Sharing
 pub mod Sides
 pub mod SidesCompared
 pub mod Splits
+pub mod StartLaws
 pub mod StartListed
 pub mod Steps
 pub mod TakenInputs
 pub mod Taking
 pub mod Tracing
-pub mod Turned
 pub mod Valued
-pub mod Waiting
 pub mod Walking
 pub mod WordPaths

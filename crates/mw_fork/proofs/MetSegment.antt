@@ -2,6 +2,7 @@
 use Rattle.std.proofs.Common.{◌≡◌, inl, inr, ℕ, ◌+◌, ◌-◌, ◌<◌, List, ap, sym, subst, ◌∙◌, arith, refl}
 use Rattle.std.specs.Prelude.{true, false}
 use Rattle.std.proofs.lemmas.Bool.{cases_lt}
+use Rattle.mw_term.specs.declared.decided.Decided.{Decided}
 use Rattle.mw_cycle.specs.Boundary.{is_named}
 use Rattle.mw_term.specs.Assigned.{Given}
 use Rattle.mw_symboard.specs.Laws.{bits_in}
@@ -13,24 +14,22 @@ use Rattle.mw_rel.specs.Job.{Job}
 use Rattle.mw_rel.specs.Relation.{Boundary}
 use Rattle.mw_rel.specs.Start.{Start, addresses_of}
 use Rattle.mw_fork.specs.declared.run.Run.{Run}
-use Rattle.mw_fork.specs.declared.way.Kept.{Kept}
 use Rattle.mw_fork.specs.CasePaths.{HasNoBoundary}
 use Rattle.mw_fork.specs.Ends.{IsBoardOf}
 use Rattle.mw_fork.specs.OnWay.{HasFinished, HasMetAll, HasMetSegment, IsOnRun, IsRunOf}
 use Rattle.mw_fork.specs.OnWay.{ground_in, path_in}
 use Rattle.mw_fork.specs.Starts.{StandsForStart, course_of}
-use Rattle.mw_fork.specs.Ways.{Way, met_of}
 use Rattle.mw_fork.proofs.Along.{comes_to_next, left_at_boundary, left_at_end, left_at_none}
 use Rattle.mw_fork.proofs.Grounds.{boundary_is}
 use Rattle.mw_rel.proofs.Cases.{segments_end}
 
 -- the board of each start on the path is at the board's control address
-at_address : (job : Job) (number count : ℕ) (elements : List ℕ) (from : List Kept) (way : Way)
+at_address : (job : Job) (number count : ℕ) (elements : List ℕ) (bits : List Decided)
     (run : Run) (given : Given)
-    (start : Start) → IsOnRun job number elements from way run count
+    (start : Start) → IsOnRun job number elements bits run count
     → StandsForStart job number (ground_in run.space elements) given start → path_in run.paths given ≡ true
     → at_cycle job start run.board.place.cycle ≡ run.board.place.at
-at_address job number count elements from way run given start on is holds =
+at_address job number count elements bits run given start on is holds =
     (on.in_run.in_run given (course_of start) is.board holds).state.at
 
 -- no boundary has come after a cycle more, where the board is at none
@@ -44,111 +43,111 @@ no_boundary_after job start n passed here k some within = elim (cases_lt n k) [
 ]
 
 -- so it is with each start on the path
-passed_more : (job : Job) (number n : ℕ) (elements : List ℕ) (from : List Kept) (way : Way) (run : Run)
+passed_more : (job : Job) (number n : ℕ) (elements : List ℕ) (bits : List Decided) (run : Run)
     → run.board.place.cycle ≡ n + 1 → is_named (addresses_of job) run.board.place.at ≡ false
-    → IsOnRun job number elements from way run n
+    → IsOnRun job number elements bits run n
     → HasNoBoundary job number (ground_in run.space elements) (path_in run.paths) (n + 1)
-passed_more job number n elements from way run made none on = λ given start is holds.
+passed_more job number n elements bits run made none on = λ given start is holds.
     no_boundary_after job start n (on.passed given start is holds)
     (ap (λ (m : ℕ). is_named (addresses_of job) (at_cycle job start m)) (sym made)
-    ∙ ap (is_named (addresses_of job)) (at_address job number n elements from way run given start on is holds)
+    ∙ ap (is_named (addresses_of job)) (at_address job number n elements bits run given start on is holds)
     ∙ none)
 
 -- before the next cycle, where the last one is finished at no boundary
-pub next_of_segment : (job : Job) (number n : ℕ) (elements : List ℕ) (from : List Kept) (way : Way) (run : Run)
+pub next_of_segment : (job : Job) (number n : ℕ) (elements : List ℕ) (bits : List Decided) (run : Run)
     → run.board.place.cycle ≡ n + 1 → is_named (addresses_of job) run.board.place.at ≡ false
-    → n + 1 < (numbered job number).bound → IsOnRun job number elements from way run n
-    → HasFinished job number elements way run → IsOnRun job number elements from way run (n + 1)
-next_of_segment job number n elements from way run made none below on finished = record {
+    → n + 1 < (numbered job number).bound → IsOnRun job number elements bits run n
+    → HasFinished job number elements bits run → IsOnRun job number elements bits run (n + 1)
+next_of_segment job number n elements bits run made none below on finished = record {
   on = on.on;
   in_run = on.in_run;
-  passed = passed_more job number n elements from way run made none on;
+  passed = passed_more job number n elements bits run made none on;
   variables = on.variables;
   unwritten = on.unwritten;
   registers = on.registers;
   listed = λ idle count.
       let registers = run.registers in
       comes_to_next job number ((numbered job number).bound - run.board.place.cycle)
-      (met_of way) run.space registers run.board
+      bits run.space registers run.board
       finished.before refl (omega (arith, made, below))
-      (left_at_none job number (met_of way) run.space registers run.board none finished.left);
+      (left_at_none job number bits run.space registers run.board none finished.left);
 }
 
 -- the bits that were met are those of all its cycles
-bits_are_all : (job : Job) (number n : ℕ) (elements : List ℕ) (way : Way) (run : Run) (given : Given) (start : Start)
-    → run.board.place.cycle ≡ n → HasMetAll job number elements way run
+bits_are_all : (job : Job) (number n : ℕ) (elements : List ℕ) (bits : List Decided) (run : Run) (given : Given) (start : Start)
+    → run.board.place.cycle ≡ n → HasMetAll job number elements bits run
     → StandsForStart job number (ground_in run.space elements) given start → path_in run.paths given ≡ true
-    → bits_in job.board job.store (course_of start) n ≡ met_of way
-bits_are_all job number n elements way run given start made met is holds =
-    subst (λ (m : ℕ). bits_in job.board job.store (course_of start) m ≡ met_of way) made
+    → bits_in job.board job.store (course_of start) n ≡ bits
+bits_are_all job number n elements bits run given start made met is holds =
+    subst (λ (m : ℕ). bits_in job.board job.store (course_of start) m ≡ bits) made
     (met given (course_of start) is.board holds)
 
 -- the board is in the run of each start on the path
-of_board : (job : Job) (number count : ℕ) (elements : List ℕ) (from : List Kept) (way : Way) (run : Run)
+of_board : (job : Job) (number count : ℕ) (elements : List ℕ) (bits : List Decided) (run : Run)
     → IsRunOf job run
-    → IsOnRun job number elements from way run count
+    → IsOnRun job number elements bits run count
     → IsBoardOf job number (ground_in run.space elements) run.space (path_in run.paths) run.board
-of_board job number count elements from way run under on =
+of_board job number count elements bits run under on =
     let terms = (elements_have_terms job.board job.store run.space.terms run.space.words run.space.memory run.board).0
     under.symbolic in
     record {
       with_start = λ given start is holds.
-          record { so_far = met_of way; in_run = on.in_run.in_run given (course_of start) is.board holds };
+          record { so_far = bits; in_run = on.in_run.in_run given (course_of start) is.board holds };
       parts = terms.0;
       events = terms.1;
     }
 
 -- a cycle that ended at a boundary
-pub reached : (job : Job) (number n : ℕ) (elements : List ℕ) (from : List Kept) (way : Way) (run : Run)
+pub reached : (job : Job) (number n : ℕ) (elements : List ℕ) (bits : List Decided) (run : Run)
     → IsRunOf job run → run.board.place.cycle ≡ n + 1 → is_named (addresses_of job) run.board.place.at ≡ true
-    → n < (numbered job number).bound → IsOnRun job number elements from way run n
-    → HasFinished job number elements way run → HasMetSegment job number elements from (n + 1) false way run
-reached job number n elements from way run under made named below on finished = record {
+    → n < (numbered job number).bound → IsOnRun job number elements bits run n
+    → HasFinished job number elements bits run → HasMetSegment job number elements (n + 1) false bits run
+reached job number n elements bits run under made named below on finished = record {
   on = on.on;
   ended = λ given start is holds.
       let inside = subst (λ (b : Boundary). n < b.bound) (boundary_is job number start is.starts) below in
       let here : is_named (addresses_of job) (at_cycle job start (n + 1)) ≡ true =
       ap (λ (m : ℕ). is_named (addresses_of job) (at_cycle job start m)) (sym made)
-      ∙ ap (is_named (addresses_of job)) (at_address job number n elements from way run given start on is holds)
+      ∙ ap (is_named (addresses_of job)) (at_address job number n elements bits run given start on is holds)
       ∙ named in
       let end = (segments_end job start n (on.passed given start is holds)).1 inside here in
       record {
         cycles_are = end.0;
         late_is = end.1;
-        bits_are = bits_are_all job number (n + 1) elements way run given start made finished.all is holds;
+        bits_are = bits_are_all job number (n + 1) elements bits run given start made finished.all is holds;
       };
   unwritten = on.unwritten;
   registers = on.registers;
   listed = λ same.
-      left_at_boundary job number (met_of way) run.space run.registers run.board named finished.left;
+      left_at_boundary job number bits run.space run.registers run.board named finished.left;
   late_listed = λ same. absurd cc;
-  of_board = of_board job number n elements from way run under on;
+  of_board = of_board job number n elements bits run under on;
   made = made;
 }
 
 -- the bound's number of cycles, of which none ended at a boundary
-pub late : (job : Job) (number n : ℕ) (elements : List ℕ) (from : List Kept) (way : Way) (run : Run)
+pub late : (job : Job) (number n : ℕ) (elements : List ℕ) (bits : List Decided) (run : Run)
     → IsRunOf job run → run.board.place.cycle ≡ n + 1 → is_named (addresses_of job) run.board.place.at ≡ false
-    → n + 1 ≡ (numbered job number).bound → IsOnRun job number elements from way run n
-    → HasFinished job number elements way run → HasMetSegment job number elements from (n + 1) true way run
-late job number n elements from way run under made none bound on finished = record {
+    → n + 1 ≡ (numbered job number).bound → IsOnRun job number elements bits run n
+    → HasFinished job number elements bits run → HasMetSegment job number elements (n + 1) true bits run
+late job number n elements bits run under made none bound on finished = record {
   on = on.on;
   ended = λ given start is holds.
       let same : n + 1 ≡ start.boundary.bound =
       bound ∙ ap (λ (b : Boundary). b.bound) (boundary_is job number start is.starts) in
-      let passed = passed_more job number n elements from way run made none on given start is holds in
+      let passed = passed_more job number n elements bits run made none on given start is holds in
       let end = (segments_end job start (n + 1) passed).2 same in
       record {
         cycles_are = end.0;
         late_is = end.1;
-        bits_are = bits_are_all job number (n + 1) elements way run given start made finished.all is holds;
+        bits_are = bits_are_all job number (n + 1) elements bits run given start made finished.all is holds;
       };
   unwritten = on.unwritten;
   registers = on.registers;
   listed = λ same. absurd cc;
   late_listed = λ same.
-      let left = left_at_none job number (met_of way) run.space run.registers run.board none finished.left in
-      left_at_end job number (met_of way) run.space run.registers run.board (omega (arith, made, bound)) left;
-  of_board = of_board job number n elements from way run under on;
+      let left = left_at_none job number bits run.space run.registers run.board none finished.left in
+      left_at_end job number bits run.space run.registers run.board (omega (arith, made, bound)) left;
+  of_board = of_board job number n elements bits run under on;
   made = made;
 }

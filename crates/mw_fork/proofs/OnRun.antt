@@ -1,5 +1,5 @@
 -- A run through the cycles of a board.
-use Rattle.std.proofs.Common.{◌≡◌, ◌≢◌, inl, inr, ℕ, ◌+◌, ◌<◌, List, [], length, take, ap, sym, subst, ◌∙◌, arith, refl}
+use Rattle.std.proofs.Common.{◌≡◌, ◌≢◌, inl, inr, ℕ, ◌+◌, ◌<◌, ◌++◌, ◌∷◌, List, [], length, take, ap, sym, subst, ◌∙◌, arith, refl}
 use Rattle.std.specs.Prelude.{Bool, ◌==◌, Some, None, slice_get}
 use Rattle.std.proofs.lemmas.Bool.{cases_lt}
 use Rattle.mw_board.specs.Elements.{element_count}
@@ -37,12 +37,10 @@ use Rattle.mw_fork.specs.CasePaths.{IsNextOfCase}
 use Rattle.mw_fork.specs.declared.elements.Space.{Space}
 use Rattle.mw_fork.specs.declared.paths.Paths.{Paths}
 use Rattle.mw_fork.specs.declared.run.Run.{Run}
-use Rattle.mw_fork.specs.declared.way.Kept.{Kept}
 use Rattle.mw_fork.specs.Listed.{ComesTo, left_in_cycle, list_of_space}
 use Rattle.mw_fork.specs.OnWay.{HasDecided, HasMetAll, IsOnRun, IsTurnedOnRun}
 use Rattle.mw_fork.specs.OnWay.{ground_in, path_in}
 use Rattle.mw_fork.specs.Starts.{course_of, origin_of}
-use Rattle.mw_fork.specs.Ways.{Way, met_of}
 use Rattle.mw_fork.proofs.Along.{asks_in_cycle, left_finished}
 use Rattle.mw_fork.proofs.Grounds.{boundary_is}
 use Rattle.mw_fork.proofs.Runs.{board_elements}
@@ -97,37 +95,37 @@ goes_no_further job t words mold mnew old new (Ask kind term) is idle same =
 goes_no_further job t words mold mnew old new Finished is idle same = absurd (omega (arith, is.2, same))
 
 -- where a run is on its way, and what the turn says is so
-turned_on : (job : Job) (number : ℕ) (elements : List ℕ) (from : List Kept) (way : Way) (old : Run) (space : Space)
+turned_on : (job : Job) (number : ℕ) (elements : List ℕ) (bits : List Decided) (old : Run) (space : Space)
     (board : Symbolic) (turn : Turn)
     → IsTurn job.board job.store space.terms space.words old.space.memory space.memory old.board board turn
     → ListsTurn job.board job.store old.space.memory space.memory old.board board (list_of_space old.space)
     (list_of_space space)
-    turn → ComesTo job number (met_of way) (left_in_cycle job number old.space old.registers old.board)
-    → IsOnRun job number elements from way (record old { space = space; board = board }) old.board.place.cycle
+    turn → ComesTo job number bits (left_in_cycle job number old.space old.registers old.board)
+    → IsOnRun job number elements bits (record old { space = space; board = board }) old.board.place.cycle
     → ((kind : DecidedKind) (term : ℕ) → turn ≡ Ask kind term
     → IsNextBit job.board job.store space.terms space.words space.memory
-    (origin_of job number elements) board (met_of way)
+    (origin_of job number elements) board bits
     (path_in old.paths) kind term)
-    → (turn ≡ Finished → HasMetAll job number elements way (record old { space = space; board = board }))
-    → IsTurnedOnRun job number elements from way
+    → (turn ≡ Finished → HasMetAll job number elements bits (record old { space = space; board = board }))
+    → IsTurnedOnRun job number elements bits
     (record old { space = space; board = board }) old.board.place.cycle turn
-turned_on job number elements from way old space board (Ask kind term) is lists comes on asks all = (
+turned_on job number elements bits old space board (Ask kind term) is lists comes on asks all = (
   on,
   asks kind term refl,
-  asks_in_cycle job number way old space board kind term (ap (λ (p : Progress). p.cycle) is.0)
+  asks_in_cycle job number bits old space board kind term (ap (λ (p : Progress). p.cycle) is.0)
       (ap (λ (m : Memory). m.board) is.2) lists comes,
 )
-turned_on job number elements from way old space board Finished is lists comes on asks all = (
+turned_on job number elements bits old space board Finished is lists comes on asks all = (
   on,
   record {
     all = all refl;
     before = lists.before;
-    left = left_finished job number (met_of way) old.registers old.space space old.board board is.2 lists comes;
+    left = left_finished job number bits old.registers old.space space old.board board is.2 lists comes;
   },
 )
 
 -- a turn
-pub on_turn : (job : Job) (number : ℕ) (elements : List ℕ) (from : List Kept) (way : Way) (old : Run) (space : Space)
+pub on_turn : (job : Job) (number : ℕ) (elements : List ℕ) (bits : List Decided) (old : Run) (space : Space)
     (board : Symbolic) (turn : Turn) → IsJob job → IsWorkspace old.space.terms old.space.words old.space.memory
     → IsSymbolic job.board job.store old.space.terms old.space.words old.space.memory old.board → old.board.asked ≡ None
     → GoesOn (IsCycleKind old.board.place.cycle old.board.place.taken) old.space.terms space.terms
@@ -140,10 +138,10 @@ pub on_turn : (job : Job) (number : ℕ) (elements : List ℕ) (from : List Kept
     → (turn ≡ Finished
     → length old.board.place.decided ≡ bits_before (microword_of job.board job.store old.board.place) + 12)
     → space.memory.machine ≡ old.space.memory.machine → HaveOwnKinds space.words
-    → IsOnRun job number elements from way old old.board.place.cycle
-    → IsTurnedOnRun job number elements from way
+    → IsOnRun job number elements bits old old.board.place.cycle
+    → IsTurnedOnRun job number elements bits
     (record old { space = space; board = board }) old.board.place.cycle turn
-on_turn job number elements from way old space board turn valid workspace symbolic idle goes is lists after
+on_turn job number elements bits old space board turn valid workspace symbolic idle goes is lists after
     all machine own on =
     let before = ground_in old.space elements in
     let now = ground_in space elements in
@@ -152,11 +150,11 @@ on_turn job number elements from way old space board turn valid workspace symbol
     let variables = variables_after job old.space space old.board board turn symbolic goes is all on.variables in
     let there = cycles_are_there job.board job.store space.terms space.words space.memory board after variables in
     let law = paths_go_on job.board job.store old.space.terms space.terms old.space.words space.words old.space.memory
-    space.memory old.board board turn (origin_of job number elements) (met_of way)
+    space.memory old.board board turn (origin_of job number elements) bits
     (path_in old.paths) workspace symbolic
     goes is on.in_run in
-    turned_on job number elements from way old space board turn is lists (on.listed idle refl) (record {
-      on = way_later job number before now from way (path_in old.paths) there.0 valid to there.1 on.on;
+    turned_on job number elements bits old space board turn is lists (on.listed idle refl) (record {
+      on = way_later job number before now bits (path_in old.paths) there.0 valid to there.1 on.on;
       in_run = law.0;
       passed = on_path_later job number before now (path_in old.paths) (λ start. HasNoBoundaryYet job start count) valid
           on.on.stands to on.passed;
@@ -171,45 +169,44 @@ on_turn job number elements from way old space board turn valid workspace symbol
 -- ---- decided bits
 
 -- the next bit of the board is the next one of the case, where the cycle is one of the segment
-pub next_of_case : (job : Job) (number : ℕ) (elements : List ℕ) (from : List Kept) (way : Way) (run : Run)
+pub next_of_case : (job : Job) (number : ℕ) (elements : List ℕ) (bits : List Decided) (run : Run)
     (kind : DecidedKind) (term : ℕ)
     → run.board.place.cycle < (numbered job number).bound
-    → IsTurnedOnRun job number elements from way run run.board.place.cycle (Ask kind term)
-    → IsNextOfCase job number (ground_in run.space elements) (met_of way) (path_in run.paths) kind term
-next_of_case job number elements from way run kind term below turned given start is holds =
+    → IsTurnedOnRun job number elements bits run run.board.place.cycle (Ask kind term)
+    → IsNextOfCase job number (ground_in run.space elements) bits (path_in run.paths) kind term
+next_of_case job number elements bits run kind term below turned given start is holds =
     let n = run.board.place.cycle in
-    let bits = bits_in job.board job.store (course_of start) (n + 1) in
+    let all = bits_in job.board job.store (course_of start) (n + 1) in
     let next = decided kind (term_value run.space.terms given term == 1) in
     let inside = subst (λ (b : Boundary). n < b.bound) (boundary_is job number start is.starts) below in
     let cycle : n < cycles_of job start = (segments_end job start n (turned.0.passed given start is holds)).0 inside in
     let front = (cases_begin_with_cycles job start).0 (n + 1) (omega (arith, cycle)) in
-    let own : slice_get bits (length (met_of way)) ≡ Some next =
+    let own : slice_get all (length bits) ≡ Some next =
     turned.1 given (course_of start) is.board holds (n + 1) (omega arith) in
-    subst (λ (all : List Decided). slice_get all (length (met_of way)) ≡ Some next) (sym front.1)
-    (behind bits front.0 (length (met_of way)) next own)
+    subst (λ (decides : List Decided). slice_get decides (length bits) ≡ Some next) (sym front.1)
+    (behind all front.0 (length bits) next own)
 
 -- the board with the bit that was decided
-pub on_decided : (job : Job) (number : ℕ) (elements : List ℕ) (from to : List Kept) (old new : Way) (run : Run)
-    (paths : Paths) (board : Symbolic) (kind : DecidedKind) (term : ℕ) (value : Bool)
+pub on_decided : (job : Job) (number : ℕ) (elements : List ℕ) (bits : List Decided) (run : Run) (paths : Paths)
+    (board : Symbolic) (kind : DecidedKind) (term : ℕ) (value : Bool)
     → board ≡ decided_so run.board kind value
-    → IsTurnedOnRun job number elements from old run run.board.place.cycle (Ask kind term)
-    → HasDecided job number (ground_in run.space elements) to old new (path_in run.paths)
-    (path_in paths) kind term value
-    → IsOnRun job number elements to new (record run { paths = paths; board = board }) run.board.place.cycle
-on_decided job number elements from to old new run paths board kind term value same turned has =
+    → IsTurnedOnRun job number elements bits run run.board.place.cycle (Ask kind term)
+    → HasDecided job number (ground_in run.space elements) bits (path_in run.paths) (path_in paths) kind term value
+    → IsOnRun job number elements (bits ++ decided kind value ∷ []) (record run { paths = paths; board = board })
+    run.board.place.cycle
+on_decided job number elements bits run paths board kind term value same turned has =
     let s = run.space in
     let b = origin_of job number elements in
     let next = path_in paths in
     let given_bit = decided_so run.board kind value in
-    let along = paths_take_bits job.board job.store s.terms s.words s.memory b run.board (met_of old) kind term value
+    let more = bits ++ decided kind value ∷ [] in
+    let along = paths_take_bits job.board job.store s.terms s.words s.memory b run.board bits kind term value
     (path_in run.paths) next turned.0.in_run turned.1 has.by in
     let cycle : board.place.cycle ≡ run.board.place.cycle = ap (λ (o : Symbolic). o.place.cycle) same in
     record {
       on = has.on;
       in_run =
-          subst (λ (o : Symbolic). IsPath job.board job.store s.terms s.words s.memory b o (met_of new) next) (sym same)
-          (subst (λ (bits : List Decided). IsPath job.board job.store s.terms s.words s.memory b given_bit bits next)
-          (sym has.met) along);
+          subst (λ (o : Symbolic). IsPath job.board job.store s.terms s.words s.memory b o more next) (sym same) along;
       passed = on_path_narrower job number (ground_in s elements) (path_in run.paths) next
           (λ start. HasNoBoundaryYet job start run.board.place.cycle) (λ given holds. (has.by.so given holds).0)
           turned.0.passed;
@@ -217,9 +214,6 @@ on_decided job number elements from to old new run paths board kind term value s
       unwritten = turned.0.unwritten;
       registers = turned.0.registers;
       listed = λ waits count.
-          subst (λ (o : Symbolic). ComesTo job number (met_of new) (left_in_cycle job number s run.registers o))
-          (sym same)
-          (subst
-          (λ (bits : List Decided). ComesTo job number bits (left_in_cycle job number s run.registers given_bit))
-          (sym has.met) (turned.2.on value));
+          subst (λ (o : Symbolic). ComesTo job number more (left_in_cycle job number s run.registers o)) (sym same)
+          (turned.2.on value);
     }

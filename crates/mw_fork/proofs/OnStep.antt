@@ -48,7 +48,6 @@ use Rattle.mw_rel.proofs.Cases.{cases_begin_with_cycles}
 use Rattle.mw_fork.specs.declared.elements.Space.{Space}
 use Rattle.mw_fork.specs.declared.paths.Paths.{Paths}
 use Rattle.mw_fork.specs.declared.run.Run.{Run}
-use Rattle.mw_fork.specs.declared.way.Kept.{Kept}
 use Rattle.mw_fork.specs.CasePaths.{EndsSo}
 use Rattle.mw_fork.specs.Ends.{IsBoardOf}
 use Rattle.mw_fork.specs.Listed.{AsksFor, ComesTo, left_behind_segment, list_of_space, standing_on}
@@ -56,7 +55,6 @@ use Rattle.mw_fork.specs.OnWay.{HasDecided, HasMetCase, HasMetSegment, IsOnStep,
 use Rattle.mw_fork.specs.OnWay.{scene_of}
 use Rattle.mw_fork.specs.Starts.{GoesTo, Ground, IsGround, StandsForStart, course_of, registers_of}
 use Rattle.mw_fork.specs.Steps.{said_from}
-use Rattle.mw_fork.specs.Ways.{Way, met_of}
 use Rattle.mw_fork.proofs.AlongStep.{along_none, along_turn, asks_for, ends_listed, left_at_start}
 use Rattle.mw_fork.proofs.Growing.{goes_to, on_path_later, on_path_narrower, start_before, way_later}
 
@@ -124,18 +122,18 @@ Begins job t m registers request o =
     × (end_of job.machine t given m x o ≡ step_of job.machine state bit x.inputs 0)
 
 -- A step of which no bit was given is that of each start on the path, behind its segment.
-pub begun_behind : (job : Job) (number cycles : ℕ) (elements : List ℕ) (from : List Kept) (way : Way) (run : Run)
+pub begun_behind : (job : Job) (number cycles : ℕ) (elements : List ℕ) (bits : List Decided) (run : Run)
     (request : ℕ) (o : Stepping) → Begins job run.space.terms run.space.memory run.registers request o
     → left_in job.machine o ≡ job.machine.acts
     → underway_of job.machine run.space.terms run.space.words run.space.memory o
     ≡ begun_words job.machine run.registers request run.space.memory.machine (list_of_space run.space)
-    → term_of run.space.words (Line 0) ≡ Some request → HasMetSegment job number elements from cycles false way run
-    → IsOnStep job number elements from cycles (met_of way) run.board way run.space run.paths o
-begun_behind job number cycles elements from way run request o step left begun line met = record {
+    → term_of run.space.words (Line 0) ≡ Some request → HasMetSegment job number elements cycles false bits run
+    → IsOnStep job number elements cycles bits run.board bits run.space run.paths o
+begun_behind job number cycles elements bits run request o step left begun line met = record {
   on = met.on;
   ended = met.ended;
   so_far = [];
-  met = sym (append-nil (met_of way));
+  met = sym (append-nil bits);
   in_step = λ given start one at.
       let is = step given (scene_of start) start.pair.machine (slice_index_or start.env.line 0 false)
       (starts_so job number (ground_in run.space elements) given start run.registers request one met.unwritten
@@ -143,7 +141,7 @@ begun_behind job number cycles elements from way run request o step left begun l
       record { bits = sym is.0; ends = sym is.1 };
   of_board = met.of_board;
   begun = underway_of job.machine run.space.terms run.space.words run.space.memory o;
-  listed = left_at_start job number (met_of way) run.space run.registers run.board request
+  listed = left_at_start job number bits run.space run.registers run.board request
       (underway_of job.machine run.space.terms run.space.words run.space.memory o)
       (met.listed refl) met.unwritten line begun;
   along = λ idle. along_none job.machine run.space.terms run.space.words run.space.memory o left;
@@ -173,16 +171,16 @@ record Says (job : Job) (space : Space) (given : Given) (start : Start) (o : Ste
       ≡ ended job.machine (now_of space.terms given space.memory start.pair.board.memory o.parts)
 
 -- where the turn says of the step of each start on the path what it has to
-said_on : (job : Job) (number cycles : ℕ) (elements : List ℕ) (from : List Kept) (segment : List Decided)
-    (board : Symbolic) (way : Way) (space : Space) (paths : Paths) (o : Stepping) (turn : Turn)
-    (on : IsOnStep job number elements from cycles segment board way space paths o)
+said_on : (job : Job) (number cycles : ℕ) (elements : List ℕ) (segment : List Decided)
+    (board : Symbolic) (bits : List Decided) (space : Space) (paths : Paths) (o : Stepping) (turn : Turn)
+    (on : IsOnStep job number elements cycles segment board bits space paths o)
     → IsSaid job.machine space.terms space.words space.memory o turn
     → TurnsAlong (said_from job.machine on.begun) job.machine on.so_far space.terms space.words space.memory o turn
     → Stands job.machine.shape space.terms space.words space.memory o.parts
     → ((given : Given) (start : Start) → StandsForStart job number (ground_in space elements) given start
     → path_in paths given ≡ true → Says job space given start o on.so_far turn)
-    → IsTurnedOnStep job number elements from cycles segment board way space paths o turn
-said_on job number cycles elements from segment board way space paths o (Ask kind term) on asks along stands says = (
+    → IsTurnedOnStep job number elements cycles segment board bits space paths o turn
+said_on job number cycles elements segment board bits space paths o (Ask kind term) on asks along stands says = (
   on,
   λ given start one at.
       let value = term_value space.terms given term == 1 in
@@ -192,7 +190,7 @@ said_on job number cycles elements from segment board way space paths o (Ask kin
       ∙ ap (λ k. Some (decided k value)) (sym asks.branch),
   along,
 )
-said_on job number cycles elements from segment board way space paths o Finished on done along stands says = (
+said_on job number cycles elements segment board bits space paths o Finished on done along stands says = (
   on,
   λ given start one at.
       case_behind job cycles segment start (on.ended given start one at)
@@ -238,8 +236,8 @@ board_narrower job number g space path next board narrower of = record {
 }
 
 -- A turn of the step.
-pub turns : (job : Job) (number cycles : ℕ) (elements : List ℕ) (from : List Kept) (segment : List Decided)
-    (board : Symbolic) (way : Way) (sold snew : Space) (paths : Paths) (old new : Stepping) (turn : Turn) → IsJob job
+pub turns : (job : Job) (number cycles : ℕ) (elements : List ℕ) (segment : List Decided)
+    (board : Symbolic) (bits : List Decided) (sold snew : Space) (paths : Paths) (old new : Stepping) (turn : Turn) → IsJob job
     → IsTurn job.machine sold.terms snew.terms snew.words sold.memory snew.memory old new turn
     → GoesOn IsOfStep sold.terms snew.terms sold.words snew.words sold.memory snew.memory
     → snew.memory.board ≡ sold.memory.board → IsStepping job.machine snew.terms snew.words snew.memory new
@@ -249,9 +247,9 @@ pub turns : (job : Job) (number cycles : ℕ) (elements : List ℕ) (from : List
     (underway_in snew.terms snew.words snew.memory new.parts) (left_in job.machine old)
     (left_in job.machine new) (asked_by turn)
     → (turn ≡ Finished → left_in job.machine new ≡ nothing) → new.request ≡ None → is_asked old.pending ≡ false
-    → IsOnStep job number elements from cycles segment board way sold paths old
-    → IsTurnedOnStep job number elements from cycles segment board way snew paths new turn
-turns job number cycles elements from segment board way sold snew paths old new turn is turned goes writes
+    → IsOnStep job number elements cycles segment board bits sold paths old
+    → IsTurnedOnStep job number elements cycles segment board bits snew paths new turn
+turns job number cycles elements segment board bits sold snew paths old new turn is turned goes writes
     stepping own law walks
     done begun idle on =
     let before = ground_in sold elements in
@@ -269,8 +267,8 @@ turns job number cycles elements from segment board way sold snew paths old new 
     (scene_of start) start.pair.machine (slice_index_or start.env.line 0 false) on.so_far turned
     (seen_in job number now given start one)
     (on.in_step given start (start_before job number before now given start is ground to one) at) in
-    said_on job number cycles elements from segment board way snew paths new turn (record {
-      on = way_later job number before now from way (path_in paths) ground.cycles is to variables on.on;
+    said_on job number cycles elements segment board bits snew paths new turn (record {
+      on = way_later job number before now bits (path_in paths) ground.cycles is to variables on.on;
       ended =
           on_path_later job number before now (path_in paths) (EndsSo job cycles false segment) is ground to on.ended;
       so_far = on.so_far;
@@ -307,27 +305,27 @@ bit_behind [] ys = refl
 bit_behind (x ∷ xs) ys = bit_behind xs ys
 
 -- The word list asks for what a step asks for.
-pub asks_where : (job : Job) (number cycles : ℕ) (elements : List ℕ) (from : List Kept) (segment : List Decided)
-    (board : Symbolic) (way : Way) (space : Space) (paths : Paths) (o : Stepping) (kind : DecidedKind) (term : ℕ)
-    → IsTurnedOnStep job number elements from cycles segment board way space paths o (Ask kind term)
-    → AsksFor job number (met_of way) (ground_in space elements) term
-asks_where job number cycles elements from segment board way space paths o kind term turned =
+pub asks_where : (job : Job) (number cycles : ℕ) (elements : List ℕ) (segment : List Decided)
+    (board : Symbolic) (bits : List Decided) (space : Space) (paths : Paths) (o : Stepping) (kind : DecidedKind) (term : ℕ)
+    → IsTurnedOnStep job number elements cycles segment board bits space paths o (Ask kind term)
+    → AsksFor job number bits (ground_in space elements) term
+asks_where job number cycles elements segment board bits space paths o kind term turned =
     let on = turned.0 in
-    asks_for job number (ground_in space elements) segment (met_of way) on.so_far
+    asks_for job number (ground_in space elements) segment bits on.so_far
     (standing_on space board) on.begun o term on.met on.listed
     turned.2
 
 -- A bit that the step asked for was decided, and given to it.
-pub takes : (job : Job) (number cycles : ℕ) (elements : List ℕ) (from to : List Kept) (segment : List Decided)
-    (board : Symbolic) (wold wnew : Way) (space : Space) (pold pnew : Paths) (old new : Stepping) (kind : DecidedKind)
+pub takes : (job : Job) (number cycles : ℕ) (elements : List ℕ) (segment : List Decided)
+    (board : Symbolic) (bits : List Decided) (space : Space) (pold pnew : Paths) (old new : Stepping) (kind : DecidedKind)
     (term : ℕ) (value : Bool)
     → Asks job.machine space.terms space.words space.memory old kind term
     → IsDecided job.machine space.terms space.words space.memory old new value
     → BitsGoAlong → new ≡ given_so old value → left_in job.machine new ≡ chosen value (left_in job.machine old)
-    → HasDecided job number (ground_in space elements) to wold wnew (path_in pold) (path_in pnew) kind term value
-    → IsTurnedOnStep job number elements from cycles segment board wold space pold old (Ask kind term)
-    → IsOnStep job number elements to cycles segment board wnew space pnew new
-takes job number cycles elements from to segment board wold wnew space pold pnew old new kind term value asks
+    → HasDecided job number (ground_in space elements) bits (path_in pold) (path_in pnew) kind term value
+    → IsTurnedOnStep job number elements cycles segment board bits space pold old (Ask kind term)
+    → IsOnStep job number elements cycles segment board (bits ++ decided kind value ∷ []) space pnew new
+takes job number cycles elements segment board bits space pold pnew old new kind term value asks
     decided_so law new_is
     left has turned =
     let on = turned.0 in
@@ -337,7 +335,7 @@ takes job number cycles elements from to segment board wold wnew space pold pnew
       ended = on_path_narrower job number g (path_in pold) (path_in pnew) (EndsSo job cycles false segment)
           (λ given at. (has.by.so given at).0) on.ended;
       so_far = on.so_far ++ value ∷ [];
-      met = branch_more segment on.so_far (met_of wold) (met_of wnew) kind value asks.branch on.met has.met;
+      met = branch_more segment on.so_far bits (bits ++ decided kind value ∷ []) kind value asks.branch on.met refl;
       in_step = λ given start one at.
           let by = has.by.so given at in
           let within = on.in_step given start one by.0 in
@@ -360,11 +358,11 @@ takes job number cycles elements from to segment board wold wnew space pold pnew
 -- ---- the end
 
 -- Behind a segment, a step that has met all bits of the case ends it.
-pub has_met_case : (job : Job) (number cycles : ℕ) (elements : List ℕ) (from : List Kept) (segment : List Decided)
-    (way : Way) (run : Run) (o : Stepping) → run.board.place.cycle ≡ cycles
-    → IsTurnedOnStep job number elements from cycles segment run.board way run.space run.paths o Finished
-    → HasMetCase job number elements from cycles false way run (Some o)
-has_met_case job number cycles elements from segment way run o made turned =
+pub has_met_case : (job : Job) (number cycles : ℕ) (elements : List ℕ) (segment : List Decided)
+    (bits : List Decided) (run : Run) (o : Stepping) → run.board.place.cycle ≡ cycles
+    → IsTurnedOnStep job number elements cycles segment run.board bits run.space run.paths o Finished
+    → HasMetCase job number elements cycles false bits run (Some o)
+has_met_case job number cycles elements segment bits run o made turned =
     let on = turned.0 in
     record {
       on = on.on;
@@ -377,7 +375,7 @@ has_met_case job number cycles elements from segment way run o made turned =
           of_board = on.of_board;
           made = made;
           of_step = turned.2.of_step;
-          listed = ends_listed job number segment (met_of way) on.so_far (standing_on run.space run.board) on.begun
+          listed = ends_listed job number segment bits on.so_far (standing_on run.space run.board) on.begun
               run.space.terms run.space.words run.space.memory o on.met on.listed turned.2.along;
         },
       );

@@ -9,28 +9,26 @@ use Rattle.mw_symmach.specs.Turns.{Stepping}
 use Rattle.mw_rel.specs.Job.{Job}
 use Rattle.mw_fork.specs.declared.paths.Paths.{Paths}
 use Rattle.mw_fork.specs.declared.run.Run.{Run}
-use Rattle.mw_fork.specs.declared.way.Kept.{Kept}
 use Rattle.mw_fork.specs.CasePaths.{HasCase, HasNoBoundary, HasSegment}
 use Rattle.mw_fork.specs.Courses.{IsOnCourse, IsReady}
 use Rattle.mw_fork.specs.Ends.{EndsBy, HaveEnded, IsBoardOf}
 use Rattle.mw_fork.specs.OnWay.{HasMetCase, IsOnRun, IsOnStep, IsOnWay, ground_in, path_in}
 use Rattle.mw_fork.specs.Starts.{origin_of}
-use Rattle.mw_fork.specs.Ways.{Way, met_of}
 
 -- functions that agree are one
 pub one_function : (f g : Function) → Agree f g → f ≡ g
 one_function f g agree = λ i given. agree given i
 
 -- a run in its segment
-on_run : (job : Job) (number : ℕ) (elements : List ℕ) (from : List Kept) (way : Way) (run : Run) (paths : Paths)
-    (count : ℕ) → path_in run.paths ≡ path_in paths → IsOnRun job number elements from way run count
-    → IsOnRun job number elements from way (record run { paths = paths }) count
-on_run job number elements from way run paths count same on =
+on_run : (job : Job) (number : ℕ) (elements : List ℕ) (bits : List Decided) (run : Run) (paths : Paths)
+    (count : ℕ) → path_in run.paths ≡ path_in paths → IsOnRun job number elements bits run count
+    → IsOnRun job number elements bits (record run { paths = paths }) count
+on_run job number elements bits run paths count same on =
     let g = ground_in run.space elements in
     record {
-      on = subst (IsOnWay job number g from way) same on.on;
+      on = subst (IsOnWay job number g bits) same on.on;
       in_run = subst (IsPath job.board job.store run.space.terms run.space.words run.space.memory
-          (origin_of job number elements) run.board (met_of way)) same on.in_run;
+          (origin_of job number elements) run.board bits) same on.in_run;
       passed = subst (λ (path : Function). HasNoBoundary job number g path count) same on.passed;
       variables = on.variables;
       unwritten = on.unwritten;
@@ -39,14 +37,14 @@ on_run job number elements from way run paths count same on =
     }
 
 -- a step
-on_step : (job : Job) (number : ℕ) (elements : List ℕ) (from : List Kept) (segment : List Decided) (way : Way)
+on_step : (job : Job) (number : ℕ) (elements : List ℕ) (segment : List Decided) (bits : List Decided)
     (run : Run) (paths : Paths) (o : Stepping) → path_in run.paths ≡ path_in paths
-    → IsOnStep job number elements from run.board.place.cycle segment run.board way run.space run.paths o
-    → IsOnStep job number elements from run.board.place.cycle segment run.board way run.space paths o
-on_step job number elements from segment way run paths o same on =
+    → IsOnStep job number elements run.board.place.cycle segment run.board bits run.space run.paths o
+    → IsOnStep job number elements run.board.place.cycle segment run.board bits run.space paths o
+on_step job number elements segment bits run paths o same on =
     let g = ground_in run.space elements in
     record {
-      on = subst (IsOnWay job number g from way) same on.on;
+      on = subst (IsOnWay job number g bits) same on.on;
       ended = subst (λ (path : Function). HasSegment job number g path run.board.place.cycle false segment) same on.ended;
       so_far = on.so_far;
       met = on.met;
@@ -59,13 +57,13 @@ on_step job number elements from segment way run paths o same on =
     }
 
 -- a course
-pub on_course : (job : Job) (number : ℕ) (elements : List ℕ) (from : List Kept) (way : Way) (run : Run) (paths : Paths)
-    (step : Option Stepping) → path_in run.paths ≡ path_in paths → IsOnCourse job number elements from way run step
-    → IsOnCourse job number elements from way (record run { paths = paths }) step
-on_course job number elements from way run paths None same on =
-    on_run job number elements from way run paths run.board.place.cycle same on
-on_course job number elements from way run paths (Some o) same on =
-    (on.0, on_step job number elements from on.0 way run paths o same on.1)
+pub on_course : (job : Job) (number : ℕ) (elements : List ℕ) (bits : List Decided) (run : Run) (paths : Paths)
+    (step : Option Stepping) → path_in run.paths ≡ path_in paths → IsOnCourse job number elements bits run step
+    → IsOnCourse job number elements bits (record run { paths = paths }) step
+on_course job number elements bits run paths None same on =
+    on_run job number elements bits run paths run.board.place.cycle same on
+on_course job number elements bits run paths (Some o) same on =
+    (on.0, on_step job number elements on.0 bits run paths o same on.1)
 
 -- it is as ready
 pub is_ready : (job : Job) (number : ℕ) (run : Run) (paths : Paths) (step : Option Stepping)
@@ -86,16 +84,16 @@ ends_by job number elements bits cycles late run paths (Some o) same ends = (
 )
 
 -- a case that was met
-pub met_case : (job : Job) (number : ℕ) (elements : List ℕ) (from : List Kept) (cycles : ℕ) (late : Bool) (way : Way)
+pub met_case : (job : Job) (number : ℕ) (elements : List ℕ) (cycles : ℕ) (late : Bool) (bits : List Decided)
     (run : Run) (paths : Paths) (step : Option Stepping) → path_in run.paths ≡ path_in paths
-    → HasMetCase job number elements from cycles late way run step
-    → HasMetCase job number elements from cycles late way (record run { paths = paths }) step
-met_case job number elements from cycles late way run paths step same met =
+    → HasMetCase job number elements cycles late bits run step
+    → HasMetCase job number elements cycles late bits (record run { paths = paths }) step
+met_case job number elements cycles late bits run paths step same met =
     let g = ground_in run.space elements in
     record {
-      on = subst (IsOnWay job number g from way) same met.on;
-      whole = subst (λ (path : Function). HasCase job number g path (met_of way)) same met.whole;
+      on = subst (IsOnWay job number g bits) same met.on;
+      whole = subst (λ (path : Function). HasCase job number g path bits) same met.whole;
       segment = met.segment;
       ended = subst (λ (path : Function). HasSegment job number g path cycles late met.segment) same met.ended;
-      ends = ends_by job number elements (met_of way) cycles late run paths step same met.ends;
+      ends = ends_by job number elements bits cycles late run paths step same met.ends;
     }

@@ -2,9 +2,10 @@
 use Rattle.std.proofs.Common.{◌≡◌, ℕ, List, [], ◌∷◌, ◌++◌, sym, subst, ◌∙◌, refl}
 use Rattle.std.specs.Prelude.{true, Option, Some, None, IfSome}
 use Rattle.std.specs.Option.{is_some}
-use Rattle.std.specs.List.{AllZip}
 use Rattle.mw_term.specs.Laws.{StandsInMore}
+use Rattle.mw_term.specs.declared.decided.Decided.{Decided}
 use Rattle.mw_term.specs.declared.decided.DecidedKind.{DecidedKind}
+use Rattle.mw_cycle.specs.Decided.{decided}
 use Rattle.mw_dd.specs.Nodes.{IsDd, function_of}
 use Rattle.mw_symmach.specs.Along.{BitsGoAlong}
 use Rattle.mw_rel.specs.Job.{Job}
@@ -12,21 +13,18 @@ use Rattle.mw_fork.specs.declared.course.Course.{Course}
 use Rattle.mw_fork.specs.declared.course.Waiting.{Waiting}
 use Rattle.mw_fork.specs.declared.paths.Paths.{Paths}
 use Rattle.mw_fork.specs.declared.run.Run.{Run}
-use Rattle.mw_fork.specs.declared.way.Kept.{Kept}
-use Rattle.mw_fork.specs.Courses.{AreWaiting, IsGoing, IsOther, IsWaiting, Waits, WaitsOnCourse, run_over}
+use Rattle.mw_fork.specs.Courses.{IsGoing, IsOther, IsWaiting, Waits, WaitsOnCourse, run_over}
 use Rattle.mw_fork.specs.OnWay.{HasDecided, HavePaths, ground_in, path_in}
 use Rattle.mw_fork.specs.Paths.{AreMade, HaveGrown}
-use Rattle.mw_fork.specs.Ways.{Way, all_turned, turned_behind, way_of}
 use Rattle.mw_fork.proofs.BitsGiven.{given_on, given_ready, run_with}
 use Rattle.mw_fork.proofs.OtherPaths.{is_ready, on_course, one_function}
-use Rattle.mw_fork.proofs.Waiting.{more_fixed, more_turned, zip_map, zip_more}
 
 -- ---- what was made grows
 
 -- one that waits goes on to wait
-waits_on : (job : Job) (number : ℕ) (old new : Paths) (kept : List Kept) (w : Waiting) → StandsInMore → HaveGrown old new
-    → AreMade new → IsWaiting job number old kept w → IsWaiting job number new kept w
-waits_on job number old new kept w law grown made waits =
+pub waits_on : (job : Job) (number : ℕ) (old new : Paths) (bits : List Decided) (w : Waiting) → StandsInMore → HaveGrown old new
+    → AreMade new → IsWaiting job number old bits w → IsWaiting job number new bits w
+waits_on job number old new bits w law grown made waits =
     let paths = (run_over new w).paths in
     let there = waits.paths.there in
     let same : path_in (run_over old w).paths ≡ path_in paths =
@@ -44,35 +42,26 @@ waits_on job number old new kept w law grown made waits =
           bits = made;
         };
       };
-      on = on_course job number waits.elements kept (way_of kept) (run_over old w) paths w.step same waits.on;
+      on = on_course job number waits.elements bits (run_over old w) paths w.step same waits.on;
     }
-
--- so do all
-pub all_wait_on : (job : Job) (number : ℕ) (old new : Paths) (kept : List (List Kept)) (waiting : List Waiting)
-    → StandsInMore → HaveGrown old new → AreMade new → AllZip (IsWaiting job number old) kept waiting
-    → AllZip (IsWaiting job number new) kept waiting
-all_wait_on job number old new kept waiting law grown made all =
-    zip_map (IsWaiting job number old) (IsWaiting job number new) kept waiting
-    (λ bits w waits. waits_on job number old new bits w law grown made waits) all
 
 -- ---- a bit more
 
--- it waits behind the bits and the one that was turned
-pub other_waits : (job : Job) (number : ℕ) (elements : List ℕ) (from : List Kept) (old : Way) (course : Course)
+-- it waits behind the bits and one more, which is 1
+pub other_waits : (job : Job) (number : ℕ) (elements : List ℕ) (bits : List Decided) (course : Course)
     (paths : Paths) (w : Waiting) (path : ℕ) (kind : DecidedKind) (term : ℕ) → BitsGoAlong
     → course.cycles ≡ course.run.board.place.cycle → Waits job number course.run course.step kind term
-    → WaitsOnCourse job number elements from old course.run course.step kind term
+    → WaitsOnCourse job number elements bits course.run course.step kind term
     → HavePaths course.run.space paths → IsDd paths.dds path
-    → HasDecided job number (ground_in course.run.space elements) (turned_behind old.kept kind) old
-    (way_of (turned_behind old.kept kind)) (path_in course.run.paths) (function_of paths.dds path) kind term true
+    → HasDecided job number (ground_in course.run.space elements) bits (path_in course.run.paths)
+    (function_of paths.dds path) kind term true
     → IsOther (record course { run = record (course.run) { paths = paths } }) path w
-    → IsWaiting job number paths (turned_behind old.kept kind) w
-other_waits job number elements from old course paths w path kind term law same waits turned have there has other =
-    let kept = turned_behind old.kept kind in
+    → IsWaiting job number paths (bits ++ decided kind true ∷ []) w
+other_waits job number elements bits course paths w path kind term law same waits turned have there has other =
     let on_path = record paths { path = path } in
     let c = other.copy in
     let g = given_ready job number course.run on_path w.board course.step w.step kind term true waits other.given in
-    let on = given_on job number elements from kept old (way_of kept) course.run on_path w.board course.step w.step kind
+    let on = given_on job number elements bits course.run on_path w.board course.step w.step kind
     term true law waits turned other.given has in
     let run_is : run_with course.run on_path w.board ≡ run_over paths w = λ i. record {
       space = sym c.space i;
@@ -80,7 +69,7 @@ other_waits job number elements from old course paths w path kind term law same 
       board = w.board;
       registers = sym c.registers i;
     } in
-    subst (λ (run : Run). IsGoing job number kept (way_of kept) (record { run = run; cycles = w.cycles; step = w.step }))
+    subst (λ (run : Run). IsGoing job number (bits ++ decided kind true ∷ []) (record { run = run; cycles = w.cycles; step = w.step }))
     run_is (record {
       elements = elements;
       cycles = other.cycles ∙ same ∙ sym g.cycles;
@@ -89,26 +78,14 @@ other_waits job number elements from old course paths w path kind term law same 
       on = on;
     })
 
--- those that wait with one bit more, and maybe another one that waits for that
-pub more_wait : (job : Job) (number : ℕ) (paths : Paths) (kept : List Kept) (k : Kept) (before after : List Waiting)
-    (other : Option ℕ) (P : ℕ → Waiting → Type 0) → is_some other ≡ k.other
-    → AllZip (IsWaiting job number paths) (all_turned [] kept) before → (other ≡ None → after ≡ before)
-    → IfSome other (λ path. (w : Waiting) × (after ≡ before ++ w ∷ []) × P path w)
-    → ((path : ℕ) (w : Waiting) → other ≡ Some path → P path w
-    → IsWaiting job number paths (turned_behind kept k.bit.kind) w)
-    → AreWaiting job number paths (kept ++ k ∷ []) after
-more_wait job number paths kept k before after None P same all none one waits =
-    subst (λ (ws : List Waiting). AllZip (IsWaiting job number paths) (all_turned [] (kept ++ k ∷ [])) ws)
-    (sym (none refl))
-    (subst (λ (bits : List (List Kept)). AllZip (IsWaiting job number paths) bits before)
-    (sym (more_fixed kept k (sym same))) all)
-more_wait job number paths kept k before after (Some path) P same all none one waits =
-    subst (λ (ws : List Waiting). AllZip (IsWaiting job number paths) (all_turned [] (kept ++ k ∷ [])) ws) (sym one.1)
-    (subst (λ (bits : List (List Kept)). AllZip (IsWaiting job number paths) bits (before ++ one.0 ∷ []))
-    (sym (more_turned kept k (sym same)))
-    (zip_more (IsWaiting job number paths) (all_turned [] kept) before (turned_behind kept k.bit.kind) one.0 all
-    (waits path one.0 refl one.2)))
-
 -- what holds of what is there
 pub for_some : (P : ℕ → Type 0) (o : Option ℕ) (x : ℕ) → o ≡ Some x → IfSome o P → P x
 for_some P o x is holds = subst (λ (p : Option ℕ). IfSome p P) is holds
+
+-- what follows of what is there where another is
+pub some_of_both : (R : Waiting → ℕ → Type 0) (Q : Waiting → Type 0) (waiting : Option Waiting) (other : Option ℕ)
+    → is_some waiting ≡ is_some other → IfSome waiting (λ w. IfSome other (λ path. R w path))
+    → ((w : Waiting) (path : ℕ) → other ≡ Some path → R w path → Q w) → IfSome waiting Q
+some_of_both R Q None other same both leads = tt
+some_of_both R Q (Some w) None same both leads = absurd cc
+some_of_both R Q (Some w) (Some path) same both leads = leads w path refl both

@@ -25,7 +25,7 @@ use Rattle.mw_rel.specs.Sought.{IsSought, NeverFails}
 use Rattle.mw_rel.specs.Sought.IsSought.{at_comparison as sought_at, on_path}
 use Rattle.mw_fork.specs.declared.elements.Space.{Space}
 use Rattle.mw_fork.specs.Faults.{RunStop}
-use Rattle.mw_fork.specs.declared.fault.Fault.TheVariants.{NoMemory, Over}
+use Rattle.mw_explore.specs.declared.fault.Fault.TheVariants.{NoMemory, Over}
 use Rattle.mw_fork.specs.declared.fault.Place.{Place}
 use Rattle.mw_fork.specs.Comparing.{FailsFirst, HaveCompared, IsComparedOver, IsFrontOf, StopsComparing, word_on}
 use Rattle.mw_fork.specs.Comparing.IsComparedOver.{at_comparison, in_list}

@@ -31,17 +31,14 @@ use Rattle.mw_rel.specs.OverBudget.{AreNodesOver}
 use Rattle.mw_rel.specs.PathWords.{IsWord, StandsAtWord, next_bit, path_of, path_word, table_with}
 use Rattle.mw_rel.specs.PathWords.StandsAtWord.{at_constant, at_word}
 use Rattle.mw_fork.specs.Faults.{RunStop}
-use Rattle.mw_fork.specs.declared.fault.Fault.TheVariants as stops
-use Rattle.mw_fork.specs.declared.way.Kept.{Kept}
+use Rattle.mw_explore.specs.declared.fault.Fault.TheVariants as stops
 use Rattle.mw_fork.specs.Comparing.{IsFrontOf}
 use Rattle.mw_fork.specs.Listed.{AsksFor}
 use Rattle.mw_fork.specs.OnWay.{IsOnWay}
 use Rattle.mw_fork.specs.Starts.{Ground, HaveStarts}
 use Rattle.mw_fork.specs.Stops.{StopsBy}
-use Rattle.mw_fork.specs.Ways.{Way, met_of}
 use Rattle.mw_fork.proofs.Choosing.{none_feasible}
 use Rattle.mw_fork.proofs.GoingOn.{front_itself}
-use Rattle.mw_fork.proofs.Ordering.{kept_feasible}
 use Rattle.mw_fork.proofs.WordPaths.{word_same}
 
 -- ---- numbers of words
@@ -192,12 +189,6 @@ path_over job number nodes bits g path term map asks written feasible over =
 
 -- ---- where a run stops
 
--- the bits that a run has met are feasible
-met_feasible : (job : Job) (number : ℕ) (g : Ground) (from : List Kept) (way : Way) (path : Function)
-    → HaveStarts job number g → IsOnWay job number g from way path → IsFeasiblePrefix job number (met_of way)
-met_feasible job number g from way path starts on =
-    kept_feasible job number way.kept [] (none_feasible job number g starts) on.bits.kept
-
 -- a stop says the fault of a term by the number of its word
 pub record Tells (words : List Word) (fault : BlastFault) (stop : RunStop) : Type 0 where
   pub over : (term j : ℕ) → fault ≡ faults.Over term j → stop
@@ -205,25 +196,24 @@ pub record Tells (words : List Word) (fault : BlastFault) (stop : RunStop) : Typ
   pub none : fault ≡ faults.NoMemory → stop ≡ stops.NoMemory
 
 -- a run whose path wasn't split stops by that
-pub stops_by : (job : Job) (number nodes : ℕ) (g : Ground) (from : List Kept) (way : Way) (places : List ℕ)
-    (path : Function) (term : ℕ) (fault : BlastFault) (stop : RunStop) → OverHaveNumbers → IsNumbered (case_words job number (met_of way)).list
-    → HaveStarts job number g → IsOnWay job number g from way path → AsksFor job number (met_of way) g term
-    → IsWrittenSplitCause g.table places path term nodes fault → Tells g.words fault stop → StopsBy job number nodes from way stop
-stops_by job number nodes g from way places path term (faults.Over named j) stop law numbered starts on asks cause tells =
+pub stops_by : (job : Job) (number nodes : ℕ) (g : Ground) (bits : List Decided) (places : List ℕ)
+    (path : Function) (term : ℕ) (fault : BlastFault) (stop : RunStop) → OverHaveNumbers → IsNumbered (case_words job number bits).list
+    → HaveStarts job number g → IsOnWay job number g bits path → AsksFor job number bits g term
+    → IsWrittenSplitCause g.table places path term nodes fault → Tells g.words fault stop → StopsBy job number nodes bits stop
+stops_by job number nodes g bits places path term (faults.Over named j) stop law numbered starts on asks cause tells =
     let map = on.stands.space.map in
-    let feasible = met_feasible job number g from way path starts on in
+    let feasible = on.feasible in
     rw (tells.over named j refl) (
-      on.bits,
-      record {
-        asks = rw (ap (λ (w : CaseWords). w.asked) asks) refl;
-        over = elim cause [
-          | inl h ↦ row_over job number nodes (met_of way) g term named j law numbered map asks feasible h.over
-          | inr h ↦
-              subst (λ (x : ℕ). IsOverAt job number nodes (met_of way) g x j) (sym h.0)
-              (subst (λ (x : ℕ). IsOverAt job number nodes (met_of way) g term x) (sym h.1)
-              (path_over job number nodes (met_of way) g path term map asks on.written feasible h.2))
-        ];
-      },
+    record {
+      asks = rw (ap (λ (w : CaseWords). w.asked) asks) refl;
+      over = elim cause [
+        | inl h ↦ row_over job number nodes bits g term named j law numbered map asks feasible h.over
+        | inr h ↦
+            subst (λ (x : ℕ). IsOverAt job number nodes bits g x j) (sym h.0)
+            (subst (λ (x : ℕ). IsOverAt job number nodes bits g term x) (sym h.1)
+            (path_over job number nodes bits g path term map asks on.written feasible h.2))
+      ];
+    }
     )
-stops_by job number nodes g from way places path term faults.NoMemory stop law numbered starts on asks cause tells =
+stops_by job number nodes g bits places path term faults.NoMemory stop law numbered starts on asks cause tells =
     rw (tells.none refl) tt

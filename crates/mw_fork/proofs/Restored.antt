@@ -1,17 +1,16 @@
 -- A course that was compared, and of which all but what was made is as before.
 use Rattle.std.proofs.Common.{◌≡◌, ℕ, List, [], sym, ◌∙◌}
 use Rattle.std.specs.Option.{is_none}
+use Rattle.mw_term.specs.declared.decided.Decided.{Decided}
 use Rattle.mw_term.specs.Laws.{StandsInMore}
 use Rattle.mw_dd.specs.Nodes.{function_of}
 use Rattle.mw_rel.specs.Job.{Job}
 use Rattle.mw_fork.specs.declared.course.Course.{Course}
 use Rattle.mw_fork.specs.declared.course.Waiting.{Waiting}
-use Rattle.mw_fork.specs.declared.way.Kept.{Kept}
-use Rattle.mw_fork.specs.Courses.{AreWaiting, HasGone, StaysAs, over_places}
+use Rattle.mw_fork.specs.Courses.{HasGone, IsWaiting, StaysAs, over_places}
 use Rattle.mw_fork.specs.OnWay.{path_in}
-use Rattle.mw_fork.specs.Ways.{Way, all_turned}
 use Rattle.mw_fork.proofs.OtherPaths.{met_case, one_function}
-use Rattle.mw_fork.proofs.OthersWait.{all_wait_on}
+use Rattle.mw_fork.proofs.OthersWait.{waits_on}
 
 -- the course with what it worked on before
 abbrev pub restored : (old compared : Course) → Course
@@ -66,9 +65,9 @@ is_restored old compared new stays space paths board registers cycles step =
     }
 
 -- it has met the case still
-pub gone_still : (job : Job) (number : ℕ) (from : List Kept) (way : Way) (old compared : Course) → StandsInMore
-    → StaysAs old compared → HasGone job number from way old → HasGone job number from way (restored old compared)
-gone_still job number from way old compared law stays gone =
+pub gone_still : (job : Job) (number : ℕ) (bits : List Decided) (old compared : Course) → StandsInMore
+    → StaysAs old compared → HasGone job number bits old → HasGone job number bits (restored old compared)
+gone_still job number bits old compared law stays gone =
     let paths = (restored old compared).run.paths in
     let here = gone.paths.there in
     let grown = stays.paths.grown in
@@ -87,17 +86,17 @@ gone_still job number from way old compared law stays gone =
           bits = stays.made;
         };
       };
-      met = met_case job number gone.elements from old.cycles (is_none old.step) way old.run paths old.step same gone.met;
+      met = met_case job number gone.elements old.cycles (is_none old.step) bits old.run paths old.step same gone.met;
     }
 
--- and those that wait still do
-pub waiting_still : (job : Job) (number : ℕ) (old compared : Course) (kept : List Kept) (waiting : List Waiting)
-    → StandsInMore → StaysAs old compared → AreWaiting job number old.run.paths kept waiting
-    → AreWaiting job number (restored old compared).run.paths kept waiting
-waiting_still job number old compared kept waiting law stays all =
-    all_wait_on job number old.run.paths (restored old compared).run.paths (all_turned [] kept) waiting law
+-- and one that waits still does
+pub waiting_still : (job : Job) (number : ℕ) (old compared : Course) (w : Waiting) (bits : List Decided)
+    → StandsInMore → StaysAs old compared → IsWaiting job number old.run.paths bits w
+    → IsWaiting job number (restored old compared).run.paths bits w
+waiting_still job number old compared w bits law stays waits =
+    waits_on job number old.run.paths (restored old compared).run.paths bits w law
     (record {
       nodes = stays.paths.grown.nodes;
       extends = stays.paths.grown.extends;
       terms = stays.paths.grown.terms;
-    }) stays.made all
+    }) stays.made waits

@@ -15,15 +15,12 @@ use Rattle.mw_rel.specs.Relation.{Boundary}
 use Rattle.mw_rel.proofs.Cases.{cases_begin_with_cycles}
 use Rattle.mw_rel.proofs.Relations.{solved_at}
 use Rattle.mw_fork.specs.declared.run.Run.{Run}
-use Rattle.mw_fork.specs.declared.way.Kept.{Kept}
 use Rattle.mw_fork.specs.Forks.{EndsEach}
 use Rattle.mw_fork.specs.OnWay.{HasMetCase, HasMetSegment, IsFirst, IsOnRun, ground_in, path_in}
 use Rattle.mw_fork.specs.Runs.{IsIdle}
-use Rattle.mw_fork.specs.Ways.{Way, met_of, way_of}
 use Rattle.mw_fork.proofs.Along.{comes_to_next}
 use Rattle.mw_fork.proofs.Choosing.{assignment_for, none_feasible}
 use Rattle.mw_fork.proofs.Grounds.{have_starts}
-use Rattle.mw_fork.proofs.Ordering.{kept_feasible, way_begins}
 
 -- the bound of a boundary
 pub bound_within : (job : Job) (number : ℕ) (b : Boundary) → IsJob job → number < length job.relation.boundaries
@@ -39,7 +36,7 @@ no_path job number bits none = ap (path_of job number) none
 
 -- a run that has met no bit is on its way
 pub on_run_first : (job : Job) (number : ℕ) (elements : List ℕ) (run : Run) → IsJob job
-    → IsFirst job number elements run → IsIdle run.board 0 → IsOnRun job number elements [] (way_of []) run 0
+    → IsFirst job number elements run → IsIdle run.board 0 → IsOnRun job number elements [] run 0
 on_run_first job number elements run valid first idle = record {
   on = record {
     stands = first.stands;
@@ -48,7 +45,8 @@ on_run_first job number elements run valid first idle = record {
       first = λ given start is along. refl;
       only = λ given start is begins. first.path given;
     };
-    bits = way_begins job number (way_of []) tt;
+    feasible = none_feasible job number (ground_in run.space elements)
+        (have_starts job number (ground_in run.space elements) valid first.stands);
   };
   in_run = first.in_run;
   passed = λ given start is along k some most. absurd (omega (arith, some, most));
@@ -65,16 +63,16 @@ on_run_first job number elements run valid first idle = record {
 -- ---- a late segment
 
 -- its bits are all of the case
-pub late_met : (job : Job) (number : ℕ) (elements : List ℕ) (from : List Kept) (cycles : ℕ) (late : Bool) (way : Way)
-    (run : Run) → late ≡ true → HasMetSegment job number elements from cycles late way run
-    → HasMetCase job number elements from cycles late way run None
-late_met job number elements from cycles late way run so met = record {
+pub late_met : (job : Job) (number : ℕ) (elements : List ℕ) (cycles : ℕ) (late : Bool) (bits : List Decided)
+    (run : Run) → late ≡ true → HasMetSegment job number elements cycles late bits run
+    → HasMetCase job number elements cycles late bits run None
+late_met job number elements cycles late bits run so met = record {
   on = met.on;
   whole = λ given start is along.
       let ends = met.ended given start is along in
       (cases_begin_with_cycles job start).1 (ends.late_is ∙ so) ∙ ap (bits_of_cycles job start) ends.cycles_are
       ∙ ends.bits_are;
-  segment = met_of way;
+  segment = bits;
   ended = met.ended;
   ends = (so, met.late_listed so);
 }
@@ -82,14 +80,13 @@ late_met job number elements from cycles late way run so met = record {
 -- ---- a case
 
 -- what it has met is a case of its boundary
-pub case_met : (job : Job) (number : ℕ) (elements : List ℕ) (from : List Kept) (cycles : ℕ) (late : Bool) (way : Way)
-    (run : Run) (step : Option Stepping) → IsJob job → HasMetCase job number elements from cycles late way run step
-    → IsCase job number (met_of way)
-case_met job number elements from cycles late way run step is met =
+pub case_met : (job : Job) (number : ℕ) (elements : List ℕ) (cycles : ℕ) (late : Bool) (bits : List Decided)
+    (run : Run) (step : Option Stepping) → IsJob job → HasMetCase job number elements cycles late bits run step
+    → IsCase job number bits
+case_met job number elements cycles late bits run step is met =
     let g = ground_in run.space elements in
     let have = have_starts job number g is met.on.stands in
-    let f = kept_feasible job number way.kept [] (none_feasible job number g have) met.on.bits.kept in
-    let at = assignment_for job number g (met_of way) have f in
+    let at = assignment_for job number g bits have met.on.feasible in
     record {
       start = at.start;
       starts = at.is.starts;
@@ -97,12 +94,12 @@ case_met job number elements from cycles late way run step is met =
     }
 
 -- each start with this case ends so
-pub ends_met : (job : Job) (number : ℕ) (elements : List ℕ) (from : List Kept) (cycles : ℕ) (late : Bool) (way : Way)
-    (run : Run) (step : Option Stepping) → IsJob job → HasMetCase job number elements from cycles late way run step
-    → EndsEach job number (met_of way) cycles late
-ends_met job number elements from cycles late way run step is met = λ start starts bits.
+pub ends_met : (job : Job) (number : ℕ) (elements : List ℕ) (cycles : ℕ) (late : Bool) (bits : List Decided)
+    (run : Run) (step : Option Stepping) → IsJob job → HasMetCase job number elements cycles late bits run step
+    → EndsEach job number bits cycles late
+ends_met job number elements cycles late bits run step is met = λ start starts same.
     let one = (have_starts job number (ground_in run.space elements) is met.on.stands).reached start starts in
-    let begins : AreFirst (met_of way) (case_of job start) =
-    subst (AreFirst (met_of way)) (sym bits) (take_all (length (met_of way)) (met_of way) (omega arith)) in
+    let begins : AreFirst bits (case_of job start) =
+    subst (AreFirst bits) (sym same) (take_all (length bits) bits (omega arith)) in
     let ends = met.ended one.0 start one.1 (met.on.cases.only one.0 start one.1 begins) in
     (ends.cycles_are, ends.late_is)

@@ -15,10 +15,11 @@ use Rattle.mw_rel.proofs.Cases.{cases_meet}
 use Rattle.mw_rel.proofs.Parting.{Meet, before_is_an_order, part_apart}
 use Rattle.mw_fork.specs.declared.budget.Budget.{Budget}
 use Rattle.mw_fork.specs.Faults.{ForkFault}
-use Rattle.mw_fork.specs.declared.fault.Fault.TheVariants as faults
+use Rattle.mw_explore.specs.declared.fault.Fault.TheVariants as faults
 use Rattle.mw_fork.specs.declared.fault.Over.TheVariants as overs
 use Rattle.mw_fork.specs.declared.fork.Case.{Case}
-use Rattle.mw_fork.specs.Forks.{At, Before, Fork, IsForkOf, IsNextCase, IsToCome, NoneIsToCome, OneIsToCome}
+use Rattle.mw_explore.specs.Cases.{At, Before, IsToCome}
+use Rattle.mw_fork.specs.Forks.{Fork, IsForkOf, IsNextCase, NoneIsToCome, OneIsToCome}
 use Rattle.mw_fork.specs.Stops.{IsDecisionOver}
 use Rattle.mw_fork.specs.Walks.{AreAllCases, AreFirstCases, IsNextBehind, ReachTo, StopsAt, StopsWalk}
 

@@ -1,6 +1,5 @@
 -- The course of a case: through the cycles of its segment, and behind that through the described step.
 use Rattle.std.specs.Prelude.{◌≡◌, ℕ, ◌<◌, ◌≤◌, List, [], length, Bool, true, false, Option, Some, None}
-use Rattle.std.specs.List.{AllZip}
 use Rattle.std.specs.Option.{is_none}
 use Rattle.mw_board.specs.declared.parts.BoardParts.{BoardParts}
 use Rattle.mw_term.specs.declared.decided.Decided.{Decided}
@@ -25,12 +24,10 @@ use Rattle.mw_fork.specs.declared.paths.Paths.{Paths}
 use Rattle.mw_fork.specs.declared.run.Run.{Run}
 use Rattle.mw_fork.specs.declared.segment.Came.{Came}
 use Rattle.mw_fork.specs.declared.segment.Came.TheVariants as came
-use Rattle.mw_fork.specs.declared.way.Kept.{Kept}
 use Rattle.mw_fork.specs.OnWay.{HasMetCase, HasMetSegment, HavePaths, IsOnRun, IsOnStep, IsRunOf, IsTurnedOnRun}
 use Rattle.mw_fork.specs.OnWay.{IsTurnedOnStep}
 use Rattle.mw_fork.specs.Paths.{AreMade, StayOnPath}
 use Rattle.mw_fork.specs.Steps.{IsUnderway}
-use Rattle.mw_fork.specs.Ways.{Way, all_turned, way_of}
 
 -- ---- where it stands
 
@@ -71,39 +68,39 @@ Comes job number run came.Late =
 -- ---- which cases it is on
 
 -- where it comes to is so for the cases that began with its bits
-abbrev pub IsComeTo : Job → (number : ℕ) → (elements : List ℕ) → (from : List Kept) → Way → Run → Came → Type 0
-IsComeTo job number elements from way run (came.Asks kind term) =
-    IsTurnedOnRun job number elements from way run run.board.place.cycle (Ask kind term)
-IsComeTo job number elements from way run came.Reached =
-    HasMetSegment job number elements from run.board.place.cycle false way run
-IsComeTo job number elements from way run came.Late =
-    HasMetSegment job number elements from run.board.place.cycle true way run
+abbrev pub IsComeTo : Job → (number : ℕ) → (elements : List ℕ) → (bits : List Decided) → Run → Came → Type 0
+IsComeTo job number elements bits run (came.Asks kind term) =
+    IsTurnedOnRun job number elements bits run run.board.place.cycle (Ask kind term)
+IsComeTo job number elements bits run came.Reached =
+    HasMetSegment job number elements run.board.place.cycle false bits run
+IsComeTo job number elements bits run came.Late =
+    HasMetSegment job number elements run.board.place.cycle true bits run
 
 -- it is on its way through the cases that began with its bits
-abbrev pub IsOnCourse : Job → (number : ℕ) → (elements : List ℕ) → (from : List Kept) → Way → Run → Option Stepping
+abbrev pub IsOnCourse : Job → (number : ℕ) → (elements : List ℕ) → (bits : List Decided) → Run → Option Stepping
     → Type 0
-IsOnCourse job number elements from way run None = IsOnRun job number elements from way run run.board.place.cycle
-IsOnCourse job number elements from way run (Some step) =
+IsOnCourse job number elements bits run None = IsOnRun job number elements bits run run.board.place.cycle
+IsOnCourse job number elements bits run (Some step) =
     (segment : List Decided)
-    × IsOnStep job number elements from run.board.place.cycle segment run.board way run.space run.paths step
+    × IsOnStep job number elements run.board.place.cycle segment run.board bits run.space run.paths step
 
 -- and waits for the next bit of those cases
-abbrev pub WaitsOnCourse : Job → (number : ℕ) → (elements : List ℕ) → (from : List Kept) → Way → Run
+abbrev pub WaitsOnCourse : Job → (number : ℕ) → (elements : List ℕ) → (bits : List Decided) → Run
     → Option Stepping → DecidedKind → (term : ℕ) → Type 0
-WaitsOnCourse job number elements from way run None kind term =
-    IsTurnedOnRun job number elements from way run run.board.place.cycle (Ask kind term)
-WaitsOnCourse job number elements from way run (Some step) kind term =
+WaitsOnCourse job number elements bits run None kind term =
+    IsTurnedOnRun job number elements bits run run.board.place.cycle (Ask kind term)
+WaitsOnCourse job number elements bits run (Some step) kind term =
     (segment : List Decided)
-    × IsTurnedOnStep job number elements from run.board.place.cycle segment run.board way run.space run.paths step
+    × IsTurnedOnStep job number elements run.board.place.cycle segment run.board bits run.space run.paths step
     (Ask kind term)
 
 -- after a turn it waits for the next bit, or has met all
-abbrev pub IsTurnedOnCourse : Job → (number : ℕ) → (elements : List ℕ) → (from : List Kept) → Way → Run
+abbrev pub IsTurnedOnCourse : Job → (number : ℕ) → (elements : List ℕ) → (bits : List Decided) → Run
     → Option Stepping → Turn → Type 0
-IsTurnedOnCourse job number elements from way run step (Ask kind term) =
-    WaitsOnCourse job number elements from way run step kind term
-IsTurnedOnCourse job number elements from way run step Finished =
-    HasMetCase job number elements from run.board.place.cycle (is_none step) way run step
+IsTurnedOnCourse job number elements bits run step (Ask kind term) =
+    WaitsOnCourse job number elements bits run step kind term
+IsTurnedOnCourse job number elements bits run step Finished =
+    HasMetCase job number elements run.board.place.cycle (is_none step) bits run step
 
 -- ---- a bit that is given
 
@@ -139,31 +136,31 @@ with_board run o = record { space = run.space; paths = run.paths; board = o; reg
 -- ---- courses
 
 -- one that is on its way, and waits for no bit
-pub record IsGoing (job : Job) (number : ℕ) (from : List Kept) (way : Way) (course : Course) : Type 0 where
+pub record IsGoing (job : Job) (number : ℕ) (bits : List Decided) (course : Course) : Type 0 where
   pub elements : List ℕ
   pub cycles : course.cycles ≡ course.run.board.place.cycle
   pub ready : IsReady job number course.run course.step
   pub paths : HavePaths course.run.space course.run.paths
-  pub on : IsOnCourse job number elements from way course.run course.step
+  pub on : IsOnCourse job number elements bits course.run course.step
 
 -- one that has ended, and has met all bits of a case
-pub record HasGone (job : Job) (number : ℕ) (from : List Kept) (way : Way) (course : Course) : Type 0 where
+pub record HasGone (job : Job) (number : ℕ) (bits : List Decided) (course : Course) : Type 0 where
   pub elements : List ℕ
   pub cycles : course.cycles ≡ course.run.board.place.cycle
   pub run : HasRun course.run
   pub paths : HavePaths course.run.space course.run.paths
-  pub met : HasMetCase job number elements from course.cycles (is_none course.step) way course.run course.step
+  pub met : HasMetCase job number elements course.cycles (is_none course.step) bits course.run course.step
 
 -- where it stands behind its segment: the step is there, or it waits for a bit before that, or is late
 abbrev pub HaveCome : Job → (number : ℕ) → (old new : Course) → Option Turn → Type 0
 HaveCome job number old new None = (step : Stepping) × (new.step ≡ Some step) × IsReady job number new.run (Some step)
-    × ((elements : List ℕ) (from : List Kept) (way : Way)
-    → IsOnCourse job number elements from way old.run old.step
-    → IsOnCourse job number elements from way new.run (Some step))
+    × ((elements : List ℕ) (bits : List Decided)
+    → IsOnCourse job number elements bits old.run old.step
+    → IsOnCourse job number elements bits new.run (Some step))
 HaveCome job number old new (Some turn) = IsTurned job number new.run new.step turn
-    × ((elements : List ℕ) (from : List Kept) (way : Way)
-    → IsOnCourse job number elements from way old.run old.step
-    → IsTurnedOnCourse job number elements from way new.run new.step turn)
+    × ((elements : List ℕ) (bits : List Decided)
+    → IsOnCourse job number elements bits old.run old.step
+    → IsTurnedOnCourse job number elements bits new.run new.step turn)
 
 -- ---- a comparison
 
@@ -208,10 +205,6 @@ run_over made w = record {
 abbrev pub course_over : Paths → Waiting → Course
 course_over made w = record { run = run_over made w; cycles = w.cycles; step = w.step }
 
--- it has met these bits, the last of which was turned
-abbrev pub IsWaiting : Job → (number : ℕ) → Paths → List Kept → Waiting → Type 0
-IsWaiting job number made kept w = IsGoing job number kept (way_of kept) (course_over made w)
-
--- one waits at each of the bits that can be turned, in the order of the bits
-abbrev pub AreWaiting : Job → (number : ℕ) → Paths → List Kept → List Waiting → Type 0
-AreWaiting job number made kept waiting = AllZip (IsWaiting job number made) (all_turned [] kept) waiting
+-- it has come along these bits
+abbrev pub IsWaiting : Job → (number : ℕ) → Paths → (bits : List Decided) → Waiting → Type 0
+IsWaiting job number made bits w = IsGoing job number bits (course_over made w)

@@ -1,6 +1,7 @@
 -- What is found of the starts of a case that differ.
-use Rattle.std.specs.Prelude.{◌≡◌, ◌≢◌, ℕ, List, Contains, None}
+use Rattle.std.specs.Prelude.{◌≡◌, ◌≢◌, ℕ, List, Contains, Option, Some, None}
 use Rattle.mw_term.specs.declared.decided.Decided.{Decided}
+use Rattle.mw_rel.specs.Begin.{Begin}
 use Rattle.mw_rel.specs.Case.{IsStartAt, case_of}
 use Rattle.mw_rel.specs.CaseWords.{case_words}
 use Rattle.mw_rel.specs.ComparisonWords.{Comparison}
@@ -14,9 +15,10 @@ use Rattle.mw_term.specs.Assigned.{Numbers, given_by}
 use Rattle.mw_term.specs.Cofactors.{HasAtMostCofactors}
 use Rattle.mw_term.specs.Functions.{Function}
 use Rattle.mw_dd.specs.Diagrams.{IsFirst}
+use Rattle.mw_fork.specs.Begins.{IsDiffering, IsLeast}
 use Rattle.mw_fork.specs.declared.elements.Space.{Space}
 use Rattle.mw_fork.specs.Faults.{RunStop}
-use Rattle.mw_fork.specs.declared.fault.Fault.TheVariants.{NoMemory, Over}
+use Rattle.mw_explore.specs.declared.fault.Fault.TheVariants.{NoMemory, Over}
 use Rattle.mw_fork.specs.Listed.{list_of_space}
 use Rattle.mw_fork.specs.OnWay.{ground_in}
 use Rattle.mw_fork.specs.Starts.{IsGround, StandsForStart}
@@ -45,6 +47,12 @@ pub record IsFound (job : Job) (number : ℕ) (elements : List ℕ) (bits : List
       → case_of job start ≡ bits
   pub differs : (start : Start) → StandsForStart job number (ground_in space elements) (given_by numbers) start
       → difference_of job start ≢ None
+
+-- What is found of a case: nothing, where none of its starts differs, and no path operation of a comparison is over so
+-- many nodes; or what gives one that differs, the least of those that are sought.
+abbrev pub IsFoundOf : Job → (number nodes : ℕ) → (bits : List Decided) → Option Begin → Type 0
+IsFoundOf job number nodes bits None = NoneDiffersOf job number bits × ComparisonsAreWithin job number nodes bits
+IsFoundOf job number nodes bits (Some begin) = IsDiffering job number bits begin × IsLeast job number bits begin
 
 -- An operation of the comparison is over the budget, in the list of the case; or memory ran out.
 abbrev pub ComparisonStops : Job → (number nodes : ℕ) → (bits : List Decided) → RunStop → Type 0

@@ -1,5 +1,5 @@
 -- Why a run and a fork go no further.
-use Rattle.mw_fork.specs.declared.fault.Fault.{Fault}
+use Rattle.mw_explore.specs.declared.fault.Fault.{Fault}
 use Rattle.mw_fork.specs.declared.fault.Over.{Over}
 use Rattle.mw_fork.specs.declared.fault.Place.{Place}
 

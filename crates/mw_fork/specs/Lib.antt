@@ -1,7 +1,6 @@
 pub mod Begins
 pub mod Boundaries
 pub mod CasePaths
-pub mod Choices
 pub mod Codes
 pub mod Comparing
 pub mod Courses
@@ -10,15 +9,14 @@ pub mod Entries
 pub mod Failing
 pub mod Faults
 pub mod Forks
-pub mod KeptBits
 pub mod Listed
 pub mod OnWay
 pub mod OwnTerms
 pub mod Paths
 pub mod Runs
+pub mod StartCases
 pub mod Starts
 pub mod Steps
 pub mod Stops
 pub mod Walks
-pub mod Ways
 pub mod Within

@@ -18,6 +18,7 @@ use Rattle.mw_symmach.specs.Along.{AsksAlong, IsAlong, IsDoneAlong}
 use Rattle.mw_symmach.specs.Laws.{IsInStep}
 use Rattle.mw_symmach.specs.Turns as step
 use Rattle.mw_symmach.specs.Turns.{Stepping, is_asked}
+use Rattle.mw_rel.specs.Case.{IsFeasiblePrefix}
 use Rattle.mw_rel.specs.CaseWords.{case_words, whole}
 use Rattle.mw_rel.specs.ComparisonWords.{compared_in}
 use Rattle.mw_rel.specs.Free.{numbered}
@@ -27,10 +28,8 @@ use Rattle.mw_rel.specs.Start.{Start}
 use Rattle.mw_fork.specs.declared.elements.Space.{Space}
 use Rattle.mw_fork.specs.declared.paths.Paths.{Paths}
 use Rattle.mw_fork.specs.declared.run.Run.{Run}
-use Rattle.mw_fork.specs.declared.way.Kept.{Kept}
 use Rattle.mw_fork.specs.CasePaths.{HasCase, HasNoBoundary, HasSegment, IsCasePath, IsNextOfCase}
 use Rattle.mw_fork.specs.Ends.{EndsBy, IsBoardOf, IsStepOf}
-use Rattle.mw_fork.specs.KeptBits.{IsWayFrom}
 use Rattle.mw_fork.specs.Listed.{AsksFor, ComesTo, left_behind_cycle, left_behind_segment, left_in_cycle}
 use Rattle.mw_fork.specs.Listed.{left_of_cycles, left_of_step}
 use Rattle.mw_fork.specs.Listed.{list_of_space, standing_on}
@@ -38,7 +37,6 @@ use Rattle.mw_fork.specs.Paths.{ArePaths}
 use Rattle.mw_fork.specs.Runs.{IsUnder}
 use Rattle.mw_fork.specs.Starts.{Ground, IsGround, StandsForStart, ground_of, origin_of, registers_of}
 use Rattle.mw_fork.specs.Steps.{said_from}
-use Rattle.mw_fork.specs.Ways.{Way, met_of}
 
 -- what a space has, with the terms of the elements at the start
 abbrev pub ground_in : Space → (elements : List ℕ) → Ground
@@ -56,94 +54,93 @@ IsRunOf job run = IsUnder job run.space.terms run.space.words run.space.memory r
 abbrev pub HavePaths : Space → Paths → Type 0
 HavePaths space paths = ArePaths space.terms paths.dds paths.shared paths.places paths.path
 
--- A run from a boundary that began with some bits kept is on its way through a case: its path is that of the bits that
--- it has met, and that of the word list.
-pub record IsOnWay (job : Job) (number : ℕ) (g : Ground) (from : List Kept) (way : Way) (path : Function) : Type 0 where
+-- A run from a boundary is on its way through a case: its path is that of the bits that it has met, and that of the word
+-- list; and a case begins with them.
+pub record IsOnWay (job : Job) (number : ℕ) (g : Ground) (bits : List Decided) (path : Function) : Type 0 where
   pub stands : IsGround job number g
-  pub written : Agree path (path_of job number (met_of way))
-  pub cases : IsCasePath job number g (met_of way) path
-  pub bits : IsWayFrom job number from way
+  pub written : Agree path (path_of job number bits)
+  pub cases : IsCasePath job number g bits path
+  pub feasible : IsFeasiblePrefix job number bits
 
 -- A bit was decided: the run is on its way with one more, along the path by it.
-pub record HasDecided (job : Job) (number : ℕ) (g : Ground) (from : List Kept) (old new : Way) (path next : Function)
+pub record HasDecided (job : Job) (number : ℕ) (g : Ground) (bits : List Decided) (path next : Function)
     (kind : DecidedKind) (term : ℕ) (value : Bool) : Type 0 where
-  pub on : IsOnWay job number g from new next
-  pub met : met_of new ≡ met_of old ++ decided kind value ∷ []
+  pub on : IsOnWay job number g (bits ++ decided kind value ∷ []) next
   pub by : IsBy g.table term value path next
 
 -- ---- through the cycles of the board
 
 -- The board is in the run of each start on the path, and no boundary has come after the first so many cycles. Where it
 -- is in the next one, and waits for no bit, what is left of that and of those behind it is left of the word list.
-pub record IsOnRun (job : Job) (number : ℕ) (elements : List ℕ) (from : List Kept) (way : Way) (run : Run) (count : ℕ)
+pub record IsOnRun (job : Job) (number : ℕ) (elements : List ℕ) (bits : List Decided) (run : Run) (count : ℕ)
     : Type 0 where
-  pub on : IsOnWay job number (ground_in run.space elements) from way (path_in run.paths)
+  pub on : IsOnWay job number (ground_in run.space elements) bits (path_in run.paths)
   pub in_run : IsPath job.board job.store run.space.terms run.space.words run.space.memory
-      (origin_of job number elements) run.board (met_of way) (path_in run.paths)
+      (origin_of job number elements) run.board bits (path_in run.paths)
   pub passed : HasNoBoundary job number (ground_in run.space elements) (path_in run.paths) count
   pub variables : (n : ℕ) → n < run.board.place.cycle → HasVariables job.board run.space.terms run.space.words n
   pub unwritten : run.space.memory.machine ≡ []
   pub registers : run.registers ≡ registers_of job elements
   pub listed : run.board.asked ≡ None → run.board.place.cycle ≡ count
-      → ComesTo job number (met_of way) (left_in_cycle job number run.space run.registers run.board)
+      → ComesTo job number bits (left_in_cycle job number run.space run.registers run.board)
 
 -- it asks for a bit where the word list asks for it, and with either value what is left of its cycle is left of the
 -- list
-pub record AsksInCycle (job : Job) (number : ℕ) (way : Way) (run : Run) (kind : DecidedKind) (term : ℕ) : Type 0 where
-  pub here : AsksFor job number (met_of way) (ground_in run.space []) term
-  pub on : (value : Bool) → ComesTo job number (met_of way ++ decided kind value ∷ [])
+pub record AsksInCycle (job : Job) (number : ℕ) (bits : List Decided) (run : Run) (kind : DecidedKind) (term : ℕ) : Type 0 where
+  pub here : AsksFor job number bits (ground_in run.space []) term
+  pub on : (value : Bool) → ComesTo job number (bits ++ decided kind value ∷ [])
       (left_in_cycle job number run.space run.registers (decided_so run.board kind value))
 
 -- the bits that it has met are all those of its finished cycles
-abbrev pub HasMetAll : Job → (number : ℕ) → (elements : List ℕ) → Way → Run → Type 0
-HasMetAll job number elements way run =
+abbrev pub HasMetAll : Job → (number : ℕ) → (elements : List ℕ) → (bits : List Decided) → Run → Type 0
+HasMetAll job number elements bits run =
     AreAll job.board job.store run.space.terms run.space.words run.space.memory
     (origin_of job number elements) run.board
-    (met_of way) (path_in run.paths)
+    bits (path_in run.paths)
 
 -- its cycle is finished: the bits that it has met are all, the next cycle hasn't begun, and what is behind it is left
 -- of the word list
-pub record HasFinished (job : Job) (number : ℕ) (elements : List ℕ) (way : Way) (run : Run) : Type 0 where
-  pub all : HasMetAll job number elements way run
+pub record HasFinished (job : Job) (number : ℕ) (elements : List ℕ) (bits : List Decided) (run : Run) : Type 0 where
+  pub all : HasMetAll job number elements bits run
   pub before : run.board.reading ≡ None
-  pub left : ComesTo job number (met_of way) (left_behind_cycle job number run.space run.registers run.board)
+  pub left : ComesTo job number bits (left_behind_cycle job number run.space run.registers run.board)
 
 -- after a turn: it asks for the next bit of the cases on its path, where the cycle is one of their segments; or the
 -- cycle is finished
-abbrev pub IsTurnedOnRun : Job → (number : ℕ) → (elements : List ℕ) → (from : List Kept) → Way → Run → (count : ℕ)
+abbrev pub IsTurnedOnRun : Job → (number : ℕ) → (elements : List ℕ) → (bits : List Decided) → Run → (count : ℕ)
     → Turn → Type 0
-IsTurnedOnRun job number elements from way run count (Ask kind term) =
-    IsOnRun job number elements from way run count
+IsTurnedOnRun job number elements bits run count (Ask kind term) =
+    IsOnRun job number elements bits run count
     × IsNextBit job.board job.store run.space.terms run.space.words run.space.memory (origin_of job number elements)
-    run.board (met_of way) (path_in run.paths) kind term
-    × AsksInCycle job number way run kind term
-IsTurnedOnRun job number elements from way run count Finished =
-    IsOnRun job number elements from way run count × HasFinished job number elements way run
+    run.board bits (path_in run.paths) kind term
+    × AsksInCycle job number bits run kind term
+IsTurnedOnRun job number elements bits run count Finished =
+    IsOnRun job number elements bits run count × HasFinished job number elements bits run
 
 -- The segment of each start on its path has so many cycles, is late or isn't, and decides the bits that it has met.
 -- Where it isn't late, the described step is left of the word list.
-pub record HasMetSegment (job : Job) (number : ℕ) (elements : List ℕ) (from : List Kept) (cycles : ℕ) (late : Bool)
-    (way : Way) (run : Run) : Type 0 where
-  pub on : IsOnWay job number (ground_in run.space elements) from way (path_in run.paths)
-  pub ended : HasSegment job number (ground_in run.space elements) (path_in run.paths) cycles late (met_of way)
+pub record HasMetSegment (job : Job) (number : ℕ) (elements : List ℕ) (cycles : ℕ) (late : Bool)
+    (bits : List Decided) (run : Run) : Type 0 where
+  pub on : IsOnWay job number (ground_in run.space elements) bits (path_in run.paths)
+  pub ended : HasSegment job number (ground_in run.space elements) (path_in run.paths) cycles late bits
   pub unwritten : run.space.memory.machine ≡ []
   pub registers : run.registers ≡ registers_of job elements
   pub listed : late ≡ false
-      → ComesTo job number (met_of way) (left_of_step job run.space run.registers run.board)
+      → ComesTo job number bits (left_of_step job run.space run.registers run.board)
   pub late_listed : late ≡ true
-      → case_words job number (met_of way) ≡ whole (list_of_space run.space) (compared_in (list_of_space run.space) [])
+      → case_words job number bits ≡ whole (list_of_space run.space) (compared_in (list_of_space run.space) [])
   pub of_board : IsBoardOf job number (ground_in run.space elements) run.space (path_in run.paths) run.board
   pub made : run.board.place.cycle ≡ cycles
 
 -- The bits that it has met are all of the case of each start on its path, whose segment has so many cycles, and is late
 -- or isn't; then its step is this.
-pub record HasMetCase (job : Job) (number : ℕ) (elements : List ℕ) (from : List Kept) (cycles : ℕ) (late : Bool)
-    (way : Way) (run : Run) (step : Option Stepping) : Type 0 where
-  pub on : IsOnWay job number (ground_in run.space elements) from way (path_in run.paths)
-  pub whole : HasCase job number (ground_in run.space elements) (path_in run.paths) (met_of way)
+pub record HasMetCase (job : Job) (number : ℕ) (elements : List ℕ) (cycles : ℕ) (late : Bool)
+    (bits : List Decided) (run : Run) (step : Option Stepping) : Type 0 where
+  pub on : IsOnWay job number (ground_in run.space elements) bits (path_in run.paths)
+  pub whole : HasCase job number (ground_in run.space elements) (path_in run.paths) bits
   pub segment : List Decided
   pub ended : HasSegment job number (ground_in run.space elements) (path_in run.paths) cycles late segment
-  pub ends : EndsBy job number (ground_in run.space elements) (met_of way) cycles late run (path_in run.paths) step
+  pub ends : EndsBy job number (ground_in run.space elements) bits cycles late run (path_in run.paths) step
 
 -- A run that has met no bit: every start is on its path, and no cycle has begun.
 pub record IsFirst (job : Job) (number : ℕ) (elements : List ℕ) (run : Run) : Type 0 where
@@ -166,13 +163,13 @@ scene_of start = record { image = start.pair.board.memory; inputs = start.env.in
 -- The step is in that of each start on the path, of which these bits were given; they stand behind those of a segment
 -- with so many cycles, which isn't late, at the end of which the board is. What is left of the word list behind the
 -- segment is the step from where it began; and where it waits for no bit, it has come along the bits that were given.
-pub record IsOnStep (job : Job) (number : ℕ) (elements : List ℕ) (from : List Kept) (cycles : ℕ)
+pub record IsOnStep (job : Job) (number : ℕ) (elements : List ℕ) (cycles : ℕ)
     (segment : List Decided)
-    (board : Symbolic) (way : Way) (space : Space) (paths : Paths) (o : Stepping) : Type 0 where
-  pub on : IsOnWay job number (ground_in space elements) from way (path_in paths)
+    (board : Symbolic) (bits : List Decided) (space : Space) (paths : Paths) (o : Stepping) : Type 0 where
+  pub on : IsOnWay job number (ground_in space elements) bits (path_in paths)
   pub ended : HasSegment job number (ground_in space elements) (path_in paths) cycles false segment
   pub so_far : List Bool
-  pub met : met_of way ≡ segment ++ map (decided Branch) so_far
+  pub met : bits ≡ segment ++ map (decided Branch) so_far
   pub in_step : (given : Given) (start : Start) → StandsForStart job number (ground_in space elements) given start
       → path_in paths given ≡ true
       → IsInStep job.machine space.terms space.memory given (scene_of start) o start.pair.machine
@@ -191,15 +188,15 @@ pub record HasEndedStep (job : Job) (number : ℕ) (elements : List ℕ) (begun 
   pub along : IsDoneAlong (said_from job.machine begun) so_far space.terms space.words space.memory o
 
 -- after a turn: it asks for the next bit of the cases on the path, or has met all their bits
-abbrev pub IsTurnedOnStep : Job → (number : ℕ) → (elements : List ℕ) → (from : List Kept) → (cycles : ℕ)
-    → (segment : List Decided) → (board : Symbolic) → Way → Space → Paths → Stepping → Turn → Type 0
-IsTurnedOnStep job number elements from cycles segment board way space paths o (Ask kind term) =
-    (on : IsOnStep job number elements from cycles segment board way space paths o)
-    × IsNextOfCase job number (ground_in space elements) (met_of way) (path_in paths) kind term
+abbrev pub IsTurnedOnStep : Job → (number : ℕ) → (elements : List ℕ) → (cycles : ℕ)
+    → (segment : List Decided) → (board : Symbolic) → (bits : List Decided) → Space → Paths → Stepping → Turn → Type 0
+IsTurnedOnStep job number elements cycles segment board bits space paths o (Ask kind term) =
+    (on : IsOnStep job number elements cycles segment board bits space paths o)
+    × IsNextOfCase job number (ground_in space elements) bits (path_in paths) kind term
     × AsksAlong (said_from job.machine on.begun) job.machine on.so_far space.terms space.words space.memory o term
-IsTurnedOnStep job number elements from cycles segment board way space paths o Finished =
-    (on : IsOnStep job number elements from cycles segment board way space paths o)
-    × HasCase job number (ground_in space elements) (path_in paths) (met_of way)
+IsTurnedOnStep job number elements cycles segment board bits space paths o Finished =
+    (on : IsOnStep job number elements cycles segment board bits space paths o)
+    × HasCase job number (ground_in space elements) (path_in paths) bits
     × HasEndedStep job number elements on.begun on.so_far space paths o
 
 -- ---- what a call keeps
@@ -207,6 +204,6 @@ IsTurnedOnStep job number elements from cycles segment board way space paths o F
 -- a turn: a run that is on its way is so still, and what it asks for, or that the cycle is finished, holds of its cases
 abbrev pub Turns : Job → (before after : Run) → Turn → Type 0
 Turns job before after turn =
-    (number : ℕ) (elements : List ℕ) (from : List Kept) (way : Way)
-    → IsOnRun job number elements from way before before.board.place.cycle
-    → IsTurnedOnRun job number elements from way after before.board.place.cycle turn
+    (number : ℕ) (elements : List ℕ) (bits : List Decided)
+    → IsOnRun job number elements bits before before.board.place.cycle
+    → IsTurnedOnRun job number elements bits after before.board.place.cycle turn

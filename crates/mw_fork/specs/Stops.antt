@@ -5,10 +5,7 @@ use Rattle.mw_rel.specs.CaseWords.{case_words}
 use Rattle.mw_rel.specs.Job.{Job}
 use Rattle.mw_rel.specs.OverBudget.{AreNodesOver}
 use Rattle.mw_fork.specs.Faults.{RunStop}
-use Rattle.mw_fork.specs.declared.fault.Fault.TheVariants.{NoMemory, Over}
-use Rattle.mw_fork.specs.declared.way.Kept.{Kept}
-use Rattle.mw_fork.specs.KeptBits.{IsWayFrom}
-use Rattle.mw_fork.specs.Ways.{Way, met_of}
+use Rattle.mw_explore.specs.declared.fault.Fault.TheVariants.{NoMemory, Over}
 
 -- A decision is over so many nodes: the prefix asks for one more bit, so that its list goes up to that bit's word and has
 -- no word of a comparison; and an operation of it, at a word and a bit, has more joint cofactors.
@@ -16,8 +13,7 @@ pub record IsDecisionOver (job : Job) (number nodes : ℕ) (prefix : List Decide
   pub asks : IsSome (case_words job number prefix).asked
   pub over : AreNodesOver job number nodes prefix word j
 
--- The decision behind the bits that the run has met is over the budget, at a word and a bit; or memory ran out.
-abbrev pub StopsBy : Job → (number nodes : ℕ) → (from : List Kept) → Way → RunStop → Type 0
-StopsBy job number nodes from way (Over place) =
-    IsWayFrom job number from way × IsDecisionOver job number nodes (met_of way) place.word place.bit
-StopsBy job number nodes from way NoMemory = Unit {0}
+-- The decision behind these bits is over the budget, at a word and a bit; or memory ran out.
+abbrev pub StopsBy : Job → (number nodes : ℕ) → (bits : List Decided) → RunStop → Type 0
+StopsBy job number nodes bits (Over place) = IsDecisionOver job number nodes bits place.word place.bit
+StopsBy job number nodes bits NoMemory = Unit {0}

@@ -8,10 +8,11 @@ use Rattle.mw_rel.specs.Job.{Job}
 use Rattle.mw_rel.specs.OverBudget.{AreNodesOver, ArePathsOver}
 use Rattle.mw_fork.specs.declared.budget.Budget.{Budget}
 use Rattle.mw_fork.specs.Faults.{ForkFault}
-use Rattle.mw_fork.specs.declared.fault.Fault.TheVariants.{Over, NoMemory}
+use Rattle.mw_explore.specs.declared.fault.Fault.TheVariants.{Over, NoMemory}
 use Rattle.mw_fork.specs.declared.fault.Over.TheVariants.{Nodes, Paths}
 use Rattle.mw_fork.specs.declared.fork.Case.{Case}
-use Rattle.mw_fork.specs.Forks.{At, EndsEach, Fork, IsForkOf}
+use Rattle.mw_explore.specs.Cases.{At}
+use Rattle.mw_fork.specs.Forks.{EndsEach, Fork, IsForkOf}
 use Rattle.mw_fork.specs.Within.{AreDecidedWithin}
 
 -- ---- the cases in their order

@@ -2,6 +2,7 @@
 ghost use Rattle.std.specs.Prelude.{◌≡◌, ◌↔◌, ◌<◌, ◌≤◌, ◌+◌, ◌^◌, ◌∷◌, [], Bool, ℕ, List, All, IfErr, IfOk, IfSome};
 ghost use Rattle.std.specs.Prelude.{None, OnOk, Some, length, slice_get, take, true};
 ghost use Rattle.mw_macro.specs.Counts.{reads};
+ghost use Rattle.mw_term.specs.declared.decided.Decided.{Decided};
 ghost use Rattle.mw_rel.specs.ComparisonWords.{Sides, Subject, are_alike, with_comparison, with_events};
 ghost use Rattle.mw_rel.specs.ComparisonWords.{with_line};
 ghost use Rattle.mw_rel.specs.ComparisonWords.{with_lines, with_memory};
@@ -17,7 +18,6 @@ ghost use Rattle.mw_term.specs.declared.kinds.WordKind.TheVariants.{Probe};
 ghost use Rattle.mw_term.specs.WordList.{ended, memory_read_words, term_of};
 ghost use Rattle.mw_symmem.specs.Memory.{IsOfWidth, IsRead, writes_of};
 ghost use Rattle.mw_symmem.specs.Workspace.{IsWorkspace};
-ghost use Rattle.mw_fork.specs.declared.way.Kept.{Kept};
 ghost use Rattle.mw_fork.specs.Boundaries.{AreWide, IsSpace};
 ghost use Rattle.mw_fork.specs.Comparing.{AreApart, AreEventsOf, AreOne, AreOneAtProbe, AreOneOn, ArePutOut};
 ghost use Rattle.mw_fork.specs.Comparing.{AreSidesOn, AreTwoAt, AreTwoInMemory};
@@ -32,7 +32,6 @@ ghost use Rattle.mw_fork.specs.Listed.{list_of_space};
 ghost use Rattle.mw_fork.specs.Failing.{ComparisonStops, ComparisonsAreWithin, IsFound, NoneDiffersOf};
 ghost use Rattle.mw_fork.specs.OnWay.{HasMetCase, HavePaths, path_in};
 ghost use Rattle.mw_fork.specs.Paths.{AreMade, StayOnPath};
-ghost use Rattle.mw_fork.specs.Ways.{Way, met_of};
 
 use crate::course::Course;
 use crate::decide::stop_of;
@@ -410,8 +409,8 @@ fn compare_sides(
     nodes: u32,
     book: &ShortcutBook,
 ) -> Result<Option<Assignment>, RunStop>
-    requires met { (number cycles : ℕ) × (elements : List ℕ) × (from : List Kept) × (late : Bool) × (way : Way)
-        × HasMetCase (job_of job.now) number elements from cycles late way run.old (Some step.now) }
+    requires met { (number cycles : ℕ) × (elements : List ℕ) × (late : Bool) × (bits : List Decided)
+        × HasMetCase (job_of job.now) number elements cycles late bits run.old (Some step.now) }
     requires few { length run.old.space.memory.reads ≤ 1024 }
     requires fresh { term_of run.old.space.words Probe ≡ None }
     requires paths { HavePaths run.old.space run.old.paths }
@@ -420,21 +419,21 @@ fn compare_sides(
     ensures board { run.new.board ≡ run.old.board }
     ensures registers { run.new.registers ≡ run.old.registers }
     ensures none { IfOk result (λ o. o ≡ None
-        → (number cycles : ℕ) (elements : List ℕ) (from : List Kept) (late : Bool) (way : Way)
-        → HasMetCase (job_of job.now) number elements from cycles late way run.old (Some step.now)
-        → NoneDiffersOf (job_of job.now) number (met_of way)) }
+        → (number cycles : ℕ) (elements : List ℕ) (late : Bool) (bits : List Decided)
+        → HasMetCase (job_of job.now) number elements cycles late bits run.old (Some step.now)
+        → NoneDiffersOf (job_of job.now) number bits) }
     ensures within { IfOk result (λ o. o ≡ None
-        → (number cycles : ℕ) (elements : List ℕ) (from : List Kept) (late : Bool) (way : Way)
-        → HasMetCase (job_of job.now) number elements from cycles late way run.old (Some step.now)
-        → ComparisonsAreWithin (job_of job.now) number nodes (met_of way)) }
+        → (number cycles : ℕ) (elements : List ℕ) (late : Bool) (bits : List Decided)
+        → HasMetCase (job_of job.now) number elements cycles late bits run.old (Some step.now)
+        → ComparisonsAreWithin (job_of job.now) number nodes bits) }
     ensures found { IfOk result (λ o. IfSome o (λ numbers.
-        (number cycles : ℕ) (elements : List ℕ) (from : List Kept) (late : Bool) (way : Way)
-        → HasMetCase (job_of job.now) number elements from cycles late way run.old (Some step.now)
-        → IsFound (job_of job.now) number elements (met_of way) run.new.space numbers)) }
+        (number cycles : ℕ) (elements : List ℕ) (late : Bool) (bits : List Decided)
+        → HasMetCase (job_of job.now) number elements cycles late bits run.old (Some step.now)
+        → IsFound (job_of job.now) number elements bits run.new.space numbers)) }
     ensures over { IfErr result
-        (λ stop. (number cycles : ℕ) (elements : List ℕ) (from : List Kept) (late : Bool) (way : Way)
-        → HasMetCase (job_of job.now) number elements from cycles late way run.old (Some step.now)
-        → ComparisonStops (job_of job.now) number nodes (met_of way) stop) }
+        (λ stop. (number cycles : ℕ) (elements : List ℕ) (late : Bool) (bits : List Decided)
+        → HasMetCase (job_of job.now) number elements cycles late bits run.old (Some step.now)
+        → ComparisonStops (job_of job.now) number nodes bits stop) }
 {
     // Laws for the proof: each term of the word list that is no constant has a word, and so has one that is over a
     // budget.
@@ -473,20 +472,20 @@ pub(crate) fn first_failing(
     nodes: u32,
     book: &ShortcutBook,
 ) -> Result<Option<Assignment>, RunStop>
-    requires gone { (from : List Kept) × (way : Way) × HasGone (job_of job.now) boundary from way course.old }
+    requires gone { (bits : List Decided) × HasGone (job_of job.now) boundary bits course.old }
     ensures stays { OnOk result (StaysAs course.old course.new) }
-    ensures none { IfOk result (λ o. o ≡ None → (from : List Kept) (way : Way)
-        → HasGone (job_of job.now) boundary from way course.old
-        → NoneDiffersOf (job_of job.now) boundary (met_of way)) }
-    ensures within { IfOk result (λ o. o ≡ None → (from : List Kept) (way : Way)
-        → HasGone (job_of job.now) boundary from way course.old
-        → ComparisonsAreWithin (job_of job.now) boundary nodes (met_of way)) }
-    ensures found { IfOk result (λ o. IfSome o (λ numbers. (from : List Kept) (way : Way)
-        → (gone : HasGone (job_of job.now) boundary from way course.old)
-        → IsFound (job_of job.now) boundary gone.elements (met_of way) course.new.run.space numbers)) }
-    ensures over { IfErr result (λ stop. (from : List Kept) (way : Way)
-        → HasGone (job_of job.now) boundary from way course.old
-        → ComparisonStops (job_of job.now) boundary nodes (met_of way) stop) }
+    ensures none { IfOk result (λ o. o ≡ None → (bits : List Decided)
+        → HasGone (job_of job.now) boundary bits course.old
+        → NoneDiffersOf (job_of job.now) boundary bits) }
+    ensures within { IfOk result (λ o. o ≡ None → (bits : List Decided)
+        → HasGone (job_of job.now) boundary bits course.old
+        → ComparisonsAreWithin (job_of job.now) boundary nodes bits) }
+    ensures found { IfOk result (λ o. IfSome o (λ numbers. (bits : List Decided)
+        → (gone : HasGone (job_of job.now) boundary bits course.old)
+        → IsFound (job_of job.now) boundary gone.elements bits course.new.run.space numbers)) }
+    ensures over { IfErr result (λ stop. (bits : List Decided)
+        → HasGone (job_of job.now) boundary bits course.old
+        → ComparisonStops (job_of job.now) boundary nodes bits stop) }
 {
     match &course.step {
         None => Ok(course.run.paths.first_assignment(alloc)?),

@@ -1,12 +1,11 @@
-// The run of a case: through the cycles of its segment, and behind that through the described step.
+// The course of a case: through the cycles of its segment, and behind that through the described step.
 ghost use Rattle.std.specs.Prelude.{◌≡◌, ◌<◌, ℕ, List, [], Some, IfOk, OnOk, length, true};
+ghost use Rattle.mw_term.specs.declared.decided.Decided.{Decided};
 ghost use Rattle.mw_symmach.specs.Turns.{Stepping};
 ghost use Rattle.mw_rel.specs.Views.{job_of};
-ghost use Rattle.mw_fork.specs.declared.way.Kept.{Kept};
 ghost use Rattle.mw_fork.specs.Courses.{HaveCome, IsGiven, IsGoing, IsOnCourse, IsOther, IsReady, IsTurned};
 ghost use Rattle.mw_fork.specs.Courses.{IsTurnedOnCourse, MayBeGiven, course_over, with_board};
 ghost use Rattle.mw_fork.specs.OnWay.{HavePaths};
-ghost use Rattle.mw_fork.specs.Ways.{Way, way_of};
 
 use crate::elements::Space;
 use crate::paths::Paths;
@@ -23,7 +22,7 @@ use mw_symmem::Turn;
 use mw_term::Places;
 use std::alloc::Global;
 
-/// A run of a case.
+/// A course of a case.
 #[derive(Drop)]
 pub(crate) struct Course {
     /// The board's.
@@ -78,9 +77,9 @@ fn turn_step(
     ensures made { OnOk result (run.new.paths ≡ run.old.paths) }
     ensures board { OnOk result (run.new.board ≡ run.old.board) }
     ensures turned { IfOk result (λ turn. (number : ℕ) → IsTurned (job_of job.now) number run.new step.new turn) }
-    ensures goes { IfOk result (λ turn. (number : ℕ) (elements : List ℕ) (from : List Kept) (way : Way)
-        → IsOnCourse (job_of job.now) number elements from way run.old step.old
-        → IsTurnedOnCourse (job_of job.now) number elements from way run.new step.new turn) }
+    ensures goes { IfOk result (λ turn. (number : ℕ) (elements : List ℕ) (bits : List Decided)
+        → IsOnCourse (job_of job.now) number elements bits run.old step.old
+        → IsTurnedOnCourse (job_of job.now) number elements bits run.new step.new turn) }
 {
     match step {
         Some(step) => turn(alloc, job, &mut run.space, step),
@@ -102,7 +101,7 @@ impl Course {
     /// One that stands at the boundary of this number, and has made no cycle.
     pub(crate) fn new(alloc: Global, job: &Job, boundary: usize) -> Result<Course, NoMemory>
         requires { boundary < length (job_of job.now).relation.boundaries }
-        ensures { IfOk result (IsGoing (job_of job.now) boundary [] (way_of [])) }
+        ensures { IfOk result (IsGoing (job_of job.now) boundary []) }
     {
         Ok(Course {
             run: Run::new(alloc, job, boundary)?,
@@ -156,9 +155,9 @@ impl Course {
         ensures paths { OnOk result (HavePaths self.new.run.space self.new.run.paths) }
         ensures made { OnOk result (self.new.run.paths ≡ self.old.run.paths) }
         ensures turned { IfOk result (IsTurned (job_of job.now) boundary self.new.run self.new.step) }
-        ensures goes { IfOk result (λ turn. (elements : List ℕ) (from : List Kept) (way : Way)
-            → IsOnCourse (job_of job.now) boundary elements from way self.old.run self.old.step
-            → IsTurnedOnCourse (job_of job.now) boundary elements from way self.new.run self.new.step turn) }
+        ensures goes { IfOk result (λ turn. (elements : List ℕ) (bits : List Decided)
+            → IsOnCourse (job_of job.now) boundary elements bits self.old.run self.old.step
+            → IsTurnedOnCourse (job_of job.now) boundary elements bits self.new.run self.new.step turn) }
     {
         if let Some(turn) = self.to_step(alloc, job, boundary)? {
             return Ok(turn);

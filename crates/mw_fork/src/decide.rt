@@ -1,26 +1,26 @@
 // How the bits of a case are decided.
-ghost use Rattle.std.specs.Prelude.{◌≡◌, ◌-◌, ◌<◌, ◌^◌, ℕ, List, IfErr, IfOk, IfSome, OnOk, length, true};
+ghost use Rattle.std.specs.Prelude.{◌≡◌, ◌&&◌, ◌++◌, ◌∷◌, [], ℕ, List, Bool, IfErr, IfOk, IfSome, OnOk, length, true};
 ghost use Rattle.std.specs.Option.{is_some, unwrap_or};
 ghost use Rattle.mw_blast.specs.declared.fault.BlastFault.TheVariants as faults;
 ghost use Rattle.mw_dd.specs.Nodes.{IsDd, function_of};
+ghost use Rattle.mw_explore.specs.Cases.{IsChosen};
+ghost use Rattle.mw_explore.specs.declared.fault.Fault.TheVariants as stops;
+ghost use Rattle.mw_cycle.specs.Decided.{decided};
+ghost use Rattle.mw_term.specs.declared.decided.Decided.{Decided};
 ghost use Rattle.mw_term.specs.WordList.{word_number};
 ghost use Rattle.mw_symmem.specs.Memory.{IsOfWidth};
+ghost use Rattle.mw_rel.specs.Case.{IsCase};
 ghost use Rattle.mw_rel.specs.Job.{IsJob, Job};
-ghost use Rattle.mw_fork.specs.declared.fault.Fault.TheVariants as stops;
-ghost use Rattle.mw_fork.specs.declared.way.Kept as ways;
 ghost use Rattle.mw_fork.specs.CasePaths.{IsNextOfCase};
-ghost use Rattle.mw_fork.specs.Choices.{IsChosen};
 ghost use Rattle.mw_fork.specs.Listed.{AsksFor};
 ghost use Rattle.mw_fork.specs.OnWay.{HasDecided, HavePaths, IsOnWay, ground_in, path_in};
 ghost use Rattle.mw_fork.specs.Paths.{HaveGrown};
 ghost use Rattle.mw_fork.specs.Stops.{StopsBy};
-ghost use Rattle.mw_fork.specs.Ways.{met_of, turned_behind, way_of};
 ghost use Rattle.mw_fork.specs.Within.{AreDecidedWithin};
 
 use crate::elements::Space;
 use crate::fault::{Place, RunStop};
-use crate::paths::Paths;
-use crate::way::{Kept, Way};
+use crate::paths::{Feasible, Paths};
 use mw_blast::{BlastFault, over_have_numbers};
 use mw_dd::Dd;
 use mw_macro::words_are_numbered;
@@ -55,65 +55,69 @@ pub(crate) fn stop_of(words: &Words, fault: BlastFault) -> RunStop
     }
 }
 
-/// What a bit was decided to be.
+/// What a bit was decided to be, on the path.
 #[derive(Clone, Copy)]
-pub(crate) struct Choice {
+pub(crate) struct Decision {
     /// Its value on the path that is gone on: the first that is feasible.
     pub value: bool,
     /// The path on which it is 1, where it is gone on with 0 and 1 is feasible too.
     pub other: Option<Dd>,
 }
 
-/// The path on which a bit that was decided is 1, where it can be turned.
-fn other_path(kept: Kept, one: Dd) -> Option<Dd>
-    ensures some { IfSome result (λ path. (path ≡ one) × (kept.other ≡ true)) }
-    ensures same { is_some result ≡ kept.other }
+/// The path on which a bit is 1, where both values are feasible.
+fn other_path(feasible: Feasible, one: Dd) -> Option<Dd>
+    ensures some { IfSome result (λ path. (path ≡ one) × (feasible.zero ≡ true) × (feasible.one ≡ true)) }
+    ensures same { is_some result ≡ (feasible.zero && feasible.one) }
 {
-    if kept.other { Some(one) } else { None }
+    if feasible.zero && feasible.one {
+        Some(one)
+    } else {
+        None
+    }
 }
 
-/// Decides a bit: its value is the first that is feasible, and the way keeps it.
+/// Decides a bit: its value is the first that is feasible.
 pub(crate) fn decide(
     alloc: Global,
     space: &Space,
     paths: &mut Paths,
     kind: DecidedKind,
     term: Term,
-    way: &mut Way,
     nodes: u32,
     book: &ShortcutBook,
-) -> Result<Choice, RunStop>
+) -> Result<Decision, RunStop>
     requires wide { IsOfWidth space.now.terms 1 term }
     requires paths { HavePaths space.now paths.old }
     ensures paths { OnOk result (HavePaths space.now paths.new) }
     ensures grown { OnOk result (HaveGrown paths.old paths.new) }
-    ensures few { OnOk result (length way.old.kept < 2 ^ 32 - 1) }
-    ensures chosen { IfOk result (IsChosen kind way.old way.new) }
-    ensures there { IfOk result (λ choice. IfSome choice.other (IsDd paths.new.dds)) }
-    ensures goes { IfOk result (λ choice. (job : Job) (number : ℕ) (elements : List ℕ) (from : List ways.Kept) → IsJob job
-        → IsOnWay job number (ground_in space.now elements) from way.old (path_in paths.old)
-        → IsNextOfCase job number (ground_in space.now elements) (met_of way.old) (path_in paths.old) kind term
-        → AsksFor job number (met_of way.old) (ground_in space.now elements) term
-        → HasDecided job number (ground_in space.now elements) from way.old way.new
-        (path_in paths.old) (path_in paths.new)
-        kind term choice.value) }
-    ensures turns { IfOk result (λ choice. IfSome choice.other (λ path.
-        (job : Job) (number : ℕ) (elements : List ℕ) (from : List ways.Kept) → IsJob job
-        → IsOnWay job number (ground_in space.now elements) from way.old (path_in paths.old)
-        → IsNextOfCase job number (ground_in space.now elements) (met_of way.old) (path_in paths.old) kind term
-        → AsksFor job number (met_of way.old) (ground_in space.now elements) term
-        → HasDecided job number (ground_in space.now elements) (turned_behind way.old.kept kind) way.old
-        (way_of (turned_behind way.old.kept kind)) (path_in paths.old) (function_of paths.new.dds path)
-        kind term true)) }
-    ensures nodes { OnOk result ((job : Job) (number : ℕ) (elements : List ℕ) (from : List ways.Kept) → IsJob job
-        → IsOnWay job number (ground_in space.now elements) from way.old (path_in paths.old)
-        → IsNextOfCase job number (ground_in space.now elements) (met_of way.old) (path_in paths.old) kind term
-        → AsksFor job number (met_of way.old) (ground_in space.now elements) term
-        → AreDecidedWithin job number nodes (met_of way.old) → AreDecidedWithin job number nodes (met_of way.new)) }
-    ensures over { IfErr result (λ stop. (job : Job) (number : ℕ) (elements : List ℕ) (from : List ways.Kept) → IsJob job
-        → IsOnWay job number (ground_in space.now elements) from way.old (path_in paths.old)
-        → AsksFor job number (met_of way.old) (ground_in space.now elements) term
-        → StopsBy job number nodes from way.new stop) }
+    ensures there { IfOk result (λ decision. IfSome decision.other (IsDd paths.new.dds)) }
+    ensures chosen { IfOk result (λ decision. (job : Job) (number : ℕ) (elements : List ℕ) (bits : List Decided)
+        → IsJob job → IsOnWay job number (ground_in space.now elements) bits (path_in paths.old)
+        → IsNextOfCase job number (ground_in space.now elements) bits (path_in paths.old) kind term
+        → IsChosen (IsCase job number) bits kind decision.value (is_some decision.other)) }
+    ensures goes { IfOk result (λ decision. (job : Job) (number : ℕ) (elements : List ℕ) (bits : List Decided)
+        → IsJob job → IsOnWay job number (ground_in space.now elements) bits (path_in paths.old)
+        → IsNextOfCase job number (ground_in space.now elements) bits (path_in paths.old) kind term
+        → AsksFor job number bits (ground_in space.now elements) term
+        → HasDecided job number (ground_in space.now elements) bits (path_in paths.old) (path_in paths.new)
+        kind term decision.value) }
+    ensures turns { IfOk result (λ decision. IfSome decision.other (λ path.
+        (job : Job) (number : ℕ) (elements : List ℕ) (bits : List Decided)
+        → IsJob job → IsOnWay job number (ground_in space.now elements) bits (path_in paths.old)
+        → IsNextOfCase job number (ground_in space.now elements) bits (path_in paths.old) kind term
+        → AsksFor job number bits (ground_in space.now elements) term
+        → HasDecided job number (ground_in space.now elements) bits (path_in paths.old)
+        (function_of paths.new.dds path) kind term true)) }
+    ensures nodes { OnOk result ((job : Job) (number : ℕ) (elements : List ℕ) (bits : List Decided) (value : Bool)
+        → IsJob job → IsOnWay job number (ground_in space.now elements) bits (path_in paths.old)
+        → IsNextOfCase job number (ground_in space.now elements) bits (path_in paths.old) kind term
+        → AsksFor job number bits (ground_in space.now elements) term
+        → AreDecidedWithin job number nodes bits
+        → AreDecidedWithin job number nodes (bits ++ decided kind value ∷ [])) }
+    ensures over { IfErr result (λ stop. (job : Job) (number : ℕ) (elements : List ℕ) (bits : List Decided)
+        → IsJob job → IsOnWay job number (ground_in space.now elements) bits (path_in paths.old)
+        → AsksFor job number bits (ground_in space.now elements) term
+        → StopsBy job number nodes bits stop) }
 {
     // Laws for the proof: each term of the word list that is no constant has a word, and so has one that is over a
     // budget.
@@ -126,10 +130,10 @@ pub(crate) fn decide(
         Err(fault) => return Err(stop_of(&space.words, fault)),
     };
     let feasible = paths.feasible(&split);
-    let kept = way.take(kind, feasible)?;
-    paths.go(&split, kept.bit.value);
-    Ok(Choice {
-        value: kept.bit.value,
-        other: other_path(kept, split.one),
+    let value = !feasible.zero;
+    paths.go(&split, value);
+    Ok(Decision {
+        value,
+        other: other_path(feasible, split.one),
     })
 }

@@ -1,43 +1,6 @@
-// Why something isn't made.
-ghost use Rattle.std.specs.Prelude.{◌≡◌};
-ghost use Rattle.mw_fork.specs.declared.fault.Fault.TheVariants.{NoMemory as no_memory};
-
-use mw_base::NoMemory;
+// Why no further case is found.
+use mw_explore::Fault;
 use mw_term::Prefix;
-use std::alloc::{AllocError, AllocFailed};
-
-/// Why something isn't made within a budget.
-#[derive(Debug, Drop)]
-pub enum Fault<P> {
-    /// This is over its budget.
-    Over(P),
-    /// Memory ran out.
-    NoMemory,
-}
-
-impl<P> From<NoMemory> for Fault<P> {
-    ghost from_gives = { λ _ e. e ≡ no_memory };
-
-    fn from(_: NoMemory) -> Fault<P> {
-        Fault::NoMemory
-    }
-}
-
-impl<P> From<AllocError> for Fault<P> {
-    ghost from_gives = { λ _ e. e ≡ no_memory };
-
-    fn from(_: AllocError) -> Fault<P> {
-        Fault::NoMemory
-    }
-}
-
-impl<P, T: Drop> From<AllocFailed<T>> for Fault<P> {
-    ghost from_gives = { λ _ e. e ≡ no_memory };
-
-    fn from(_: AllocFailed<T>) -> Fault<P> {
-        Fault::NoMemory
-    }
-}
 
 /// What is over its budget.
 #[derive(Debug, Drop)]
@@ -66,7 +29,7 @@ pub enum Over {
 pub type ForkFault = Fault<Over>;
 
 /// Where an operation of a run is over the budget.
-#[derive(Clone, Copy, Debug, PartialEq, Eq)]
+#[derive(Clone, Copy, Debug, PartialEq, Eq, Drop)]
 pub(crate) struct Place {
     /// The number of its word.
     pub word: u64,

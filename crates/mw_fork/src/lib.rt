@@ -5,23 +5,26 @@
 
 mod begin;
 mod budget;
+mod cases;
 mod comparing;
 mod course;
 mod decide;
 mod elements;
 mod fault;
 mod fork;
+mod found;
 mod paths;
 mod reached;
 mod registers;
 mod run;
 mod segment;
+mod starts;
 mod step;
 mod walk;
-mod way;
 
 pub use budget::Budget;
-pub use fault::{Fault, ForkFault, Over};
+pub use fault::{ForkFault, Over};
 pub use fork::{Case, Fork};
+pub use mw_explore::Fault;
 pub use mw_term::{Decided, Prefix};
 pub use walk::Visitor;

@@ -16,12 +16,20 @@ ghost use Rattle.mw_blast.specs.Shared.{IsWrittenCause, IsWrittenSplitCause};
 ghost use Rattle.mw_blast.specs.Splits.{IsSplit};
 ghost use Rattle.mw_fork.specs.Paths.{ArePaths, AreTwo, HaveGrown};
 
-use crate::way::Feasible;
 use mw_base::NoMemory;
 use mw_blast::{BlastFault, Shared, Split};
 use mw_dd::{Dd, DdFault, Diagrams};
 use mw_term::{Assignment, Places, ShortcutBook, Term, Written, terminal_cases_have_none};
 use std::alloc::Global;
+
+/// Which values of a bit are feasible.
+#[derive(Clone, Copy)]
+pub(crate) struct Feasible {
+    /// Whether 0 is.
+    pub zero: bool,
+    /// Whether 1 is.
+    pub one: bool,
+}
 
 /// The function of the starts that take the path so far, and the functions of bits.
 #[derive(Drop)]

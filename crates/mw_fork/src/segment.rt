@@ -1,11 +1,10 @@
 // The segment of a case.
 ghost use Rattle.std.specs.Prelude.{◌≡◌, ◌<◌, ℕ, List, None, IfOk, OnOk, length};
+ghost use Rattle.mw_term.specs.declared.decided.Decided.{Decided};
 ghost use Rattle.mw_rel.specs.Free.{numbered};
 ghost use Rattle.mw_rel.specs.Views.{job_of};
-ghost use Rattle.mw_fork.specs.declared.way.Kept.{Kept};
 ghost use Rattle.mw_fork.specs.Courses.{Comes, IsComeTo};
 ghost use Rattle.mw_fork.specs.OnWay.{HavePaths, IsOnRun, IsRunOf};
-ghost use Rattle.mw_fork.specs.Ways.{Way};
 
 use crate::reached::is_boundary;
 use crate::run::Run;
@@ -50,9 +49,9 @@ pub(crate) fn segment(
     ensures paths { OnOk result (HavePaths run.new.space run.new.paths) }
     ensures made { OnOk result (run.new.paths ≡ run.old.paths) }
     ensures comes { IfOk result (Comes (job_of job.now) boundary run.new) }
-    ensures goes { IfOk result (λ came. (elements : List ℕ) (from : List Kept) (way : Way)
-        → IsOnRun (job_of job.now) boundary elements from way run.old run.old.board.place.cycle
-        → IsComeTo (job_of job.now) boundary elements from way run.new came) }
+    ensures goes { IfOk result (λ came. (elements : List ℕ) (bits : List Decided)
+        → IsOnRun (job_of job.now) boundary elements bits run.old run.old.board.place.cycle
+        → IsComeTo (job_of job.now) boundary elements bits run.new came) }
 {
     let bound = job.boundary(boundary).bound;
     loop {

@@ -9,11 +9,9 @@ ghost use Rattle.mw_symmach.specs.Turns.{IsSaid, is_asked};
 ghost use Rattle.mw_rel.specs.Views.{job_of};
 ghost use Rattle.mw_term.specs.declared.decided.Decided.{Decided};
 ghost use Rattle.mw_fork.specs.declared.paths.Paths as diagrams;
-ghost use Rattle.mw_fork.specs.declared.way.Kept.{Kept};
 ghost use Rattle.mw_fork.specs.OnWay.{HasMetSegment, HavePaths, IsOnStep, IsRunOf, IsTurnedOnStep};
 ghost use Rattle.mw_fork.specs.Runs.{HasLine};
 ghost use Rattle.mw_fork.specs.Steps.{IsUnderway};
-ghost use Rattle.mw_fork.specs.Ways as ways;
 
 use crate::elements::Space;
 use crate::run::Run;
@@ -44,10 +42,10 @@ pub(crate) fn begin(alloc: Global, job: &Job, run: &Run) -> Result<SymMach, NoMe
     ensures under { IfOk result (IsUnderway (description_of job.now.machine)
         run.now.space.terms run.now.space.words run.now.space.memory) }
     ensures idle { IfOk result (λ s. is_asked s.pending ≡ false) }
-    ensures goes { IfOk result (λ s. (number cycles : ℕ) (elements : List ℕ) (from : List Kept) (way : ways.Way)
-        → HasMetSegment (job_of job.now) number elements from cycles false way run.now
-        → IsOnStep (job_of job.now) number elements from cycles
-        (ways.met_of way) run.now.board way run.now.space run.now.paths s) }
+    ensures goes { IfOk result (λ s. (number cycles : ℕ) (elements : List ℕ) (bits : List Decided)
+        → HasMetSegment (job_of job.now) number elements cycles false bits run.now
+        → IsOnStep (job_of job.now) number elements cycles
+        bits run.now.board bits run.now.space run.now.paths s) }
 {
     // A call for the proof: no two variables have one kind.
     let _ = run.space.words.count();
@@ -71,10 +69,10 @@ pub(crate) fn turn(
     ensures said { IfOk result
         (IsSaid (description_of job.now.machine) space.new.terms space.new.words space.new.memory step.new) }
     ensures goes { IfOk result
-        (λ turn. (number cycles : ℕ) (elements : List ℕ) (from : List Kept) (segment : List Decided)
-        (board : Symbolic) (way : ways.Way) (paths : diagrams.Paths)
-        → IsOnStep (job_of job.now) number elements from cycles segment board way space.old paths step.old
-        → IsTurnedOnStep (job_of job.now) number elements from cycles segment board way space.new paths step.new turn) }
+        (λ turn. (number cycles : ℕ) (elements : List ℕ) (segment : List Decided)
+        (board : Symbolic) (bits : List Decided) (paths : diagrams.Paths)
+        → IsOnStep (job_of job.now) number elements cycles segment board bits space.old paths step.old
+        → IsTurnedOnStep (job_of job.now) number elements cycles segment board bits space.new paths step.new turn) }
     ensures paths { OnOk result ((paths : diagrams.Paths) → HavePaths space.old paths → HavePaths space.new paths) }
 {
     // A law for the proof: what stands in a table goes on to stand there when more is written.

@@ -5,7 +5,8 @@ ghost use Rattle.mw_term.specs.declared.decided.Decided.{Decided};
 ghost use Rattle.mw_rel.specs.Job.{Job as JobParts};
 ghost use Rattle.mw_rel.specs.Views.{job_of};
 ghost use Rattle.mw_fork.specs.declared.budget.Budget.{Budget as BudgetOf};
-ghost use Rattle.mw_fork.specs.Forks.{Before, IsForkOf};
+ghost use Rattle.mw_explore.specs.Cases.{Before};
+ghost use Rattle.mw_fork.specs.Forks.{IsForkOf};
 ghost use Rattle.mw_fork.specs.Walks.{HasStopped, HasWalked, IsAtCase, IsNextBehind, StopsAt, StopsWalk};
 
 use crate::budget::Budget;

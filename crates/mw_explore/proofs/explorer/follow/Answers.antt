@@ -25,7 +25,7 @@ loop-kind-preserved g c =
     let both = takes IsCase (g.T.CaseTree.has_come tree) waits c.args.trail.now.way way c.loop-kind.course
     c.decide.new.course c.loop-kind.trail.waiting.items c.in-Ask.kind c.in_ok-choice.choice.value
     c.in_ok-choice.choice.other
-    (e.chosen bits asks (way_leads IsCase way (g.met.T.CaseTree.some_case tree) inv.stands.kept)) inv.from
+    (e.chosen bits asks (way_leads IsCase way c.are_in_order.ensures.some inv.stands.kept)) inv.from
     (e.come bits asks)
     (IfSome_then c.in_ok-choice.choice.other e.other (λ w turns. turns bits asks))
     (λ w bits old. e.waiting w bits (c.in_ok-kind.ensures.waiting w bits old)) inv.stands.waits in
@@ -49,3 +49,7 @@ returns-clause-gone g c =
           (g.T.CaseTree.is_waiting tree c.turn.new.course) c.loop-kind.trail.way c.loop-kind.trail.waiting.items e.waiting
           stands.waits;
     }
+
+pub returns-clause-case : goal.returns-clause-case
+returns-clause-case g c =
+    c.in_ok-kind.ensures.case c.in_default.is (bits_of c.loop-kind.trail.way) c.loop-kind.invariant.stands.has

@@ -2,48 +2,47 @@ use Rattle.std.specs.Option.{is_none}
 use Rattle.std.proofs.lemmas.Option.{IfSome_then}
 use Rattle.mw_rel.specs.Views.{job_of}
 use Rattle.mw_fork.specs.Failing.{ComparisonStops, ComparisonsAreWithin, IsFound, NoneDiffersOf}
-use Rattle.mw_fork.specs.Ways.{met_of}
 use Rattle.mw_fork.proofs.LateCompared.{found_so, late_found, late_none, none_so, stops_so}
 use Rattle.mw_fork.proofs.comparing.first_failing.Goals as goal
 
 pub returns-in_ok-first_assignment-in-None-clause-none : goal.returns-in_ok-first_assignment-in-None-clause-none
-returns-in_ok-first_assignment-in-None-clause-none g c = λ none from way gone.
+returns-in_ok-first_assignment-in-None-clause-none g c = λ none bits gone.
     let course = c.args.course.now in
-    late_none (job_of c.args.job.now) c.args.boundary gone.elements from course.cycles (is_none course.step) way
+    late_none (job_of c.args.job.now) c.args.boundary gone.elements course.cycles (is_none course.step) bits
     course.run course.step c.args.job.now.is_job gone.met (c.in_ok-first_assignment-in-None.ensures.none none)
 
 pub returns-in_ok-first_assignment-in-None-clause-found : goal.returns-in_ok-first_assignment-in-None-clause-found
 returns-in_ok-first_assignment-in-None-clause-found g c =
     let course = c.args.course.now in
     IfSome_then c.in_ok-first_assignment-in-None.field-0 c.in_ok-first_assignment-in-None.ensures.first
-    (λ numbers first from way gone.
-    late_found (job_of c.args.job.now) c.args.boundary gone.elements from course.cycles (is_none course.step) way
+    (λ numbers first bits gone.
+    late_found (job_of c.args.job.now) c.args.boundary gone.elements course.cycles (is_none course.step) bits
     course.run course.step numbers c.args.job.now.is_job c.in-None.is gone.met first)
 
 pub returns-in-Some-clause-none : goal.returns-in-Some-clause-none
 returns-in-Some-clause-none g c =
     let job = job_of c.args.job.now in
     none_so job c.args.boundary c.args.course.now c.in-Some.step
-    (λ number elements way. NoneDiffersOf job number (met_of way)) c.compare_sides.result c.in-Some.is
+    (λ number elements bits. NoneDiffersOf job number bits) c.compare_sides.result c.in-Some.is
     c.compare_sides.ensures.none
 
 pub returns-in-Some-clause-within : goal.returns-in-Some-clause-within
 returns-in-Some-clause-within g c =
     let job = job_of c.args.job.now in
     none_so job c.args.boundary c.args.course.now c.in-Some.step
-    (λ number elements way. ComparisonsAreWithin job number c.args.nodes (met_of way)) c.compare_sides.result
+    (λ number elements bits. ComparisonsAreWithin job number c.args.nodes bits) c.compare_sides.result
     c.in-Some.is c.compare_sides.ensures.within
 
 pub returns-in-Some-clause-found : goal.returns-in-Some-clause-found
 returns-in-Some-clause-found g c =
     let job = job_of c.args.job.now in
     found_so job c.args.boundary c.args.course.now c.in-Some.step
-    (λ numbers number elements way. IsFound job number elements (met_of way) c.compare_sides.new.run.space numbers)
+    (λ numbers number elements bits. IsFound job number elements bits c.compare_sides.new.run.space numbers)
     c.compare_sides.result c.in-Some.is c.compare_sides.ensures.found
 
 pub returns-in-Some-clause-over : goal.returns-in-Some-clause-over
 returns-in-Some-clause-over g c =
     let job = job_of c.args.job.now in
     stops_so job c.args.boundary c.args.course.now c.in-Some.step
-    (λ stop number elements way. ComparisonStops job number c.args.nodes (met_of way) stop) c.compare_sides.result
+    (λ stop number elements bits. ComparisonStops job number c.args.nodes bits stop) c.compare_sides.result
     c.in-Some.is c.compare_sides.ensures.over

@@ -23,12 +23,12 @@ returns-clause-under c =
     (sym c.as_slice.ensures) waits))
 
 pub returns-clause-goes : goal.returns-clause-goes
-returns-clause-goes c = λ number cycles elements from way met.
+returns-clause-goes c = λ number cycles elements bits met.
     let job = job_of c.args.job.now in
     let run = c.args.run.now in
     let request = c.request-request.result in
     let e = c.in_ok-step.ensures in
-    begun_behind job number cycles elements from way run request c.in_ok-step.step
+    begun_behind job number cycles elements bits run request c.in_ok-step.step
     (subst (λ registers. Begins job run.space.terms run.space.memory registers request c.in_ok-step.step)
     c.as_slice.ensures (e.step run.space.terms run.space.memory)) e.left
     (subst (λ registers. underway_of job.machine run.space.terms run.space.words run.space.memory c.in_ok-step.step

@@ -20,9 +20,9 @@ returns-clause-paths c = λ paths are. record {
 }
 
 pub returns-clause-goes : goal.returns-clause-goes
-returns-clause-goes c = λ number cycles elements from segment board way paths on.
+returns-clause-goes c = λ number cycles elements segment board bits paths on.
     let e = c.in_ok-turn.ensures in
-    turns (job_of c.args.job.now) number cycles elements from segment board way _ _ paths _ _ _
+    turns (job_of c.args.job.now) number cycles elements segment board bits _ _ paths _ _ _
     c.args.job.now.is_job
     e.turn e.goes e.board e.stepping c.count.ensures.own c.steps_go_along.ensures.turns e.listed e.done
     e.begun c.requires.idle on

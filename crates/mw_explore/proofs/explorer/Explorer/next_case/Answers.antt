@@ -1,6 +1,5 @@
 use Rattle.std.proofs.Common.{subst, sym}
 use Rattle.mw_explore.specs.Cases.{IsNext, NoneComesBefore}
-use Rattle.mw_explore.proofs.Advancing.{is_next}
 use Rattle.mw_explore.proofs.explorer.Explorer.next_case.Goals as goal
 
 pub returns-in-Err-clause-before : goal.returns-in-Err-clause-before
@@ -18,6 +17,4 @@ returns-clause-case g c =
     let leads = c.lead_on.ensures.leads c.if-not-lead_on.false in
     subst (λ e. IsNext (g.T.CaseTree.is_case e.tree) e.at c.in_ok-prefix.prefix) c.self.view_is
     (subst (IsNext (g.T.CaseTree.is_case tree) _) (sym c.in_ok-prefix.ensures)
-    (is_next (g.T.CaseTree.is_case tree) (g.T.CaseTree.has_gone tree) (g.T.CaseTree.is_waiting tree) _ _
-    c.advance.new.trail.way c.advance.new.stage c.advance.new.trail.waiting.items (g.met.T.CaseTree.gone_is_case tree)
-    leads c.in-Ok.ensures.way c.in-Ok.ensures.stands))
+    (leads.next c.advance.new.trail.way c.in-Ok.ensures.way c.in-Ok.ensures.case))

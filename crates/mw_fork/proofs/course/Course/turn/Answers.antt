@@ -5,7 +5,7 @@ use Rattle.mw_fork.proofs.course.Course.turn.Goals as goal
 
 pub returns-clause-goes : goal.returns-clause-goes
 returns-clause-goes c =
-    IfOk-weaker c.turn_step.result _ _ (λ turn goes elements from way on.
-    goes c.args.boundary elements from way
+    IfOk-weaker c.turn_step.result _ _ (λ turn goes elements bits on.
+    goes c.args.boundary elements bits
     (come_on (job_of c.args.job.now) c.args.boundary c.args.self.now c.to_step.new.self c.in_ok-turn.field-0
-    c.in_default.is c.in_ok-turn.ensures.come elements from way on)) c.turn_step.ensures.goes
+    c.in_default.is c.in_ok-turn.ensures.come elements bits on)) c.turn_step.ensures.goes

@@ -1,51 +1,35 @@
-use Rattle.std.proofs.Common.{ap, sym}
+use Rattle.std.proofs.Common.{◌≡◌, ℕ, List, ap, subst, sym, ◌∙◌}
+use Rattle.std.specs.Prelude.{None}
+use Rattle.mw_term.specs.declared.decided.Decided.{Decided}
+use Rattle.mw_explore.specs.Cases.{At}
+use Rattle.mw_rel.specs.Job.{Job}
+use Rattle.mw_rel.specs.OverBudget.{AreNodesOver}
 use Rattle.mw_rel.specs.Views.{job_of}
-use Rattle.mw_fork.specs.Begins.{IsDiffering, IsLeast}
-use Rattle.mw_fork.specs.Failing.{NoneDiffersOf}
+use Rattle.mw_fork.specs.declared.starts.Starts.{Starts}
+use Rattle.mw_fork.specs.Failing.{ComparisonsAreWithin, IsFoundOf}
 use Rattle.mw_fork.specs.Forks.{Fork}
-use Rattle.mw_fork.proofs.LastGiven.{found_over, if_found, said_last, seen_gone, within_last}
+use Rattle.mw_fork.proofs.Seen.{seen}
 use Rattle.mw_fork.proofs.fork.Fork.differs.Goals as goal
 
-pub returns-in-Ok-clause-differs : goal.returns-in-Ok-clause-differs
-returns-in-Ok-clause-differs g c =
-    let job = job_of c.args.job.now in
-    if_found _ _ c.in-Ok.begin (λ begin said last here.
-    let seen = seen_gone job c.args.self.now _ _ _ _ _ c.self.inside.way c.self.inside.waiting.items last c.self.view_is
-    c.requires.of.of here c.self.invariant in
-    said_last (λ number bits. IsDiffering job number bits begin) c.args.self.now _ c.self.inside.way last seen.1 here
-    (said seen.0.0 c.self.inside.way seen.0.1)) c.in-Ok.ensures.differs
-
-pub returns-in-Ok-clause-least : goal.returns-in-Ok-clause-least
-returns-in-Ok-clause-least g c =
-    let job = job_of c.args.job.now in
-    if_found _ _ c.in-Ok.begin (λ begin said last here.
-    let seen = seen_gone job c.args.self.now _ _ _ _ _ c.self.inside.way c.self.inside.waiting.items last c.self.view_is
-    c.requires.of.of here c.self.invariant in
-    said_last (λ number bits. IsLeast job number bits begin) c.args.self.now _ c.self.inside.way last seen.1 here
-    (said seen.0.0 c.self.inside.way seen.0.1)) c.in-Ok.ensures.least
-
-pub returns-in-Ok-clause-none : goal.returns-in-Ok-clause-none
-returns-in-Ok-clause-none g c = λ none last here.
-    let job = job_of c.args.job.now in
-    let seen = seen_gone job c.args.self.now _ _ _ _ _ c.self.inside.way c.self.inside.waiting.items last c.self.view_is
-    c.requires.of.of here c.self.invariant in
-    said_last (NoneDiffersOf job) c.args.self.now _ c.self.inside.way last seen.1 here
-    (c.in-Ok.ensures.none none seen.0.0 c.self.inside.way seen.0.1)
-
-pub returns-in-Ok-clause-within : goal.returns-in-Ok-clause-within
-returns-in-Ok-clause-within g c = λ none last here.
-    let job = job_of c.args.job.now in
-    let seen = seen_gone job c.args.self.now _ _ _ _ _ c.self.inside.way c.self.inside.waiting.items last c.self.view_is
-    c.requires.of.of here c.self.invariant in
-    within_last job c.args.self.now _ c.self.inside.way last _ seen.1 here
-    (sym (ap (λ (g : Fork). g.budget.nodes) c.self.view_is))
-    (c.in-Ok.ensures.within none seen.0.0 c.self.inside.way seen.0.1)
+pub returns-clause-within : goal.returns-clause-within
+returns-clause-within g c = λ none.
+    let e = c.self.inside.cases in
+    seen (λ (job : Job) (f : Fork). (last : List Decided) → f.at ≡ At last
+    → ComparisonsAreWithin job f.boundary f.budget.nodes last) (job_of c.args.job.now) c.args.self.now e c.self.view_is
+    c.requires.of (λ last here.
+    (subst (IsFoundOf (job_of e.tree.job.now) e.tree.boundary e.tree.nodes last) none
+    (c.in-Ok.ensures.found last here)).1)
 
 pub returns-in-Err-clause-cause : goal.returns-in-Err-clause-cause
 returns-in-Err-clause-cause g c = λ number prefix word j same.
-    let job = job_of c.args.job.now in
-    let seen = seen_gone job c.args.self.now _ _ _ _ _ c.self.inside.way c.self.inside.waiting.items c.requires.given.0
-    c.self.view_is c.requires.of.of c.requires.given.1 c.self.invariant in
-    found_over job c.args.self.now _ _ c.self.inside.way c.in-Err.stop number prefix word j seen.1
-    (sym (ap (λ (g : Fork). g.budget.nodes) c.self.view_is))
-    (c.in-Err.ensures.over seen.0.0 c.self.inside.way seen.0.1) (c.fault_of.ensures.nodes number prefix word j same)
+    let e = c.self.inside.cases in
+    let told = c.fault_of.ensures.nodes number prefix word j same in
+    let here = told.0 ∙ ap (λ (s : Starts). s.boundary) c.tree.ensures in
+    let cause = c.in-Err.ensures.cause prefix _ told.1 in
+    seen (λ (job : Job) (f : Fork). (number ≡ f.boundary) × (f.at ≡ At prefix)
+    × AreNodesOver job number f.budget.nodes prefix word j) (job_of c.args.job.now) c.args.self.now e c.self.view_is
+    c.requires.of (
+      here,
+      cause.0,
+      subst (λ (n : ℕ). AreNodesOver (job_of e.tree.job.now) n e.tree.nodes prefix word j) (sym here) cause.1,
+    )

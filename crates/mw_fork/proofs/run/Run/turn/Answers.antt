@@ -9,9 +9,9 @@ returns-clause-turned c =
     turned (job_of c.args.job.now) _ _ _ _ _ _ _ _ _ _ c.requires.under e.goes e.turn e.symbolic e.reads e.all
 
 pub returns-clause-goes : goal.returns-clause-goes
-returns-clause-goes c = λ number elements from way on.
+returns-clause-goes c = λ number elements bits on.
     let e = c.in_ok-turn.ensures in
-    on_turn (job_of c.args.job.now) number elements from way c.args.self.now _ _ _ c.args.job.now.is_job
+    on_turn (job_of c.args.job.now) number elements bits c.args.self.now _ _ _ c.args.job.now.is_job
     c.requires.under.space.workspace c.requires.under.symbolic c.requires.idle e.goes e.turn e.listed e.symbolic e.all
     e.machine c.count.ensures.own on
 

@@ -1,0 +1,30 @@
+-- The laws of the cases of the starts at a boundary, by which they are explored.
+use Rattle.std.proofs.Common.{◌≢◌, ◌⊎◌, List, []}
+use Rattle.mw_term.specs.declared.decided.Decided.{Decided}
+use Rattle.mw_explore.specs.Cases.{Leads}
+use Rattle.mw_rel.specs.Case.{IsBefore}
+use Rattle.mw_rel.specs.Views.{job_of}
+use Rattle.mw_rel.proofs.Cases.{one_case_is_first}
+use Rattle.mw_fork.specs.declared.course.Course.{Course}
+use Rattle.mw_fork.specs.declared.starts.Starts.{Starts}
+use Rattle.mw_fork.specs.StartCases.{HasGoneThrough, IsCaseAt}
+use Rattle.mw_fork.proofs.AnyStart.{some_case as case_at}
+use Rattle.mw_fork.proofs.Tracing.{case_met}
+
+-- what was gone through is a case
+pub gone_is_case : (s : Starts) (course : Course) (bits : List Decided) → HasGoneThrough s course bits → IsCaseAt s bits
+gone_is_case s course bits has =
+    case_met (job_of s.job.now) s.boundary has.gone.elements course.cycles _ bits course.run course.step s.job.now.is_job
+    has.gone.met
+
+-- there is a case
+pub some_case : (s : Starts) → Leads (IsCaseAt s) []
+some_case s =
+    let one = case_at (job_of s.job.now) s.boundary s.job.now.is_job s.there in
+    record { rest = one.other; case = one.feasible }
+
+-- of two cases one comes before the other
+pub in_order : (s : Starts) (one two : List Decided) → IsCaseAt s one → IsCaseAt s two → one ≢ two
+    → IsBefore one two ⊎ IsBefore two one
+in_order s one two first second differ =
+    one_case_is_first (job_of s.job.now) s.boundary one two s.job.now.is_job first second differ

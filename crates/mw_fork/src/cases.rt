@@ -1,0 +1,125 @@
+// How a course goes through a case of the starts at a boundary.
+ghost use Rattle.std.specs.Prelude.{◌≡◌, ℕ, List, Option, None, IfOk, IfSome};
+ghost use Rattle.std.specs.Option.{is_some};
+ghost use Rattle.mw_term.specs.declared.decided.Decided.{Decided};
+ghost use Rattle.mw_rel.specs.Views.{job_of};
+ghost use Rattle.mw_fork.specs.Courses.{IsOther, MayBeGiven};
+ghost use Rattle.mw_fork.specs.StartCases.{Asks, EndsSo, HasCome, HasGoneThrough, IsCaseAt, IsComparisonOverAt};
+ghost use Rattle.mw_fork.specs.StartCases.{IsFoundAt, IsOverAt, IsWaitingAt};
+
+use crate::course::{Course, Waiting};
+use crate::decide::decide;
+use crate::fault::{Place, RunStop};
+use crate::found::differing;
+use crate::starts::{Ended, Starts};
+use mw_base::NoMemory;
+use mw_dd::Dd;
+use mw_explore::{CaseTree, Choice};
+use mw_rel::Begin;
+use mw_symmach::steps_go_along;
+use mw_symmem::Turn;
+use mw_term::{DecidedKind, ShortcutBook, Term, stands_with_more};
+use std::alloc::Global;
+
+/// The course that waits with 1 for the bit that is waited for, where there is a path for that.
+fn other_of(alloc: Global, course: &Course, other: Option<Dd>) -> Result<Option<Waiting>, NoMemory>
+    requires { MayBeGiven course.now.run.board course.now.step }
+    ensures same { IfOk result (λ waiting. is_some waiting ≡ is_some other) }
+    ensures other { IfOk result (λ waiting. IfSome waiting (λ w. IfSome other (λ path. IsOther course.now path w))) }
+{
+    match other {
+        Some(path) => Ok(Some(course.other(alloc, path)?)),
+        None => Ok(None),
+    }
+}
+
+impl<'a> CaseTree for Starts<'a> {
+    type Course = Course;
+
+    type Waiting = Waiting;
+
+    type End = Ended;
+
+    type Found = Begin;
+
+    type Place = Place;
+
+    ghost is_case = { IsCaseAt };
+
+    ghost has_come = { HasCome };
+
+    ghost asks = { Asks };
+
+    ghost has_gone = { HasGoneThrough };
+
+    ghost is_waiting = { IsWaitingAt };
+
+    ghost ends = { EndsSo };
+
+    ghost is_over = { IsOverAt };
+
+    ghost is_found = { IsFoundAt };
+
+    ghost is_comparison_over = { IsComparisonOverAt };
+
+    fn are_in_order(&self) {}
+
+    fn begin(&self, alloc: Global) -> Result<Course, NoMemory> {
+        let course = Course::new(alloc, self.job, self.boundary)?;
+        Ok(course)
+    }
+
+    fn turn(&self, alloc: Global, course: &mut Course) -> Result<Turn, NoMemory> {
+        let turn = course.turn(alloc, self.job, self.boundary)?;
+        Ok(turn)
+    }
+
+    fn decide(
+        &self,
+        alloc: Global,
+        course: &mut Course,
+        kind: DecidedKind,
+        term: Term,
+        book: &ShortcutBook,
+    ) -> Result<Choice<Waiting>, RunStop> {
+        // Laws for the proof: what stands in a table goes on to stand there when more is in it, and a step goes along
+        // the bits that are given to it.
+        stands_with_more();
+        steps_go_along();
+        let decision = decide(
+            alloc,
+            &course.run.space,
+            &mut course.run.paths,
+            kind,
+            term,
+            self.nodes,
+            book,
+        )?;
+        let other = other_of(alloc, course, decision.other)?;
+        course.decide(decision.value);
+        Ok(Choice {
+            value: decision.value,
+            other,
+        })
+    }
+
+    fn end(&self, course: &Course) -> Ended {
+        Ended {
+            cycles: course.cycles,
+            late: course.step.is_none(),
+        }
+    }
+
+    fn go_on(&self, waiting: Waiting, made: Course) -> Course {
+        waiting.over(made.into_paths())
+    }
+
+    fn compare(
+        &self,
+        alloc: Global,
+        course: &mut Course,
+        book: &ShortcutBook,
+    ) -> Result<Option<Begin>, RunStop> {
+        differing(alloc, self.job, self.boundary, course, self.nodes, book)
+    }
+}

@@ -1,0 +1,107 @@
+// The starts of a case that was run: the first of all, and the first that differs.
+ghost use Rattle.std.specs.Prelude.{◌≡◌, ℕ, List, Option, IfErr, IfOk, OnOk};
+ghost use Rattle.mw_term.specs.declared.decided.Decided.{Decided};
+ghost use Rattle.mw_rel.specs.Views.{job_of};
+ghost use Rattle.mw_fork.specs.Begins.{IsFirstOfCase, IsOfCase};
+ghost use Rattle.mw_fork.specs.Courses.{HasGone, IsWaiting, StaysAs, over_places};
+ghost use Rattle.mw_fork.specs.Failing.{ComparisonStops, IsFoundOf};
+ghost use Rattle.mw_fork.specs.declared.course.Waiting as waits;
+
+use crate::begin::begin_of;
+use crate::comparing::first_failing;
+use crate::course::Course;
+use crate::elements::Space;
+use crate::fault::RunStop;
+use mw_base::NoMemory;
+use mw_rel::{Begin, Job};
+use mw_term::{Places, ShortcutBook, stands_with_more};
+use std::alloc::Global;
+
+/// The first start of a case that was run: what the first assignment gives under which its path holds.
+pub(crate) fn first_start(
+    alloc: Global,
+    job: &Job,
+    boundary: usize,
+    course: &Course,
+) -> Result<Begin, NoMemory>
+    requires gone { (bits : List Decided) × HasGone (job_of job.now) boundary bits course.now }
+    ensures of_case { IfOk result (λ begin. (bits : List Decided)
+        → HasGone (job_of job.now) boundary bits course.now → IsOfCase (job_of job.now) boundary bits begin) }
+    ensures first { IfOk result (λ begin. (bits : List Decided)
+        → HasGone (job_of job.now) boundary bits course.now → IsFirstOfCase (job_of job.now) boundary bits begin) }
+{
+    let Some(given) = course.run.paths.first_assignment(alloc)? else {
+        // The case is feasible, so an assignment takes its path.
+        unreachable!()
+    };
+    begin_of(alloc, job, boundary, &course.run.space, &given)
+}
+
+/// A start of the case that differs: the first of those that are sought.
+fn sought(
+    alloc: Global,
+    job: &Job,
+    boundary: usize,
+    course: &mut Course,
+    nodes: u32,
+    book: &ShortcutBook,
+) -> Result<Option<Begin>, RunStop>
+    requires gone { (bits : List Decided) × HasGone (job_of job.now) boundary bits course.old }
+    ensures stays { OnOk result (StaysAs course.old course.new) }
+    ensures found { IfOk result (λ found. (bits : List Decided) → HasGone (job_of job.now) boundary bits course.old
+        → IsFoundOf (job_of job.now) boundary nodes bits found) }
+    ensures over { IfErr result (λ stop. (bits : List Decided) → HasGone (job_of job.now) boundary bits course.old
+        → ComparisonStops (job_of job.now) boundary nodes bits stop) }
+{
+    match first_failing(alloc, job, boundary, course, nodes, book) {
+        Ok(None) => Ok(None),
+        Ok(Some(given)) => {
+            let begin = begin_of(alloc, job, boundary, &course.run.space, &given)?;
+            Ok(Some(begin))
+        }
+        Err(stop) => Err(stop),
+    }
+}
+
+/// Puts back what a course worked on, and where that stands.
+fn restore(course: &mut Course, space: Space, places: Places)
+    ensures space { course.new.run.space ≡ space }
+    ensures paths { course.new.run.paths ≡ over_places course.old.run.paths places }
+    ensures board { course.new.run.board ≡ course.old.run.board }
+    ensures registers { course.new.run.registers ≡ course.old.run.registers }
+    ensures cycles { course.new.cycles ≡ course.old.cycles }
+    ensures step { course.new.step ≡ course.old.step }
+{
+    course.run.space = space;
+    course.run.paths.places = places;
+}
+
+/// The same, with which the course has gone through the case as it had: what is written for a comparison is no word of
+/// the case.
+pub(crate) fn differing(
+    alloc: Global,
+    job: &Job,
+    boundary: usize,
+    course: &mut Course,
+    nodes: u32,
+    book: &ShortcutBook,
+) -> Result<Option<Begin>, RunStop>
+    requires gone { (bits : List Decided) × HasGone (job_of job.now) boundary bits course.old }
+    ensures gone { OnOk result ((bits : List Decided) → HasGone (job_of job.now) boundary bits course.old
+        → HasGone (job_of job.now) boundary bits course.new) }
+    ensures waiting { OnOk result ((w : waits.Waiting) (bits : List Decided)
+        → IsWaiting (job_of job.now) boundary course.old.run.paths bits w
+        → IsWaiting (job_of job.now) boundary course.new.run.paths bits w) }
+    ensures found { IfOk result (λ found. (bits : List Decided) → HasGone (job_of job.now) boundary bits course.old
+        → IsFoundOf (job_of job.now) boundary nodes bits found) }
+    ensures over { IfErr result (λ stop. (bits : List Decided) → HasGone (job_of job.now) boundary bits course.old
+        → ComparisonStops (job_of job.now) boundary nodes bits stop) }
+{
+    // A law for the proof: what stands in a table goes on to stand there when more is in it.
+    stands_with_more();
+    let space = course.run.space.copy(alloc)?;
+    let places = course.run.paths.places.copy(alloc)?;
+    let begin = sought(alloc, job, boundary, course, nodes, book)?;
+    restore(course, space, places);
+    Ok(begin)
+}
