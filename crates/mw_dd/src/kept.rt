@@ -42,9 +42,9 @@ impl Slot {
 /// How many slots there are at first: a power of two, as they always are.
 const FIRST_SLOTS: usize = 256;
 
-/// Values of operations, seen as the list of their slots (a computed table, direct-mapped). An operation has one slot,
-/// by its hash, and what is put there takes the place of what was there: so one look finds a value or none, and values
-/// may be lost.
+/// Values of operations, seen as the list of their slots (a computed table, or operation cache, direct-mapped). An
+/// operation has one slot, by its hash, and what is put there takes the place of what was there: so one look finds a
+/// value or none, and values may be lost.
 #[derive(Drop)]
 pub(crate) struct Kept {
     slots: Vec<Slot>,
