@@ -3,7 +3,7 @@ use Rattle.std.proofs.Common.{◌≡◌, ◌⊎◌, inl, inr, ℕ, zero, suc, �
 use Rattle.std.proofs.Common.{refl, ap, sym, subst, ◌∙◌}
 use Rattle.std.specs.Prelude.{slice_get, Some}
 use Rattle.std.proofs.lemmas.Bool.{cases_lt}
-use Rattle.std.proofs.lemmas.Option.{slice_get_within, slice_get_cases}
+use Rattle.std.proofs.lemmas.Option.{same_Some, slice_get_within, slice_get_cases}
 use Rattle.mw_dd.specs.declared.nodes.Node.{Node}
 use Rattle.mw_dd.specs.Nodes.{IsDd, IsReduced}
 use Rattle.mw_dd.specs.Steps.{Grows}
@@ -30,17 +30,6 @@ noted-there nodes old new x there (inr more) i y at =
       | inl before ↦ inl before
       | inr new ↦ inr (subst (IsDd nodes) new.1 there)
     ]
-
--- a constant has no branches
-pub walked-constant : (nodes : List Node) (found : List ℕ) (x : ℕ) → x < 2 → IsWalked nodes found found x
-walked-constant nodes found x below = record {
-  stay = λ i y at. at;
-  there = λ i y at. inl at;
-  branches = λ k n e at. absurd (omega (arith, below, e));
-}
-
-some_number : (n m : ℕ) → Some n ≡ Some m → n ≡ m
-some_number n m e = cc
 
 pub walked-both : (nodes : List Node) → IsReduced nodes → (old middle new : List ℕ) (x : ℕ) (node : Node) → IsDd nodes x
     → 2 ≤ x → slice_get nodes (x - 2) ≡ Some node → IsNoted old middle node.low → IsNoted middle new node.high
@@ -75,17 +64,6 @@ pub record IsOnWalk (nodes : List Node) (x : ℕ) (found : List ℕ) (place : �
 none_there : (i y : ℕ) → slice_get {X = ℕ} [] i ≡ Some y → ⊥
 none_there i y at = cc
 
-pub walk-begin : (nodes : List Node) (x : ℕ) (old found : List ℕ) → old ≡ [] → IsDd nodes x → IsNoted old found x
-    → IsOnWalk nodes x found 0
-walk-begin nodes x old found none there noted = record {
-  itself = noted-has old found x noted;
-  there = λ i y at. elim (noted-there nodes old found x there noted i y at) [
-    | inl before ↦ absurd (none_there i y (sym (ap (λ (ys : List ℕ). slice_get ys i) none) ∙ before))
-    | inr is ↦ is
-  ];
-  branches = λ i y before. absurd (omega (arith, before));
-}
-
 has-stays : (old new : List ℕ) (x : ℕ) → ((i y : ℕ) → slice_get old i ≡ Some y → slice_get new i ≡ Some y)
     → Has old x → Has new x
 has-stays old new x stay has = (has.0, stay has.0 x has.1)
@@ -102,7 +80,7 @@ walk-on nodes x old new place y on at walked = record {
             let got = (slice_get_cases old i).1 in
             elim got [
               | inl found ↦
-                  let same : found.0 ≡ z = some_number found.0 z (sym (walked.stay i found.0 found.2) ∙ of) in
+                  let same : found.0 ≡ z = same_Some found.0 z (sym (walked.stay i found.0 found.2) ∙ of) in
                   λ k n e h.
                   let both = on.branches i found.0 less found.2 k n (same ∙ e) h in
                   (has-stays old new n.low walked.stay both.0, has-stays old new n.high walked.stay both.1)
@@ -111,7 +89,7 @@ walk-on nodes x old new place y on at walked = record {
         | inr more ↦
             let one : i ≡ place = omega (arith, before, more) in
             let same : y ≡ z =
-            some_number y z (sym (walked.stay place y at) ∙ ap (slice_get new) (sym one) ∙ of) in
+            same_Some y z (sym (walked.stay place y at) ∙ ap (slice_get new) (sym one) ∙ of) in
             subst (HasBranches nodes new) same walked.branches
       ];
 }
@@ -160,7 +138,7 @@ branches-grow old new found x grows there has k n e at =
       | inr past ↦ absurd (omega (arith, past.0, e, there))
     ]
 
-pub nodes-grow : (old new : List Node) (x n : ℕ) → Grows old new → HasNodes old x n → HasNodes new x n
+nodes-grow : (old new : List Node) (x n : ℕ) → Grows old new → HasNodes old x n → HasNodes new x n
 nodes-grow old new x n grows has = (
   has.0,
   has.1,

@@ -8,7 +8,7 @@ use Rattle.std.proofs.lemmas.Bool.{false≢true}
 use Rattle.std.proofs.lemmas.Bool.Decides.{nat_tests}
 use Rattle.std.proofs.lemmas.List.{length-map}
 use Rattle.std.proofs.lemmas.Map.Steps.{length-le_from_distinct_below}
-use Rattle.std.proofs.lemmas.Option.{slice_get_within}
+use Rattle.std.proofs.lemmas.Option.{same_Some, slice_get_within}
 use Rattle.mw_term.specs.Assigned.{Given}
 use Rattle.mw_term.specs.Cofactors.{Variable, variable, value_of, is_before, with_fixed, left_of, AreSame, IsCofactor}
 use Rattle.mw_term.specs.Cofactors.{HasAtMostCofactors, HasMoreCofactors}
@@ -24,9 +24,6 @@ use Rattle.mw_dd.proofs.Unique.{canonical}
 
 -- ---- triples of functions that are one
 
-pub same_itself : (t : functions.Triple) → AreSame t t
-same_itself t = record { f = λ given. refl; g = λ given. refl; h = λ given. refl }
-
 pub same_back : (t u : functions.Triple) → AreSame t u → AreSame u t
 same_back t u is = record {
   f = λ given. sym (is.f given);
@@ -34,7 +31,7 @@ same_back t u is = record {
   h = λ given. sym (is.h given);
 }
 
-pub same_then : (t u w : functions.Triple) → AreSame t u → AreSame u w → AreSame t w
+same_then : (t u w : functions.Triple) → AreSame t u → AreSame u w → AreSame t w
 same_then t u w first second = record {
   f = λ given. first.f given ∙ second.f given;
   g = λ given. first.g given ∙ second.g given;
@@ -88,7 +85,7 @@ dds-grows old new t grows are = record {
 abbrev pub Stay : (triples more : List Triple) → Type 0
 Stay triples more = (i : ℕ) (t : Triple) → slice_get triples i ≡ Some t → slice_get more i ≡ Some t
 
-pub among-grows : (old new : List Node) (triples more : List Triple) (u : functions.Triple) → Grows old new
+among-grows : (old new : List Node) (triples more : List Triple) (u : functions.Triple) → Grows old new
     → Stay triples more → IsAmong old triples u → IsAmong new more u
 among-grows old new triples more u grows stay is = (
   is.0,
@@ -361,9 +358,6 @@ module _ (nodes : List Node) (triples : List Triple) where
   Found us q = (j : ℕ) × (t : Triple) × (j < length us) × (slice_get triples q ≡ Some t)
       × ((d : functions.Triple) → AreSame (get_or us j d) (meaning nodes t))
 
-  some_triple : (t u : Triple) → Some t ≡ Some u → t ≡ u
-  some_triple t u e = cc
-
   found_case : (u : functions.Triple) (us : List functions.Triple) (i : ℕ) (is : List ℕ) (q : ℕ) (t : Triple)
       → slice_get triples i ≡ Some t → AreSame u (meaning nodes t) → (list_any (eqb q) is ≡ true → Found us q)
       → (b : Bool) → eqb q i ≡ b → (b || list_any (eqb q) is) ≡ true → Found (u ∷ us) q
@@ -394,7 +388,7 @@ module _ (nodes : List Node) (triples : List Triple) where
   never_found u us is i t there same rest apart false any = refl
   never_found u us is i t there same rest apart true any =
       let found = found_at us is i rest any in
-      let one = some_triple t found.1 (sym there ∙ found.3) in
+      let one = same_Some t found.1 (sym there ∙ found.3) in
       absurd (apart found.0 found.2
       (same_then u (meaning nodes found.1) (get_or us found.0 u)
       (subst (λ (x : Triple). AreSame u (meaning nodes x)) one same)

@@ -3,7 +3,7 @@ use Rattle.std.proofs.Common.{◌≡◌, inl, inr, ℕ, suc, zero, ◌+◌, ◌<
 use Rattle.std.proofs.Common.{refl, ap, ◌∙◌, sym, subst}
 use Rattle.std.specs.Prelude.{Bool, true, false, if◌then◌else◌, ◌==◌, slice_get, Some}
 use Rattle.std.proofs.lemmas.Nat.Bits.{bit_at-zero, bit_at-pow_same}
-use Rattle.std.proofs.lemmas.Option.{slice_get_cases}
+use Rattle.std.proofs.lemmas.Option.{same_Some, slice_get_cases}
 use Rattle.mw_term.specs.Assigned.{Given}
 use Rattle.mw_term.specs.Cofactors.{Variable, value_of, is_before, with_fixed}
 use Rattle.mw_term.proofs.Fixed.{fixed_are_before}
@@ -27,13 +27,10 @@ place_of nodes (suc (suc k)) h = elim (slice_get_cases nodes k).1 [
   | inr past ↦ absurd (omega (arith, past.0))
 ]
 
-some_same : (n m : Node) → Some n ≡ Some m → n ≡ m
-some_same n m e = cc
-
 -- the node at a place is one
 pub one_node : (nodes : List Node) (j k : ℕ) (n m : Node) → j ≡ k → slice_get nodes j ≡ Some n
     → slice_get nodes k ≡ Some m → n ≡ m
-one_node nodes j k n m same at of = some_same n m (sym at ∙ ap (slice_get nodes) same ∙ of)
+one_node nodes j k n m same at of = same_Some n m (sym at ∙ ap (slice_get nodes) same ∙ of)
 
 pub from_constant : (nodes : List Node) (place : Variable) (x : ℕ) → x < 2 → IsFrom nodes place x
 from_constant nodes place x h k n e at = absurd (omega (arith, h, e))
@@ -69,7 +66,7 @@ from-shrinks old new place x grows from k n e at = from k n e (grows.stay k n at
 
 -- ---- assignments that give the same from a place on
 
-abbrev pub SameFrom : Variable → (a b : Given) → Type 0
+abbrev SameFrom : Variable → (a b : Given) → Type 0
 SameFrom place a b = (u : Variable) → is_before u place ≡ false → value_of u a ≡ value_of u b
 
 module _ (nodes : List Node) (r : IsReduced nodes) (place : Variable) (a b : Given) (same : SameFrom place a b) where

@@ -15,9 +15,6 @@ use Rattle.mw_dd.proofs.Memos.{end_result, result-grows, IsStep, step_result}
 
 -- ---- slots
 
-pub stay-itself : (slots : List Slot) → Stay slots slots
-stay-itself slots t value kept = inr kept
-
 -- a slot of these is put into others
 pub stay-put : (slots middle new : List Slot) (slot : Slot) (i : ℕ) → slice_get slots i ≡ Some slot
     → Stay slots middle → Adds middle new slot.triple slot.value → Stay slots new
@@ -74,7 +71,7 @@ made-grow old new slots grows made t value kept =
       is = result-grows old new t value grows before.there before.is;
     }
 
-pub made-adds : (nodes : List Node) (old new : List Slot) (own : Triple) (made : ℕ) → AreMade nodes old
+made-adds : (nodes : List Node) (old new : List Slot) (own : Triple) (made : ℕ) → AreMade nodes old
     → IsMade nodes own made → Adds old new own made → AreMade nodes new
 made-adds nodes old new own made are is adds t value kept = elim (adds t value kept) [
   | inl none ↦ none-made nodes t value none
@@ -107,7 +104,7 @@ none-count nodes t value none = record {
 pub counts-none : (nodes : List Node) (slots : List Slot) → AreNone slots → AreCounts nodes slots
 counts-none nodes slots none t value kept = none-count nodes t value (none t value kept)
 
-pub counts-grow : (old new : List Node) (slots : List Slot) → Grows old new → AreCounts old slots
+counts-grow : (old new : List Node) (slots : List Slot) → Grows old new → AreCounts old slots
     → AreCounts new slots
 counts-grow old new slots grows are t n kept =
     let before = are t n kept in
@@ -117,7 +114,7 @@ counts-grow old new slots grows are t n kept =
           (same_back (meaning new t) (meaning old t) (meaning-grows old new t grows before.there)) before.is;
     }
 
-pub counts-adds : (nodes : List Node) (old new : List Slot) (own : Triple) (n : ℕ) → AreCounts nodes old
+counts-adds : (nodes : List Node) (old new : List Slot) (own : Triple) (n : ℕ) → AreCounts nodes old
     → IsCount nodes own n → Adds old new own n → AreCounts nodes new
 counts-adds nodes old new own n are is adds t value kept = elim (adds t value kept) [
   | inl none ↦ none-count nodes t value none
@@ -171,7 +168,7 @@ right-made old new results more counts bounds grows reduced made right = record 
 }
 
 -- and at last the count of an operation, and its result
-pub right-adds : (nodes : List Node) (results more counts counted : List Slot) (bounds : List ℕ) (t : Triple) (r n : ℕ)
+right-adds : (nodes : List Node) (results more counts counted : List Slot) (bounds : List ℕ) (t : Triple) (r n : ℕ)
     → AreDds nodes t → IsResult nodes t r → HasAtMostCofactors (meaning nodes t) n → Adds counts counted t n
     → Adds results more t r → AreRight nodes results counts bounds → AreRight nodes more counted bounds
 right-adds nodes results more counts counted bounds t r n there is few count result right = record {

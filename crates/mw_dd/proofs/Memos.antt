@@ -4,7 +4,7 @@ use Rattle.std.proofs.Common.{refl, ap}
 use Rattle.std.proofs.Common.{◌∙◌, sym, subst}
 use Rattle.std.specs.Prelude.{Bool, true, false, if◌then◌else◌, slice_get, Some}
 use Rattle.std.proofs.lemmas.List.{length-append, length-set}
-use Rattle.std.proofs.lemmas.Option.{slice_get_within}
+use Rattle.std.proofs.lemmas.Option.{same_Some, slice_get_within}
 use Rattle.mw_term.specs.Assigned.{Given}
 use Rattle.mw_term.specs.Cofactors.{Variable, value_of, with_fixed, HasMoreCofactors}
 use Rattle.mw_dd.specs.declared.nodes.Node.{Node}
@@ -127,11 +127,6 @@ module _ (old new : List Node) (t lo hi : Triple) (v : Variable) (low high made 
         | inr half ↦ elim half [ inl one ↦ low_among u one | inr one ↦ high_among u one ]
       ])
 
--- ---- what was met
-
-pub some_triple : (t u : Triple) → Some t ≡ Some u → t ≡ u
-some_triple t u e = cc
-
 -- ---- a triple is begun
 
 module _ (nodes : List Node) (before now : Memo) (t : Triple) (place : ℕ) (begun : IsBegun before now t place)
@@ -188,7 +183,7 @@ module _ (nodes : List Node) (before now : Memo) (t : Triple) (place : ℕ) (beg
 
 -- ---- what is left
 
-pub left-grows : (old new : List Node) (whole t : Triple) → Grows old new → AreDds old whole → AreDds old t
+left-grows : (old new : List Node) (whole t : Triple) → Grows old new → AreDds old whole → AreDds old t
     → IsLeft old whole t → IsLeft new whole t
 left-grows old new whole t grows all there is =
     let top = meaning-grows old new whole grows all in
@@ -255,15 +250,15 @@ module _ (nodes : List Node) (r : IsReduced nodes) (memo : Memo) (keys : AreKeys
     (there : AreDds nodes t) (counts : ends t ≡ false) (absent : IsAbsent memo.triples t) (whole : Triple)
     (all : AreDds nodes whole) (is : IsLeft nodes whole t) (left : AreLeft nodes memo whole) where
   each_there : (i : ℕ) (s : Triple) → slice_get (t ∷ memo.triples) i ≡ Some s → AreDds nodes s
-  each_there zero s at = subst (AreDds nodes) (some_triple t s at) there
+  each_there zero s at = subst (AreDds nodes) (same_Some t s at) there
   each_there (suc i) s at = keys.there i s at
 
   each_counts : (i : ℕ) (s : Triple) → slice_get (t ∷ memo.triples) i ≡ Some s → ends s ≡ false
-  each_counts zero s at = subst (λ (x : Triple). ends x ≡ false) (some_triple t s at) counts
+  each_counts zero s at = subst (λ (x : Triple). ends x ≡ false) (same_Some t s at) counts
   each_counts (suc i) s at = keys.counted i s at
 
   each_left : (i : ℕ) (s : Triple) → slice_get (t ∷ memo.triples) i ≡ Some s → IsLeft nodes whole s
-  each_left zero s at = subst (IsLeft nodes whole) (some_triple t s at) is
+  each_left zero s at = subst (IsLeft nodes whole) (same_Some t s at) is
   each_left (suc i) s at = left i s at
 
   each_once : (i j : ℕ) (s : Triple) → slice_get (t ∷ memo.triples) i ≡ Some s → slice_get (t ∷ memo.triples) j ≡ Some s
@@ -278,8 +273,3 @@ module _ (nodes : List Node) (r : IsReduced nodes) (memo : Memo) (keys : AreKeys
   over_here budget many =
       more_cofactors nodes r whole all (t ∷ memo.triples) budget
       (record { there = each_there; counted = each_counts; left = each_left; once = each_once }) (omega (arith, many))
-
-pub left_none : (nodes : List Node) (memo : Memo) (whole : Triple) → memo.triples ≡ [] → AreLeft nodes memo whole
-left_none nodes memo whole none i t at =
-    let nothing : slice_get {X = Triple} [] i ≡ Some t = sym (ap (λ (ts : List Triple). slice_get ts i) none) ∙ at in
-    absurd (cc)

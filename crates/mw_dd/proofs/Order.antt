@@ -48,9 +48,6 @@ later_after v m h = grind (arith, nat_tests)
 pub not_before_first : (v : Variable) → is_before v (variable 0 0) ≡ false
 not_before_first v = grind (arith, nat_tests)
 
-pub before_or_after : (v m p : Variable) → is_before m p ≡ false → is_before m (after v) ≡ true → is_before v p ≡ false
-before_or_after v m p h g = grind (arith, nat_tests)
-
 pub not_after : (v m : Variable) → is_before m (after v) ≡ false → is_before m v ≡ false
 not_after v m h = grind (arith, nat_tests)
 

@@ -5,6 +5,7 @@ use Rattle.std.specs.Prelude.{Bool, true, false, slice_get, Some}
 use Rattle.std.proofs.Math.Nat.{suc-mul, zero-mul}
 use Rattle.std.proofs.lemmas.List.{length-append}
 use Rattle.std.proofs.lemmas.Nat.{mul-le}
+use Rattle.std.proofs.lemmas.Option.{same_Some}
 use Rattle.mw_term.specs.Assigned.{Given}
 use Rattle.mw_term.specs.Cofactors.{Variable, value_of, is_before, with_fixed, HasAtMostCofactors}
 use Rattle.mw_dd.specs.declared.nodes.Node.{Node}
@@ -131,9 +132,6 @@ nothing t i at = cc
 no_number : (n i : ℕ) → slice_get {X = ℕ} [] i ≡ Some n → ⊥
 no_number n i at = cc
 
-some_number : (n m : ℕ) → Some n ≡ Some m → n ≡ m
-some_number n m e = cc
-
 in-left : (first second : List Triple) (t : Triple) (i : ℕ) → slice_get first i ≡ Some t
     → HasTriple (first ++ second) t
 in-left [] second t i at = absurd (nothing t i at)
@@ -146,7 +144,7 @@ in-right (u ∷ first) second t has = let rest = in-right first second t has in 
 
 row-has : (x y z : ℕ) (zs : List ℕ) (i : ℕ) → slice_get zs i ≡ Some z → HasTriple (row x y zs) (triple x y z)
 row-has x y z [] i at = absurd (no_number z i at)
-row-has x y z (w ∷ zs) zero at = (0, ap (λ (v : ℕ). Some (triple x y v)) (some_number w z at))
+row-has x y z (w ∷ zs) zero at = (0, ap (λ (v : ℕ). Some (triple x y v)) (same_Some w z at))
 row-has x y z (w ∷ zs) (suc i) at = let rest = row-has x y z zs i at in (suc rest.0, rest.1)
 
 plane-has : (x y z : ℕ) (ys zs : List ℕ) (i : ℕ) → slice_get ys i ≡ Some y → Has zs z
@@ -154,7 +152,7 @@ plane-has : (x y z : ℕ) (ys zs : List ℕ) (i : ℕ) → slice_get ys i ≡ So
 plane-has x y z [] zs i at has = absurd (no_number y i at)
 plane-has x y z (w ∷ ys) zs zero at has =
     let own = row-has x y z zs has.0 has.1 in
-    subst (λ (v : ℕ). HasTriple (row x v zs ++ plane x ys zs) (triple x y z)) (sym (some_number w y at))
+    subst (λ (v : ℕ). HasTriple (row x v zs ++ plane x ys zs) (triple x y z)) (sym (same_Some w y at))
     (in-left (row x y zs) (plane x ys zs) (triple x y z) own.0 own.1)
 plane-has x y z (w ∷ ys) zs (suc i) at has =
     in-right (row x w zs) (plane x ys zs) (triple x y z) (plane-has x y z ys zs i at has)
@@ -164,7 +162,7 @@ box-has : (x y z : ℕ) (xs ys zs : List ℕ) (i : ℕ) → slice_get xs i ≡ S
 box-has x y z [] ys zs i at ready has = absurd (no_number x i at)
 box-has x y z (w ∷ xs) ys zs zero at ready has =
     let own = plane-has x y z ys zs ready.0 ready.1 has in
-    subst (λ (v : ℕ). HasTriple (plane v ys zs ++ box xs ys zs) (triple x y z)) (sym (some_number w x at))
+    subst (λ (v : ℕ). HasTriple (plane v ys zs ++ box xs ys zs) (triple x y z)) (sym (same_Some w x at))
     (in-left (plane x ys zs) (box xs ys zs) (triple x y z) own.0 own.1)
 box-has x y z (w ∷ xs) ys zs (suc i) at ready has =
     in-right (plane w ys zs) (box xs ys zs) (triple x y z) (box-has x y z xs ys zs i at ready has)

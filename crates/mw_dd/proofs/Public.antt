@@ -10,11 +10,6 @@ use Rattle.mw_dd.specs.Nodes.{value_at, function_of, IsDd, IsReduced}
 use Rattle.mw_dd.proofs.Values.{value-zero, value-one}
 use Rattle.mw_dd.proofs.Unique.{canonical}
 
--- two facts of what is Ok
-pub on_ok_both : {T E : Type 0} (r : Result T E) (P Q R : Type 0) → (P → Q → R) → OnOk r P → OnOk r Q → OnOk r R
-on_ok_both (Ok x) P Q R f p q = f p q
-on_ok_both (Err e) P Q R f p q = tt
-
 pub on_ok_from : {T E : Type 0} (r : Result T E) (P Q : Type 0) → (P → Q) → OnOk r P → OnOk r Q
 on_ok_from (Ok x) P Q f p = f p
 on_ok_from (Err e) P Q f p = tt
@@ -28,7 +23,7 @@ pub variable_value : (nodes : List Node) (given : Given) (low high : ℕ) (b : B
 variable_value nodes given low high true zero one = ap (value_at given nodes) one ∙ value-one given nodes
 variable_value nodes given low high false zero one = ap (value_at given nodes) zero ∙ value-zero given nodes
 
--- a node is the first constant exactly where its function never holds
+-- a node is 0 exactly where its function is never
 pub false_exact : (nodes : List Node) → IsReduced nodes → (x position : ℕ) → IsDd nodes x → position ≡ x
     → IsTrue (position == 0) ↔ Agree (function_of nodes x) never
 false_exact nodes r x position there same = (

@@ -1,4 +1,4 @@
--- A node other than the first constant holds under some assignment.
+-- A node whose function isn't never holds under some assignment.
 use Rattle.std.proofs.Common.{◌≡◌, inl, inr, ℕ, suc, zero, ◌+◌, ◌<◌, List, arith, ap, ◌∙◌}
 use Rattle.std.specs.Prelude.{false, true, ◌==◌, slice_get, Some}
 use Rattle.std.proofs.lemmas.Bool.{cases_eq}
@@ -29,7 +29,7 @@ module _ (nodes : List Node) (r : IsReduced nodes) where
   abbrev HoldBelow : ℕ → Type 0
   HoldBelow bound = (x : ℕ) → x < bound → IsDd nodes x → 0 < x → Holds x
 
-  -- of a node's branches one isn't the first constant
+  -- of a node's branches one isn't never
   node_holds : (bound k : ℕ) (n : Node)
       → HoldBelow bound → k + 2 < suc bound → slice_get nodes k ≡ Some n → Holds (k + 2)
   node_holds bound k n ih h at =

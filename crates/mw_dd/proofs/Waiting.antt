@@ -4,6 +4,7 @@ use Rattle.std.proofs.Common.{refl, ap, ◌∙◌, sym, subst}
 use Rattle.std.specs.Prelude.{Option, Some, None, Bool, true, false, slice_get, if◌then◌else◌}
 use Rattle.std.proofs.lemmas.Bool.{cases_eq, false≢true}
 use Rattle.std.proofs.lemmas.List.{same_from_push}
+use Rattle.std.proofs.lemmas.Option.{same_Some}
 use Rattle.mw_term.specs.Assigned.{Given}
 use Rattle.mw_term.specs.Cofactors.{Variable, value_of}
 use Rattle.mw_dd.specs.declared.nodes.Node.{Node}
@@ -20,7 +21,7 @@ use Rattle.mw_dd.specs.Waiting.{AwaitsHigh, Awaits, AreWaiting, IsAwaited, AreCo
 use Rattle.mw_dd.specs.Waiting.{AreNoted, most_steps, steps_of, all_steps}
 use Rattle.mw_dd.proofs.Lists.{get-push, get-push_old, get-push_new}
 use Rattle.mw_dd.proofs.Cofactors.{Stay, dds-grows, are_among-grows, left-side, left_itself}
-use Rattle.mw_dd.proofs.Memos.{are_from-grows, result-grows, some_triple, IsStep, step_result, step_among}
+use Rattle.mw_dd.proofs.Memos.{are_from-grows, result-grows, IsStep, step_result, step_among}
 use Rattle.mw_dd.proofs.Memos.{begun_stay, begun_cases, begun_at, begun_keys, begun_done, begun_left}
 use Rattle.mw_dd.proofs.Keeping.{step-kept}
 use Rattle.mw_dd.proofs.Values.{grows-none}
@@ -94,9 +95,6 @@ module _ (old new : List Node) (triples more : List Triple) (budget : Option ℕ
 none_met : (i : ℕ) (t : Triple) → ¬ (slice_get {X = Triple} [] i ≡ Some t)
 none_met i t at = cc
 
-some_number : (x y : ℕ) → Some x ≡ Some y → x ≡ y
-some_number x y e = cc
-
 module _ (nodes : List Node) (triples : List Triple) (budget : Option ℕ) (whole : Triple) where
   awaited_side : (w : Waiting) (t : Triple) → Awaits nodes triples budget w t
       → (b : Bool) × IsSide nodes w.triple w.variable b t
@@ -142,8 +140,8 @@ module _ (nodes : List Node) (triples : List Triple) (budget : Option ℕ) (whol
   waiting_there ws t there (AreWaiting.more {before} {w} is rest awaits) = (awaited_side w t awaits).1.there
 
   -- what is next is smaller than all that wait
-  waiting_smaller : (ws : List Waiting) (t : Triple) → AreWaiting nodes triples budget whole ws t → (j : ℕ) (v : Waiting)
-      → slice_get ws j ≡ Some v → size t < size v.triple
+  waiting_smaller : (ws : List Waiting) (t : Triple) → AreWaiting nodes triples budget whole ws t
+      → (j : ℕ) (v : Waiting) → slice_get ws j ≡ Some v → size t < size v.triple
   waiting_smaller ws t (AreWaiting.none nothing same) j v at = absurd (nothing_at ws j v nothing at)
   waiting_smaller ws t (AreWaiting.more {before} {w} is rest awaits) j v at =
       let less = (awaited_side w t awaits).1.earlier in
@@ -181,13 +179,13 @@ module _ (nodes : List Node) (r : IsReduced nodes) (memo : Memo) (budget : Optio
       → HasEnded nodes memo.triples budget t result
   met_ended ws t result counted waiting has = elim (counted.settled has.0 t has.1) [
     | inl done ↦
-        let one : done.result ≡ result = some_number done.result result (sym done.at ∙ has.2) in
+        let one : done.result ≡ result = same_Some done.result result (sym done.at ∙ has.2) in
         record { result = subst (IsResult nodes t) one done.is; among = λ b counts. done.among }
     | inr awaited ↦
         let w = awaited.1 in
         let met = waiting_met nodes memo.triples budget whole ws t b counts waiting awaited.0 w awaited.2 in
         let own : slice_get memo.triples w.place ≡ Some t = rw awaited.3 has.1 in
-        let same : w.triple ≡ t = some_triple w.triple t (sym met ∙ own) in
+        let same : w.triple ≡ t = same_Some w.triple t (sym met ∙ own) in
         let less = waiting_smaller nodes memo.triples budget whole ws t waiting awaited.0 w awaited.2 in
         absurd (omega (arith, less, ap size same))
   ]
@@ -205,7 +203,7 @@ awaited_last ws w i is = elim (get-push ws w is.0 is.1 is.2) [
 ]
 
 -- an operation is met and waits
-pub counted_begun : (nodes : List Node) (before now : Memo) (ws : List Waiting) (w : Waiting) (whole t : Triple)
+counted_begun : (nodes : List Node) (before now : Memo) (ws : List Waiting) (w : Waiting) (whole t : Triple)
     (place b : ℕ) → AreCounted nodes before ws whole b → IsBegun before now t place → length now.triples ≤ b
     → w.place ≡ place → AreDds nodes t → ends t ≡ false → IsAbsent before.triples t → IsLeft nodes whole t
     → AreCounted nodes now (ws ++ w ∷ []) whole b
@@ -223,7 +221,7 @@ counted_begun nodes before now ws w whole t place b counted begun within same th
 }
 
 -- it waits again
-pub counted_turned : (nodes : List Node) (memo : Memo) (before : List Waiting) (w v : Waiting) (whole : Triple) (b : ℕ)
+counted_turned : (nodes : List Node) (memo : Memo) (before : List Waiting) (w v : Waiting) (whole : Triple) (b : ℕ)
     → v.place ≡ w.place → AreCounted nodes memo (before ++ w ∷ []) whole b
     → AreCounted nodes memo (before ++ v ∷ []) whole b
 counted_turned nodes memo before w v whole b same counted = record {
@@ -240,7 +238,7 @@ counted_turned nodes memo before w v whole b same counted = record {
 }
 
 -- and is done
-pub counted_ended : (old new : List Node) (before now : Memo) (ws : List Waiting) (w : Waiting) (whole : Triple)
+counted_ended : (old new : List Node) (before now : Memo) (ws : List Waiting) (w : Waiting) (whole : Triple)
     (made b : ℕ) → AreCounted old before (ws ++ w ∷ []) whole b → IsEnded before now w.place made → Grows old new
     → AreDds old whole → IsMet before w.place w.triple → IsResult new w.triple made
     → AreAmong new before.triples w.triple → AreCounted new now ws whole b
@@ -256,7 +254,7 @@ counted_ended old new before now ws w whole made b counted ended grows all met i
           elim (cases_eq i w.place) [
             | inl same ↦
                 let one : w.triple ≡ s =
-                some_triple w.triple s (sym met ∙ ap (slice_get before.triples) (sym same) ∙ was) in
+                same_Some w.triple s (sym met ∙ ap (slice_get before.triples) (sym same) ∙ was) in
                 inl (subst (λ (x : Triple). IsDone new now i x) one
                 (subst (λ (j : ℕ). IsDone new now j w.triple) (sym same) own))
             | inr differ ↦ elim (counted.settled i s was) [
@@ -472,7 +470,7 @@ unfolding most_steps
 some_steps zero = omega arith
 some_steps (suc n) = omega arith
 
-pub more_steps : (a b : ℕ) → a < b → most_steps a + most_steps a + 2 ≤ most_steps b
+more_steps : (a b : ℕ) → a < b → most_steps a + most_steps a + 2 ≤ most_steps b
 unfolding most_steps
 more_steps a zero less = absurd (omega (arith, less))
 more_steps a (suc b) less = elim (cases_eq a b) [
@@ -480,14 +478,14 @@ more_steps a (suc b) less = elim (cases_eq a b) [
   | inr differ ↦ let before = more_steps a b (omega (arith, less, differ)) in omega (arith, before)
 ]
 
-pub push_steps : (ws : List Waiting) (w : Waiting) → all_steps (ws ++ w ∷ []) ≡ all_steps ws + steps_of w
+push_steps : (ws : List Waiting) (w : Waiting) → all_steps (ws ++ w ∷ []) ≡ all_steps ws + steps_of w
 push_steps [] w = omega arith
 push_steps (v ∷ ws) w = let rest = push_steps ws w in omega (arith, rest)
 
-pub low_steps : (w : Waiting) → w.has_low ≡ false → steps_of w ≡ most_steps (size w.at_high) + 1
+low_steps : (w : Waiting) → w.has_low ≡ false → steps_of w ≡ most_steps (size w.at_high) + 1
 low_steps w is = rw is refl
 
-pub high_steps : (w : Waiting) → w.has_low ≡ true → steps_of w ≡ 1
+high_steps : (w : Waiting) → w.has_low ≡ true → steps_of w ≡ 1
 high_steps w is = rw is refl
 
 pub entered_steps : (ws now : List Waiting) (w : Waiting) (t lo : Triple) → now ≡ ws ++ w ∷ [] → w.has_low ≡ false

@@ -61,7 +61,7 @@ pub record IsResult (nodes : List Node) (t : Triple) (r : ℕ) : Type 0 where
       ≡ (if value_at given nodes t.f then value_at given nodes t.g else value_at given nodes t.h)
   pub from : (place : Variable) → AreFrom nodes place t → IsFrom nodes place r
 
--- nothing is left to choose by, or to choose from
+-- nothing is left to choose by, or to choose from (a terminal case)
 abbrev pub ends : Triple → Bool
 ends t = nat_lt t.f 2 || t.g == t.h
 

@@ -16,8 +16,7 @@ use mw_base::NoMemory;
 use std::alloc::Global;
 use std::marker::Model;
 
-/// The most nodes of a function that are counted: a power of two, so that the time for it is small beside that of what
-/// made the function.
+/// The most nodes of a function that are counted: a walk over so many is short beside what made the function.
 const MOST: usize = 8192;
 
 /// In place of how many nodes a function has: more than are counted.
@@ -75,7 +74,7 @@ fn note_branches(
     note(found, places, node.high)
 }
 
-/// How many nodes there are below one, with it and the constants.
+/// How many nodes there are below one, with it and the constants: none where there are more than `MOST`.
 fn walk(
     nodes: &Table<Node>,
     found: &mut Vec<Dd>,
@@ -102,12 +101,17 @@ fn walk(
     Ok(None)
 }
 
-/// How many cofactors functions have at most, seen as the list of what is known of each node: 0 where it was never asked
-/// for.
+/// How many cofactors functions have at most, seen as the list of what is known of each node, by its position: how many
+/// nodes are below it, with it and the constants, 0 where it was never asked for, and `MANY` where there are more nodes
+/// than are counted. The nodes that a walk found, and their places, are a sparse set (Briggs, Torczon): what stands in
+/// `places` counts only where `found` has it.
 #[derive(Drop)]
 pub(crate) struct Bounds {
+    /// What is known of each node.
     counts: Vec<u32>,
+    /// The nodes that the last walk found.
     found: Vec<Dd>,
+    /// The place of each of these in `found`, by its position; anything for other nodes.
     places: Vec<u32>,
 }
 
@@ -142,7 +146,7 @@ impl Bounds {
         }
     }
 
-    /// What is known of a node.
+    /// What is known of a node: 0 where it was never asked for.
     fn known(&self, x: Dd) -> u32
         ensures { result ≡ 0 ⊎ (slice_get self.now x ≡ Some result) }
     {
@@ -154,7 +158,7 @@ impl Bounds {
         }
     }
 
-    /// Counts the nodes below one.
+    /// How many nodes there are below one, with it and the constants: `MANY` where there are more than are counted.
     fn count(&mut self, nodes: &Table<Node>, x: Dd) -> Result<u32, NoMemory>
         requires reduced { IsReduced nodes.now }
         requires there { IsDd nodes.now x }

@@ -1,12 +1,11 @@
 // Diagrams: a table of nodes, of which each stands for a function.
-ghost use Rattle.std.specs.Prelude.{◌≡◌, ◌<◌, ◌↔◌, ℕ, [], Option, Some, None, true, false, IfOk, IfSome, OnOk, IsTrue};
+ghost use Rattle.std.specs.Prelude.{◌≡◌, ◌<◌, ◌↔◌, Option, Some, None, true, false, IfOk, IfSome, OnOk, IsTrue};
 ghost use Rattle.std.specs.Prelude.{IsErrOf};
-ghost use Rattle.std.specs.FinMap as map;
 ghost use Rattle.mw_term.specs.Assigned.{Given};
 ghost use Rattle.mw_term.specs.Cofactors.{value_of, Agree, HasAtMostCofactors, HasMoreCofactors};
 ghost use Rattle.mw_term.specs.Cofactors as cofactors;
 ghost use Rattle.mw_term.specs.Functions.{never, made};
-ghost use Rattle.mw_dd.specs.Nodes.{IsDd, function_of, IsReduced};
+ghost use Rattle.mw_dd.specs.Nodes.{IsDd, function_of};
 ghost use Rattle.mw_dd.specs.Diagrams.{IsCanonical, Keeps, functions_of, IsFirst};
 
 use crate::bounds::Bounds;
@@ -27,9 +26,13 @@ use std::marker::Model;
 /// functions have equal nodes, and a node keeps its function as long as the diagrams live.
 #[derive(Drop)]
 pub struct Diagrams {
+    /// Each node once, found by its parts (the unique table).
     nodes: Table<Node>,
+    /// What the call that goes on has met, and results of operations.
     notes: Notes,
+    /// How many joint cofactors operations had that were counted.
     counts: Kept,
+    /// How many nodes are below one, where it was asked for.
     bounds: Bounds,
 }
 
@@ -83,6 +86,7 @@ impl Diagrams {
         ensures keeps { Keeps self.old self.new }
         ensures canonical { IsCanonical self.new }
     {
+        // A use for the proof: the nodes are reduced, also where the word has no room.
         let nodes = &mut self.nodes;
         let variable = Variable::of(bit, word)?;
         make(

@@ -56,7 +56,7 @@ fn first_branch(
     Ok(node.low)
 }
 
-/// The first assignment under which a function holds that isn't the first constant.
+/// The first assignment under which a function holds, which isn't never.
 pub(crate) fn first_assignment(
     nodes: &Table<Node>,
     alloc: Global,

@@ -118,6 +118,7 @@ fn go_on(
             high: made,
         };
         let joined = make(nodes, alloc, node)?;
+        // A slot for four nodes: more would cost memory than lost results cost time.
         notes.end(alloc, &waiting, joined, nodes.len() / 4, budget)?;
         return Ok(Next::Return(joined));
     }

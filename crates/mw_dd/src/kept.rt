@@ -19,7 +19,8 @@ pub(crate) struct Slot {
 }
 
 impl Slot {
-    /// The slot that nothing was put into: of an operation that chooses never, from never, and is never.
+    /// The slot that nothing was put into. It says that never, chosen from by never, is never (as a count: that it has
+    /// no joint cofactor), which is so.
     fn none() -> Slot
         ensures f { result.triple.f ≡ 0 }
         ensures g { result.triple.g ≡ 0 }
@@ -41,11 +42,13 @@ impl Slot {
 /// How many slots there are at first: a power of two, as they always are.
 const FIRST_SLOTS: usize = 256;
 
-/// Values of operations, seen as the list of their slots. An operation has one slot, by its hash, and what is put there
-/// takes the place of what was there: so one look finds a value or none, and values may be lost.
+/// Values of operations, seen as the list of their slots (a computed table, or operation cache, direct-mapped). An
+/// operation has one slot, by its hash, and what is put there takes the place of what was there: so one look finds a
+/// value or none, and values may be lost.
 #[derive(Drop)]
 pub(crate) struct Kept {
     slots: Vec<Slot>,
+    /// How many values were put since these slots were made, those taken over with them.
     puts: usize,
 }
 
@@ -124,8 +127,8 @@ impl Kept {
         Ok(grown)
     }
 
-    /// Makes so many slots or more, and more where far more values were put than there are slots: so that an operation
-    /// of few nodes and many steps doesn't lose most of them.
+    /// Makes four times as many slots where there are fewer than wanted, or where far more values were put than there
+    /// are slots: so that an operation of few nodes and many steps doesn't lose most of them. It grows once a call.
     fn make_room(&mut self, alloc: Global, wanted: usize) -> Result<(), NoMemory>
         ensures { Stay self.old self.new }
     {
@@ -136,7 +139,7 @@ impl Kept {
         Ok(())
     }
 
-    /// Keeps a value of an operation. There are so many slots or more then.
+    /// Keeps a value of an operation, in slots that grow towards so many.
     ///
     /// # Errors
     ///

@@ -12,7 +12,9 @@ use std::alloc::Global;
 /// The triples that were met, each once, and beside each its result, which is anything until it is made.
 #[derive(Drop)]
 pub(crate) struct Memo {
+    /// The operations, in the order in which they were met.
     pub triples: Table<Triple>,
+    /// The result of each, at its place.
     pub results: Vec<Dd>,
 }
 

@@ -1,9 +1,8 @@
 // Nodes, ordered and reduced.
-ghost use Rattle.std.specs.Prelude.{◌≡◌, ◌⊎◌, ◌-◌, ◌<◌, ◌≤◌, ◌↔◌, ℕ, Bool, false, Some, slice_get, IsTrue, IfOk};
+ghost use Rattle.std.specs.Prelude.{◌≡◌, ◌⊎◌, ◌-◌, ◌<◌, ◌≤◌, ◌↔◌, false, Some, slice_get, IsTrue, IfOk};
 ghost use Rattle.std.specs.Prelude.{if◌then◌else◌};
 ghost use Rattle.mw_term.specs.Assigned.{Given};
 ghost use Rattle.mw_term.specs.Cofactors.{value_of, is_before};
-ghost use Rattle.mw_term.specs.Cofactors as cofactors;
 ghost use Rattle.mw_dd.specs.Nodes.{value_at, IsDd, IsFrom, IsReduced, after};
 ghost use Rattle.mw_dd.specs.Steps.{Grows, AreDds, AreFrom, HasVariable, IsTop, size};
 

@@ -30,8 +30,11 @@ pub(crate) struct Waiting {
 /// wait, of which the last is the next to go on.
 #[derive(Drop)]
 pub(crate) struct Notes {
+    /// What this call has met, where a budget counts it.
     pub memo: Memo,
+    /// Results of operations, also of earlier calls (the operation cache).
     pub results: Kept,
+    /// The operations that wait, each for one of its halves.
     pub waiting: Vec<Waiting>,
 }
 
@@ -117,7 +120,7 @@ impl Notes {
     }
 
     /// Notes the result of an operation: where a budget counts operations, for this call, and else for later ones too,
-    /// in so many slots or more.
+    /// in slots that grow towards so many.
     ///
     /// # Errors
     ///

@@ -20,7 +20,7 @@ impl Model for Variable {
 }
 
 impl Variable {
-    ghost use Rattle.std.specs.Prelude.{◌≡◌, ◌↔◌, IsTrue, IfOk};
+    ghost use Rattle.std.specs.Prelude.{◌≡◌, ◌<◌, ◌^◌, ◌↔◌, IsTrue, OkIff};
     ghost use Rattle.mw_term.specs.Cofactors.{variable};
     ghost use Rattle.mw_term.specs.Cofactors as order;
 
@@ -30,7 +30,7 @@ impl Variable {
     ///
     /// The number has no room: it is 2^32 or more.
     pub(crate) fn of(bit: u8, word: u64) -> Result<Variable, NoMemory>
-        ensures { IfOk result (λ made. made ≡ variable bit word) }
+        ensures { OkIff result (word < 2 ^ 32) (variable bit word) }
     {
         match u32::try_from(word) {
             Ok(word) => Ok(Variable { bit, word }),

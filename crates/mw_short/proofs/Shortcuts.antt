@@ -21,15 +21,12 @@ use Rattle.mw_term.specs.Operands.{operands}
 use Rattle.mw_short.specs.Shortcuts.{when, is_number, hint_beside, or_else, hint_of_either, neutral_in_sum, branch_of}
 use Rattle.mw_term.specs.Table.{Table, op_width, widths_of, term_width, width_over, Fits, IsTable}
 use Rattle.mw_term.specs.Values.{op_value, term_value, value_over}
+use Rattle.mw_term.proofs.Hinting.{nothing_right}
 use Rattle.mw_term.proofs.Tables.{terms_have_ops, words_of}
-
--- nothing is said
-pub nothing_right : (t : Table) (op : Op) → IsRight t op Nothing
-unfolding hinted
-nothing_right t op = λ given. refl
 
 -- ---- complements
 
+-- a complement of a complement is the word itself
 not_twice : (w v : ℕ) → v < 2 ^ w → v ≡ complement w (complement w v)
 not_twice w v below = omega (arith, below)
 
@@ -38,6 +35,7 @@ below : (t : Table) (given : Given) (term : ℕ) → IsTable t → term < length
     → term_value t given term < 2 ^ term_width t term
 below t given term table there = (words_of t given table).words term there
 
+-- a complement of a complement is what that is the complement of
 pub inner_right : (t : Table) (a u : ℕ) → IsTable t → slice_get t.ops a ≡ Some (Not u) → IsRight t (Not a) (Inner 0 0)
 unfolding hinted operands op_width op_value
 inner_right t a u table is =
@@ -48,6 +46,7 @@ inner_right t a u table is =
 
 -- ---- equal operands
 
+-- a hint for equal operands is right, if it is where they are equal
 where_same : (t : Table) (op : Op) (a b : ℕ) (hint : Hint) → (a ≡ b → IsRight t op hint)
     → IsRight t op (when (a == b) hint)
 where_same t op a b hint right = elim (cases_eq a b) [
@@ -55,40 +54,47 @@ where_same t op a b hint right = elim (cases_eq a b) [
   | inr other ↦ rw (ne_eqb a b other) (nothing_right t op)
 ]
 
+-- the and of a term with itself is that term
 pub and_right : (t : Table) (a b : ℕ) → IsRight t (And a b) (when (a == b) (Operand 0))
 unfolding hinted operands op_width op_value
 and_right t a b =
     where_same t (And a b) a b (Operand 0)
     (λ same given. rw (← same) (ap (meaning (term_width t a)) (sym (and_self (term_value t given a)))))
 
+-- so is its or
 pub or_right : (t : Table) (a b : ℕ) → IsRight t (Or a b) (when (a == b) (Operand 0))
 unfolding hinted operands op_width op_value
 or_right t a b =
     where_same t (Or a b) a b (Operand 0)
     (λ same given. rw (← same) (ap (meaning (term_width t a)) (sym (or_self (term_value t given a)))))
 
+-- its exclusive or is 0
 pub xor_right : (t : Table) (a b : ℕ) → IsRight t (Xor a b) (when (a == b) (Constant 0))
 unfolding hinted operands op_width op_value
 xor_right t a b =
     where_same t (Xor a b) a b (Constant 0)
     (λ same given. rw (← same) (ap (meaning (term_width t a)) (sym (xor_self (term_value t given a)))))
 
+-- it is equal to itself
 pub eq_right : (t : Table) (a b : ℕ) → IsRight t (Eq a b) (when (a == b) (Constant 1))
 unfolding hinted op_width op_value
 eq_right t a b =
     where_same t (Eq a b) a b (Constant 1)
     (λ same given. rw (← same, eq-eqb (term_value t given a) (term_value t given a) refl) refl)
 
+-- and not less than itself
 pub lt_right : (t : Table) (a b : ℕ) → IsRight t (Lt a b) (when (a == b) (Constant 0))
 unfolding hinted op_width op_value
 lt_right t a b =
     where_same t (Lt a b) a b (Constant 0)
     (λ same given. rw (← same, le-ltb (term_value t given a) (term_value t given a) (le_refl _)) refl)
 
+-- a choice between one number and itself is that number
 either_same : (b : Bool) (x : ℕ) → x ≡ (if b then x else x)
 either_same true x = refl
 either_same false x = refl
 
+-- a choice between one term and itself is that term
 pub ite_right : (t : Table) (c a b : ℕ) → IsRight t (Ite c a b) (when (a == b) (Operand 1))
 unfolding hinted operands op_width op_value
 ite_right t c a b =
@@ -99,6 +105,7 @@ ite_right t c a b =
 
 -- ---- fixed choices
 
+-- a choice by a constant is the branch that it chooses
 pub branch_right : (t : Table) (c a b : ℕ) (condition : Option ℕ) → Fits t (Ite c a b)
     → IfSome condition (λ number. (given : Given) → term_value t given c ≡ number)
     → IsRight t (Ite c a b) (branch_of condition)
@@ -120,12 +127,14 @@ IsNeutral t op c x n = (given : Given) → term_value t given c ≡ n → term_v
 abbrev IsAbsorbing : Table → Op → (c n : ℕ) → Type 0
 IsAbsorbing t op c n = (given : Given) → term_value t given c ≡ n → n ≡ value_over t given op
 
+-- an operand with the op's width and value is right
 operand_right : (t : Table) (op : Op) (k x : ℕ) → operand_at op k ≡ Some x → term_width t x ≡ width_over t op
     → ((given : Given) → term_value t given x ≡ value_over t given op)
     → IsRight t op (Operand k)
 unfolding hinted
 operand_right t op k x at wide is = λ given. rw at (ap₂ meaning wide (is given))
 
+-- a constant that ends an op is right, where the operand is that constant
 absorbing_right : (t : Table) (op : Op) (c n : ℕ) (absorbing : Option ℕ) → IfSome absorbing (IsAbsorbing t op c)
     → ((given : Given) → term_value t given c ≡ n)
     → IsRight t op (when (is_number n absorbing) (Constant n))
@@ -135,6 +144,7 @@ absorbing_right t op c n (Some m) ends is =
     where_same t op n m (Constant n)
     (λ same given. ap (meaning (width_over t op)) (same ∙ ends given (is given ∙ same)))
 
+-- what an operand hints that is a constant is right
 beside_right : (t : Table) (op : Op) (k x c : ℕ) (neutral absorbing number : Option ℕ)
     → operand_at op k ≡ Some x → term_width t x ≡ width_over t op
     → IfSome neutral (IsNeutral t op c x) → IfSome absorbing (IsAbsorbing t op c)
@@ -147,6 +157,7 @@ beside_right t op k x c (Some m) absorbing (Some n) at wide same ends is = elim 
   | inr other ↦ rw (ne_eqb n m other) (absorbing_right t op c n absorbing ends is)
 ]
 
+-- of two right hints the first that says something is right
 either_first : (t : Table) (op : Op) (first second : Hint) → IsRight t op first → IsRight t op second
     → IsRight t op (or_else first second)
 either_first t op Nothing second p q = q
@@ -165,10 +176,13 @@ record Sides (t : Table) (op : Op) (a b : ℕ) (neutral absorbing : Option ℕ) 
   ends_second : IfSome absorbing (IsAbsorbing t op b)
   ends_first : IfSome absorbing (IsAbsorbing t op a)
 
+-- a term that is a constant has its number
+abbrev pub IsNumber : Table → (term : ℕ) → Type 0
+IsNumber t term = IfSome (constant_at t term) (λ n. (given : Given) → term_value t given term ≡ n)
+
+-- what two operands hint is right
 either_right : (t : Table) (op : Op) (a b : ℕ) (neutral absorbing : Option ℕ) → Sides t op a b neutral absorbing
-    → IfSome (constant_at t a) (λ n. (given : Given) → term_value t given a ≡ n)
-    → IfSome (constant_at t b) (λ n. (given : Given) → term_value t given b ≡ n)
-    → IsRight t op (hint_of_either t a b neutral absorbing)
+    → IsNumber t a → IsNumber t b → IsRight t op (hint_of_either t a b neutral absorbing)
 either_right t op a b neutral absorbing s p q =
     either_first t op (hint_beside neutral absorbing (constant_at t b) 0)
     (hint_beside neutral absorbing (constant_at t a) 1)
@@ -177,12 +191,15 @@ either_right t op a b neutral absorbing s p q =
 
 -- ---- 0 and all ones
 
+-- all ones are neutral in an and
 and_ones : (w v : ℕ) → v < 2 ^ w → v ≡ bit_and v (ones w)
 and_ones w v word = sym (and_mask v w ∙ mod-eq_of_lt word)
 
+-- a bit is at most 1
 most : (x : ℕ) → x < 2 → max x 1 ≡ 1
 most x less = omega (arith, less)
 
+-- all ones end an or
 or_ones : (w v : ℕ) → v < 2 ^ w → ones w ≡ bit_or v (ones w)
 or_ones w v word =
     same_from_bits_below w (ones w) (bit_or v (ones w))
@@ -196,6 +213,7 @@ below_second : (t : Table) (a b : ℕ) → IsTable t → b < length (widths_of t
     → (given : Given) → term_value t given b < 2 ^ term_width t a
 below_second t a b table there pair given = rw pair (below t given b table there)
 
+-- all ones are neutral in an and, and 0 ends it
 and_sides : (t : Table) (a b : ℕ) → IsTable t → Fits t (And a b)
     → Sides t (And a b) a b (Some (ones (term_width t a))) (Some 0)
 unfolding operands op_width op_value
@@ -217,6 +235,7 @@ and_sides t a b table fits =
       ends_first = λ given is. sym (and_zero_l (vb given)) ∙ ap (λ v. bit_and v (vb given)) (sym is);
     }
 
+-- 0 is neutral in an or, and all ones end it
 or_sides : (t : Table) (a b : ℕ) → IsTable t → Fits t (Or a b)
     → Sides t (Or a b) a b (Some 0) (Some (ones (term_width t a)))
 unfolding operands op_width op_value
@@ -238,6 +257,7 @@ or_sides t a b table fits =
           ∙ ap (λ v. bit_or v (vb given)) (sym is);
     }
 
+-- 0 is neutral in an exclusive or
 xor_sides : (t : Table) (a b : ℕ) → Fits t (Xor a b) → Sides t (Xor a b) a b (Some 0) None
 unfolding operands op_width op_value
 xor_sides t a b fits =
@@ -266,10 +286,12 @@ carried w k less n is = elim (cases_eq k 1) [
   | inr other ↦ inl (omega (arith, rw (ne_eqb k 1 other) at is, other, less))
 ]
 
+-- such a pair leaves a word as it is, or adds all that there are
 neutral_sum : (m v n k : ℕ) → v < m → (n + k ≡ 0) ⊎ (n + k ≡ m) → (v + n + k ≡ v) ⊎ (v + n + k ≡ m + v)
 neutral_sum m v n k less (inl nothing) = inl (omega (arith, nothing))
 neutral_sum m v n k less (inr all) = inr (omega (arith, all))
 
+-- a constant carry in says what is neutral in a sum
 sum_sides : (t : Table) (a b c : ℕ) (carry : Option ℕ) → IsTable t → Fits t (Sum a b c)
     → IfSome carry (λ k. (given : Given) → term_value t given c ≡ k)
     → IfSome carry (λ k. k < 2)
@@ -311,22 +333,22 @@ sum_sides t a b c (Some k) table fits is less =
       ends_first = tt;
     }
 
--- what is known of two operands beside each other
-abbrev pub IsNumber : Table → (term : ℕ) → Type 0
-IsNumber t term = IfSome (constant_at t term) (λ n. (given : Given) → term_value t given term ≡ n)
-
+-- so what an and hints is right
 pub and_beside : (t : Table) (a b : ℕ) → IsTable t → Fits t (And a b) → IsNumber t a → IsNumber t b
     → IsRight t (And a b) (hint_of_either t a b (Some (ones (term_width t a))) (Some 0))
 and_beside t a b table fits p q = either_right t (And a b) a b _ _ (and_sides t a b table fits) p q
 
+-- what an or hints is right
 pub or_beside : (t : Table) (a b : ℕ) → IsTable t → Fits t (Or a b) → IsNumber t a → IsNumber t b
     → IsRight t (Or a b) (hint_of_either t a b (Some 0) (Some (ones (term_width t a))))
 or_beside t a b table fits p q = either_right t (Or a b) a b _ _ (or_sides t a b table fits) p q
 
+-- what an exclusive or hints is right
 pub xor_beside : (t : Table) (a b : ℕ) → Fits t (Xor a b) → IsNumber t a → IsNumber t b
     → IsRight t (Xor a b) (hint_of_either t a b (Some 0) None)
 xor_beside t a b fits p q = either_right t (Xor a b) a b _ _ (xor_sides t a b fits) p q
 
+-- what a sum hints is right
 pub sum_beside : (t : Table) (a b c : ℕ) (carry : Option ℕ) → IsTable t → Fits t (Sum a b c)
     → IfSome carry (λ k. (given : Given) → term_value t given c ≡ k)
     → IfSome carry (λ k. k < 2 ^ term_width t c)
@@ -344,6 +366,7 @@ low_of_join : (w high low : ℕ) → low < 2 ^ w → low ≡ part 0 w (join w hi
 low_of_join w high low word =
     sym (mod-mul-add high (2 ^ w) low word) ∙ ap (λ x. x % 2 ^ w) (sym (div-one (join w high low)))
 
+-- as many of the lowest bits of a join as its low term has are that term
 pub low_right : (t : Table) (a high low : ℕ) → IsTable t → slice_get t.ops a ≡ Some (Join high low)
     → IsRight t (Part a 0 (term_width t low)) (Inner 0 1)
 unfolding hinted operands op_width op_value

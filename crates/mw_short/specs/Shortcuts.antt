@@ -65,7 +65,8 @@ hint_of_either t a b neutral absorbing =
 abbrev pub neutral_in_sum : (carry : Option ℕ) → (width : ℕ) → Option ℕ
 neutral_in_sum carry width = option_map (λ (c : ℕ). if c == 1 then ones width else 0) carry
 
--- ops with 0 or all ones as one of two operands
+-- the other operand, of And with all ones, Or and Xor with 0, and Sum with 0 and carry 0 or all ones and carry 1; the
+-- constant, of And with 0 and Or with all ones
 unfoldable pub neutral_constant_hint : Table → Op → Hint
 neutral_constant_hint t (And a b) = hint_of_either t a b (Some (ones (term_width t a))) (Some 0)
 neutral_constant_hint t (Or a b) = hint_of_either t a b (Some 0) (Some (ones (term_width t a)))

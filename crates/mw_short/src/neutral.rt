@@ -64,8 +64,8 @@ fn neutral_in_sum(carry: Option<u32>, width: u8) -> Option<u32>
     }
 }
 
-/// Of `And`, `Or`, `Xor` and `Sum` with 0 or all ones as one operand, the other operand or a constant. A sum is looked
-/// at where its carry in is a constant. The op fits the table.
+/// Of `And` with all ones, `Or` and `Xor` with 0, and `Sum` with 0 and carry 0 or all ones and carry 1, the other
+/// operand; of `And` with 0 and `Or` with all ones, that constant; else nothing. The op fits the table.
 #[tactic(auto, unfolding(crate::specs::Shortcuts::neutral_constant_hint, mw_term::specs::Hints::hinted))]
 pub fn neutral_constant(terms: &Terms, op: Op) -> Hint
     requires { Fits terms.now op }

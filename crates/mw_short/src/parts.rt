@@ -1,8 +1,8 @@
-// The shortcut on parts of joins.
+//! The shortcut on parts of joins.
 ghost use Rattle.std.specs.Prelude.{◌≡◌};
 ghost use Rattle.mw_term.specs.Hints.{IsRight};
-ghost use Rattle.mw_short.specs.Shortcuts.{part_of_join_hint};
 ghost use Rattle.mw_term.specs.Table.{Fits};
+ghost use Rattle.mw_short.specs.Shortcuts.{part_of_join_hint};
 
 use mw_term::{Hint, Op, Terms, terms_have_widths};
 

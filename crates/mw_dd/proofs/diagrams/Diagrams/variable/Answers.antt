@@ -11,12 +11,12 @@ returns-in_err-variable-clause-canonical c = canonical c.self.inside.nodes c.sel
 
 pub returns-clause-exact : goal.returns-clause-exact
 returns-clause-exact c =
-    let bit = variable c.in_ok-variable.variable.bit c.in_ok-variable.variable.word in
+    let made = variable c.in_ok-variable.variable.bit c.in_ok-variable.variable.word in
     IfOk-weaker c.make.result _ _
     (λ x value given. value given
     ∙ variable_value c.self.inside.nodes given c.at.result c.at-2.result
-    (value_of bit given) c.at.ensures c.at-2.ensures
-    ∙ ap (λ (v : Variable). value_of v given) c.in_ok-variable.ensures)
+    (value_of made given) c.at.ensures c.at-2.ensures
+    ∙ ap (λ (v : Variable). value_of v given) c.in_ok-variable.ensures.1)
     c.make.ensures.value
 
 pub returns-clause-canonical : goal.returns-clause-canonical
@@ -27,5 +27,5 @@ invariant_of-self c = c.self.invariant
 
 pub invariant_of-self-2 : goal.invariant_of-self-2
 invariant_of-self-2 c =
-    right-grows c.self.inside.nodes c.make.new.nodes c.self.inside.notes.results c.self.inside.counts c.self.inside.bounds
-    c.make.ensures.grows c.make.ensures.reduced c.self.invariant
+    right-grows c.self.inside.nodes c.make.new.nodes c.self.inside.notes.results c.self.inside.counts
+    c.self.inside.bounds c.make.ensures.grows c.make.ensures.reduced c.self.invariant
