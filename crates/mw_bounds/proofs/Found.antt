@@ -9,7 +9,7 @@ use Rattle.mw_rel.specs.OverBudget.{AreWithin}
 use Rattle.mw_rel.specs.Start.{Start}
 use Rattle.mw_fork.specs.declared.budget.Budget.{Budget}
 use Rattle.mw_fork.specs.Faults.{ForkFault}
-use Rattle.mw_fork.specs.declared.fault.Fault.TheVariants as faults
+use Rattle.mw_explore.specs.declared.fault.Fault.TheVariants as faults
 use Rattle.mw_fork.specs.declared.fault.Over.TheVariants.{Nodes, Paths}
 use Rattle.mw_fork.specs.Walks.{AreAllCases, HasWalked, StopsWalk}
 use Rattle.mw_fork.proofs.AnyStart.{some_case}

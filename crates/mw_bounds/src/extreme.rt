@@ -2,7 +2,7 @@
 ghost use Rattle.std.specs.Prelude.{◌≡◌, ◌∷◌, ◌++◌, [], List, IfErr, OnOk, false};
 ghost use Rattle.mw_term.specs.declared.decided.Decided.{Decided};
 ghost use Rattle.mw_rel.specs.Views.{job_of};
-ghost use Rattle.mw_fork.specs.declared.fault.Fault.TheVariants as faults;
+ghost use Rattle.mw_explore.specs.declared.fault.Fault.TheVariants as faults;
 ghost use Rattle.mw_fork.specs.Walks.{IsAtCase, IsNextBehind};
 ghost use Rattle.mw_bounds.specs.Extremes.{IsExtreme, goes_beyond, goes_beyond_shown};
 

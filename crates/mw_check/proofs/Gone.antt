@@ -13,7 +13,7 @@ use Rattle.mw_rel.specs.Job.{Job, IsJob}
 use Rattle.mw_rel.specs.Start.{Start}
 use Rattle.mw_fork.specs.declared.budget.Budget.{Budget}
 use Rattle.mw_fork.specs.Faults.{ForkFault}
-use Rattle.mw_fork.specs.declared.fault.Fault.TheVariants as faults
+use Rattle.mw_explore.specs.declared.fault.Fault.TheVariants as faults
 use Rattle.mw_fork.specs.declared.fault.Over.TheVariants as overs
 use Rattle.mw_fork.specs.Walks.{HasStopped, HasWalked, ReachTo, StopsWalk}
 use Rattle.mw_fork.proofs.AnyStart.{some_case}

@@ -9,7 +9,7 @@ use Rattle.mw_rel.specs.OverBudget.{AreWithin}
 use Rattle.mw_rel.specs.Start.{Start}
 use Rattle.mw_fork.specs.declared.budget.Budget.{Budget}
 use Rattle.mw_fork.specs.Faults.{ForkFault}
-use Rattle.mw_fork.specs.declared.fault.Fault.TheVariants.{Over, NoMemory}
+use Rattle.mw_explore.specs.declared.fault.Fault.TheVariants.{Over, NoMemory}
 use Rattle.mw_fork.specs.Begins.{IsDiffering, IsLeast}
 use Rattle.mw_fork.specs.Failing.{ComparisonsAreWithin, NoneDiffersOf}
 use Rattle.mw_replay.specs.Counter.{Counter}

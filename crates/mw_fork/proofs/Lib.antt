@@ -36,6 +36,7 @@ pub mod Numbered
 pub mod OnRun
 pub mod OnStep
 pub mod OtherPaths
+pub mod OneMore
 pub mod OthersWait
 pub mod OverCompared
 pub mod OverWords

@@ -7,7 +7,8 @@ ghost use Rattle.std.specs.Prelude.{◌≡◌, ◌<◌, ◌^◌, List, length, t
 ghost use Rattle.mw_term.specs.declared.decided.Decided.{Decided};
 ghost use Rattle.mw_rel.specs.Views.{job_of};
 ghost use Rattle.mw_fork.specs.Begins.{IsDiffering};
-ghost use Rattle.mw_fork.specs.Forks.{At, IsForkOf};
+ghost use Rattle.mw_explore.specs.Cases.{At};
+ghost use Rattle.mw_fork.specs.Forks.{IsForkOf};
 ghost use Rattle.mw_replay.specs.Counter.{IsCounter};
 
 use super::cases::{MOST_CASES, budget_of, push_case, push_over};

@@ -3,7 +3,7 @@ use Rattle.std.specs.Prelude.{IfSome}
 use Rattle.mw_term.specs.declared.decided.Decided.{Decided}
 use Rattle.mw_rel.specs.Views.{job_of}
 use Rattle.mw_fork.specs.Begins.{IsDiffering}
-use Rattle.mw_fork.specs.Forks.{At}
+use Rattle.mw_explore.specs.Cases.{At}
 use Rattle.mw_callrows.proofs.calls.differs.push_differing.Goals as goal
 
 pub counter_of-requires-clause-differs : goal.counter_of-requires-clause-differs

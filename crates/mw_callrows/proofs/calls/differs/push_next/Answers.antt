@@ -1,6 +1,6 @@
 use Rattle.std.proofs.Common.{◌≡◌, subst}
 use Rattle.std.specs.Prelude.{IfSome}
-use Rattle.mw_fork.specs.Forks.{At}
+use Rattle.mw_explore.specs.Cases.{At}
 use Rattle.mw_callrows.proofs.calls.differs.push_next.Goals as goal
 
 pub push_twice-requires-clause-given : goal.push_twice-requires-clause-given
