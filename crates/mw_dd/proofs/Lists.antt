@@ -45,3 +45,23 @@ at-index xs i x within is = elim (slice_get_cases xs i).1 [
   | inl found ↦ found.2 ∙ ap Some (sym (get_or_from_slice_get xs i found.0 x found.2) ∙ sym is)
   | inr past ↦ absurd (omega (arith, past.0, within))
 ]
+
+-- the last of a list, and what stands in its place once it is set twice
+pub record IsLast {A : Type 0} (xs : List A) (i : ℕ) (own : A) : Type 0 where
+  pub before : List A
+  pub was : xs ≡ before ++ own ∷ []
+  pub is : (v u : A) → set (set xs i v) i u ≡ before ++ u ∷ []
+
+pub last_split : {A : Type 0} (xs : List A) (i : ℕ) (own : A) → suc i ≡ length xs → slice_get xs i ≡ Some own
+    → IsLast xs i own
+last_split [] i own e at = absurd (omega (arith, e))
+last_split (z ∷ []) zero own e at = record { before = []; was = cc; is = λ v u. refl }
+last_split (z ∷ []) (suc i) own e at = absurd (omega (arith, e))
+last_split (z ∷ y ∷ zs) zero own e at = absurd (omega (arith, e))
+last_split {A} (z ∷ y ∷ zs) (suc i) own e at =
+    let rest = last_split (y ∷ zs) i own (omega (arith, e)) at in
+    record {
+      before = z ∷ rest.before;
+      was = ap (λ (l : List A). z ∷ l) rest.was;
+      is = λ v u. ap (λ (l : List A). z ∷ l) (rest.is v u);
+    }

@@ -1,6 +1,6 @@
 -- Numbers for buckets.
 use Rattle.std.specs.Prelude.{ℕ, ◌+◌, ◌*◌, ◌/◌, ◌%◌, ◌^◌, bit_xor}
-use Rattle.mw_dd.specs.declared.hash.TheConstants.{FIRST, SECOND, THIRD, FOURTH, GROUP}
+use Rattle.mw_dd.specs.declared.hash.TheConstants.{FIRST, SECOND, THIRD, FOURTH, GROUP, SPREAD}
 
 -- four numbers scattered over 32 bits
 unfoldable pub scattered : (a b c d : ℕ) → ℕ
@@ -9,3 +9,7 @@ scattered a b c d = (a * FIRST + b * SECOND + c * THIRD + d * FOURTH) % 2 ^ 64 /
 -- four numbers scattered, where last numbers of one group stay in one
 unfoldable pub scattered_near : (a b c near : ℕ) → ℕ
 scattered_near a b c near = bit_xor (scattered a b c (near / GROUP)) (near % GROUP)
+
+-- four numbers scattered near twice a place
+unfoldable pub scattered_behind : (a b c d place : ℕ) → ℕ
+scattered_behind a b c d place = bit_xor (place * 2 % 2 ^ 32) (scattered a b c d % SPREAD)

@@ -36,6 +36,26 @@ pub record Awaits (nodes : List Node) (triples : List Triple) (budget : Option �
   pub half : AwaitsLow nodes w t ⊎ AwaitsHigh nodes triples budget w t
   pub met : (b : ℕ) → budget ≡ Some b → slice_get triples w.place ≡ Some w.triple
 
+-- the last of those that wait gets the result of its low half, and its high half is next
+pub record HasTurned (old new : List Waiting) (made : ℕ) (next : Triple) : Type 0 where
+  pub before : List Waiting
+  pub own : Waiting
+  pub now : Waiting
+  pub was : old ≡ before ++ own ∷ []
+  pub is : new ≡ before ++ now ∷ []
+  pub none : own.has_low ≡ false
+  pub triple : now.triple ≡ own.triple
+  pub place : now.place ≡ own.place
+  pub variable : now.variable ≡ own.variable
+  pub at_high : now.at_high ≡ own.at_high
+  pub some : now.has_low ≡ true
+  pub low : now.low ≡ made
+  pub high : next ≡ own.at_high
+
+-- the last of those that wait has the result of its low half
+abbrev pub AwaitsNoLow : List Waiting → Type 0
+AwaitsNoLow waiting = (before : List Waiting) (w : Waiting) → waiting ≡ before ++ w ∷ [] → w.has_low ≡ true
+
 -- operations wait, each for the one after it, and the last for one that is next; the first is the whole
 pub data AreWaiting (nodes : List Node) (triples : List Triple) (budget : Option ℕ) (whole : Triple)
     : (waiting : List Waiting) → (next : Triple) → Type 0 where

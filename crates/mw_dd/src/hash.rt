@@ -1,6 +1,6 @@
 // Numbers for buckets.
 ghost use Rattle.std.specs.Prelude.{◌≡◌};
-ghost use Rattle.mw_dd.specs.Hash.{scattered, scattered_near};
+ghost use Rattle.mw_dd.specs.Hash.{scattered, scattered_near, scattered_behind};
 
 // What each of four numbers is multiplied by: 2^64 over the golden ratio, and primes that xxHash has.
 const FIRST: u64 = 0x9e37_79b9_7f4a_7c15;
@@ -35,4 +35,17 @@ pub(crate) fn scatter_near(a: u64, b: u64, c: u64, near: u32) -> u32
     ensures { result ≡ scattered_near a b c near }
 {
     scatter(a, b, c, u64::from(near / GROUP)) ^ near % GROUP
+}
+
+/// How far apart the buckets of nodes lie that have the same later branch: as many as heads fill eight pages of memory.
+const SPREAD: u32 = 8192;
+
+/// A number that depends on each bit of four others, and lies near twice a place. Where places lie near one another, so
+/// do the results. An operation makes a node soon after its branches, so that the buckets that it asks for move slowly
+/// through the heads, and are still in the cache.
+#[tactic(auto, unfolding(crate::specs::Hash::scattered_behind))]
+pub(crate) fn scatter_behind(a: u64, b: u64, c: u64, d: u64, place: u32) -> u32
+    ensures { result ≡ scattered_behind a b c d place }
+{
+    place.wrapping_mul(2) ^ scatter(a, b, c, d) % SPREAD
 }

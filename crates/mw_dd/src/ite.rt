@@ -108,26 +108,21 @@ fn go_on(
     ensures nearer { IfOk result (λ after.
         steps_left notes.new.waiting.items after < steps_left notes.old.waiting.items (next.Next.Return made)) }
 {
+    if let Some(at_high) = notes.turn(made) {
+        return Ok(Next::Enter(at_high));
+    }
     let Some(waiting) = notes.last() else {
         return Ok(Next::Done(made));
     };
-    if waiting.has_low {
-        let node = Node {
-            variable: waiting.variable,
-            low: waiting.low,
-            high: made,
-        };
-        let joined = make(nodes, alloc, node)?;
-        // A slot for four nodes: more would cost memory than lost results cost time.
-        notes.end(alloc, &waiting, joined, nodes.len() / 4, budget)?;
-        return Ok(Next::Return(joined));
-    }
-    notes.wait(Waiting {
-        has_low: true,
-        low: made,
-        ..waiting
-    })?;
-    Ok(Next::Enter(waiting.at_high))
+    let node = Node {
+        variable: waiting.variable,
+        low: waiting.low,
+        high: made,
+    };
+    let joined = make(nodes, alloc, node)?;
+    // A slot for four nodes: more would cost memory than lost results cost time.
+    notes.end(alloc, &waiting, joined, nodes.len() / 4, budget)?;
+    Ok(Next::Return(joined))
 }
 
 /// The function that is the second where the first holds, and else the third. Where there is a budget, each different

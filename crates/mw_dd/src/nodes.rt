@@ -1,17 +1,24 @@
 // Nodes, ordered and reduced.
 ghost use Rattle.std.specs.Prelude.{◌≡◌, ◌⊎◌, ◌-◌, ◌<◌, ◌≤◌, ◌↔◌, false, Some, slice_get, IsTrue, IfOk};
-ghost use Rattle.std.specs.Prelude.{if◌then◌else◌};
+ghost use Rattle.std.specs.Prelude.{if◌then◌else◌, nat_lt};
 ghost use Rattle.mw_term.specs.Assigned.{Given};
 ghost use Rattle.mw_term.specs.Cofactors.{value_of, is_before};
 ghost use Rattle.mw_dd.specs.Nodes.{value_at, IsDd, IsFrom, IsReduced, after};
 ghost use Rattle.mw_dd.specs.Steps.{Grows, AreDds, AreFrom, HasVariable, IsTop, size};
 
 use crate::dd::Dd;
-use crate::hash::scatter_near;
+use crate::hash::{scatter_behind, scatter_near};
 use crate::table::{Key, Table};
 use crate::variable::Variable;
 use mw_base::NoMemory;
 use std::alloc::Global;
+
+/// The later of two places.
+fn later(a: u32, b: u32) -> u32
+    ensures { result ≡ (if nat_lt a b then b else a) }
+{
+    if a < b { b } else { a }
+}
 
 /// A node: the function that is the high branch where its variable is 1, and else the low one.
 #[derive(Clone, Copy)]
@@ -31,20 +38,21 @@ impl Node {
 }
 
 impl Key for Node {
-    ghost use Rattle.std.specs.Prelude.{◌+◌, ◌^◌};
-    ghost use Rattle.mw_dd.specs.Hash.{scattered_near};
+    ghost use Rattle.std.specs.Prelude.{if◌then◌else◌, nat_lt};
+    ghost use Rattle.mw_dd.specs.Hash.{scattered_behind};
 
-    ghost hash_of = { λ n. scattered_near n.variable.word n.variable.bit (n.low + 2 ^ 32 - n.high) n.high };
+    ghost hash_of = { λ n. scattered_behind n.variable.word n.variable.bit n.low n.high
+        (if nat_lt n.low n.high then n.high else n.low) };
 
-    // Branches of one variable's nodes are mostly as far from each other as those of the node before.
     fn hash(&self) -> u32 {
+        let low = self.low.position();
         let high = self.high.position();
-        let distance = u64::from(self.low.position()) + (1 << 32) - u64::from(high);
-        scatter_near(
+        scatter_behind(
             u64::from(self.variable.word),
             u64::from(self.variable.bit),
-            distance,
-            high,
+            u64::from(low),
+            u64::from(high),
+            later(low, high),
         )
     }
 

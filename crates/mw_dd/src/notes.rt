@@ -3,6 +3,7 @@ ghost use Rattle.std.specs.Prelude.{◌≡◌, ◌<◌, ◌≤◌, ℕ, [], ◌�
 ghost use Rattle.mw_dd.specs.Kept.{IsKept, AreNone, Adds};
 ghost use Rattle.mw_dd.specs.Links.{IsAbsent};
 ghost use Rattle.mw_dd.specs.Memos.{AreBeside, HasResult, IsBegun, IsEnded};
+ghost use Rattle.mw_dd.specs.Waiting.{HasTurned, AwaitsNoLow};
 
 use crate::dd::{Dd, DdFault};
 use crate::kept::Kept;
@@ -92,6 +93,29 @@ impl Notes {
             return Err(DdFault::OverBudget);
         }
         Ok(self.memo.begin(alloc, t)?)
+    }
+
+    /// Gives the operation that waits last the result of its low half, and answers its high half, which is next; none
+    /// where it has that result, or where none waits.
+    pub(crate) fn turn(&mut self, made: Dd) -> Option<Triple>
+        ensures turned { IfSome result (HasTurned self.old.waiting.items self.new.waiting.items made) }
+        ensures stay { result ≡ None → self.new.waiting.items ≡ self.old.waiting.items }
+        ensures has_low { result ≡ None → AwaitsNoLow self.old.waiting.items }
+        ensures memo { self.new.memo ≡ self.old.memo }
+        ensures results { self.new.results ≡ self.old.results }
+    {
+        let count = self.waiting.len();
+        if count == 0 {
+            return None;
+        }
+        let last = count - 1;
+        if self.waiting[last].has_low {
+            return None;
+        }
+        let at_high = self.waiting[last].at_high;
+        self.waiting[last].has_low = true;
+        self.waiting[last].low = made;
+        Some(at_high)
     }
 
     /// The operation that waits last, which waits no more.
