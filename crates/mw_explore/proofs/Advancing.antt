@@ -1,5 +1,5 @@
 -- How an explorer goes on.
-use Rattle.std.proofs.Common.{◌≡◌, ◌<◌, List, length, [], ◌∷◌, ◌++◌, ap, refl, subst, sym, ◌∙◌}
+use Rattle.std.proofs.Common.{◌≡◌, ◌<◌, List, length, [], ◌∷◌, ◌++◌, subst, sym, ◌∙◌}
 use Rattle.std.specs.Prelude.{IsSome, OnOk, Option, Some, None, Result, Ok, Err}
 use Rattle.std.specs.List.{AllZip}
 use Rattle.std.specs.Option.{option_to_list}
@@ -9,7 +9,7 @@ use Rattle.mw_explore.specs.declared.stage.Stage.TheVariants as stages
 use Rattle.mw_explore.specs.declared.way.Kept.{Kept}
 use Rattle.mw_explore.specs.Explorers.{AreWaiting, IsToBegin, Keeps, LeadsToNext, Stands, StandsAt, standing_of}
 use Rattle.mw_explore.specs.Cases.{AreInOrder, Before, Leads, NoneIsToCome}
-use Rattle.mw_explore.specs.KeptBits.{AreKeptBits, IsWayFrom}
+use Rattle.mw_explore.specs.KeptBits.{AreKeptBits}
 use Rattle.mw_explore.specs.Ways.{all_turned, bits_of, turned_last}
 use Rattle.mw_explore.proofs.Ordering.{leads_behind, leads_to_first, none_left}
 use Rattle.mw_explore.proofs.Taking.{all_wait_on}
@@ -52,12 +52,6 @@ module _ {Course Waiting : Type 0} (IsWaiting : Course → Waiting → List Deci
             (record { has = come; kept = tt; waits = tt }));
       }
 
-  -- it doesn't stand behind all
-  pub not_behind : (stage : Stage Course) (way : List Kept) (waiting : List Waiting) → stage ≡ stages.Behind
-      → IsToBegin IsWaiting stage way waiting → ⊥
-  not_behind stage way waiting is begin =
-      subst (λ (s : Stage Course). IsToBegin IsWaiting s way waiting) is begin
-
   -- ---- how the bits were turned
 
   -- those that wait at the turned bits, by what stands at a stage
@@ -78,14 +72,6 @@ pub kept_at : {Course Waiting : Type 0} (IsCase : List Decided → Type 0) (HasG
     → Stands IsCase HasGone IsWaiting course way waiting
 kept_at {Course} IsCase HasGone IsWaiting stage course way waiting at keeps =
     subst (λ (s : Stage Course). Keeps IsCase HasGone IsWaiting s way waiting) at keeps
-
--- and back
-pub keeps_at : {Course Waiting : Type 0} (IsCase : List Decided → Type 0) (HasGone : Course → List Decided → Type 0)
-    (IsWaiting : Course → Waiting → List Decided → Type 0) (stage : Stage Course) (course : Course) (way : List Kept)
-    (waiting : List Waiting) → stage ≡ stages.At course → Stands IsCase HasGone IsWaiting course way waiting
-    → Keeps IsCase HasGone IsWaiting stage way waiting
-keeps_at {Course} IsCase HasGone IsWaiting stage course way waiting at stands =
-    subst (λ (s : Stage Course). Keeps IsCase HasGone IsWaiting s way waiting) (sym at) stands
 
 -- ---- which case comes next
 

@@ -8,7 +8,7 @@ use Rattle.mw_term.specs.declared.decided.Decided.{Decided}
 use Rattle.mw_cycle.specs.Decided.{decided}
 use Rattle.mw_rel.specs.Case.{IsBefore}
 use Rattle.mw_explore.specs.declared.way.Kept.{Kept}
-use Rattle.mw_explore.specs.Cases.{AreInOrder, At, Before, IsNext, Leads, NoneIsToCome, OneIsToCome}
+use Rattle.mw_explore.specs.Cases.{AreInOrder, At, Before, Leads, NoneIsToCome, OneIsToCome}
 use Rattle.mw_explore.specs.Explorers.{LeadsToNext}
 use Rattle.mw_explore.specs.KeptBits.{AreKeptBits, AreLeast, IsKeptBit, IsWayFrom}
 use Rattle.mw_explore.specs.Ways.{bits_of, turned, turned_from, turned_last}

@@ -8,9 +8,9 @@ use Rattle.mw_term.specs.declared.decided.Decided.{Decided}
 use Rattle.mw_term.specs.declared.decided.DecidedKind.{DecidedKind}
 use Rattle.mw_cycle.specs.Decided.{decided}
 use Rattle.mw_explore.specs.declared.way.Kept.{Kept}
-use Rattle.mw_explore.specs.Cases.{IsChosen, Leads}
+use Rattle.mw_explore.specs.Cases.{Leads}
 use Rattle.mw_explore.specs.Explorers.{AreWaiting, Stands}
-use Rattle.mw_explore.specs.KeptBits.{AreKeptBits, AreLeast, IsKeptBit, IsLeast, IsWayFrom}
+use Rattle.mw_explore.specs.KeptBits.{AreKeptBits, AreLeast, IsChosen, IsKeptBit, IsLeast, IsWayFrom}
 use Rattle.mw_explore.specs.Ways.{all_turned, bits_of, kept_of, turned_behind}
 use Rattle.mw_explore.proofs.Ordering.{kept_feasible}
 use Rattle.mw_explore.proofs.Waiting.{more_fixed, more_turned, zip_map, zip_more}
@@ -39,24 +39,13 @@ least_one IsCase before (x ∷ xs) k are is = (
       (subst (λ (bits : List Decided). IsLeast IsCase bits k) (sym (append_assoc before (x.bit ∷ []) (bits_of xs))) is),
 )
 
--- a bit that was decided can be kept
-chosen_kept : (IsCase : List Decided → Type 0) (before : List Decided) (kind : DecidedKind) (value other : Bool)
-    → IsChosen IsCase before kind value other → IsKeptBit IsCase before (kept_of kind value other)
-chosen_kept IsCase before kind value other is =
-    record { feasible = is.leads; zero = is.zero; turns = is.turns; only = is.only }
-
 -- the bits behind which it is decided lead to a case
 pub way_leads : (IsCase : List Decided → Type 0) (way : List Kept) → Leads IsCase [] → AreKeptBits IsCase [] way
     → Leads IsCase (bits_of way)
 way_leads IsCase way some kept = kept_feasible IsCase way [] some kept
 
--- a course began with the bits that it has
-pub way_begins : (IsCase : List Decided → Type 0) (way : List Kept) → AreKeptBits IsCase [] way
-    → IsWayFrom IsCase way way
-way_begins IsCase way are = record { kept = are; more = []; way_is = sym (append-nil way); least = tt }
-
 -- it goes on with the bit that was decided
-pub way_goes_on : (IsCase : List Decided → Type 0) (from old : List Kept) (kind : DecidedKind) (value other : Bool)
+way_goes_on : (IsCase : List Decided → Type 0) (from old : List Kept) (kind : DecidedKind) (value other : Bool)
     → IsChosen IsCase (bits_of old) kind value other → IsWayFrom IsCase from old
     → IsWayFrom IsCase from (old ++ kept_of kind value other ∷ [])
 way_goes_on IsCase from old kind value other is bits =
@@ -64,7 +53,7 @@ way_goes_on IsCase from old kind value other is bits =
     let split : bits_of old ≡ bits_of from ++ bits_of bits.more =
     ap (λ (xs : List Kept). bits_of xs) bits.way_is ∙ map-append (λ (x : Kept). x.bit) from bits.more in
     record {
-      kept = kept_one IsCase [] old k bits.kept (chosen_kept IsCase (bits_of old) kind value other is);
+      kept = kept_one IsCase [] old k bits.kept is.kept;
       more = bits.more ++ k ∷ [];
       way_is = ap (λ (xs : List Kept). xs ++ k ∷ []) bits.way_is ∙ append_assoc from bits.more (k ∷ []);
       least = least_one IsCase (bits_of from) bits.more k bits.least

@@ -1,8 +1,6 @@
 -- Cases, told apart by their decided bits, one after another.
-use Rattle.std.specs.Prelude.{◌≡◌, ◌≢◌, ◌⊎◌, List, [], ◌∷◌, ◌++◌, Bool, true, false}
-use Rattle.mw_term.specs.declared.decided.DecidedKind.{DecidedKind}
+use Rattle.std.specs.Prelude.{◌≢◌, ◌⊎◌, List, ◌++◌}
 use Rattle.mw_term.specs.declared.decided.Decided.{Decided}
-use Rattle.mw_cycle.specs.Decided.{decided}
 use Rattle.mw_rel.specs.Case.{IsBefore}
 
 -- where one stands among cases: before all, at the one given last, or behind all
@@ -45,13 +43,3 @@ pub record OneIsToCome (IsCase : List Decided → Type 0) (at : Standing) : Type
 -- no case that is to come stands before these bits
 abbrev pub NoneComesBefore : (IsCase : List Decided → Type 0) → Standing → (bits : List Decided) → Type 0
 NoneComesBefore IsCase at bits = (other : List Decided) → IsCase other → IsBefore other bits → ¬ IsToCome at other
-
--- What a bit behind others is decided to be: the first value with which a case begins; and it may be turned where it is
--- 0 and a case begins with 1 as well.
-pub record IsChosen (IsCase : List Decided → Type 0) (before : List Decided) (kind : DecidedKind) (value other : Bool)
-    : Type 0 where
-  pub leads : Leads IsCase (before ++ decided kind value ∷ [])
-  pub least : value ≡ true → ¬ Leads IsCase (before ++ decided kind false ∷ [])
-  pub zero : other ≡ true → value ≡ false
-  pub turns : other ≡ true → Leads IsCase (before ++ decided kind true ∷ [])
-  pub only : other ≡ false → value ≡ false → ¬ Leads IsCase (before ++ decided kind true ∷ [])

@@ -1,14 +1,13 @@
 -- What an explorer keeps, and what its parts do.
-use Rattle.std.specs.Prelude.{◌≡◌, ℕ, ◌≤◌, List, [], ◌∷◌, ◌++◌}
+use Rattle.std.specs.Prelude.{◌≡◌, ℕ, List, [], ◌∷◌, ◌++◌}
 use Rattle.std.specs.List.{AllZip}
 use Rattle.mw_term.specs.declared.decided.Decided.{Decided}
-use Rattle.mw_rel.specs.Case.{IsBefore}
 use Rattle.mw_explore.specs.declared.stage.Stage.{Stage}
 use Rattle.mw_explore.specs.declared.stage.Stage.TheVariants as stages
 use Rattle.mw_explore.specs.declared.way.Kept.{Kept}
 use Rattle.mw_explore.specs.Cases.{At, Before, Behind, IsNext, NoneComesBefore, OneIsToCome, Standing}
 use Rattle.mw_explore.specs.KeptBits.{AreKeptBits, IsWayFrom}
-use Rattle.mw_explore.specs.Ways.{all_turned, bits_of, turned_last}
+use Rattle.mw_explore.specs.Ways.{all_turned, bits_of}
 
 -- The tree whose cases are given, how many may be, how many were, and where it stands among them.
 pub record Explorer (Tree : Type 0) : Type 0 where

@@ -1,10 +1,11 @@
 -- What is kept from case to case, and which cases it stands for.
-use Rattle.std.specs.Prelude.{◌≡◌, List, [], ◌∷◌, ◌++◌, true, false}
+use Rattle.std.specs.Prelude.{◌≡◌, List, [], ◌∷◌, ◌++◌, Bool, true, false}
+use Rattle.mw_term.specs.declared.decided.DecidedKind.{DecidedKind}
 use Rattle.mw_term.specs.declared.decided.Decided.{Decided}
 use Rattle.mw_cycle.specs.Decided.{decided}
 use Rattle.mw_explore.specs.declared.way.Kept.{Kept}
 use Rattle.mw_explore.specs.Cases.{Leads}
-use Rattle.mw_explore.specs.Ways.{bits_of}
+use Rattle.mw_explore.specs.Ways.{bits_of, kept_of}
 
 -- A bit that is kept behind others: a case begins with all; and it can be turned exactly where it is 0 and a case begins
 -- with 1 there too.
@@ -23,7 +24,7 @@ AreKeptBits IsCase before (k ∷ rest) = IsKeptBit IsCase before k × AreKeptBit
 abbrev pub IsLeast : (IsCase : List Decided → Type 0) → (before : List Decided) → Kept → Type 0
 IsLeast IsCase before k = k.bit.value ≡ true → ¬ Leads IsCase (before ++ decided k.bit.kind false ∷ [])
 
--- so is each of these bits, which stand behind others
+-- each of these bits is so, which stand behind others
 abbrev pub AreLeast : (IsCase : List Decided → Type 0) → (before : List Decided) → List Kept → Type 0
 AreLeast IsCase before [] = Unit {0}
 AreLeast IsCase before (k ∷ rest) = IsLeast IsCase before k × AreLeast IsCase (before ++ k.bit ∷ []) rest
@@ -35,3 +36,9 @@ pub record IsWayFrom (IsCase : List Decided → Type 0) (from way : List Kept) :
   pub more : List Kept
   pub way_is : way ≡ from ++ more
   pub least : AreLeast IsCase (bits_of from) more
+
+-- What the next bit behind others is decided to be: it can be kept, and is the least with which a case begins.
+pub record IsChosen (IsCase : List Decided → Type 0) (before : List Decided) (kind : DecidedKind) (value other : Bool)
+    : Type 0 where
+  pub kept : IsKeptBit IsCase before (kept_of kind value other)
+  pub least : IsLeast IsCase before (kept_of kind value other)

@@ -1,9 +1,9 @@
 // The cases of a tree, one after another.
-ghost use Rattle.std.specs.Prelude.{◌≡◌, ◌≢◌, ◌+◌, ◌<◌, ◌≤◌, ℕ, List, [], IfOk, IfErr, IfSome, OnOk, None, true, false};
+ghost use Rattle.std.specs.Prelude.{◌≡◌, ◌≢◌, ◌+◌, ◌<◌, ◌≤◌, ℕ, List, [], IfOk, IfErr, IfSome, OnErr, OnOk, None, true, false};
 ghost use Rattle.mw_term.specs.declared.decided.Decided.{Decided};
 ghost use Rattle.mw_explore.specs.declared.explorer.Halt.TheVariants as halts;
 ghost use Rattle.mw_explore.specs.declared.fault.Fault.TheVariants as faults;
-ghost use Rattle.mw_explore.specs.Cases.{At, Before, Behind, IsNext, NoneComesBefore, NoneIsToCome, OneIsToCome};
+ghost use Rattle.mw_explore.specs.Cases.{At, Before, Behind, IsNext, Leads, NoneComesBefore, NoneIsToCome, OneIsToCome};
 ghost use Rattle.mw_explore.specs.Explorers.{IsToBegin, Keeps, LeadsToNext, Stands, StandsAt, standing_of};
 ghost use Rattle.mw_explore.specs.KeptBits.{AreKeptBits, IsWayFrom};
 ghost use Rattle.mw_explore.specs.Ways.{bits_of};
@@ -35,7 +35,7 @@ pub struct Case<E> {
 pub enum Halt<P> {
     /// As many cases were given as may be, and another is to come.
     Full,
-    /// Something is over its budget there: the decision behind these bits, or what the case with these is compared by.
+    /// Behind these bits a course can't go on, or the case with these can't be compared, there.
     At(Prefix, P),
 }
 
@@ -86,7 +86,7 @@ fn follow<T: CaseTree>(
     ensures case { OnOk result (T.is_case tree.now (bits_of trail.new.way)) }
     ensures over { IfErr result (λ fault. (place : T.Place) → fault ≡ faults.Over place
         → IsWayFrom (T.is_case tree.now) trail.old.way trail.new.way
-        × T.is_over tree.now (bits_of trail.new.way) place) }
+        × T.is_over tree.now (bits_of trail.new.way) place × Leads (T.is_case tree.now) (bits_of trail.new.way)) }
 {
     tree.are_in_order();
     while let Turn::Ask { kind, term } = tree.turn(alloc, course)? {
@@ -145,7 +145,7 @@ fn advance<T: CaseTree>(
     ensures ends { IfOk result (T.ends tree.now (bits_of trail.new.way)) }
     ensures over { IfErr result (λ fault. (place : T.Place) → fault ≡ faults.Over place
         → IsWayFrom (T.is_case tree.now) trail.old.way trail.new.way
-        × T.is_over tree.now (bits_of trail.new.way) place) }
+        × T.is_over tree.now (bits_of trail.new.way) place × Leads (T.is_case tree.now) (bits_of trail.new.way)) }
 {
     next_course(alloc, tree, stage, trail)?;
     let Stage::At(course) = stage else {
@@ -173,7 +173,7 @@ fn lead_on<T: CaseTree>(tree: &T, stage: &Stage<T::Course>, trail: &mut Trail<T:
     }
 }
 
-/// Why no case is given, where something is over its budget there, behind the bits of a way or at the case with them.
+/// The fault, with the bits of this way where a course can't go on there or a case can't be compared.
 fn halt_at<P: Drop>(alloc: Global, way: &Way, fault: Fault<P>) -> Fault<Halt<P>>
     ensures at { (prefix : List Decided) (place : P) → result ≡ faults.Over (halts.At prefix place)
         → (prefix ≡ bits_of way.now) × (fault ≡ faults.Over place) }
@@ -251,8 +251,8 @@ impl<T: CaseTree> Explorer<T> {
     /// # Errors
     ///
     /// - `Over`, with `Full`, exactly where as many cases were given as may be, and another is to come; with `At`, only
-    ///   where the decision behind the prefix is over its budget there. No case that is still to come stands before the
-    ///   prefix.
+    ///   where a course can't go on behind the prefix, with which a case begins. No case that is still to come stands
+    ///   before the prefix.
     /// - `NoMemory`: memory ran out.
     ///
     /// After an error no case is given any more.
@@ -278,9 +278,12 @@ impl<T: CaseTree> Explorer<T> {
             → (self.old.given < self.old.limit) × OneIsToCome (T.is_case self.old.tree) self.old.at) }
         ensures cause { IfErr result (λ e. (prefix : List Decided) (place : T.Place)
             → e ≡ faults.Over (halts.At prefix place) → T.is_over self.old.tree prefix place) }
+        ensures feasible { IfErr result (λ e. (prefix : List Decided) (place : T.Place)
+            → e ≡ faults.Over (halts.At prefix place) → Leads (T.is_case self.old.tree) prefix) }
         ensures before { IfErr result (λ e. (prefix : List Decided) (place : T.Place)
             → e ≡ faults.Over (halts.At prefix place)
             → NoneComesBefore (T.is_case self.old.tree) self.old.at prefix) }
+        ensures err { OnErr result (self.new.at ≡ Behind) }
     {
         if !lead_on(&self.tree, &self.stage, &mut self.trail) {
             leave(&mut self.stage);
@@ -297,8 +300,14 @@ impl<T: CaseTree> Explorer<T> {
                 return Err(halt_at(alloc, &self.trail.way, fault));
             }
         };
+        let prefix = match self.trail.way.prefix(alloc) {
+            Ok(prefix) => prefix,
+            Err(_) => {
+                leave(&mut self.stage);
+                return Err(Fault::NoMemory);
+            }
+        };
         self.given += 1;
-        let prefix = self.trail.way.prefix(alloc)?;
         Ok(Some(Case { prefix, end }))
     }
 
@@ -306,7 +315,7 @@ impl<T: CaseTree> Explorer<T> {
     ///
     /// # Errors
     ///
-    /// - `Over`, with `At`, only where the comparison of the case, which is the prefix, is over its budget there.
+    /// - `Over`, with `At`, only where the case, which is the prefix, can't be compared.
     /// - `NoMemory`: memory ran out.
     ///
     /// After an error no case is given any more.
@@ -323,6 +332,7 @@ impl<T: CaseTree> Explorer<T> {
             → e ≡ faults.Over (halts.At prefix place)
             → (self.old.at ≡ At prefix) × T.is_comparison_over self.old.tree prefix place) }
         ensures full { IfErr result (λ e. e ≢ faults.Over halts.Full) }
+        ensures err { OnErr result (self.new.at ≡ Behind) }
     {
         match compare_at(alloc, &self.tree, &mut self.stage, book) {
             Ok(found) => Ok(found),

@@ -5,7 +5,7 @@ ghost use Rattle.mw_explore.specs.declared.fault.Fault.TheVariants.{NoMemory as 
 use mw_base::NoMemory;
 use std::alloc::{AllocError, AllocFailed};
 
-/// Why something isn't made within a budget.
+/// Why something isn't made.
 #[derive(Debug, Drop)]
 pub enum Fault<P> {
     /// This is over its budget.

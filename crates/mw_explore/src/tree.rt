@@ -6,7 +6,8 @@ ghost use Rattle.mw_term.specs.declared.decided.DecidedKind.{DecidedKind as Kind
 ghost use Rattle.mw_cycle.specs.Decided.{decided};
 ghost use Rattle.mw_symmem.specs.declared.turn.Turn.TheVariants as turns;
 ghost use Rattle.mw_explore.specs.declared.fault.Fault.TheVariants as faults;
-ghost use Rattle.mw_explore.specs.Cases.{AreInOrder, IsChosen, Leads};
+ghost use Rattle.mw_explore.specs.Cases.{AreInOrder, Leads};
+ghost use Rattle.mw_explore.specs.KeptBits.{IsChosen};
 
 use crate::fault::Fault;
 use mw_base::NoMemory;
@@ -24,7 +25,8 @@ pub struct Choice<W> {
 }
 
 /// What has cases that are told apart by their decided bits, as the starts at a boundary have, and how a course goes
-/// through one. All courses share what was made; one that waits is kept without that.
+/// through one. What courses have made, as a table of terms and diagrams, goes from each to the next; a course that waits
+/// is kept without it. A tree whose courses make no terms has no use for the book of shortcuts.
 pub trait CaseTree: Drop {
     /// What goes through a case.
     type Course: Drop;
@@ -38,7 +40,7 @@ pub trait CaseTree: Drop {
     /// What is found where a case is compared.
     type Found: Drop;
 
-    /// Where something is over its budget.
+    /// Where a course can't go on, or a case can't be compared.
     type Place: Drop;
 
     /// The bits are those of a case.
@@ -47,10 +49,10 @@ pub trait CaseTree: Drop {
     /// A course has come along these bits, and waits for none.
     ghost has_come: { Self → Self.Course → (bits : List Decided) → Type 0 };
 
-    /// It waits for a bit of this kind behind them, which this term has.
+    /// A course waits for a bit of this kind behind them, whose value this term has.
     ghost asks: { Self → Self.Course → (bits : List Decided) → Kind → (term : ℕ) → Type 0 };
 
-    /// It has met all bits of a case, which these are.
+    /// A course has met all bits of a case, which these are.
     ghost has_gone: { Self → Self.Course → (bits : List Decided) → Type 0 };
 
     /// One that waits has come along these bits, over what a course shares.
@@ -59,13 +61,13 @@ pub trait CaseTree: Drop {
     /// This is so of the case.
     ghost ends: { Self → (bits : List Decided) → Self.End → Type 0 };
 
-    /// The decision behind these bits is over its budget there.
+    /// A course can't go on behind these bits: something is over its budget there, or isn't known.
     ghost is_over: { Self → (bits : List Decided) → Self.Place → Type 0 };
 
     /// This is found, or nothing is, where the case is compared.
     ghost is_found: { Self → (bits : List Decided) → Option Self.Found → Type 0 };
 
-    /// The comparison of the case is over its budget there.
+    /// The case can't be compared: something is over its budget there, or isn't known.
     ghost is_comparison_over: { Self → (bits : List Decided) → Self.Place → Type 0 };
 
     /// A law for the proof: there is a case, and of two cases one comes before the other.
@@ -101,7 +103,7 @@ pub trait CaseTree: Drop {
     ///
     /// # Errors
     ///
-    /// The decision is over its budget, or memory ran out.
+    /// The course can't go on there, or memory ran out.
     fn decide(
         &self,
         alloc: Global,
@@ -122,7 +124,8 @@ pub trait CaseTree: Drop {
         ensures waiting { OnOk result ((w : Self.Waiting) (bits : List Decided)
             → is_waiting self.now course.old w bits → is_waiting self.now course.new w bits) }
         ensures over { IfErr result (λ fault. (place : Self.Place) → fault ≡ faults.Over place
-            → (bits : List Decided) → asks self.now course.old bits kind term → is_over self.now bits place) };
+            → (bits : List Decided) → asks self.now course.old bits kind term → Leads (is_case self.now) bits
+            → is_over self.now bits place) };
 
     /// What is said of the case that was gone through.
     fn end(&self, course: &Self::Course) -> Self::End
@@ -135,11 +138,12 @@ pub trait CaseTree: Drop {
         ensures waiting { (w : Self.Waiting) (bits : List Decided)
             → is_waiting self.now made w bits → is_waiting self.now result w bits };
 
-    /// Compares the case that was gone through; the course is as it was.
+    /// Compares the case that was gone through. The course has gone through it still, and those that wait still do;
+    /// what all share may have grown.
     ///
     /// # Errors
     ///
-    /// The comparison is over its budget, or memory ran out.
+    /// The comparison can't be made, or memory ran out.
     fn compare(
         &self,
         alloc: Global,

@@ -1,14 +1,10 @@
 -- A bit that a course takes.
-use Rattle.std.proofs.Common.{◌≡◌, ℕ, ◌+◌, ◌≤◌, ◌++◌, ◌∷◌, List, [], ap, subst, sym, arith}
-use Rattle.std.specs.Prelude.{Bool, true, false, Option, Some, None}
+use Rattle.std.proofs.Common.{◌≡◌, ℕ, ◌++◌, ◌∷◌, List, [], ap, subst, sym, arith}
+use Rattle.std.specs.Prelude.{Bool, Option, Some, None}
 use Rattle.mw_term.specs.declared.decided.Decided.{Decided}
-use Rattle.mw_base.specs.Words.{num}
-use Rattle.mw_cycle.specs.declared.microword.Microword.{Microword}
-use Rattle.mw_cycle.specs.Decided.{decided, decides_counter, decides_pass}
+use Rattle.mw_cycle.specs.Decided.{decided}
 use Rattle.mw_term.specs.declared.decided.DecidedKind.{DecidedKind}
 use Rattle.mw_symmem.specs.Memory.{IsOfWidth}
-use Rattle.mw_symboard.specs.Cycle.{bits_before}
-use Rattle.mw_symboard.specs.Seen.{microword_of}
 use Rattle.mw_symboard.specs.Turns as board
 use Rattle.mw_symboard.specs.Turns.{Symbolic, decided_so}
 use Rattle.mw_symmach.specs.Along.{BitsGoAlong}
@@ -17,7 +13,7 @@ use Rattle.mw_rel.specs.Job.{Job}
 use Rattle.mw_fork.specs.declared.paths.Paths.{Paths}
 use Rattle.mw_fork.specs.declared.run.Run.{Run}
 use Rattle.mw_fork.specs.CasePaths.{IsNextOfCase}
-use Rattle.mw_fork.specs.Courses.{IsGiven, IsOnCourse, IsReady, MayBeGiven, Waits, WaitsOnCourse}
+use Rattle.mw_fork.specs.Courses.{IsGiven, IsOnCourse, IsReady, Waits, WaitsOnCourse}
 use Rattle.mw_fork.specs.Listed.{AsksFor}
 use Rattle.mw_fork.specs.OnWay.{HasDecided, IsOnRun, IsOnStep, IsOnWay, ground_in, path_in}
 use Rattle.mw_fork.proofs.OnRun.{next_of_case, on_decided}
@@ -32,22 +28,6 @@ pub waits_wide : (job : Job) (number : ℕ) (run : Run) (step : Option Stepping)
     → Waits job number run step kind term → IsOfWidth run.space.terms 1 term
 waits_wide job number run None kind term waits = waits.2.wide
 waits_wide job number run (Some o) kind term waits = waits.1.wide
-
--- so many bits stand before those of an address at most
-few_before : (microword : Microword) → bits_before microword ≤ 2
-few_before microword = few (decides_pass microword) (decides_counter microword)
-  where
-    few : (a b : Bool) → num a + num b ≤ 2
-    few true true = omega arith
-    few true false = omega arith
-    few false true = omega arith
-    few false false = omega arith
-
--- it may be given
-pub may_be_given : (job : Job) (number : ℕ) (run : Run) (step : Option Stepping) (kind : DecidedKind) (term : ℕ)
-    → Waits job number run step kind term → MayBeGiven run.board step
-may_be_given job number run None kind term waits = ((kind, waits.2.asked), omega (arith, waits.2.few, few_before (microword_of job.board job.store run.board.place)))
-may_be_given job number run (Some o) kind term waits = waits.1.asked
 
 -- it is the next bit of the cases on the path, and the word list asks for it
 pub record IsNextOn (job : Job) (number : ℕ) (elements : List ℕ) (bits : List Decided) (run : Run)

@@ -1,9 +1,6 @@
 -- Decided bits that are within a budget of nodes.
-use Rattle.std.proofs.Common.{◌≡◌, ◌⊎◌, inl, inr, ℕ, List, [], ◌∷◌, ◌++◌, ap, ap₂, append_assoc, subst, sym, refl, ◌∙◌}
-use Rattle.std.specs.Prelude.{Bool, Some, true}
-use Rattle.std.proofs.lemmas.List.{map-append}
+use Rattle.std.proofs.Common.{◌≡◌, ◌⊎◌, inl, inr, ℕ, List, [], ◌∷◌, ◌++◌, ap, ap₂, subst, refl}
 use Rattle.mw_term.specs.declared.decided.Decided.{Decided}
-use Rattle.mw_cycle.specs.Decided.{decided}
 use Rattle.mw_rel.specs.Job.{Job}
 use Rattle.mw_fork.specs.Within.{AreDecidedWithin, IsDecidedWithin}
 use Rattle.mw_explore.proofs.Ordering.{no_item}
@@ -43,21 +40,3 @@ within_more job number nodes bits k are is before other rest same =
           (subst (λ front. IsDecidedWithin job number nodes front k) h.0 is)
       | inr h ↦ are before other h.0 h.1
     ]
-
--- a bit is within a budget with either value
-pub within_either : (job : Job) (number nodes : ℕ) (before : List Decided) (k : Decided) (value : Bool)
-    → IsDecidedWithin job number nodes before k → IsDecidedWithin job number nodes before (decided k.kind value)
-within_either job number nodes before k value is = record {
-  listed = record {
-    basis = is.listed.basis;
-    stands = is.listed.stands;
-    path = is.listed.path;
-    written = is.listed.written;
-    cases = is.listed.cases;
-    term = is.listed.term;
-    asks = is.listed.asks;
-    wide = is.listed.wide;
-    next = is.listed.next;
-  };
-  within = is.within;
-}

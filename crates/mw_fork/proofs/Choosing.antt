@@ -1,8 +1,7 @@
 -- Which values of the next bit a run may choose, and what it keeps of its choice.
 use Rattle.std.proofs.Common.{◌≡◌, ℕ, List, [], ◌∷◌, ◌++◌, length, drop}
-use Rattle.std.proofs.Common.{append_assoc, append-nil, ap, sym, subst, ◌∙◌, refl}
+use Rattle.std.proofs.Common.{ap, sym, subst, ◌∙◌, refl}
 use Rattle.std.specs.Prelude.{Bool, true, false, not, ◌&&◌, ◌==◌, cond, Some}
-use Rattle.std.proofs.lemmas.List.{map-append}
 use Rattle.std.proofs.lemmas.Option.{same_Some}
 use Rattle.mw_term.specs.declared.decided.Decided.{Decided}
 use Rattle.mw_cycle.specs.Decided.{decided}
@@ -22,16 +21,17 @@ use Rattle.mw_symboard.specs.Paths.{IsBy}
 use Rattle.mw_symboard.specs.Seen.{AreFirst}
 use Rattle.mw_symboard.proofs.OnPaths.{splits_are_by}
 use Rattle.mw_symboard.proofs.RunBits.{and_rest, first_before, first_next, first_of}
-use Rattle.mw_explore.specs.Cases.{IsChosen, Leads}
+use Rattle.mw_explore.specs.Cases.{Leads}
+use Rattle.mw_explore.specs.KeptBits.{IsChosen}
 use Rattle.mw_rel.specs.Case.{IsCase, IsFeasiblePrefix, case_of}
 use Rattle.mw_rel.specs.Job.{Job}
-use Rattle.mw_rel.specs.PathWords.{path_of, path_word}
+use Rattle.mw_rel.specs.PathWords.{path_word}
 use Rattle.mw_rel.specs.Start.{Start}
 use Rattle.mw_fork.specs.declared.paths.Feasible.{Feasible}
 use Rattle.mw_fork.specs.CasePaths.{IsCasePath, IsNextOfCase}
 use Rattle.mw_fork.specs.Listed.{AsksFor}
 use Rattle.mw_fork.specs.OnWay.{HasDecided, IsOnWay}
-use Rattle.mw_fork.specs.Starts.{Ground, HaveStarts, IsGround, StandsForStart}
+use Rattle.mw_fork.specs.Starts.{Ground, HaveStarts, StandsForStart}
 use Rattle.mw_fork.proofs.WordPaths.{written_next}
 
 -- ---- paths and prefixes
@@ -108,7 +108,6 @@ pub record IsChoice (job : Job) (number : ℕ) (before : List Decided) (kind : D
   pub no_zero : feasible.zero ≡ false → ¬ IsFeasiblePrefix job number (before ++ decided kind false ∷ [])
   pub no_one : feasible.one ≡ false → ¬ IsFeasiblePrefix job number (before ++ decided kind true ∷ [])
   pub some : IsFeasiblePrefix job number before → feasible.zero ≡ false → feasible.one ≡ true
-  pub kinds : (d : Decided) → IsFeasiblePrefix job number (before ++ d ∷ []) → d.kind ≡ kind
 
 -- two values tell whether the paths by 0 and by 1 are true somewhere
 pub record AreTold (feasible : Feasible) (low high : Function) : Type 0 where
@@ -150,17 +149,12 @@ choice job number g bits path low high kind term feasible starts cases asked by_
           let at = assignment_for job number g bits starts before in
           one_of_two g.table term path low high feasible at.given _ by_low by_high told
           (cases.only at.given at.start at.is at.first) refl none;
-      kinds = λ d before.
-          let at = assignment_for job number g (bits ++ d ∷ []) starts before in
-          let split = first_before bits (case_of job at.start) d at.first in
-          let next = asked at.given at.start at.is (cases.only at.given at.start at.is split.0) in
-          ap (λ (x : Decided). x.kind) (same_Some d (decided kind _) (sym split.1 ∙ next));
     }
 
 -- ---- the first value that is feasible
 
 -- feasible bits are those with which a case begins
-pub leads_by : (job : Job) (number : ℕ) (bits : List Decided) → IsFeasiblePrefix job number bits
+leads_by : (job : Job) (number : ℕ) (bits : List Decided) → IsFeasiblePrefix job number bits
     → Leads (IsCase job number) bits
 leads_by job number bits f =
     record { rest = f.rest; case = record { start = f.start; starts = f.starts; bits_are = f.bits_are } }
@@ -186,18 +180,22 @@ first_chosen : (job : Job) (number : ℕ) (before : List Decided) (kind : Decide
     → IsChoice job number before kind (record { zero = zero; one = one }) → IsFeasiblePrefix job number before
     → IsChosen (IsCase job number) before kind (not zero) (zero && one)
 first_chosen job number before kind true one is feasible = record {
-  leads = leads_by job number _ (is.zero refl);
+  kept = record {
+    feasible = leads_by job number _ (is.zero refl);
+    zero = λ other. refl;
+    turns = λ other. leads_by job number _ (is.one other);
+    only = λ other value leads. is.no_one other (feasible_by job number _ leads);
+  };
   least = λ value. absurd cc;
-  zero = λ other. refl;
-  turns = λ other. leads_by job number _ (is.one other);
-  only = λ other value leads. is.no_one other (feasible_by job number _ leads);
 }
 first_chosen job number before kind false one is feasible = record {
-  leads = leads_by job number _ (is.one (is.some feasible refl));
+  kept = record {
+    feasible = leads_by job number _ (is.one (is.some feasible refl));
+    zero = λ other. absurd cc;
+    turns = λ other. absurd cc;
+    only = λ other value. absurd cc;
+  };
   least = λ value leads. is.no_zero refl (feasible_by job number _ leads);
-  zero = λ other. absurd cc;
-  turns = λ other. absurd cc;
-  only = λ other value. absurd cc;
 }
 
 -- ---- a bit that was decided

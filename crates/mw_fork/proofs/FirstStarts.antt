@@ -1,4 +1,4 @@
--- The first start of a case that was run.
+-- The first start of a case that a course has gone through.
 use Rattle.std.proofs.Common.{◌≡◌, ℕ, List, Bool, true, false, Option, None, Some, ap, subst, sym, ◌∙◌, length, arith}
 use Rattle.std.proofs.lemmas.List.{take_all}
 use Rattle.mw_term.specs.declared.decided.Decided.{Decided}

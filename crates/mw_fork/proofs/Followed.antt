@@ -7,9 +7,7 @@ use Rattle.mw_symmem.specs.declared.turn.Turn.{Turn}
 use Rattle.mw_symmem.specs.declared.turn.Turn.TheVariants.{Ask, Finished}
 use Rattle.mw_rel.specs.Job.{Job}
 use Rattle.mw_fork.specs.declared.course.Course.{Course}
-use Rattle.mw_fork.specs.declared.course.Waiting.{Waiting}
-use Rattle.mw_fork.specs.declared.paths.Paths.{Paths}
-use Rattle.mw_fork.specs.Courses.{HasGone, IsGoing, IsOnCourse, IsTurned, IsTurnedOnCourse, IsWaiting, Waits}
+use Rattle.mw_fork.specs.Courses.{HasGone, IsGoing, IsOnCourse, IsTurned, IsTurnedOnCourse, Waits}
 use Rattle.mw_fork.specs.Courses.{WaitsOnCourse}
 use Rattle.mw_fork.specs.OnWay.{HasMetCase, HavePaths}
 
@@ -26,13 +24,6 @@ asked_on job number bits old new turn kind term is going turned goes = (
   subst (IsTurnedOnCourse job number going.elements bits new.run new.step) is
       (goes going.elements bits going.on),
 )
-
--- one that waits still does
-pub still_waiting : (job : Job) (number : ℕ) (old new : Course) (w : Waiting) (bits : List Decided)
-    → new.run.paths ≡ old.run.paths → IsWaiting job number old.run.paths bits w
-    → IsWaiting job number new.run.paths bits w
-still_waiting job number old new w bits same waits =
-    subst (λ (paths : Paths). IsWaiting job number paths bits w) (sym same) waits
 
 -- it has ended after a turn
 pub gone : (job : Job) (number : ℕ) (bits : List Decided) (old new : Course) (turn : Turn) → turn ≡ Finished

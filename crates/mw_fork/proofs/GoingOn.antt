@@ -9,10 +9,9 @@ use Rattle.mw_expr.specs.Tree.{Tree, element, constant, complement, pair, choice
 use Rattle.mw_expr.specs.Tree.{none, more}
 use Rattle.mw_expr.specs.Values.{bits}
 use Rattle.mw_macro.specs.ExpressionWords.{beside_words, expression_words, join_words, sign_words, words_of_parts}
-use Rattle.mw_rel.specs.ComparisonWords.{Compared, Comparison, Sides, Subject, all_compared, compared_in, event}
+use Rattle.mw_rel.specs.ComparisonWords.{Compared, Comparison, Sides, Subject, compared_in, event}
 use Rattle.mw_rel.specs.ComparisonWords.{with_comparison, with_events, with_line, with_lines, with_memory}
 use Rattle.mw_rel.specs.Lines.{Line}
-use Rattle.mw_rel.specs.Relation.{Boundary}
 use Rattle.mw_term.specs.declared.event.SymEvent.{SymEvent}
 use Rattle.mw_term.specs.declared.event.SymEvent.TheVariants.{Out, Taken}
 use Rattle.mw_term.specs.declared.kinds.WordKind.{WordKind}
@@ -290,13 +289,3 @@ memory_goes_on s sides so_far =
     (front_read s.word address.term sides.board_writes address.list)
     (front_read s.word address.term sides.machine_writes board.list))))
     (comparison_goes_on _ board.term machine.term listed)
-
--- all of them, from none
-pub all_go_on : (s : Shape) (boundary : Boundary) (sides : Sides) (l : WordList)
-    → GoesOnAs (compared_in l []) (all_compared s boundary sides l)
-all_go_on s boundary sides l =
-    let events = with_events 0 sides.board_events sides.machine_events (compared_in l []) in
-    let lines = with_lines s sides boundary.lines events in
-    goes_then (compared_in l []) events _
-    (events_go_on 0 sides.board_events sides.machine_events (compared_in l []))
-    (goes_then events lines _ (lines_go_on s sides boundary.lines events) (memory_goes_on s sides lines))

@@ -37,7 +37,6 @@ use Rattle.mw_fork.specs.Listed.{AsksFor}
 use Rattle.mw_fork.specs.OnWay.{IsOnWay}
 use Rattle.mw_fork.specs.Starts.{Ground, HaveStarts}
 use Rattle.mw_fork.specs.Stops.{StopsBy}
-use Rattle.mw_fork.proofs.Choosing.{none_feasible}
 use Rattle.mw_fork.proofs.GoingOn.{front_itself}
 use Rattle.mw_fork.proofs.WordPaths.{word_same}
 

@@ -114,9 +114,6 @@ pub record HasFilled (series : Series) (at : ℕ) (old new : Environment) : Type
   pub ends : (other : Series) → EndsWell (values_of old other)
       → EndsWell (values_of new other) ⊎ ((other ≡ series) × (length (values_of new series) ≤ at + 1))
 
-pub none_filled : (series : Series) (at : ℕ) (env : Environment) → HasFilled series at env env
-none_filled series at env = record { values = λ other n. refl; ends = λ other well. inl well }
-
 one_behind : (series other : Series) (env : Environment) (n : ℕ)
     → slice_index (values_of (with_values series (0 ∷ []) env) other) n ≡ slice_index (values_of env other) n
 one_behind series other env n = elim (same_or_other other series) [

@@ -1,8 +1,8 @@
 -- Both sides of a case where they have ended: what the start's run and step come to has the values of their terms.
-use Rattle.std.proofs.Common.{◌≡◌, ℕ, zero, suc, ◌+◌, ◌<◌, List, [], ◌∷◌, ◌++◌, length, map, take, append_assoc, Bool}
+use Rattle.std.proofs.Common.{◌≡◌, ℕ, zero, suc, ◌+◌, ◌<◌, List, [], ◌∷◌, ◌++◌, length, map, take, Bool}
 use Rattle.std.proofs.Common.{true, false, Some, None, refl, ap, ap₂, sym, subst, ◌∙◌, arith}
-use Rattle.std.specs.Prelude.{slice_index, if◌then◌else◌}
-use Rattle.std.proofs.lemmas.List.{map-append, take-map, take_more}
+use Rattle.std.specs.Prelude.{if◌then◌else◌}
+use Rattle.std.proofs.lemmas.List.{map-append, take-map}
 use Rattle.mw_base.specs.declared.event.Event.{Event}
 use Rattle.mw_board.specs.declared.parts.BoardParts.{BoardParts}
 use Rattle.mw_board.specs.Elements.{element_count}
@@ -200,12 +200,3 @@ pushed_next f terms next term count so_far pushed is =
     let more : suc count ≡ count + 1 = omega arith in
     pushed ∙ ap₂ (λ (xs : List ℕ) (x : ℕ). xs ++ x ∷ []) so_far (is ∙ ap f (omega arith)) ∙ sym (mapped_more f 0 count)
     ∙ ap (λ n. map f (numbers 0 n)) more
-
--- the same of the first of some terms behind others
-pub pushed_taken : (own values terms next : List ℕ) (term count : ℕ) → terms ≡ own ++ take count values
-    → next ≡ terms ++ term ∷ [] → term ≡ slice_index values count → count < length values
-    → next ≡ own ++ take (count + 1) values
-pushed_taken own values terms next term count so_far pushed is below =
-    pushed ∙ ap₂ (λ (xs : List ℕ) (x : ℕ). xs ++ x ∷ []) so_far is
-    ∙ append_assoc own (take count values) (slice_index values count ∷ [])
-    ∙ ap (λ (xs : List ℕ). own ++ xs) (sym (take_more values count 0 below))

@@ -1,4 +1,4 @@
--- From a run that has met all bits of a case to what is said of cases.
+-- From a course that has met all bits of a case to what is said of cases.
 use Rattle.std.proofs.Common.{◌≡◌, ℕ, ◌<◌, ◌≤◌, List, [], length, true, refl, sym, ap, ◌∙◌, subst, arith}
 use Rattle.std.specs.Prelude.{Bool, Option, None}
 use Rattle.std.proofs.lemmas.List.{take_all}

@@ -1,4 +1,4 @@
--- A run on its way through a case.
+-- A course on its way through a case.
 use Rattle.std.specs.Prelude.{◌≡◌, ℕ, ◌<◌, ◌++◌, ◌∷◌, List, [], map, Bool, true, false, Option, None, slice_index_or}
 use Rattle.mw_term.specs.declared.decided.Decided.{Decided}
 use Rattle.mw_cycle.specs.Decided.{decided}
@@ -54,7 +54,7 @@ IsRunOf job run = IsUnder job run.space.terms run.space.words run.space.memory r
 abbrev pub HavePaths : Space → Paths → Type 0
 HavePaths space paths = ArePaths space.terms paths.dds paths.shared paths.places paths.path
 
--- A run from a boundary is on its way through a case: its path is that of the bits that it has met, and that of the word
+-- A course from a boundary is on its way through a case: its path is that of the bits that it has met, and that of the word
 -- list; and a case begins with them.
 pub record IsOnWay (job : Job) (number : ℕ) (g : Ground) (bits : List Decided) (path : Function) : Type 0 where
   pub stands : IsGround job number g
@@ -62,7 +62,7 @@ pub record IsOnWay (job : Job) (number : ℕ) (g : Ground) (bits : List Decided)
   pub cases : IsCasePath job number g bits path
   pub feasible : IsFeasiblePrefix job number bits
 
--- A bit was decided: the run is on its way with one more, along the path by it.
+-- A bit was decided: the course is on its way with one more, along the path by it.
 pub record HasDecided (job : Job) (number : ℕ) (g : Ground) (bits : List Decided) (path next : Function)
     (kind : DecidedKind) (term : ℕ) (value : Bool) : Type 0 where
   pub on : IsOnWay job number g (bits ++ decided kind value ∷ []) next

@@ -52,7 +52,7 @@ pub record IsWaitingAt (s : Starts) (made : Course) (w : Waiting) (bits : List D
   pub within : AreWithin s bits
 
 -- each start with the case ends so
-pub record EndsSo (s : Starts) (bits : List Decided) (end : Ended) : Type 0 where
+pub record IsEndAt (s : Starts) (bits : List Decided) (end : Ended) : Type 0 where
   pub each : EndsEach (job_of s.job.now) s.boundary bits end.cycles end.late
   pub within : AreWithin s bits
 

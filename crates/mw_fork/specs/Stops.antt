@@ -1,4 +1,4 @@
--- Why a run has stopped.
+-- Why a course has stopped.
 use Rattle.std.specs.Prelude.{ℕ, IsSome, List}
 use Rattle.mw_term.specs.declared.decided.Decided.{Decided}
 use Rattle.mw_rel.specs.CaseWords.{case_words}

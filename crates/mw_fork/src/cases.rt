@@ -4,7 +4,7 @@ ghost use Rattle.std.specs.Option.{is_some};
 ghost use Rattle.mw_term.specs.declared.decided.Decided.{Decided};
 ghost use Rattle.mw_rel.specs.Views.{job_of};
 ghost use Rattle.mw_fork.specs.Courses.{IsOther, MayBeGiven};
-ghost use Rattle.mw_fork.specs.StartCases.{Asks, EndsSo, HasCome, HasGoneThrough, IsCaseAt, IsComparisonOverAt};
+ghost use Rattle.mw_fork.specs.StartCases.{Asks, IsEndAt, HasCome, HasGoneThrough, IsCaseAt, IsComparisonOverAt};
 ghost use Rattle.mw_fork.specs.StartCases.{IsFoundAt, IsOverAt, IsWaitingAt};
 
 use crate::course::{Course, Waiting};
@@ -54,7 +54,7 @@ impl<'a> CaseTree for Starts<'a> {
 
     ghost is_waiting = { IsWaitingAt };
 
-    ghost ends = { EndsSo };
+    ghost ends = { IsEndAt };
 
     ghost is_over = { IsOverAt };
 

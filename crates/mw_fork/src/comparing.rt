@@ -463,7 +463,7 @@ fn compare_sides(
     Ok(found)
 }
 
-/// The first assignment of those that are sought in a case that was run, if there is one.
+/// The first assignment of those that are sought in a case that a course has gone through, if there is one.
 pub(crate) fn first_failing(
     alloc: Global,
     job: &Job,

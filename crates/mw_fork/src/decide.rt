@@ -3,7 +3,7 @@ ghost use Rattle.std.specs.Prelude.{◌≡◌, ◌&&◌, ◌++◌, ◌∷◌, []
 ghost use Rattle.std.specs.Option.{is_some, unwrap_or};
 ghost use Rattle.mw_blast.specs.declared.fault.BlastFault.TheVariants as faults;
 ghost use Rattle.mw_dd.specs.Nodes.{IsDd, function_of};
-ghost use Rattle.mw_explore.specs.Cases.{IsChosen};
+ghost use Rattle.mw_explore.specs.KeptBits.{IsChosen};
 ghost use Rattle.mw_explore.specs.declared.fault.Fault.TheVariants as stops;
 ghost use Rattle.mw_cycle.specs.Decided.{decided};
 ghost use Rattle.mw_term.specs.declared.decided.Decided.{Decided};
@@ -23,6 +23,7 @@ use crate::fault::{Place, RunStop};
 use crate::paths::{Feasible, Paths};
 use mw_blast::{BlastFault, over_have_numbers};
 use mw_dd::Dd;
+use mw_explore::Choice;
 use mw_macro::words_are_numbered;
 use mw_rel::words_of_cases_are_numbered;
 use mw_symboard::words_of_cycles_are_numbered;
@@ -40,7 +41,7 @@ fn operation_number(words: &Words, term: Term) -> u64
     }
 }
 
-/// Why a run stops, by the fault of a term.
+/// Why a course stops, by the fault of a term.
 pub(crate) fn stop_of(words: &Words, fault: BlastFault) -> RunStop
     ensures over { (term j : ℕ) → fault ≡ faults.Over term j
         → result ≡ stops.Over (record { word = unwrap_or (word_number words.now term) (length words.now); bit = j }) }
@@ -55,15 +56,6 @@ pub(crate) fn stop_of(words: &Words, fault: BlastFault) -> RunStop
     }
 }
 
-/// What a bit was decided to be, on the path.
-#[derive(Clone, Copy)]
-pub(crate) struct Decision {
-    /// Its value on the path that is gone on: the first that is feasible.
-    pub value: bool,
-    /// The path on which it is 1, where it is gone on with 0 and 1 is feasible too.
-    pub other: Option<Dd>,
-}
-
 /// The path on which a bit is 1, where both values are feasible.
 fn other_path(feasible: Feasible, one: Dd) -> Option<Dd>
     ensures some { IfSome result (λ path. (path ≡ one) × (feasible.zero ≡ true) × (feasible.one ≡ true)) }
@@ -76,7 +68,8 @@ fn other_path(feasible: Feasible, one: Dd) -> Option<Dd>
     }
 }
 
-/// Decides a bit: its value is the first that is feasible.
+/// Decides a bit: its value is the first that is feasible, and the path is gone on by it; the other is the path on which
+/// it is 1, where both are.
 pub(crate) fn decide(
     alloc: Global,
     space: &Space,
@@ -85,23 +78,23 @@ pub(crate) fn decide(
     term: Term,
     nodes: u32,
     book: &ShortcutBook,
-) -> Result<Decision, RunStop>
+) -> Result<Choice<Dd>, RunStop>
     requires wide { IsOfWidth space.now.terms 1 term }
     requires paths { HavePaths space.now paths.old }
     ensures paths { OnOk result (HavePaths space.now paths.new) }
     ensures grown { OnOk result (HaveGrown paths.old paths.new) }
-    ensures there { IfOk result (λ decision. IfSome decision.other (IsDd paths.new.dds)) }
-    ensures chosen { IfOk result (λ decision. (job : Job) (number : ℕ) (elements : List ℕ) (bits : List Decided)
+    ensures there { IfOk result (λ choice. IfSome choice.other (IsDd paths.new.dds)) }
+    ensures chosen { IfOk result (λ choice. (job : Job) (number : ℕ) (elements : List ℕ) (bits : List Decided)
         → IsJob job → IsOnWay job number (ground_in space.now elements) bits (path_in paths.old)
         → IsNextOfCase job number (ground_in space.now elements) bits (path_in paths.old) kind term
-        → IsChosen (IsCase job number) bits kind decision.value (is_some decision.other)) }
-    ensures goes { IfOk result (λ decision. (job : Job) (number : ℕ) (elements : List ℕ) (bits : List Decided)
+        → IsChosen (IsCase job number) bits kind choice.value (is_some choice.other)) }
+    ensures goes { IfOk result (λ choice. (job : Job) (number : ℕ) (elements : List ℕ) (bits : List Decided)
         → IsJob job → IsOnWay job number (ground_in space.now elements) bits (path_in paths.old)
         → IsNextOfCase job number (ground_in space.now elements) bits (path_in paths.old) kind term
         → AsksFor job number bits (ground_in space.now elements) term
         → HasDecided job number (ground_in space.now elements) bits (path_in paths.old) (path_in paths.new)
-        kind term decision.value) }
-    ensures turns { IfOk result (λ decision. IfSome decision.other (λ path.
+        kind term choice.value) }
+    ensures turns { IfOk result (λ choice. IfSome choice.other (λ path.
         (job : Job) (number : ℕ) (elements : List ℕ) (bits : List Decided)
         → IsJob job → IsOnWay job number (ground_in space.now elements) bits (path_in paths.old)
         → IsNextOfCase job number (ground_in space.now elements) bits (path_in paths.old) kind term
@@ -132,7 +125,7 @@ pub(crate) fn decide(
     let feasible = paths.feasible(&split);
     let value = !feasible.zero;
     paths.go(&split, value);
-    Ok(Decision {
+    Ok(Choice {
         value,
         other: other_path(feasible, split.one),
     })

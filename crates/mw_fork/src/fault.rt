@@ -28,7 +28,7 @@ pub enum Over {
 /// Why no further case is found.
 pub type ForkFault = Fault<Over>;
 
-/// Where an operation of a run is over the budget.
+/// Where an operation of a course is over the budget.
 #[derive(Clone, Copy, Debug, PartialEq, Eq, Drop)]
 pub(crate) struct Place {
     /// The number of its word.
@@ -37,5 +37,5 @@ pub(crate) struct Place {
     pub bit: u8,
 }
 
-/// Why a run doesn't come to its end.
+/// Why a course doesn't come to its end.
 pub(crate) type RunStop = Fault<Place>;

@@ -1,4 +1,4 @@
-// The starts of a case that was run: the first of all, and the first that differs.
+// The starts of a case that a course has gone through: the first of all, and the first that differs.
 ghost use Rattle.std.specs.Prelude.{◌≡◌, ℕ, List, Option, IfErr, IfOk, OnOk};
 ghost use Rattle.mw_term.specs.declared.decided.Decided.{Decided};
 ghost use Rattle.mw_rel.specs.Views.{job_of};
@@ -17,7 +17,7 @@ use mw_rel::{Begin, Job};
 use mw_term::{Places, ShortcutBook, stands_with_more};
 use std::alloc::Global;
 
-/// The first start of a case that was run: what the first assignment gives under which its path holds.
+/// The first start of a case that a course has gone through: what the first assignment gives under which its path holds.
 pub(crate) fn first_start(
     alloc: Global,
     job: &Job,
@@ -76,8 +76,8 @@ fn restore(course: &mut Course, space: Space, places: Places)
     course.run.paths.places = places;
 }
 
-/// The same, with which the course has gone through the case as it had: what is written for a comparison is no word of
-/// the case.
+/// A start of the case that differs, if there is one. The course has gone through the case as before: what is written for
+/// a comparison is no word of the case.
 pub(crate) fn differing(
     alloc: Global,
     job: &Job,

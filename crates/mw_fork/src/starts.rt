@@ -4,8 +4,8 @@ ghost use Rattle.mw_rel.specs.Views.{job_of};
 
 use mw_rel::Job;
 
-/// The starts of a job at the boundary of this number, from 0, whose cases are told apart with operations of so many
-/// joint cofactors.
+/// The starts of a job at the boundary of this number, from 0, and how many joint cofactors an operation of their cases
+/// may have.
 #[derive(Drop)]
 pub(crate) struct Starts<'a> {
     /// The job.

@@ -12,4 +12,5 @@ returns-in_err-follow-clause-over g c =
       subst (λ (from : List Kept). IsWayFrom (g.T.CaseTree.is_case c.args.tree.now) from c.follow.new.trail.way)
           c.next_course.ensures.way over.0,
       over.1,
+      over.2,
     ))

@@ -1,5 +1,6 @@
 use Rattle.std.proofs.Common.{sym, subst, List}
 use Rattle.std.proofs.lemmas.Option.{IfSome_then}
+use Rattle.std.proofs.lemmas.Result.{err_from_is_err_and}
 use Rattle.mw_explore.specs.declared.way.Kept.{Kept}
 use Rattle.mw_explore.specs.Explorers.{Stands}
 use Rattle.mw_explore.specs.KeptBits.{IsWayFrom}
@@ -53,3 +54,13 @@ returns-clause-gone g c =
 pub returns-clause-case : goal.returns-clause-case
 returns-clause-case g c =
     c.in_ok-kind.ensures.case c.in_default.is (bits_of c.loop-kind.trail.way) c.loop-kind.invariant.stands.has
+
+pub returns-in_err-choice-clause-over : goal.returns-in_err-choice-clause-over
+returns-in_err-choice-clause-over g c =
+    let inv = c.loop-kind.invariant in
+    let way = c.loop-kind.trail.way in
+    let asks = c.in_ok-kind.ensures.asks c.in-Ask.kind c.in-Ask.term c.in-Ask.is (bits_of way) inv.stands.has in
+    let leads = way_leads (g.T.CaseTree.is_case c.args.tree.now) way c.are_in_order.ensures.some inv.stands.kept in
+    let p = err_from_is_err_and c.from_residual-in_err-choice.result c.from_residual-in_err-choice.ensures.1 in
+    rw (p.1, p.2)
+    (λ place same. (inv.from, c.in_err-choice.ensures.over place same (bits_of way) asks leads, leads))

@@ -1,5 +1,5 @@
 use Rattle.std.proofs.Common.{◌∙◌, arith, sym}
-use Rattle.mw_explore.proofs.Advancing.{begins_first, last_waits, not_behind, one_waits}
+use Rattle.mw_explore.proofs.Advancing.{begins_first, last_waits, one_waits}
 use Rattle.mw_explore.proofs.Taking.{all_wait_on}
 use Rattle.mw_explore.proofs.explorer.next_course.Goals as goal
 

@@ -1,11 +1,11 @@
-use Rattle.std.proofs.Common.{◌≡◌, ℕ, [], ◌∷◌, ◌++◌, List, ap, sym, subst, ◌∙◌}
-use Rattle.std.specs.Prelude.{Bool, Option, Some, None, IfSome, cond, true, not, ◌&&◌}
+use Rattle.std.proofs.Common.{◌≡◌, ℕ, List, ap, sym, subst, ◌∙◌}
+use Rattle.std.specs.Prelude.{Option, Some, None, IfSome, cond, true, not}
 use Rattle.mw_dd.specs.declared.nodes.Node.{Node}
 use Rattle.mw_dd.specs.Nodes.{function_of}
 use Rattle.mw_term.specs.declared.decided.Decided.{Decided}
 use Rattle.mw_term.specs.Functions.{Function}
 use Rattle.mw_cycle.specs.Decided.{decided}
-use Rattle.mw_explore.specs.Cases.{IsChosen}
+use Rattle.mw_explore.specs.KeptBits.{IsChosen}
 use Rattle.mw_rel.specs.Case.{IsCase}
 use Rattle.mw_rel.specs.CaseWords.{bit_values}
 use Rattle.mw_rel.specs.Job.{IsJob, Job}
@@ -13,7 +13,7 @@ use Rattle.mw_fork.specs.CasePaths.{IsNextOfCase}
 use Rattle.mw_fork.specs.Listed.{AsksFor}
 use Rattle.mw_fork.specs.OnWay.{HasDecided, IsOnWay, ground_in, path_in}
 use Rattle.mw_fork.proofs.Budgets.{within_more}
-use Rattle.mw_fork.proofs.Choosing.{AreTold, IsChoice, free_at, has_decided, has_turned, is_chosen}
+use Rattle.mw_fork.proofs.Choosing.{IsChoice, free_at, has_decided, has_turned, is_chosen}
 use Rattle.mw_fork.proofs.Grounds.{have_starts}
 use Rattle.mw_fork.proofs.Numbered.{AreNumbered, numbered_case}
 use Rattle.mw_fork.proofs.OverWords.{stops_by}

@@ -3,13 +3,13 @@ use Rattle.std.proofs.lemmas.Result.{err_from_is_err_and}
 use Rattle.mw_term.specs.declared.decided.Decided.{Decided}
 use Rattle.mw_term.specs.declared.decided.DecidedKind.{DecidedKind}
 use Rattle.mw_cycle.specs.Decided.{decided}
-use Rattle.mw_explore.specs.Cases.{IsChosen}
+use Rattle.mw_explore.specs.KeptBits.{IsChosen}
 use Rattle.mw_rel.specs.Views.{job_of}
 use Rattle.mw_fork.specs.declared.course.Course.{Course}
 use Rattle.mw_fork.specs.declared.paths.Paths.{Paths}
 use Rattle.mw_fork.specs.declared.run.Run.{Run}
 use Rattle.mw_fork.specs.declared.starts.Starts.{Starts}
-use Rattle.mw_fork.specs.Courses.{IsGoing, IsOther, IsWaiting}
+use Rattle.mw_fork.specs.Courses.{IsGoing, IsWaiting}
 use Rattle.mw_fork.specs.StartCases.{Asks, IsCaseAt}
 use Rattle.mw_fork.specs.Stops.{StopsBy}
 use Rattle.mw_fork.proofs.BitsGiven.{IsNextOn, given_on, given_ready, next_on, waits_wide}
@@ -105,7 +105,7 @@ returns-in_err-decision-clause-over g c =
     let s = c.args.self.now in
     let job = job_of s.job.now in
     let p = err_from_is_err_and c.from_residual.result c.from_residual.ensures.1 in
-    rw (p.1, p.2) (λ place same bits asks.
+    rw (p.1, p.2) (λ place same bits asks leads.
     let n = next s c.args.course.now bits c.args.kind c.args.term asks in
     subst (StopsBy job s.boundary s.nodes bits) same
     (c.in_err-decision.ensures.over job s.boundary asks.elements bits s.job.now.is_job n.on n.asks))

@@ -1,5 +1,4 @@
 use Rattle.std.proofs.Common.{◌≡◌, ℕ, List, ap, subst, sym, ◌∙◌}
-use Rattle.std.specs.Prelude.{None}
 use Rattle.mw_term.specs.declared.decided.Decided.{Decided}
 use Rattle.mw_explore.specs.Cases.{At}
 use Rattle.mw_rel.specs.Job.{Job}
