@@ -1,5 +1,6 @@
 // The cases of a tree, one after another.
-ghost use Rattle.std.specs.Prelude.{◌≡◌, ◌≢◌, ◌+◌, ◌<◌, ◌≤◌, ℕ, List, [], IfOk, IfErr, IfSome, OnErr, OnOk, None, true, false};
+ghost use Rattle.std.specs.Prelude.{◌≡◌, ◌≢◌, ◌+◌, ◌<◌, ◌≤◌, List, [], None, true, false};
+ghost use Rattle.std.specs.Prelude.{IfOk, IfErr, IfSome, OnErr, OnOk};
 ghost use Rattle.mw_term.specs.declared.decided.Decided.{Decided};
 ghost use Rattle.mw_explore.specs.declared.explorer.Halt.TheVariants as halts;
 ghost use Rattle.mw_explore.specs.declared.fault.Fault.TheVariants as faults;

@@ -1,5 +1,5 @@
-//! The cases of a tree of decided bits, each once and in order. A course goes through the bits of a case; at each bit of
-//! which both values lead to a case another course waits with 1, which begins the next case there.
+//! The cases of a tree of decided bits, each once and in order. A course goes through the bits of a case; at each bit
+//! of which both values lead to a case another course waits with 1, which begins the next case there.
 #![tactic(auto)]
 
 mod explorer;

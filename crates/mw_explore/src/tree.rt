@@ -25,8 +25,8 @@ pub struct Choice<W> {
 }
 
 /// What has cases that are told apart by their decided bits, as the starts at a boundary have, and how a course goes
-/// through one. What courses have made, as a table of terms and diagrams, goes from each to the next; a course that waits
-/// is kept without it. A tree whose courses make no terms has no use for the book of shortcuts.
+/// through one. What courses have made, as a table of terms and diagrams, goes from each to the next; a course that
+/// waits is kept without it. A tree whose courses make no terms has no use for the book of shortcuts.
 pub trait CaseTree: Drop {
     /// What goes through a case.
     type Course: Drop;

@@ -1,8 +1,6 @@
 // How a course goes through a case of the starts at a boundary.
-ghost use Rattle.std.specs.Prelude.{◌≡◌, ℕ, List, Option, None, IfOk, IfSome};
+ghost use Rattle.std.specs.Prelude.{◌≡◌, IfOk, IfSome};
 ghost use Rattle.std.specs.Option.{is_some};
-ghost use Rattle.mw_term.specs.declared.decided.Decided.{Decided};
-ghost use Rattle.mw_rel.specs.Views.{job_of};
 ghost use Rattle.mw_fork.specs.Courses.{IsOther, MayBeGiven};
 ghost use Rattle.mw_fork.specs.StartCases.{Asks, IsEndAt, HasCome, HasGoneThrough, IsCaseAt, IsComparisonOverAt};
 ghost use Rattle.mw_fork.specs.StartCases.{IsFoundAt, IsOverAt, IsWaitingAt};

@@ -68,8 +68,8 @@ fn other_path(feasible: Feasible, one: Dd) -> Option<Dd>
     }
 }
 
-/// Decides a bit: its value is the first that is feasible, and the path is gone on by it; the other is the path on which
-/// it is 1, where both are.
+/// Decides a bit: its value is the first that is feasible, and the path is gone on by it; the other is the path on
+/// which it is 1, where both are.
 pub(crate) fn decide(
     alloc: Global,
     space: &Space,

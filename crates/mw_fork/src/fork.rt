@@ -9,7 +9,6 @@ ghost use Rattle.mw_rel.specs.OverBudget.{AreNodesOver};
 ghost use Rattle.mw_rel.specs.Views.{job_of};
 ghost use Rattle.mw_fork.specs.Begins.{IsDiffering, IsFirstOfCase, IsLeast, IsOfCase};
 ghost use Rattle.mw_fork.specs.declared.fault.Over.TheVariants as overs;
-ghost use Rattle.mw_fork.specs.declared.fault.Place as places;
 ghost use Rattle.mw_fork.specs.Failing.{ComparisonsAreWithin, NoneDiffersOf};
 ghost use Rattle.mw_fork.specs.Forks.{EndsEach, IsForkOf, IsNextCase, NoneIsToCome, OneIsToCome};
 ghost use Rattle.mw_fork.specs.Stops.{IsDecisionOver};
@@ -36,8 +35,8 @@ pub struct Case {
     pub late: bool,
 }
 
-/// The feasible cases of a boundary, which are given one after another. They are explored by courses, which have one table
-/// of terms, with the diagrams of their bits.
+/// The feasible cases of a boundary, which are given one after another. They are explored by courses, which have one
+/// table of terms, with the diagrams of their bits.
 #[derive(Drop)]
 pub struct Fork<'a> {
     cases: Explorer<Starts<'a>>,

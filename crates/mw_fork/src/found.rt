@@ -17,7 +17,8 @@ use mw_rel::{Begin, Job};
 use mw_term::{Places, ShortcutBook, stands_with_more};
 use std::alloc::Global;
 
-/// The first start of a case that a course has gone through: what the first assignment gives under which its path holds.
+/// The first start of a case that a course has gone through: what the first assignment gives under which its path is
+/// true.
 pub(crate) fn first_start(
     alloc: Global,
     job: &Job,
@@ -76,8 +77,8 @@ fn restore(course: &mut Course, space: Space, places: Places)
     course.run.paths.places = places;
 }
 
-/// A start of the case that differs, if there is one. The course has gone through the case as before: what is written for
-/// a comparison is no word of the case.
+/// A start of the case that differs, if there is one. The course has gone through the case as before: what is written
+/// for a comparison is no word of the case.
 pub(crate) fn differing(
     alloc: Global,
     job: &Job,

@@ -1,6 +1,6 @@
 //! The feasible cases of a boundary, exactly, each once and in order, and of each a start that differs, if there is
-//! one. A course goes from all starts of the boundary at once, on terms, and every bit that is decided splits its path in
-//! two; at its end both sides are compared. The order of cases, and the courses that wait, are `mw_explore`'s.
+//! one. A course goes from all starts of the boundary at once, on terms, and every bit that is decided splits its path
+//! in two; at its end both sides are compared. The order of cases, and the courses that wait, are `mw_explore`'s.
 #![tactic(auto)]
 
 mod begin;
