@@ -8,7 +8,7 @@ use std::alloc::{AllocError, AllocFailed};
 /// Why something isn't made.
 #[derive(Debug, Drop)]
 pub enum Fault<P> {
-    /// This is over its budget.
+    /// This is over its budget, or isn't known.
     Over(P),
     /// Memory ran out.
     NoMemory,

@@ -9,6 +9,7 @@ ghost use Rattle.mw_rel.specs.OverBudget.{AreNodesOver};
 ghost use Rattle.mw_rel.specs.Views.{job_of};
 ghost use Rattle.mw_fork.specs.Begins.{IsDiffering, IsFirstOfCase, IsLeast, IsOfCase};
 ghost use Rattle.mw_fork.specs.declared.fault.Over.TheVariants as overs;
+ghost use Rattle.mw_fork.specs.declared.fault.Place as places;
 ghost use Rattle.mw_fork.specs.Failing.{ComparisonsAreWithin, NoneDiffersOf};
 ghost use Rattle.mw_fork.specs.Forks.{EndsEach, IsForkOf, IsNextCase, NoneIsToCome, OneIsToCome};
 ghost use Rattle.mw_fork.specs.Stops.{IsDecisionOver};
@@ -62,6 +63,9 @@ fn fault_of(boundary: usize, limit: u32, fault: Fault<Halt<Place>>) -> ForkFault
         × (fault ≡ faults.Over (halts.At prefix (record { word = word; bit = j }))) }
     ensures paths { (number most : ℕ) → result ≡ faults.Over (overs.Paths number most)
         → (number ≡ boundary) × (most ≡ limit) × (fault ≡ faults.Over halts.Full) }
+    ensures full { fault ≡ faults.Over halts.Full → result ≡ faults.Over (overs.Paths boundary limit) }
+    ensures at { (prefix : List Decided) (place : places.Place) → fault ≡ faults.Over (halts.At prefix place)
+        → result ≡ faults.Over (overs.Nodes boundary prefix place.word place.bit) }
 {
     match fault {
         Fault::Over(Halt::At(prefix, place)) => ForkFault::Over(Over::Nodes {
