@@ -1,6 +1,7 @@
 pub mod From
 pub mod Links
 pub mod Lists
+pub mod Stored
 pub mod Order
 pub mod Unique
 pub mod Values

@@ -1,7 +1,7 @@
 -- Nodes that are looked at, and one that is made.
 use Rattle.std.proofs.Common.{◌≡◌, ◌⊎◌, inl, inr, ℕ, ◌+◌, ◌-◌, ◌<◌, ◌≤◌, List, [], ◌∷◌, ◌++◌, length, arith, refl, ap}
 use Rattle.std.proofs.Common.{◌∙◌, sym, subst}
-use Rattle.std.specs.Prelude.{true, false, if◌then◌else◌, slice_get, Some}
+use Rattle.std.specs.Prelude.{Bool, true, false, if◌then◌else◌, slice_get, Some}
 use Rattle.std.proofs.lemmas.Option.{slice_get_within}
 use Rattle.mw_term.specs.Assigned.{Given}
 use Rattle.mw_term.specs.Cofactors.{Variable, value_of, is_before}
@@ -9,67 +9,99 @@ use Rattle.mw_dd.specs.declared.nodes.Node.{Node}
 use Rattle.mw_dd.specs.declared.nodes.Triple.{Triple}
 use Rattle.mw_dd.specs.Links.{IsAbsent}
 use Rattle.mw_dd.specs.Nodes.{value_at, IsDd, IsFrom, IsInner, IsReduced, after}
-use Rattle.mw_dd.specs.Steps.{HasVariable, IsTop}
+use Rattle.mw_dd.specs.Steps.{HasVariable, IsTop, IsHalf}
 use Rattle.mw_dd.proofs.Lists.{get-push, get-push_new}
 use Rattle.mw_dd.proofs.Order.{not_before_itself, other_after}
 use Rattle.mw_dd.proofs.Values.{value-node, value-high, value-low, value-old, grows-push}
-use Rattle.mw_dd.proofs.From.{one_node, from_node, from-trans, from-grows}
+use Rattle.mw_dd.proofs.From.{one_node, from_constant, from_node, from-trans, from-grows}
 
 -- a node of another variable is from the place after this one
-pub half-from : (nodes : List Node) (x : ℕ) (v : Variable) (n : Node) → 2 ≤ x → slice_get nodes (x - 2) ≡ Some n
+half-from : (nodes : List Node) (x : ℕ) (v : Variable) (n : Node) → 2 ≤ x → slice_get nodes (x - 2) ≡ Some n
     → IsFrom nodes v x → ¬ (n.variable ≡ v) → IsFrom nodes (after v) x
 half-from nodes x v n inner at from differ k m e of =
     let same = one_node nodes (x - 2) k n m (omega (arith, e)) at of in
     other_after m.variable v (from k m e of) (λ alike. differ (subst (λ (y : Node). y.variable ≡ v) (sym same) alike))
 
--- and one of this variable is its branch
-pub half-high : (nodes : List Node) (x : ℕ) (v : Variable) (n : Node) (given : Given) → 2 ≤ x
-    → slice_get nodes (x - 2) ≡ Some n → IsReduced nodes → n.variable ≡ v → value_of v given ≡ true
-    → value_at given nodes n.high ≡ value_at given nodes x
-half-high nodes x v n given inner at r same holds =
-    let i = r.inner (x - 2) n at in
-    let e : x - 2 + 2 ≡ x = omega (arith, inner) in
-    sym (subst (λ (y : ℕ). value_at given nodes y ≡ value_at given nodes n.high) e
-    (value-high given nodes (x - 2) n at i.low i.high (ap (λ (u : Variable). value_of u given) same ∙ holds)))
+-- so it is itself, whatever value this has
+pub half-other : (nodes : List Node) (x : ℕ) (v : Variable) (n : Node) (b : Bool) → IsDd nodes x → 2 ≤ x
+    → slice_get nodes (x - 2) ≡ Some n → IsFrom nodes v x → ¬ (n.variable ≡ v) → IsHalf nodes x v b x
+half-other nodes x v n b there inner at from differ = record {
+  there = there;
+  no_later = omega arith;
+  earlier = λ has.
+      let same = one_node nodes (x - 2) has.0 n has.1 (omega (arith, has.2)) at has.3 in
+      absurd (differ (subst (λ (y : Node). y.variable ≡ v) (sym same) has.4));
+  value = λ given holds. refl;
+  from = half-from nodes x v n inner at from differ;
+}
 
-pub half-low : (nodes : List Node) (x : ℕ) (v : Variable) (n : Node) (given : Given) → 2 ≤ x
-    → slice_get nodes (x - 2) ≡ Some n → IsReduced nodes → n.variable ≡ v → value_of v given ≡ false
-    → value_at given nodes n.low ≡ value_at given nodes x
-half-low nodes x v n given inner at r same holds =
+-- and so is a constant
+pub half-constant : (nodes : List Node) (x : ℕ) (v : Variable) (b : Bool) → IsDd nodes x → x < 2 → IsHalf nodes x v b x
+half-constant nodes x v b there below = record {
+  there = there;
+  no_later = omega arith;
+  earlier = λ has. absurd (omega (arith, has.2, below));
+  value = λ given holds. refl;
+  from = from_constant nodes (after v) x below;
+}
+
+-- a node of this variable is its branch
+pub half-high : (nodes : List Node) (x : ℕ) (v : Variable) (n : Node) → IsDd nodes x → 2 ≤ x
+    → slice_get nodes (x - 2) ≡ Some n → IsReduced nodes → n.variable ≡ v → IsHalf nodes x v true n.high
+half-high nodes x v n there inner at r same =
     let i = r.inner (x - 2) n at in
     let e : x - 2 + 2 ≡ x = omega (arith, inner) in
-    sym (subst (λ (y : ℕ). value_at given nodes y ≡ value_at given nodes n.low) e
-    (value-low given nodes (x - 2) n at i.low i.high (ap (λ (u : Variable). value_of u given) same ∙ holds)))
+    record {
+      there = omega (arith, i.high, there, inner);
+      no_later = omega (arith, i.high, inner);
+      earlier = λ has. omega (arith, i.high, inner);
+      value = λ given holds.
+          sym (subst (λ (y : ℕ). value_at given nodes y ≡ value_at given nodes n.high) e
+          (value-high given nodes (x - 2) n at i.low i.high (ap (λ (u : Variable). value_of u given) same ∙ holds)));
+      from = subst (λ (u : Variable). IsFrom nodes (after u) n.high) same i.high_later;
+    }
+
+pub half-low : (nodes : List Node) (x : ℕ) (v : Variable) (n : Node) → IsDd nodes x → 2 ≤ x
+    → slice_get nodes (x - 2) ≡ Some n → IsReduced nodes → n.variable ≡ v → IsHalf nodes x v false n.low
+half-low nodes x v n there inner at r same =
+    let i = r.inner (x - 2) n at in
+    let e : x - 2 + 2 ≡ x = omega (arith, inner) in
+    record {
+      there = omega (arith, i.low, there, inner);
+      no_later = omega (arith, i.low, inner);
+      earlier = λ has. omega (arith, i.low, inner);
+      value = λ given holds.
+          sym (subst (λ (y : ℕ). value_at given nodes y ≡ value_at given nodes n.low) e
+          (value-low given nodes (x - 2) n at i.low i.high (ap (λ (u : Variable). value_of u given) same ∙ holds)));
+      from = subst (λ (u : Variable). IsFrom nodes (after u) n.low) same i.low_later;
+    }
 
 -- ---- the first variable
 
-has_own : (nodes : List Node) (x : ℕ) (n : Node) → 2 ≤ x → slice_get nodes (x - 2) ≡ Some n
-    → HasVariable nodes x n.variable
-has_own nodes x n inner at = (x - 2, n, omega (arith, inner), at, refl)
+pub from_own : (nodes : List Node) (x : ℕ) (v : Variable) → HasVariable nodes x v → IsFrom nodes v x
+from_own nodes x v has =
+    subst (IsFrom nodes v) (sym has.2)
+    (from_node nodes v has.0 has.1 has.3 (ap (λ (u : Variable). is_before u v) has.4 ∙ not_before_itself v))
 
-one_of : (nodes : List Node) (t : Triple) (n : Node) (v u : Variable) → HasVariable nodes t.f n.variable
-    → (v ≡ n.variable) ⊎ HasVariable nodes t.g v → (u ≡ v) ⊎ HasVariable nodes t.h u
+one_of : (nodes : List Node) (t : Triple) (w v u : Variable) → HasVariable nodes t.f w
+    → (v ≡ w) ⊎ HasVariable nodes t.g v → (u ≡ v) ⊎ HasVariable nodes t.h u
     → HasVariable nodes t.f u ⊎ (HasVariable nodes t.g u ⊎ HasVariable nodes t.h u)
-one_of nodes t n v u own (inl first) (inl second) =
+one_of nodes t w v u own (inl first) (inl second) =
     inl (subst (HasVariable nodes t.f) (sym (second ∙ first)) own)
-one_of nodes t n v u own (inr first) (inl second) = inr (inl (subst (HasVariable nodes t.g) (sym second) first))
-one_of nodes t n v u own first (inr second) = inr (inr second)
+one_of nodes t w v u own (inr first) (inl second) = inr (inl (subst (HasVariable nodes t.g) (sym second) first))
+one_of nodes t w v u own first (inr second) = inr (inr second)
 
-pub top-is : (nodes : List Node) (t : Triple) (n : Node) (v u : Variable) → 2 ≤ t.f → slice_get nodes (t.f - 2) ≡ Some n
-    → (v ≡ n.variable) ⊎ HasVariable nodes t.g v → is_before n.variable v ≡ false → IsFrom nodes v t.g
+pub top-is : (nodes : List Node) (t : Triple) (w v u : Variable) → HasVariable nodes t.f w
+    → (v ≡ w) ⊎ HasVariable nodes t.g v → is_before w v ≡ false → IsFrom nodes v t.g
     → (u ≡ v) ⊎ HasVariable nodes t.h u → is_before v u ≡ false → IsFrom nodes u t.h → IsTop nodes t u
-top-is nodes t n v u inner at first below_first from_first second below_second from_second =
-    let e : t.f - 2 + 2 ≡ t.f = omega (arith, inner) in
-    let own : IsFrom nodes n.variable t.f = subst (IsFrom nodes n.variable) e
-    (from_node nodes n.variable (t.f - 2) n at (not_before_itself n.variable)) in
-    record {
-      one = one_of nodes t n v u (has_own nodes t.f n inner at) first second;
-      from = record {
-        f = from-trans nodes v u t.f (from-trans nodes n.variable v t.f own below_first) below_second;
-        g = from-trans nodes v u t.g from_first below_second;
-        h = from_second;
-      };
-    }
+top-is nodes t w v u own first below_first from_first second below_second from_second = record {
+  one = one_of nodes t w v u own first second;
+  from = record {
+    f = from-trans nodes v u t.f (from-trans nodes w v t.f (from_own nodes t.f w own) below_first) below_second;
+    g = from-trans nodes v u t.g from_first below_second;
+    h = from_second;
+  };
+}
 
 -- ---- a node that is made
 

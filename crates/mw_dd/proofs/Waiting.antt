@@ -64,17 +64,17 @@ module _ (old new : List Node) (triples more : List Triple) (budget : Option ℕ
   awaits-grows : (w : Waiting) (t : Triple) → Awaits old triples budget w t → Awaits new more budget w t
   awaits-grows w t is = record {
     there = dds-grows old new w.triple grows is.there;
-    top = top-grows old new w.triple w.variable grows is.there is.top;
-    high = side-grows old new w.triple w.at_high w.variable true grows is.there is.high;
+    top = top-grows old new w.triple w.top.variable grows is.there is.top;
+    high = side-grows old new w.triple w.at_high w.top.variable true grows is.there is.high;
     half = elim is.half [
       | inl low ↦ inl (record {
         none = low.none;
-        side = side-grows old new w.triple t w.variable false grows is.there low.side;
+        side = side-grows old new w.triple t w.top.variable false grows is.there low.side;
       })
       | inr high ↦ inr (record {
         at_low = high.at_low;
         some = high.some;
-        side = side-grows old new w.triple high.at_low w.variable false grows is.there high.side;
+        side = side-grows old new w.triple high.at_low w.top.variable false grows is.there high.side;
         result = result-grows old new high.at_low w.low grows high.side.there high.result;
         among = λ b counts. are_among-grows old new triples more high.at_low grows (stay b counts) high.side.there
             (high.among b counts);
@@ -97,10 +97,10 @@ none_met i t at = cc
 
 module _ (nodes : List Node) (triples : List Triple) (budget : Option ℕ) (whole : Triple) where
   awaited_side : (w : Waiting) (t : Triple) → Awaits nodes triples budget w t
-      → (b : Bool) × IsSide nodes w.triple w.variable b t
+      → (b : Bool) × IsSide nodes w.triple w.top.variable b t
   awaited_side w t is = elim is.half [
     | inl low ↦ (false, low.side)
-    | inr high ↦ (true, subst (IsSide nodes w.triple w.variable true) (sym high.next) is.high)
+    | inr high ↦ (true, subst (IsSide nodes w.triple w.top.variable true) (sym high.next) is.high)
   ]
 
   nothing_at : (ws : List Waiting) (j : ℕ) (w : Waiting) → ws ≡ [] → ¬ (slice_get ws j ≡ Some w)
@@ -170,7 +170,7 @@ module _ (nodes : List Node) (r : IsReduced nodes) (memo : Memo) (budget : Optio
       subst (IsLeft nodes whole) same (left_itself nodes r whole all)
   waiting_left ws t left (AreWaiting.more {before} {w} is rest awaits) =
       let side = awaited_side nodes memo.triples budget whole w t awaits in
-      left-side nodes r whole all w.triple t w.variable side.0 awaits.top side.1
+      left-side nodes r whole all w.triple t w.top.variable side.0 awaits.top side.1
       (left w.place w.triple (awaits.met b counts))
 
   -- a triple that is met again doesn't wait, so it is done
@@ -271,7 +271,7 @@ counted_ended old new before now ws w whole made b counted ended grows all met i
 -- ---- which half is next
 
 pub low_side : (nodes : List Node) (triples : List Triple) (budget : Option ℕ) (w : Waiting) (t : Triple)
-    → Awaits nodes triples budget w t → w.has_low ≡ false → IsSide nodes w.triple w.variable false t
+    → Awaits nodes triples budget w t → w.has_low ≡ false → IsSide nodes w.triple w.top.variable false t
 low_side nodes triples budget w t awaits none = elim awaits.half [
   | inl low ↦ low.side
   | inr high ↦ absurd (false≢true (sym none ∙ high.some))
@@ -318,8 +318,8 @@ none_counted nodes memo ws whole b cleared =
 -- an operation is entered, and waits for its low half
 pub entered : (nodes : List Node) (old new : Notes) (budget : Option ℕ) (whole t lo : Triple) (w : Waiting)
     → AreNoted nodes old budget whole → AreWaiting nodes old.memo.triples budget whole old.waiting.items t
-    → w.triple ≡ t → w.has_low ≡ false → IsTop nodes t w.variable → IsSide nodes t w.variable true w.at_high
-    → IsSide nodes t w.variable false lo → ends t ≡ false
+    → w.triple ≡ t → w.has_low ≡ false → IsTop nodes t w.top.variable → IsSide nodes t w.top.variable true w.at_high
+    → IsSide nodes t w.top.variable false lo → ends t ≡ false
     → ((b : ℕ) → budget ≡ Some b → IsAbsent old.memo.triples t)
     → ((b : ℕ) → budget ≡ Some b → IsBegun old.memo new.memo t w.place × (length new.memo.triples ≤ b))
     → new.results ≡ old.results → new.waiting.items ≡ old.waiting.items ++ w ∷ []
@@ -344,11 +344,11 @@ entered nodes old new budget whole t lo w noted waiting same none top high low g
           old.waiting.items t waiting))
           (record {
             there = subst (AreDds nodes) (sym same) there;
-            top = subst (λ (x : Triple). IsTop nodes x w.variable) (sym same) top;
-            high = subst (λ (x : Triple). IsSide nodes x w.variable true w.at_high) (sym same) high;
+            top = subst (λ (x : Triple). IsTop nodes x w.top.variable) (sym same) top;
+            high = subst (λ (x : Triple). IsSide nodes x w.top.variable true w.at_high) (sym same) high;
             half = inl (record {
               none = none;
-              side = subst (λ (x : Triple). IsSide nodes x w.variable false lo) (sym same) low;
+              side = subst (λ (x : Triple). IsSide nodes x w.top.variable false lo) (sym same) low;
             });
             met = λ b counts. subst (λ (x : Triple). slice_get new.memo.triples w.place ≡ Some x) (sym same)
                 (begun_at nodes old.memo new.memo t w.place (begun b counts).0 (noted.counted b counts).keys);
@@ -360,10 +360,10 @@ pub turned : (nodes : List Node) (old new : Notes) (budget : Option ℕ) (whole 
     (w v : Waiting) (r : ℕ) → AreNoted nodes old budget whole → old.waiting.items ≡ before ++ w ∷ []
     → AreWaiting nodes old.memo.triples budget whole before w.triple → Awaits nodes old.memo.triples budget w t
     → HasEnded nodes old.memo.triples budget t r → w.has_low ≡ false → v.triple ≡ w.triple → v.place ≡ w.place
-    → v.variable ≡ w.variable → v.at_high ≡ w.at_high → v.has_low ≡ true → v.low ≡ r → new.memo ≡ old.memo
+    → v.top ≡ w.top → v.at_high ≡ w.at_high → v.has_low ≡ true → v.low ≡ r → new.memo ≡ old.memo
     → new.results ≡ old.results → new.waiting.items ≡ before ++ v ∷ []
     → AreNoted nodes new budget whole × AreWaiting nodes new.memo.triples budget whole new.waiting.items w.at_high
-turned nodes old new budget whole t before w v r noted was rest awaits ended none triple place variable high some low
+turned nodes old new budget whole t before w v r noted was rest awaits ended none triple place top high some low
     memo results waits = (
       record {
         there = noted.there;
@@ -375,12 +375,12 @@ turned nodes old new budget whole t before w v r noted was rest awaits ended non
       AreWaiting.more waits (rw (memo, triple) rest)
           (record {
             there = rw triple awaits.there;
-            top = rw (triple, variable) awaits.top;
-            high = rw (triple, variable, high) awaits.high;
+            top = rw (triple, top) awaits.top;
+            high = rw (triple, top, high) awaits.high;
             half = inr (record {
               at_low = t;
               some = some;
-              side = rw (triple, variable) (low_side nodes old.memo.triples budget w t awaits none);
+              side = rw (triple, top) (low_side nodes old.memo.triples budget w t awaits none);
               result = rw low ended.result;
               among = λ b counts. rw memo (ended.among b counts);
               next = sym high;
@@ -394,14 +394,14 @@ pub joined_step : (old new : List Node) (triples : List Triple) (budget : Option
     (r made : ℕ) → Grows old new → Awaits old triples budget w t → (high : AwaitsHigh old triples budget w t)
     → IsResult old t r → IsDd new made
     → ((given : Given) → value_at given new made
-    ≡ (if value_of w.variable given then value_at given old r else value_at given old w.low))
-    → IsFrom new w.variable made → IsStep old new w.triple high.at_low t w.variable w.low r made
+    ≡ (if value_of w.top.variable given then value_at given old r else value_at given old w.low))
+    → IsFrom new w.top.variable made → IsStep old new w.triple high.at_low t w.top.variable w.low r made
 joined_step old new triples budget w t r made grows awaits high is there value from = record {
   grows = grows;
   there = awaits.there;
   top = awaits.top;
   low_side = high.side;
-  high_side = subst (IsSide old w.triple w.variable true) (sym high.next) awaits.high;
+  high_side = subst (IsSide old w.triple w.top.variable true) (sym high.next) awaits.high;
   low_is = high.result;
   high_is = is;
   made_there = there;
@@ -414,22 +414,22 @@ pub joined : (old new : List Node) (before now : Notes) (budget : Option ℕ) (w
     (r made : ℕ) → AreNoted old before budget whole → before.waiting.items ≡ now.waiting.items ++ w ∷ []
     → AreWaiting old before.memo.triples budget whole now.waiting.items w.triple
     → Awaits old before.memo.triples budget w t → (high : AwaitsHigh old before.memo.triples budget w t)
-    → HasEnded old before.memo.triples budget t r → IsStep old new w.triple high.at_low t w.variable w.low r made
+    → HasEnded old before.memo.triples budget t r → IsStep old new w.triple high.at_low t w.top.variable w.low r made
     → IsReduced new → Adds before.results now.results w.triple made
     → ((b : ℕ) → budget ≡ Some b → IsEnded before.memo now.memo w.place made)
     → AreNoted new now budget whole × ((u : Triple)
     × AreWaiting new now.memo.triples budget whole now.waiting.items u × HasEnded new now.memo.triples budget u made)
 joined old new before now budget whole t w r made noted was rest awaits high end step reduced adds ended =
-    let is = step_result old new w.triple high.at_low t w.variable w.low r made step in
+    let is = step_result old new w.triple high.at_low t w.top.variable w.low r made step in
     let among : (b : ℕ) → budget ≡ Some b → AreAmong new before.memo.triples w.triple = λ b counts.
-    step_among old new w.triple high.at_low t w.variable w.low r made step before.memo.triples w.place noted.reduced
+    step_among old new w.triple high.at_low t w.top.variable w.low r made step before.memo.triples w.place noted.reduced
     (awaits.met b counts) (high.among b counts) (end.among b counts) in
     let stay : (b : ℕ) → budget ≡ Some b → Stay before.memo.triples now.memo.triples =
     λ b counts i s at. rw (ended b counts).triples at in (
       record {
         there = dds-grows old new whole step.grows noted.there;
         reduced = reduced;
-        made = step-kept old new w.triple high.at_low t w.variable w.low r made step before.results now.results
+        made = step-kept old new w.triple high.at_low t w.top.variable w.low r made step before.results now.results
             noted.made adds;
         counted = λ b counts. counted_ended old new before.memo now.memo now.waiting.items w whole made b
             (rw was at (noted.counted b counts)) (ended b counts) step.grows noted.there (awaits.met b counts) is

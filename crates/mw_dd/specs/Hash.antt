@@ -10,6 +10,6 @@ scattered a b c d = (a * FIRST + b * SECOND + c * THIRD + d * FOURTH) % 2 ^ 64 /
 unfoldable pub scattered_near : (a b c near : ℕ) → ℕ
 scattered_near a b c near = bit_xor (scattered a b c (near / GROUP)) (near % GROUP)
 
--- four numbers scattered near twice a place
-unfoldable pub scattered_behind : (a b c d place : ℕ) → ℕ
-scattered_behind a b c d place = bit_xor (place * 2 % 2 ^ 32) (scattered a b c d % SPREAD)
+-- three numbers scattered near twice a place
+unfoldable pub scattered_behind : (a b c place : ℕ) → ℕ
+scattered_behind a b c place = bit_xor (place * 2 % 2 ^ 32) (scattered a b c 0 % SPREAD)

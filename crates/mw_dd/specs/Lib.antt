@@ -8,3 +8,4 @@ pub mod Nodes
 pub mod Steps
 pub mod Walks
 pub mod Waiting
+pub mod Stored

@@ -40,6 +40,14 @@ pub record IsTop (nodes : List Node) (t : Triple) (v : Variable) : Type 0 where
 abbrev pub size : Triple → ℕ
 size t = t.f + t.g + t.h
 
+-- a node where a variable has a value
+pub record IsHalf (nodes : List Node) (x : ℕ) (v : Variable) (b : Bool) (y : ℕ) : Type 0 where
+  pub there : IsDd nodes y
+  pub no_later : y ≤ x
+  pub earlier : HasVariable nodes x v → y < x
+  pub value : (given : Given) → value_of v given ≡ b → value_at given nodes y ≡ value_at given nodes x
+  pub from : IsFrom nodes (after v) y
+
 -- a triple where its first variable has a value
 pub record IsSide (nodes : List Node) (t : Triple) (v : Variable) (b : Bool) (s : Triple) : Type 0 where
   pub f : (given : Given) → value_of v given ≡ b → value_at given nodes s.f ≡ value_at given nodes t.f

@@ -15,14 +15,14 @@ use Rattle.mw_dd.specs.Steps.{AreDds, IsTop, IsSide, IsResult, AreAmong, size}
 -- a waiting operation's low half is next
 pub record AwaitsLow (nodes : List Node) (w : Waiting) (t : Triple) : Type 0 where
   pub none : w.has_low ≡ false
-  pub side : IsSide nodes w.triple w.variable false t
+  pub side : IsSide nodes w.triple w.top.variable false t
 
 -- its low half has a result, of which all joint cofactors were met, and its high half is next
 pub record AwaitsHigh (nodes : List Node) (triples : List Triple) (budget : Option ℕ) (w : Waiting) (t : Triple)
     : Type 0 where
   pub at_low : Triple
   pub some : w.has_low ≡ true
-  pub side : IsSide nodes w.triple w.variable false at_low
+  pub side : IsSide nodes w.triple w.top.variable false at_low
   pub result : IsResult nodes at_low w.low
   pub among : (b : ℕ) → budget ≡ Some b → AreAmong nodes triples at_low
   pub next : t ≡ w.at_high
@@ -31,8 +31,8 @@ pub record AwaitsHigh (nodes : List Node) (triples : List Triple) (budget : Opti
 pub record Awaits (nodes : List Node) (triples : List Triple) (budget : Option ℕ) (w : Waiting) (t : Triple)
     : Type 0 where
   pub there : AreDds nodes w.triple
-  pub top : IsTop nodes w.triple w.variable
-  pub high : IsSide nodes w.triple w.variable true w.at_high
+  pub top : IsTop nodes w.triple w.top.variable
+  pub high : IsSide nodes w.triple w.top.variable true w.at_high
   pub half : AwaitsLow nodes w t ⊎ AwaitsHigh nodes triples budget w t
   pub met : (b : ℕ) → budget ≡ Some b → slice_get triples w.place ≡ Some w.triple
 
@@ -46,7 +46,7 @@ pub record HasTurned (old new : List Waiting) (made : ℕ) (next : Triple) : Typ
   pub none : own.has_low ≡ false
   pub triple : now.triple ≡ own.triple
   pub place : now.place ≡ own.place
-  pub variable : now.variable ≡ own.variable
+  pub top : now.top ≡ own.top
   pub at_high : now.at_high ≡ own.at_high
   pub some : now.has_low ≡ true
   pub low : now.low ≡ made

@@ -11,7 +11,7 @@ ghost use Rattle.mw_dd.specs.Bounds.{Has, IsNoted, IsWalked, HasNodes, IsBound, 
 use crate::dd::Dd;
 use crate::kept::Kept;
 use crate::nodes::{Node, Triple, inner};
-use crate::table::Table;
+use crate::unique_table::Nodes;
 use mw_base::NoMemory;
 use std::alloc::Global;
 use std::marker::Model;
@@ -56,7 +56,7 @@ fn note(found: &mut Vec<Dd>, places: &mut [u32], x: Dd) -> Result<(), NoMemory>
 
 /// Puts the branches of a node behind those that were found.
 fn note_branches(
-    nodes: &Table<Node>,
+    nodes: &Nodes,
     found: &mut Vec<Dd>,
     places: &mut [u32],
     x: Dd,
@@ -76,7 +76,7 @@ fn note_branches(
 
 /// How many nodes there are below one, with it and the constants: none where there are more than `MOST`.
 fn walk(
-    nodes: &Table<Node>,
+    nodes: &Nodes,
     found: &mut Vec<Dd>,
     places: &mut [u32],
     x: Dd,
@@ -159,7 +159,7 @@ impl Bounds {
     }
 
     /// How many nodes there are below one, with it and the constants: `MANY` where there are more than are counted.
-    fn count(&mut self, nodes: &Table<Node>, x: Dd) -> Result<u32, NoMemory>
+    fn count(&mut self, nodes: &Nodes, x: Dd) -> Result<u32, NoMemory>
         requires reduced { IsReduced nodes.now }
         requires there { IsDd nodes.now x }
         ensures bound { IfOk result (IsBound nodes.now x) }
@@ -173,7 +173,7 @@ impl Bounds {
     }
 
     /// How many cofactors a function has at most, the constants with them, unless it is `MANY`.
-    fn bound(&mut self, nodes: &Table<Node>, x: Dd) -> Result<u32, NoMemory>
+    fn bound(&mut self, nodes: &Nodes, x: Dd) -> Result<u32, NoMemory>
         requires reduced { IsReduced nodes.now }
         requires there { IsDd nodes.now x }
         requires right { AreBounds nodes.now self.old }
@@ -213,7 +213,7 @@ impl Bounds {
     /// Memory ran out.
     pub(crate) fn are_within(
         &mut self,
-        nodes: &Table<Node>,
+        nodes: &Nodes,
         t: Triple,
         budget: u32,
     ) -> Result<bool, NoMemory>
@@ -247,7 +247,7 @@ fn was_within(counts: &Kept, t: &Triple, budget: u32) -> bool
 ///
 /// Memory ran out.
 pub(crate) fn is_within(
-    nodes: &Table<Node>,
+    nodes: &Nodes,
     counts: &Kept,
     bounds: &mut Bounds,
     t: &Triple,

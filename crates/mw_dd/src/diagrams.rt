@@ -15,7 +15,7 @@ use crate::kept::Kept;
 use crate::nodes::{Node, Triple, make};
 use crate::notes::Notes;
 use crate::operate::operate;
-use crate::table::Table;
+use crate::unique_table::Nodes;
 use crate::variable::Variable;
 use mw_base::NoMemory;
 use mw_term::Assignment;
@@ -27,7 +27,7 @@ use std::marker::Model;
 #[derive(Drop)]
 pub struct Diagrams {
     /// Each node once, found by its parts (the unique table).
-    nodes: Table<Node>,
+    nodes: Nodes,
     /// What the call that goes on has met, and results of operations.
     notes: Notes,
     /// How many joint cofactors operations had that were counted.
@@ -58,7 +58,7 @@ impl Diagrams {
         ensures canonical { IfOk result IsCanonical }
     {
         Ok(Diagrams {
-            nodes: Table::new(alloc)?,
+            nodes: Nodes::new(alloc)?,
             notes: Notes::new(alloc)?,
             counts: Kept::new(alloc)?,
             bounds: Bounds::new(alloc),
@@ -78,7 +78,7 @@ impl Diagrams {
     ///
     /// # Errors
     ///
-    /// Memory ran out, there are as many nodes as there can be (2^32 - 16), or the word's number is 2^32 or more.
+    /// Memory ran out, or there are as many nodes as there can be (2^32 - 16).
     pub fn variable(&mut self, alloc: Global, bit: u8, word: u64) -> Result<Dd, NoMemory>
         requires { bit < 32 }
         ensures there { IfOk result (IsDd self.new) }
@@ -86,17 +86,15 @@ impl Diagrams {
         ensures keeps { Keeps self.old self.new }
         ensures canonical { IsCanonical self.new }
     {
-        // A use for the proof: the nodes are reduced, also where the word has no room.
-        let nodes = &mut self.nodes;
-        let variable = Variable::of(bit, word)?;
         make(
-            nodes,
+            &mut self.nodes,
             alloc,
             Node {
-                variable,
+                variable: Variable { bit, word },
                 low: Dd::at(0),
                 high: Dd::at(1),
             },
+            0,
         )
     }
 

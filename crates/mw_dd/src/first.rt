@@ -9,7 +9,7 @@ ghost use Rattle.mw_dd.specs.Walks.{Walks};
 
 use crate::dd::Dd;
 use crate::nodes::{Node, inner};
-use crate::table::Table;
+use crate::unique_table::Nodes;
 use crate::variable::Variable;
 use mw_base::NoMemory;
 use mw_term::Assignment;
@@ -22,9 +22,8 @@ fn raise(assignment: &mut Assignment, alloc: Global, variable: Variable) -> Resu
     ensures others { OnOk result ((u : cofactors.Variable) → ¬ (u ≡ variable)
         → value_of u (given_by assignment.new) ≡ value_of u (given_by assignment.old)) }
 {
-    let word = u64::from(variable.word);
-    let number = assignment.number(word) | 1 << variable.bit;
-    assignment.set(alloc, word, number)
+    let number = assignment.number(variable.word) | 1 << variable.bit;
+    assignment.set(alloc, variable.word, number)
 }
 
 /// Whether the first assignment raises a node's variable: where its low branch holds never.
@@ -36,7 +35,7 @@ fn raises(node: &Node) -> bool
 
 /// The branch of a node that the first assignment takes: the low one, unless it holds never.
 fn first_branch(
-    nodes: &Table<Node>,
+    nodes: &Nodes,
     alloc: Global,
     assignment: &mut Assignment,
     x: Dd,
@@ -57,11 +56,7 @@ fn first_branch(
 }
 
 /// The first assignment under which a function holds, which isn't never.
-pub(crate) fn first_assignment(
-    nodes: &Table<Node>,
-    alloc: Global,
-    x: Dd,
-) -> Result<Assignment, NoMemory>
+pub(crate) fn first_assignment(nodes: &Nodes, alloc: Global, x: Dd) -> Result<Assignment, NoMemory>
     requires reduced { IsReduced nodes.now }
     requires there { IsDd nodes.now x }
     requires some { 0 < x }

@@ -40,12 +40,12 @@ pub(crate) fn scatter_near(a: u64, b: u64, c: u64, near: u32) -> u32
 /// How far apart the buckets of nodes lie that have the same later branch: as many as heads fill eight pages of memory.
 const SPREAD: u32 = 8192;
 
-/// A number that depends on each bit of four others, and lies near twice a place. Where places lie near one another, so
+/// A number that depends on each bit of three others, and lies near twice a place. Where places lie near one another, so
 /// do the results. An operation makes a node soon after its branches, so that the buckets that it asks for move slowly
 /// through the heads, and are still in the cache.
 #[tactic(auto, unfolding(crate::specs::Hash::scattered_behind))]
-pub(crate) fn scatter_behind(a: u64, b: u64, c: u64, d: u64, place: u32) -> u32
-    ensures { result ≡ scattered_behind a b c d place }
+pub(crate) fn scatter_behind(a: u64, b: u64, c: u64, place: u32) -> u32
+    ensures { result ≡ scattered_behind a b c place }
 {
-    place.wrapping_mul(2) ^ scatter(a, b, c, d) % SPREAD
+    place.wrapping_mul(2) ^ scatter(a, b, c, 0) % SPREAD
 }

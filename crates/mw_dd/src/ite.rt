@@ -11,9 +11,9 @@ ghost use Rattle.mw_dd.specs.Memos.{IsCleared};
 ghost use Rattle.mw_dd.specs.Waiting.{AreWaiting, AreNoted, HasEnded, StandsAt, steps_left};
 
 use crate::dd::{Dd, DdFault};
-use crate::nodes::{Node, Triple, make, side, top};
+use crate::nodes::{Node, Triple, halve, make, top};
 use crate::notes::{Notes, Waiting};
-use crate::table::Table;
+use crate::unique_table::Nodes;
 use mw_base::NoMemory;
 use std::alloc::Global;
 
@@ -44,7 +44,7 @@ pub(crate) enum Next {
 
 /// Goes into an operation: where its result isn't known, it waits for that of its low half.
 fn enter(
-    nodes: &Table<Node>,
+    nodes: &Nodes,
     notes: &mut Notes,
     alloc: Global,
     t: Triple,
@@ -74,23 +74,23 @@ fn enter(
         Ok(place) => place,
         Err(e) => return Err(e),
     };
-    let variable = top(nodes, t);
-    let at_high = side(nodes, t, variable, true);
+    let top = top(nodes, t);
+    let halves = halve(nodes, t, top.variable);
     notes.wait(Waiting {
         triple: t,
         place,
-        variable,
-        at_high,
+        top,
+        at_high: halves.high,
         has_low: false,
         low: Dd::at(0),
     })?;
-    Ok(Next::Enter(side(nodes, t, variable, false)))
+    Ok(Next::Enter(halves.low))
 }
 
 /// Hands a result to the operation that waits for it. Where that is its low half's, it goes on with the high one; else
 /// it has a result too.
 fn go_on(
-    nodes: &mut Table<Node>,
+    nodes: &mut Nodes,
     notes: &mut Notes,
     alloc: Global,
     made: Dd,
@@ -114,12 +114,13 @@ fn go_on(
     let Some(waiting) = notes.last() else {
         return Ok(Next::Done(made));
     };
+    let top = waiting.top;
     let node = Node {
-        variable: waiting.variable,
+        variable: top.variable,
         low: waiting.low,
         high: made,
     };
-    let joined = make(nodes, alloc, node)?;
+    let joined = make(nodes, alloc, node, top.number)?;
     // A slot for four nodes: more would cost memory than lost results cost time.
     notes.end(alloc, &waiting, joined, nodes.len() / 4, budget)?;
     Ok(Next::Return(joined))
@@ -129,7 +130,7 @@ fn go_on(
 /// triple that is met counts once, and at most as many are met; else results of earlier operations serve. Operations
 /// wait in the notes, so that the stack needn't be as deep as there are variables.
 pub(crate) fn choose(
-    nodes: &mut Table<Node>,
+    nodes: &mut Nodes,
     notes: &mut Notes,
     alloc: Global,
     t: Triple,

@@ -13,6 +13,7 @@ mod nodes;
 mod notes;
 mod operate;
 mod table;
+mod unique_table;
 mod variable;
 
 pub use dd::{Dd, DdFault};

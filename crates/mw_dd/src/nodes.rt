@@ -1,24 +1,18 @@
 // Nodes, ordered and reduced.
-ghost use Rattle.std.specs.Prelude.{◌≡◌, ◌⊎◌, ◌-◌, ◌<◌, ◌≤◌, ◌↔◌, false, Some, slice_get, IsTrue, IfOk};
+ghost use Rattle.std.specs.Prelude.{◌≡◌, ◌⊎◌, ◌-◌, ◌<◌, ◌≤◌, ◌↔◌, true, false, Some, slice_get, IsTrue, IfOk};
 ghost use Rattle.std.specs.Prelude.{if◌then◌else◌, nat_lt};
 ghost use Rattle.mw_term.specs.Assigned.{Given};
 ghost use Rattle.mw_term.specs.Cofactors.{value_of, is_before};
 ghost use Rattle.mw_dd.specs.Nodes.{value_at, IsDd, IsFrom, IsReduced, after};
-ghost use Rattle.mw_dd.specs.Steps.{Grows, AreDds, AreFrom, HasVariable, IsTop, size};
+ghost use Rattle.mw_dd.specs.Steps.{Grows, AreDds, HasVariable, IsTop, IsHalf, IsSide};
 
 use crate::dd::Dd;
-use crate::hash::{scatter_behind, scatter_near};
-use crate::table::{Key, Table};
-use crate::variable::Variable;
+use crate::hash::scatter_near;
+use crate::table::Key;
+use crate::unique_table::Nodes;
+use crate::variable::{Numbered, Variable};
 use mw_base::NoMemory;
 use std::alloc::Global;
-
-/// The later of two places.
-fn later(a: u32, b: u32) -> u32
-    ensures { result ≡ (if nat_lt a b then b else a) }
-{
-    if a < b { b } else { a }
-}
 
 /// A node: the function that is the high branch where its variable is 1, and else the low one.
 #[derive(Clone, Copy)]
@@ -34,30 +28,6 @@ impl Node {
         ensures { IsTrue result ↔ (self.now.low ≡ self.now.high) }
     {
         self.low == self.high
-    }
-}
-
-impl Key for Node {
-    ghost use Rattle.std.specs.Prelude.{if◌then◌else◌, nat_lt};
-    ghost use Rattle.mw_dd.specs.Hash.{scattered_behind};
-
-    ghost hash_of = { λ n. scattered_behind n.variable.word n.variable.bit n.low n.high
-        (if nat_lt n.low n.high then n.high else n.low) };
-
-    fn hash(&self) -> u32 {
-        let low = self.low.position();
-        let high = self.high.position();
-        scatter_behind(
-            u64::from(self.variable.word),
-            u64::from(self.variable.bit),
-            u64::from(low),
-            u64::from(high),
-            later(low, high),
-        )
-    }
-
-    fn is(&self, other: &Node) -> bool {
-        self.low == other.low && self.high == other.high && self.variable.is(other.variable)
     }
 }
 
@@ -86,7 +56,7 @@ impl Key for Triple {
 }
 
 /// A node that is no constant.
-pub(crate) fn inner(nodes: &Table<Node>, x: Dd) -> Node
+pub(crate) fn inner(nodes: &Nodes, x: Dd) -> Node
     requires there { IsDd nodes.now x }
     requires inner { 2 ≤ x }
     ensures { slice_get nodes.now (x - 2) ≡ Some result }
@@ -94,81 +64,103 @@ pub(crate) fn inner(nodes: &Table<Node>, x: Dd) -> Node
     nodes.get(x.position() - 2)
 }
 
-/// A node where a variable has a value. Its own variable isn't before that one.
-fn half(nodes: &Table<Node>, x: Dd, variable: Variable, side: bool) -> Dd
+/// A node where a variable is 0, and where it is 1.
+#[derive(Clone, Copy)]
+struct Branches {
+    low: Dd,
+    high: Dd,
+}
+
+/// A node where a variable is 0, and where it is 1. Its own variable isn't before that one.
+fn branches_at(nodes: &Nodes, x: Dd, variable: Variable) -> Branches
     requires reduced { IsReduced nodes.now }
     requires there { IsDd nodes.now x }
     requires from { IsFrom nodes.now variable x }
-    ensures there { IsDd nodes.now result }
-    ensures no_later { result ≤ x }
-    ensures earlier { HasVariable nodes.now x variable → result < x }
-    ensures value { (given : Given)
-        → value_of variable given ≡ side → value_at given nodes.now result ≡ value_at given nodes.now x }
-    ensures from { IsFrom nodes.now (after variable) result }
+    ensures low { IsHalf nodes.now x variable false result.low }
+    ensures high { IsHalf nodes.now x variable true result.high }
 {
     if x.position() < 2 {
-        return x;
+        return Branches { low: x, high: x };
     }
     let node = inner(nodes, x);
-    if !node.variable.is(variable) {
-        return x;
+    if !node.variable.is(&variable) {
+        return Branches { low: x, high: x };
     }
-    if side { node.high } else { node.low }
+    Branches {
+        low: node.low,
+        high: node.high,
+    }
 }
 
 /// The earlier of a variable and that of a node.
-fn earlier_variable(nodes: &Table<Node>, variable: Variable, x: Dd) -> Variable
+fn earlier_variable(nodes: &Nodes, first: Numbered, x: Dd) -> Numbered
     requires { IsDd nodes.now x }
-    ensures own { (result ≡ variable) ⊎ HasVariable nodes.now x result }
-    ensures no_later { is_before variable result ≡ false }
-    ensures from { IsFrom nodes.now result x }
+    ensures own { (result.variable ≡ first.variable) ⊎ HasVariable nodes.now x result.variable }
+    ensures no_later { is_before first.variable result.variable ≡ false }
+    ensures from { IsFrom nodes.now result.variable x }
 {
     if x.position() < 2 {
-        return variable;
+        return first;
     }
-    let own = inner(nodes, x).variable;
-    if own.is_before(variable) {
+    let own = nodes.variable(x.position() - 2);
+    if own.variable.is_before(first.variable) {
         own
     } else {
-        variable
+        first
     }
 }
 
 /// The first variable of three nodes, the first of which is no constant.
-pub(crate) fn top(nodes: &Table<Node>, t: Triple) -> Variable
+pub(crate) fn top(nodes: &Nodes, t: Triple) -> Numbered
     requires there { AreDds nodes.now t }
     requires inner { 2 ≤ t.f }
-    ensures { IsTop nodes.now t result }
+    ensures { IsTop nodes.now t result.variable }
 {
-    let variable = inner(nodes, t.f).variable;
-    let variable = earlier_variable(nodes, variable, t.g);
-    earlier_variable(nodes, variable, t.h)
+    let first = nodes.variable(t.f.position() - 2);
+    let first = earlier_variable(nodes, first, t.g);
+    earlier_variable(nodes, first, t.h)
 }
 
-/// Three nodes where their first variable has a value.
-pub(crate) fn side(nodes: &Table<Node>, t: Triple, variable: Variable, side: bool) -> Triple
+/// Three nodes where a variable is 0, and where it is 1.
+#[derive(Clone, Copy)]
+pub(crate) struct Halves {
+    pub low: Triple,
+    pub high: Triple,
+}
+
+/// Three nodes where their first variable is 0, and where it is 1.
+pub(crate) fn halve(nodes: &Nodes, t: Triple, variable: Variable) -> Halves
     requires reduced { IsReduced nodes.now }
     requires there { AreDds nodes.now t }
     requires top { IsTop nodes.now t variable }
-    ensures there { AreDds nodes.now result }
-    ensures earlier { size result < size t }
-    ensures f { (given : Given)
-        → value_of variable given ≡ side → value_at given nodes.now result.f ≡ value_at given nodes.now t.f }
-    ensures g { (given : Given)
-        → value_of variable given ≡ side → value_at given nodes.now result.g ≡ value_at given nodes.now t.g }
-    ensures h { (given : Given)
-        → value_of variable given ≡ side → value_at given nodes.now result.h ≡ value_at given nodes.now t.h }
-    ensures from { AreFrom nodes.now (after variable) result }
+    ensures low { IsSide nodes.now t variable false result.low }
+    ensures high { IsSide nodes.now t variable true result.high }
 {
-    Triple {
-        f: half(nodes, t.f, variable, side),
-        g: half(nodes, t.g, variable, side),
-        h: half(nodes, t.h, variable, side),
+    let f = branches_at(nodes, t.f, variable);
+    let g = branches_at(nodes, t.g, variable);
+    let h = branches_at(nodes, t.h, variable);
+    Halves {
+        low: Triple {
+            f: f.low,
+            g: g.low,
+            h: h.low,
+        },
+        high: Triple {
+            f: f.high,
+            g: g.high,
+            h: h.high,
+        },
     }
 }
 
-/// The node with these branches, made where it isn't there; where both are one, that branch.
-pub(crate) fn make(nodes: &mut Table<Node>, alloc: Global, node: Node) -> Result<Dd, NoMemory>
+/// The node with these branches, made where it isn't there; where both are one, that branch. The number under which its
+/// variable may be known is asked first.
+pub(crate) fn make(
+    nodes: &mut Nodes,
+    alloc: Global,
+    node: Node,
+    number: u32,
+) -> Result<Dd, NoMemory>
     requires reduced { IsReduced nodes.old }
     requires bit { node.variable.bit < 32 }
     requires low { IsDd nodes.old node.low }
@@ -186,9 +178,9 @@ pub(crate) fn make(nodes: &mut Table<Node>, alloc: Global, node: Node) -> Result
     if node.is_redundant() {
         return Ok(node.low);
     }
-    if let Some(place) = nodes.find(&node) {
+    if let Some(place) = nodes.find(&node, number) {
         return Ok(Dd::at(place + 2));
     }
-    let place = nodes.add(alloc, node)?;
+    let place = nodes.add(alloc, node, number)?;
     Ok(Dd::at(place + 2))
 }

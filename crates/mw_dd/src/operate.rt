@@ -10,13 +10,13 @@ use crate::ite::{choose, end};
 use crate::kept::{Kept, Slot};
 use crate::nodes::{Node, Triple};
 use crate::notes::Notes;
-use crate::table::Table;
+use crate::unique_table::Nodes;
 use std::alloc::Global;
 
 /// The function that is the second where the first holds, and else the third. Where it is known to be within the
 /// budget, nothing is counted.
 pub(crate) fn operate(
-    nodes: &mut Table<Node>,
+    nodes: &mut Nodes,
     notes: &mut Notes,
     counts: &mut Kept,
     bounds: &mut Bounds,

@@ -1,12 +1,13 @@
 // Variables, and their order.
-use mw_base::NoMemory;
+use crate::hash::scatter;
+use crate::table::Key;
 use std::marker::Model;
 
 /// A Boolean variable: a bit of a word.
 #[derive(Clone, Copy)]
 pub(crate) struct Variable {
     pub bit: u8,
-    pub word: u32,
+    pub word: u64,
 }
 
 impl Model for Variable {
@@ -19,31 +20,23 @@ impl Model for Variable {
     ghost inverse = { λ p. record { bit = p.bit; word = p.word } };
 }
 
-impl Variable {
-    ghost use Rattle.std.specs.Prelude.{◌≡◌, ◌<◌, ◌^◌, ◌↔◌, IsTrue, OkIff};
-    ghost use Rattle.mw_term.specs.Cofactors.{variable};
-    ghost use Rattle.mw_term.specs.Cofactors as order;
+impl Key for Variable {
+    ghost use Rattle.mw_dd.specs.Hash.{scattered};
 
-    /// A bit of the word of this number.
-    ///
-    /// # Errors
-    ///
-    /// The number has no room: it is 2^32 or more.
-    pub(crate) fn of(bit: u8, word: u64) -> Result<Variable, NoMemory>
-        ensures { OkIff result (word < 2 ^ 32) (variable bit word) }
-    {
-        match u32::try_from(word) {
-            Ok(word) => Ok(Variable { bit, word }),
-            Err(_) => Err(NoMemory),
-        }
+    ghost hash_of = { λ v. scattered v.word v.bit 0 0 };
+
+    fn hash(&self) -> u32 {
+        scatter(self.word, u64::from(self.bit), 0, 0)
     }
 
-    /// Whether it is the same.
-    pub(crate) fn is(self, other: Variable) -> bool
-        ensures { IsTrue result ↔ (self ≡ other) }
-    {
+    fn is(&self, other: &Variable) -> bool {
         self.bit == other.bit && self.word == other.word
     }
+}
+
+impl Variable {
+    ghost use Rattle.std.specs.Prelude.{◌≡◌};
+    ghost use Rattle.mw_term.specs.Cofactors as order;
 
     /// Whether it comes before another: by bit, and then by word.
     pub(crate) fn is_before(self, other: Variable) -> bool
@@ -51,4 +44,11 @@ impl Variable {
     {
         (self.bit < other.bit) | ((self.bit == other.bit) & (self.word < other.word))
     }
+}
+
+/// A variable, and under which number a table of nodes knows it: a hint, which is only asked first.
+#[derive(Clone, Copy)]
+pub(crate) struct Numbered {
+    pub variable: Variable,
+    pub number: u32,
 }

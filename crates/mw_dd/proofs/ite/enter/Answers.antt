@@ -1,8 +1,10 @@
-use Rattle.std.proofs.Common.{◌≡◌, ◌∙◌, ◌≤◌, ◌++◌, ◌∷◌, [], Err, IsErrOf, true, false, length, ap, arith, refl, subst, sym}
+use Rattle.std.proofs.Common.{◌≡◌, ◌∙◌, ℕ, ◌≤◌, ◌++◌, ◌∷◌, [], Err, IsErrOf, false, length, ap, arith, refl, subst, sym}
 use Rattle.mw_dd.specs.declared.memo.Memo.{Memo}
 use Rattle.mw_dd.specs.Memos.{IsBegun}
+use Rattle.mw_dd.specs.declared.nodes.Triple.{Triple}
 use Rattle.mw_dd.specs.declared.notes.Waiting.{Waiting}
-use Rattle.mw_dd.specs.Steps.{IsSide, size}
+use Rattle.mw_dd.specs.declared.variable.Numbered.{Numbered}
+use Rattle.mw_dd.specs.Steps.{size}
 use Rattle.mw_dd.proofs.Cofactors.{end_among}
 use Rattle.mw_dd.proofs.Memos.{end_result, over_here}
 use Rattle.mw_dd.proofs.Waiting.{waiting_there, waiting_left, known_ended, entered, some_steps, entered_steps}
@@ -62,37 +64,34 @@ returns-in-Err-clause-over c = λ same whole noted waiting.
           counted.left over.0 over.2,
     )
 
-abbrev own : (c : goal.After-side) → Waiting
-own c = record {
-  triple = c.args.t;
-  place = c.in-Ok.place;
-  variable = c.top-variable.result;
-  at_high = c.side-at_high.result;
+-- what waits now
+abbrev own : Triple → (place : ℕ) → Numbered → (at_high : Triple) → (low : ℕ) → Waiting
+own t place top at_high low = record {
+  triple = t;
+  place = place;
+  top = top;
+  at_high = at_high;
   has_low = false;
-  low = c.at.result;
+  low = low;
 }
-
-waits : (c : goal.After-side)
-    → c.wait.new.self.waiting.items ≡ c.args.notes.now.waiting.items ++ own c ∷ []
-waits c = rw c.begin.ensures.waiting at c.in_ok-wait.ensures.waits
 
 pub returns-clause-noted : goal.returns-clause-noted
 returns-clause-noted c = λ whole noted waiting.
-    let nodes = c.args.nodes.now in
     let old = c.args.notes.now in
-    let hi = c.side-at_high.ensures in
-    let lo = c.side.ensures in
-    let high : IsSide nodes c.args.t c.top-variable.result true c.side-at_high.result =
-    record { f = hi.f; g = hi.g; h = hi.h; from = hi.from; there = hi.there; earlier = hi.earlier } in
-    let low : IsSide nodes c.args.t c.top-variable.result false c.side.result =
-    record { f = lo.f; g = lo.g; h = lo.h; from = lo.from; there = lo.there; earlier = lo.earlier } in
-    entered nodes old c.wait.new.self c.args.budget whole c.args.t c.side.result (own c) noted waiting refl refl
-    c.top-variable.ensures high low (c.in_default.ensures.none refl) (c.in_default-result.ensures.absent refl)
+    let halves = c.halve-halves in
+    let w = own c.args.t c.in-Ok.place c.top-top.result halves.result.high c.at.result in
+    entered c.args.nodes.now old c.wait.new.self c.args.budget whole c.args.t halves.result.low w noted waiting refl refl
+    c.top-top.ensures halves.ensures.high halves.ensures.low (c.in_default.ensures.none refl)
+    (c.in_default-result.ensures.absent refl)
     (λ b counts. subst (λ (m : Memo). IsBegun old.memo m c.args.t c.in-Ok.place × (length m.triples ≤ b))
     (sym c.wait.ensures.memo) (c.in-Ok.ensures.begun b counts))
-    (c.wait.ensures.results ∙ c.begin.ensures.results) (waits c)
+    (c.wait.ensures.results ∙ c.begin.ensures.results) (rw c.begin.ensures.waiting at c.in_ok-wait.ensures.waits)
 
 pub returns-clause-nearer : goal.returns-clause-nearer
 returns-clause-nearer c =
-    entered_steps c.args.notes.now.waiting.items c.wait.new.self.waiting.items (own c) c.args.t c.side.result (waits c)
-    refl c.side-at_high.ensures.earlier c.side.ensures.earlier
+    let halves = c.halve-halves in
+    let w = own c.args.t c.in-Ok.place c.top-top.result halves.result.high c.at.result in
+    let waits : c.wait.new.self.waiting.items ≡ c.args.notes.now.waiting.items ++ w ∷ [] =
+    rw c.begin.ensures.waiting at c.in_ok-wait.ensures.waits in
+    entered_steps c.args.notes.now.waiting.items c.wait.new.self.waiting.items w c.args.t halves.result.low waits refl
+    halves.ensures.high.earlier halves.ensures.low.earlier

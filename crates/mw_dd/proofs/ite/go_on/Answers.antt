@@ -27,7 +27,7 @@ returns-in-Some-clause-noted c = λ whole noted stands.
     let split = waiting_split nodes old.memo.triples c.args.budget whole old.waiting.items t.before t.own stands.0 t.was
     stands.1 in
     let both = turned nodes old new c.args.budget whole stands.0 t.before t.own t.now c.args.made noted t.was split.0
-    split.1 stands.2 t.none t.triple t.place t.variable t.at_high t.some t.low c.turn.ensures.memo
+    split.1 stands.2 t.none t.triple t.place t.top t.at_high t.some t.low c.turn.ensures.memo
     c.turn.ensures.results t.is in (
       both.0,
       subst (AreWaiting nodes new.memo.triples c.args.budget whole new.waiting.items) (sym t.high) both.1,
@@ -65,7 +65,7 @@ make-requires-clause-low_later c =
     let split = waiting_split nodes old.memo.triples c.args.budget noted.0 old.waiting.items
     c.last.new.self.waiting.items w noted.2.0 was noted.2.1 in
     let high = high_half nodes old.memo.triples c.args.budget w noted.2.0 split.1 some in
-    high.result.from (after w.variable) high.side.from
+    high.result.from (after w.top.variable) high.side.from
 
 pub make-requires-clause-high_later : goal.make-requires-clause-high_later
 make-requires-clause-high_later c =
@@ -78,8 +78,8 @@ make-requires-clause-high_later c =
     let split = waiting_split nodes old.memo.triples c.args.budget noted.0 old.waiting.items
     c.last.new.self.waiting.items w noted.2.0 was noted.2.1 in
     let high = high_half nodes old.memo.triples c.args.budget w noted.2.0 split.1 some in
-    noted.2.2.result.from (after w.variable)
-    (subst (AreFrom nodes (after w.variable)) (sym high.next) split.1.high.from)
+    noted.2.2.result.from (after w.top.variable)
+    (subst (AreFrom nodes (after w.top.variable)) (sym high.next) split.1.high.from)
 
 pub returns-in_err-joined-clause-made : goal.returns-in_err-joined-clause-made
 returns-in_err-joined-clause-made c =
@@ -114,7 +114,7 @@ returns-in_err-end-clause-made c =
     let high = high_half nodes old.memo.triples c.args.budget w noted.2.0 split.1 some in
     let step = joined_step nodes c.make.new.nodes old.memo.triples c.args.budget w noted.2.0 c.args.made
     c.in_ok-joined.joined c.make.ensures.grows split.1 high noted.2.2.result is.there is.value is.from in
-    step-kept nodes c.make.new.nodes w.triple high.at_low noted.2.0 w.variable w.low c.args.made c.in_ok-joined.joined
+    step-kept nodes c.make.new.nodes w.triple high.at_low noted.2.0 w.top.variable w.low c.args.made c.in_ok-joined.joined
     step c.last.new.self.results c.end.new.self.results
     (subst (AreMade nodes) (sym (c.last.ensures.results ∙ c.turn.ensures.results)) noted.1.made) c.end.ensures.results
 

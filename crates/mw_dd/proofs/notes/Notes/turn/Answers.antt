@@ -18,7 +18,7 @@ returns-clause-turned c =
     let v : Waiting = record {
       triple = first.triple;
       place = first.place;
-      variable = first.variable;
+      top = first.top;
       at_high = first.at_high;
       has_low = true;
       low = first.low;
@@ -35,7 +35,7 @@ returns-clause-turned c =
       none = ap (λ (w : Waiting). w.has_low) (sym tested) ∙ c.if-index.false;
       triple = ap (λ (w : Waiting). w.triple) (again ∙ ap (λ (w : Waiting). record w { has_low = true }) same);
       place = ap (λ (w : Waiting). w.place) (again ∙ ap (λ (w : Waiting). record w { has_low = true }) same);
-      variable = ap (λ (w : Waiting). w.variable) (again ∙ ap (λ (w : Waiting). record w { has_low = true }) same);
+      top = ap (λ (w : Waiting). w.top) (again ∙ ap (λ (w : Waiting). record w { has_low = true }) same);
       at_high = ap (λ (w : Waiting). w.at_high) (again ∙ ap (λ (w : Waiting). record w { has_low = true }) same);
       some = ap (λ (w : Waiting). w.has_low) again;
       low = refl;

@@ -1,0 +1,27 @@
+-- Nodes as they are kept: with the numbers of their variables in a list.
+use Rattle.std.specs.Prelude.{◌≡◌, ◌⊎◌, ℕ, ◌<◌, List, [], ◌∷◌, ◌++◌, length, map, slice_get, slice_index_or, Some}
+use Rattle.mw_term.specs.Cofactors.{Variable, variable}
+use Rattle.mw_dd.specs.declared.nodes.Node.{Node}
+use Rattle.mw_dd.specs.declared.unique_table.Stored.{Stored}
+use Rattle.mw_dd.specs.Links.{IsAbsent}
+
+-- a node as it is, by the list of variables
+abbrev pub node_of : List Variable → Stored → Node
+node_of variables s = record {
+  variable = slice_index_or variables s.variable (variable 0 0);
+  low = s.low;
+  high = s.high;
+}
+
+-- the nodes as they are
+abbrev pub nodes_of : List Variable → List Stored → List Node
+nodes_of variables stored = map (node_of variables) stored
+
+-- each number stands in the list, which has no variable twice
+pub record AreKnown (variables : List Variable) (stored : List Stored) : Type 0 where
+  pub within : (k : ℕ) (s : Stored) → slice_get stored k ≡ Some s → s.variable < length variables
+  pub once : (i j : ℕ) (v : Variable) → slice_get variables i ≡ Some v → slice_get variables j ≡ Some v → i ≡ j
+
+-- a list is as it was, or has a variable more that it didn't have
+abbrev pub IsMore : (old new : List Variable) → Variable → Type 0
+IsMore old new v = (new ≡ old) ⊎ ((new ≡ old ++ v ∷ []) × IsAbsent old v)
