@@ -338,41 +338,42 @@ module _ (nodes : List Node) (r : IsReduced nodes) (whole : Triple) (all : AreDd
 
 -- ---- at most so many
 
-data Matches (nodes : List Node) (triples : List Triple) : List functions.Triple → List ℕ → Type 0 where
-  none : Matches nodes triples [] []
-  more : (u : functions.Triple) (us : List functions.Triple) (i : ℕ) (is : List ℕ) (t : Triple)
-      → slice_get triples i ≡ Some t → AreSame u (meaning nodes t) → Matches nodes triples us is
-      → Matches nodes triples (u ∷ us) (i ∷ is)
+-- triples of functions, and a number of each
+data Numbered (Has : functions.Triple → ℕ → Type 0) : List functions.Triple → List ℕ → Type 0 where
+  none : Numbered Has [] []
+  more : (u : functions.Triple) (us : List functions.Triple) (i : ℕ) (is : List ℕ) → Has u i → Numbered Has us is
+      → Numbered Has (u ∷ us) (i ∷ is)
 
-module _ (nodes : List Node) (triples : List Triple) where
-  matched : (us : List functions.Triple)
-      → ((j : ℕ) (d : functions.Triple) → j < length us → IsAmong nodes triples (get_or us j d))
-      → (is : List ℕ) × Matches nodes triples us is × (length is ≡ length us)
-  matched [] among = ([], none, refl)
-  matched (u ∷ us) among =
-      let first = among 0 u (omega arith) in
-      let rest = matched us (λ j d below. among (suc j) d (omega (arith, below))) in
-      (first.0 ∷ rest.0, more u us first.0 rest.0 first.1 first.2 first.4 rest.1, omega (arith, rest.2))
+module _ (Has : functions.Triple → ℕ → Type 0)
+    (one : (u w : functions.Triple) (i : ℕ) → Has u i → Has w i → AreSame u w) where
+  numbered : (us : List functions.Triple)
+      → ((j : ℕ) (d : functions.Triple) → j < length us → (i : ℕ) × Has (get_or us j d) i)
+      → (is : List ℕ) × Numbered Has us is × (length is ≡ length us)
+  numbered [] each = ([], none, refl)
+  numbered (u ∷ us) each =
+      let first = each 0 u (omega arith) in
+      let rest = numbered us (λ j d below. each (suc j) d (omega (arith, below))) in
+      (first.0 ∷ rest.0, more u us first.0 rest.0 first.1 rest.1, omega (arith, rest.2))
 
   abbrev Found : List functions.Triple → ℕ → Type 0
-  Found us q = (j : ℕ) × (t : Triple) × (j < length us) × (slice_get triples q ≡ Some t)
-      × ((d : functions.Triple) → AreSame (get_or us j d) (meaning nodes t))
+  Found us q = (j : ℕ) × (u : functions.Triple) × (j < length us) × Has u q
+      × ((d : functions.Triple) → get_or us j d ≡ u)
 
-  found_case : (u : functions.Triple) (us : List functions.Triple) (i : ℕ) (is : List ℕ) (q : ℕ) (t : Triple)
-      → slice_get triples i ≡ Some t → AreSame u (meaning nodes t) → (list_any (eqb q) is ≡ true → Found us q)
-      → (b : Bool) → eqb q i ≡ b → (b || list_any (eqb q) is) ≡ true → Found (u ∷ us) q
-  found_case u us i is q t there same rest true e any =
-      let one : q ≡ i = grind (arith, nat_tests) in
-      (0, t, omega arith, ap (slice_get triples) one ∙ there, λ d. same)
-  found_case u us i is q t there same rest false e any =
+  found_case : (u : functions.Triple) (us : List functions.Triple) (i : ℕ) (is : List ℕ) (q : ℕ) → Has u i
+      → (list_any (eqb q) is ≡ true → Found us q) → (b : Bool) → eqb q i ≡ b
+      → (b || list_any (eqb q) is) ≡ true → Found (u ∷ us) q
+  found_case u us i is q has rest true e any =
+      let same : i ≡ q = grind (arith, nat_tests) in
+      (0, u, omega arith, subst (Has u) same has, λ d. refl)
+  found_case u us i is q has rest false e any =
       let found = rest any in
       (suc found.0, found.1, omega (arith, found.2), found.3, found.4)
 
-  found_at : (us : List functions.Triple) (is : List ℕ) (q : ℕ) → Matches nodes triples us is
+  found_at : (us : List functions.Triple) (is : List ℕ) (q : ℕ) → Numbered Has us is
       → list_any (eqb q) is ≡ true → Found us q
-  found_at all places q none any = absurd (false≢true any)
-  found_at all places q (more u us i is t there same rest) any =
-      found_case u us i is q t there same (found_at us is q rest) (eqb q i) refl any
+  found_at all numbers q none any = absurd (false≢true any)
+  found_at all numbers q (more u us i is has rest) any =
+      found_case u us i is q has (found_at us is q rest) (eqb q i) refl any
 
   no_head : (a b : Bool) → (a || b) ≡ false → (a ≡ false) × (b ≡ false)
   no_head true b h = absurd (false≢true (sym h))
@@ -382,38 +383,53 @@ module _ (nodes : List Node) (triples : List Triple) where
   no_member test [] h = tt
   no_member test (i ∷ is) h = let both = no_head (test i) (list_any test is) h in (both.0, no_member test is both.1)
 
-  never_found : (u : functions.Triple) (us : List functions.Triple) (is : List ℕ) (i : ℕ) (t : Triple)
-      → slice_get triples i ≡ Some t → AreSame u (meaning nodes t) → Matches nodes triples us is
-      → ((j : ℕ) → j < length us → ¬ AreSame u (get_or us j u)) → (b : Bool) → list_any (eqb i) is ≡ b → b ≡ false
-  never_found u us is i t there same rest apart false any = refl
-  never_found u us is i t there same rest apart true any =
+  never_found : (u : functions.Triple) (us : List functions.Triple) (is : List ℕ) (i : ℕ) → Has u i
+      → Numbered Has us is → ((j : ℕ) → j < length us → ¬ AreSame u (get_or us j u)) → (b : Bool)
+      → list_any (eqb i) is ≡ b → b ≡ false
+  never_found u us is i has rest apart false any = refl
+  never_found u us is i has rest apart true any =
       let found = found_at us is i rest any in
-      let one = same_Some t found.1 (sym there ∙ found.3) in
-      absurd (apart found.0 found.2
-      (same_then u (meaning nodes found.1) (get_or us found.0 u)
-      (subst (λ (x : Triple). AreSame u (meaning nodes x)) one same)
-      (same_back (get_or us found.0 u) (meaning nodes found.1) (found.4 u))))
+      absurd (apart found.0 found.2 (subst (AreSame u) (sym (found.4 u)) (one u found.1 i has found.3)))
 
-  distinct : (us : List functions.Triple) (is : List ℕ) → Matches nodes triples us is
+  distinct : (us : List functions.Triple) (is : List ℕ) → Numbered Has us is
       → AllPairs (λ u w. ¬ AreSame u w) us → IsDistinct eqb is
   unfolding IsDistinct
-  distinct all places none different = tt
-  distinct all places (more u us i is t there same rest) different = (
+  distinct all numbers none different = tt
+  distinct all numbers (more u us i is has rest) different = (
     no_member (eqb i) is
-        (never_found u us is i t there same rest (λ j below. different 0 (suc j) u (omega arith) (omega (arith, below)))
+        (never_found u us is i has rest (λ j below. different 0 (suc j) u (omega arith) (omega (arith, below)))
         (list_any (eqb i) is) refl),
     distinct us is rest
         (λ j k d first second. different (suc j) (suc k) d (omega (arith, first)) (omega (arith, second))),
   )
 
+  -- where each joint cofactor has a number below some, and those of one number are one, there are no more than that
+  pub at_most_numbers : (t : functions.Triple) (n : ℕ) → ((u : functions.Triple) (i : ℕ) → Has u i → i < n)
+      → ((u : functions.Triple) → IsCofactor t u → (i : ℕ) × Has u i) → HasAtMostCofactors t n
+  at_most_numbers t n below number us are =
+      let all = numbered us (λ j d within. number (get_or us j d) (are.each j d within)) in
+      let most = length-le_from_distinct_below all.0 n (distinct us all.0 all.1 are.different)
+      (λ q any. let found = found_at us all.0 q all.1 any in below found.1 q found.3) in
+      omega (arith, most, all.2)
+
+module _ (nodes : List Node) (triples : List Triple) where
+  -- a triple of functions is that of nodes at a place
+  abbrev IsAt : functions.Triple → ℕ → Type 0
+  IsAt u i = (t : Triple) × (slice_get triples i ≡ Some t) × AreSame u (meaning nodes t)
+
+  one_at : (u w : functions.Triple) (i : ℕ) → IsAt u i → IsAt w i → AreSame u w
+  one_at u w i is other =
+      let one = same_Some is.0 other.0 (sym is.1 ∙ other.1) in
+      same_then u (meaning nodes other.0) w (subst (λ (t : Triple). AreSame u (meaning nodes t)) one is.2)
+      (same_back w (meaning nodes other.0) other.2)
+
   -- where all joint cofactors are among some triples, they are no more than these
   pub at_most : (t : Triple) (n : ℕ) → AreAmong nodes triples t → length triples ≤ n
       → HasAtMostCofactors (meaning nodes t) n
-  at_most t n among few us are =
-      let all = matched us (λ j d below. among (get_or us j d) (are.each j d below)) in
-      let most = length-le_from_distinct_below all.0 (length triples) (distinct us all.0 all.1 are.different)
-      (λ q any. let found = found_at us all.0 q all.1 any in slice_get_within triples q found.1 found.3) in
-      omega (arith, most, all.2, few)
+  at_most t n among few =
+      at_most_numbers IsAt one_at (meaning nodes t) n
+      (λ u i is. let within = slice_get_within triples i is.0 is.1 in omega (arith, within, few))
+      (λ u is. let found = among u is in (found.0, (found.1, found.2, found.4)))
 
 pub most-same : (t u : functions.Triple) (n : ℕ) → AreSame t u → HasAtMostCofactors t n → HasAtMostCofactors u n
 most-same t u n same most us are =

@@ -1,19 +1,22 @@
--- The joint cofactors of three nodes are at most as many as the nodes below each, multiplied.
-use Rattle.std.proofs.Common.{◌≡◌, ℕ, zero, suc, ◌+◌, ◌*◌, ◌<◌, List, [], ◌∷◌, ◌++◌, length, arith}
+-- The joint cofactors of three nodes are at most as many as the nodes below each of three that determine them,
+-- multiplied.
+use Rattle.std.proofs.Common.{◌≡◌, ℕ, zero, suc, ◌+◌, ◌*◌, ◌<◌, ◌≤◌, List, [], ◌∷◌, ◌++◌, length, arith}
 use Rattle.std.proofs.Common.{refl, ap, sym, subst, ◌∙◌}
 use Rattle.std.specs.Prelude.{Bool, true, false, slice_get, Some}
 use Rattle.std.proofs.Math.Nat.{suc-mul, zero-mul}
 use Rattle.std.proofs.lemmas.List.{length-append}
 use Rattle.std.proofs.lemmas.Nat.{mul-le}
-use Rattle.std.proofs.lemmas.Option.{same_Some}
+use Rattle.std.proofs.lemmas.Option.{same_Some, slice_get_within}
 use Rattle.mw_term.specs.Assigned.{Given}
-use Rattle.mw_term.specs.Cofactors.{Variable, value_of, is_before, with_fixed, HasAtMostCofactors}
+use Rattle.mw_term.specs.Cofactors.{Variable, value_of, is_before, with_fixed, left_of, AreSame, IsCofactor}
+use Rattle.mw_term.specs.Cofactors.{HasAtMostCofactors}
+use Rattle.mw_term.specs.Functions as functions
 use Rattle.mw_dd.specs.declared.nodes.Node.{Node}
 use Rattle.mw_dd.specs.declared.nodes.Triple.{Triple}
-use Rattle.mw_dd.specs.Bounds.{Has, AreBelow, IsBound, IsFew}
-use Rattle.mw_dd.specs.Nodes.{value_at, IsDd, IsFrom, IsReduced}
-use Rattle.mw_dd.specs.Steps.{AreAmong, meaning}
-use Rattle.mw_dd.proofs.Cofactors.{at_most}
+use Rattle.mw_dd.specs.Bounds.{Has, AreBelow, IsBound, IsFew, AreAlike, Determine}
+use Rattle.mw_dd.specs.Nodes.{value_at, IsFrom, IsReduced}
+use Rattle.mw_dd.specs.Steps.{meaning}
+use Rattle.mw_dd.proofs.Cofactors.{at_most_numbers}
 use Rattle.mw_dd.proofs.From.{NodeCase, is_false, is_true, is_node, place_of, from_node, same_fixed, fixed_before}
 use Rattle.mw_dd.proofs.Values.{value-zero, value-one, value-high, value-low}
 
@@ -22,7 +25,7 @@ use Rattle.mw_dd.proofs.Values.{value-zero, value-one, value-high, value-low}
 module _ (nodes : List Node) (r : IsReduced nodes) (whole : ℕ) (found : List ℕ) (below : AreBelow nodes whole found)
     (place : Variable) (fixed : Given) where
   abbrev LeavesOne : ℕ → Type 0
-  LeavesOne x = (y : ℕ) × Has found y × IsDd nodes y
+  LeavesOne x = (y : ℕ) × Has found y
       × ((given : Given) → value_at (with_fixed place fixed given) nodes x ≡ value_at given nodes y)
 
   node_case : (bound x k : ℕ) (n : Node) → x < suc bound → (has : Has found x) → x ≡ k + 2 → slice_get nodes k ≡ Some n
@@ -31,17 +34,16 @@ module _ (nodes : List Node) (r : IsReduced nodes) (whole : ℕ) (found : List �
   node_case bound x k n h has e at ih false value later is =
       let there = below.there has.0 x has.1 in
       let from : IsFrom nodes place x = subst (IsFrom nodes place) (sym e) (from_node nodes place k n at later) in
-      (x, has, there, λ given. same_fixed nodes r place fixed given x there from)
+      (x, has, λ given. same_fixed nodes r place fixed given x there from)
   node_case bound x k n h has e at ih true true before is =
       let own = r.inner k n at in
       let both = below.branches has.0 x has.1 k n e at in
       let one = ih n.high (omega (arith, own.high, e, h)) both.1 in (
         one.0,
         one.1,
-        one.2,
         λ given. ap (value_at (with_fixed place fixed given) nodes) e
             ∙ value-high (with_fixed place fixed given) nodes k n at own.low own.high
-            (fixed_before place n.variable fixed given before ∙ is) ∙ one.3 given,
+            (fixed_before place n.variable fixed given before ∙ is) ∙ one.2 given,
       )
   node_case bound x k n h has e at ih true false before is =
       let own = r.inner k n at in
@@ -49,10 +51,9 @@ module _ (nodes : List Node) (r : IsReduced nodes) (whole : ℕ) (found : List �
       let one = ih n.low (omega (arith, own.low, e, h)) both.0 in (
         one.0,
         one.1,
-        one.2,
         λ given. ap (value_at (with_fixed place fixed given) nodes) e
             ∙ value-low (with_fixed place fixed given) nodes k n at own.low own.high
-            (fixed_before place n.variable fixed given before ∙ is) ∙ one.3 given,
+            (fixed_before place n.variable fixed given before ∙ is) ∙ one.2 given,
       )
 
   each_case : (bound x : ℕ) → x < suc bound → (has : Has found x)
@@ -60,13 +61,11 @@ module _ (nodes : List Node) (r : IsReduced nodes) (whole : ℕ) (found : List �
   each_case bound x h has ih (is_false e) = (
     x,
     has,
-    below.there has.0 x has.1,
     λ given. rw e (value-zero (with_fixed place fixed given) nodes ∙ sym (value-zero given nodes)),
   )
   each_case bound x h has ih (is_true e) = (
     x,
     has,
-    below.there has.0 x has.1,
     λ given. rw e (value-one (with_fixed place fixed given) nodes ∙ sym (value-one given nodes)),
   )
   each_case bound x h has ih (is_node k n e at) =
@@ -169,34 +168,69 @@ box-has x y z (w ∷ xs) ys zs (suc i) at ready has =
 
 -- ---- the bound
 
-module _ (nodes : List Node) (r : IsReduced nodes) (t : Triple) (xs ys zs : List ℕ) (f : AreBelow nodes t.f xs)
-    (g : AreBelow nodes t.g ys) (h : AreBelow nodes t.h zs) where
-  all_among : AreAmong nodes (box xs ys zs) t
-  all_among u is =
+module _ (nodes : List Node) (r : IsReduced nodes) (t whole : Triple) (determine : Determine nodes t whole)
+    (triples : List Triple) where
+  -- a joint cofactor of three nodes, and the place of what is left there of three that determine them
+  pub record IsAt (u : functions.Triple) (i : ℕ) : Type 0 where
+    pub is : IsCofactor (meaning nodes whole) u
+    pub own : Triple
+    pub at : slice_get triples i ≡ Some own
+    pub left : AreSame (left_of (meaning nodes t) is.place is.fixed) (meaning nodes own)
+
+  -- where these are at one place, the joint cofactors are one
+  one_at : (u w : functions.Triple) (i : ℕ) → IsAt u i → IsAt w i → AreSame u w
+  one_at u w i one other =
+      let own = same_Some other.own one.own (sym other.at ∙ one.at) in
+      let left = subst
+      (λ (s : Triple). AreSame (left_of (meaning nodes t) other.is.place other.is.fixed) (meaning nodes s))
+      own other.left in
+      let alike : (given : Given)
+      → AreAlike nodes (with_fixed one.is.place one.is.fixed given) (with_fixed other.is.place other.is.fixed given)
+      whole = λ given. determine _ _ (record {
+        f = one.left.f given ∙ sym (left.f given);
+        g = one.left.g given ∙ sym (left.g given);
+        h = one.left.h given ∙ sym (left.h given);
+      }) in
+      record {
+        f = λ given. one.is.left.f given ∙ (alike given).f ∙ sym (other.is.left.f given);
+        g = λ given. one.is.left.g given ∙ (alike given).g ∙ sym (other.is.left.g given);
+        h = λ given. one.is.left.h given ∙ (alike given).h ∙ sym (other.is.left.h given);
+      }
+
+module _ (nodes : List Node) (r : IsReduced nodes) (t whole : Triple) (determine : Determine nodes t whole)
+    (xs ys zs : List ℕ) (f : AreBelow nodes t.f xs) (g : AreBelow nodes t.g ys) (h : AreBelow nodes t.h zs) where
+  place_in_box : (u : functions.Triple) → IsCofactor (meaning nodes whole) u
+      → (i : ℕ) × IsAt nodes r t whole determine (box xs ys zs) u i
+  place_in_box u is =
       let x = leaves_one nodes r t.f xs f is.place is.fixed in
       let y = leaves_one nodes r t.g ys g is.place is.fixed in
       let z = leaves_one nodes r t.h zs h is.place is.fixed in
       let at = box-has x.0 y.0 z.0 xs ys zs x.1.0 x.1.1 y.1 z.1 in (
         at.0,
-        triple x.0 y.0 z.0,
-        at.1,
-        record { f = x.2; g = y.2; h = z.2 },
         record {
-          f = λ given. is.left.f given ∙ x.3 given;
-          g = λ given. is.left.g given ∙ y.3 given;
-          h = λ given. is.left.h given ∙ z.3 given;
+          is = is;
+          own = triple x.0 y.0 z.0;
+          at = at.1;
+          left = record { f = x.2; g = y.2; h = z.2 };
         },
       )
 
--- the joint cofactors are at most as many as the product of three bounds
+  most_in_box : (n : ℕ) → length (box xs ys zs) ≤ n → HasAtMostCofactors (meaning nodes whole) n
+  most_in_box n few =
+      let triples = box xs ys zs in
+      at_most_numbers (IsAt nodes r t whole determine triples) (one_at nodes r t whole determine triples)
+      (meaning nodes whole) n
+      (λ u i is. let within = slice_get_within triples i is.own is.at in omega (arith, within, few)) place_in_box
+
+-- the joint cofactors are at most as many as the product of three bounds of nodes that determine theirs
 pub product-bound : (nodes : List Node) → IsReduced nodes → (t : Triple) (f g h budget : ℕ) → IsBound nodes t.f f
-    → IsBound nodes t.g g → IsBound nodes t.h h → IsFew f g h budget → HasAtMostCofactors (meaning nodes t) budget
-product-bound nodes r t f g h budget of_f of_g of_h few =
+    → IsBound nodes t.g g → IsBound nodes t.h h → IsFew f g h budget → (whole : Triple) → Determine nodes t whole
+    → HasAtMostCofactors (meaning nodes whole) budget
+product-bound nodes r t f g h budget of_f of_g of_h few whole determine =
     let one = of_f few.of_f.0 few.of_f.1 in
     let two = of_g few.of_g.0 few.of_g.1 in
     let three = of_h few.of_h.0 few.of_h.1 in
     let inner = mul-le (length two.0) (length three.0) g h two.1 three.1 in
     let outer = mul-le (length one.0) (length two.0 * length three.0) f (g * h) one.1 inner in
-    at_most nodes (box one.0 two.0 three.0) t budget
-    (all_among nodes r t one.0 two.0 three.0 one.2 two.2 three.2)
+    most_in_box nodes r t whole determine one.0 two.0 three.0 one.2 two.2 three.2 budget
     (omega (arith, length-box one.0 two.0 three.0, outer, few.few))

@@ -1,7 +1,10 @@
 -- Nodes below one, and how many joint cofactors three functions have at most.
 use Rattle.std.specs.Prelude.{◌≡◌, ◌⊎◌, ℕ, ◌+◌, ◌*◌, ◌<◌, ◌≤◌, ◌^◌, ◌-◌, List, [], ◌∷◌, ◌++◌, length, slice_get, Some}
+use Rattle.std.specs.Prelude.{true, false, if◌then◌else◌}
+use Rattle.mw_term.specs.Assigned.{Given}
 use Rattle.mw_dd.specs.declared.nodes.Node.{Node}
-use Rattle.mw_dd.specs.Nodes.{IsDd}
+use Rattle.mw_dd.specs.declared.nodes.Triple.{Triple}
+use Rattle.mw_dd.specs.Nodes.{value_at, IsDd}
 
 -- a node is among some
 abbrev pub Has : List ℕ → ℕ → Type 0
@@ -34,7 +37,7 @@ HasNodes nodes x n = (found : List ℕ) × (length found ≤ n) × AreBelow node
 
 -- a number is such a bound, unless it says that none is known
 abbrev pub IsBound : List Node → ℕ → ℕ → Type 0
-IsBound nodes x n = 0 < n → n < 2 ^ 32 - 1 → HasNodes nodes x n
+IsBound nodes x n = 0 < n → n < 2 ^ 16 - 1 → HasNodes nodes x n
 
 -- each number that is kept is one
 abbrev pub AreBounds : List Node → List ℕ → Type 0
@@ -42,7 +45,36 @@ AreBounds nodes counts = (x n : ℕ) → slice_get counts x ≡ Some n → IsBou
 
 -- three bounds are known, and their product is within a budget
 pub record IsFew (f g h budget : ℕ) : Type 0 where
-  pub of_f : (0 < f) × (f < 2 ^ 32 - 1)
-  pub of_g : (0 < g) × (g < 2 ^ 32 - 1)
-  pub of_h : (0 < h) × (h < 2 ^ 32 - 1)
+  pub of_f : (0 < f) × (f < 2 ^ 16 - 1)
+  pub of_g : (0 < g) × (g < 2 ^ 16 - 1)
+  pub of_h : (0 < h) × (h < 2 ^ 16 - 1)
   pub few : f * (g * h) ≤ budget
+
+-- ---- functions that others determine
+
+-- a node has one value under two assignments
+abbrev pub IsAlike : List Node → (given more : Given) → ℕ → Type 0
+IsAlike nodes given more x = value_at given nodes x ≡ value_at more nodes x
+
+-- the value of one node tells that of another
+abbrev pub Tells : List Node → (y x : ℕ) → Type 0
+Tells nodes y x = (given more : Given) → IsAlike nodes given more y → IsAlike nodes given more x
+
+-- a node is never where another is always, and the other way round
+abbrev pub AreComplements : List Node → (x y : ℕ) → Type 0
+AreComplements nodes x y = (given : Given)
+    → value_at given nodes x ≡ (if value_at given nodes y then false else true)
+
+-- a node stands for itself, unless another one tells it
+abbrev pub IsOwn : List Node → (x by own : ℕ) → Type 0
+IsOwn nodes x by own = (own ≡ x) ⊎ Tells nodes by x
+
+-- three nodes have one value each under two assignments
+pub record AreAlike (nodes : List Node) (given more : Given) (t : Triple) : Type 0 where
+  pub f : IsAlike nodes given more t.f
+  pub g : IsAlike nodes given more t.g
+  pub h : IsAlike nodes given more t.h
+
+-- the values of three nodes tell those of three others
+abbrev pub Determine : List Node → (t whole : Triple) → Type 0
+Determine nodes t whole = (given more : Given) → AreAlike nodes given more t → AreAlike nodes given more whole

@@ -3,10 +3,12 @@ ghost use Rattle.std.specs.Prelude.{◌≡◌, ◌⊎◌, ◌+◌, [], ◌<◌, 
 ghost use Rattle.std.specs.Prelude.{slice_get, Some, IfOk, IfSome, OnOk};
 ghost use Rattle.mw_term.specs.Cofactors.{HasAtMostCofactors};
 ghost use Rattle.mw_dd.specs.declared.nodes.Node as node;
+ghost use Rattle.mw_dd.specs.declared.nodes.Triple as declared;
 ghost use Rattle.mw_dd.specs.Nodes.{IsDd, IsReduced};
 ghost use Rattle.mw_dd.specs.Steps.{AreDds, meaning};
-ghost use Rattle.mw_dd.specs.Kept.{IsKept, AreCounts};
+ghost use Rattle.mw_dd.specs.Kept.{IsKept, AreMade, AreCounts};
 ghost use Rattle.mw_dd.specs.Bounds.{Has, IsNoted, IsWalked, HasNodes, IsBound, AreBounds, IsFew};
+ghost use Rattle.mw_dd.specs.Bounds.{AreComplements, IsOwn, Determine};
 
 use crate::dd::Dd;
 use crate::kept::Kept;
@@ -20,10 +22,10 @@ use std::marker::Model;
 const MOST: usize = 8192;
 
 /// In place of how many nodes a function has: more than are counted.
-const MANY: u32 = 0xffff_ffff;
+const MANY: u16 = 0xffff;
 
 /// Whether a node was found, by the place at which it would be.
-fn is_found(found: &[Dd], places: &[u32], x: Dd) -> bool
+fn is_found(found: &[Dd], places: &[u16], x: Dd) -> bool
     ensures { result ≡ true → Has found.now x }
 {
     let at = x.position() as usize;
@@ -38,8 +40,8 @@ fn is_found(found: &[Dd], places: &[u32], x: Dd) -> bool
 }
 
 /// Puts a node behind those that were found, unless it is among them.
-fn note(found: &mut Vec<Dd>, places: &mut [u32], x: Dd) -> Result<(), NoMemory>
-    requires { length found.old.items < 2 ^ 32 }
+fn note(found: &mut Vec<Dd>, places: &mut [u16], x: Dd) -> Result<(), NoMemory>
+    requires { length found.old.items < 2 ^ 16 }
     ensures noted { OnOk result (IsNoted found.old.items found.new.items x) }
     ensures few { OnOk result (length found.new.items ≤ length found.old.items + 1) }
 {
@@ -48,7 +50,7 @@ fn note(found: &mut Vec<Dd>, places: &mut [u32], x: Dd) -> Result<(), NoMemory>
     }
     let at = x.position() as usize;
     if at < places.len() {
-        places[at] = found.len() as u32;
+        places[at] = found.len() as u16;
     }
     found.push(x)?;
     Ok(())
@@ -58,12 +60,12 @@ fn note(found: &mut Vec<Dd>, places: &mut [u32], x: Dd) -> Result<(), NoMemory>
 fn note_branches(
     nodes: &Nodes,
     found: &mut Vec<Dd>,
-    places: &mut [u32],
+    places: &mut [u16],
     x: Dd,
 ) -> Result<(), NoMemory>
     requires reduced { IsReduced nodes.now }
     requires there { IsDd nodes.now x }
-    requires few { length found.old.items < 2 ^ 31 }
+    requires few { length found.old.items < 2 ^ 15 }
     ensures { OnOk result (IsWalked nodes.now found.old.items found.new.items x) }
 {
     if x.position() < 2 {
@@ -78,9 +80,9 @@ fn note_branches(
 fn walk(
     nodes: &Nodes,
     found: &mut Vec<Dd>,
-    places: &mut [u32],
+    places: &mut [u16],
     x: Dd,
-) -> Result<Option<u32>, NoMemory>
+) -> Result<Option<u16>, NoMemory>
     requires reduced { IsReduced nodes.now }
     requires there { IsDd nodes.now x }
     ensures { IfOk result (λ o. IfSome o (HasNodes nodes.now x)) }
@@ -90,7 +92,7 @@ fn walk(
     for at in 0..=MOST {
         let count = found.len();
         if at >= count {
-            return Ok(Some(count as u32));
+            return Ok(Some(count as u16));
         }
         if count > MOST {
             return Ok(None);
@@ -108,11 +110,11 @@ fn walk(
 #[derive(Drop)]
 pub(crate) struct Bounds {
     /// What is known of each node.
-    counts: Vec<u32>,
+    counts: Vec<u16>,
     /// The nodes that the last walk found.
     found: Vec<Dd>,
     /// The place of each of these in `found`, by its position; anything for other nodes.
-    places: Vec<u32>,
+    places: Vec<u16>,
 }
 
 impl Model for Bounds {
@@ -124,7 +126,7 @@ impl Model for Bounds {
 }
 
 /// Whether three bounds are known, and their product is within a budget.
-fn are_few(f: u32, g: u32, h: u32, budget: u32) -> bool
+fn are_few(f: u16, g: u16, h: u16, budget: u32) -> bool
     ensures { result ≡ true → IsFew f g h budget }
 {
     if f == 0 || g == 0 || h == 0 || f == MANY || g == MANY || h == MANY {
@@ -147,7 +149,7 @@ impl Bounds {
     }
 
     /// What is known of a node: 0 where it was never asked for.
-    fn known(&self, x: Dd) -> u32
+    fn known(&self, x: Dd) -> u16
         ensures { result ≡ 0 ⊎ (slice_get self.now x ≡ Some result) }
     {
         let at = x.position() as usize;
@@ -159,7 +161,7 @@ impl Bounds {
     }
 
     /// How many nodes there are below one, with it and the constants: `MANY` where there are more than are counted.
-    fn count(&mut self, nodes: &Nodes, x: Dd) -> Result<u32, NoMemory>
+    fn count(&mut self, nodes: &Nodes, x: Dd) -> Result<u16, NoMemory>
         requires reduced { IsReduced nodes.now }
         requires there { IsDd nodes.now x }
         ensures bound { IfOk result (IsBound nodes.now x) }
@@ -173,7 +175,7 @@ impl Bounds {
     }
 
     /// How many cofactors a function has at most, the constants with them, unless it is `MANY`.
-    fn bound(&mut self, nodes: &Nodes, x: Dd) -> Result<u32, NoMemory>
+    fn bound(&mut self, nodes: &Nodes, x: Dd) -> Result<u16, NoMemory>
         requires reduced { IsReduced nodes.now }
         requires there { IsDd nodes.now x }
         requires right { AreBounds nodes.now self.old }
@@ -193,7 +195,7 @@ impl Bounds {
     }
 
     /// Keeps what is known of a node.
-    fn learn(&mut self, x: Dd, count: u32) -> Result<(), NoMemory>
+    fn learn(&mut self, x: Dd, count: u16) -> Result<(), NoMemory>
         ensures { (nodes : List node.Node) → IsBound nodes x count → AreBounds nodes self.old
             → AreBounds nodes self.new }
     {
@@ -205,8 +207,8 @@ impl Bounds {
         Ok(())
     }
 
-    /// Whether three functions can't have more joint cofactors than a budget, since the product of their bounds is
-    /// within it.
+    /// Whether the product of the bounds of three functions is within a budget: then three that these determine can't
+    /// have more joint cofactors.
     ///
     /// # Errors
     ///
@@ -220,7 +222,8 @@ impl Bounds {
         requires reduced { IsReduced nodes.now }
         requires there { AreDds nodes.now t }
         requires right { AreBounds nodes.now self.old }
-        ensures within { IfOk result (λ b. b ≡ true → HasAtMostCofactors (meaning nodes.now t) budget) }
+        ensures within { IfOk result (λ b. b ≡ true → (whole : declared.Triple) → Determine nodes.now t whole
+            → HasAtMostCofactors (meaning nodes.now whole) budget) }
         ensures right { AreBounds nodes.now self.new }
     {
         let f = self.bound(nodes, t.f)?;
@@ -240,14 +243,54 @@ fn was_within(counts: &Kept, t: &Triple, budget: u32) -> bool
     }
 }
 
-/// Whether it is known of an operation that it is within a budget: since it was counted, or by the bounds of its
-/// functions.
+/// Whether a function was made as the complement of another, and is kept.
+fn is_inverse(results: &Kept, x: Dd, y: Dd) -> bool
+    ensures { result ≡ true → (nodes : List node.Node) → AreMade nodes results.now → AreComplements nodes x y }
+{
+    let inverse = Triple {
+        f: y,
+        g: Dd::at(0),
+        h: Dd::at(1),
+    };
+    match results.get(&inverse) {
+        Some(position) => position == x.position(),
+        None => false,
+    }
+}
+
+/// A function; or never, where another is known to tell its values, since it is the same or the complement.
+fn unless_told(results: &Kept, x: Dd, by: Dd) -> Dd
+    ensures there { (nodes : List node.Node) → IsDd nodes x → IsDd nodes result }
+    ensures own { (nodes : List node.Node) → AreMade nodes results.now → IsOwn nodes x by result }
+{
+    if x == by || is_inverse(results, x, by) || is_inverse(results, by, x) {
+        return Dd::at(0);
+    }
+    x
+}
+
+/// Functions that tell the values of those of an operation: never stands in place of one that another tells.
+fn telling(results: &Kept, t: &Triple) -> Triple
+    ensures there { (nodes : List node.Node) → AreDds nodes t.now → AreDds nodes result }
+    ensures determine { (nodes : List node.Node) → AreMade nodes results.now → Determine nodes result t.now }
+{
+    let h = unless_told(results, t.h, t.f);
+    Triple {
+        f: t.f,
+        g: unless_told(results, t.g, t.f),
+        h: unless_told(results, h, t.g),
+    }
+}
+
+/// Whether it is known of an operation that it is within a budget: since it was counted, or by the bounds of functions
+/// that tell the values of its own.
 ///
 /// # Errors
 ///
 /// Memory ran out.
 pub(crate) fn is_within(
     nodes: &Nodes,
+    results: &Kept,
     counts: &Kept,
     bounds: &mut Bounds,
     t: &Triple,
@@ -255,6 +298,7 @@ pub(crate) fn is_within(
 ) -> Result<bool, NoMemory>
     requires reduced { IsReduced nodes.now }
     requires there { AreDds nodes.now t.now }
+    requires made { AreMade nodes.now results.now }
     requires counted { AreCounts nodes.now counts.now }
     requires bounded { AreBounds nodes.now bounds.old }
     ensures within { IfOk result (λ b. b ≡ true → HasAtMostCofactors (meaning nodes.now t.now) budget) }
@@ -263,5 +307,5 @@ pub(crate) fn is_within(
     if was_within(counts, t, budget) {
         return Ok(true);
     }
-    bounds.are_within(nodes, *t, budget)
+    bounds.are_within(nodes, telling(results, t), budget)
 }

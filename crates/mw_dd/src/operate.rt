@@ -35,7 +35,7 @@ pub(crate) fn operate(
     if let Some(result) = end(t) {
         return Ok(result);
     }
-    let known = is_within(nodes, counts, bounds, &t, budget)?;
+    let known = is_within(nodes, &notes.results, counts, bounds, &t, budget)?;
     if known {
         return choose(nodes, notes, alloc, t, None);
     }

@@ -1,4 +1,5 @@
 use Rattle.std.proofs.Common.{refl}
+use Rattle.std.proofs.lemmas.Result.{IfOk-weaker}
 use Rattle.mw_dd.proofs.Keeping.{within-count}
 use Rattle.mw_dd.proofs.bounds.is_within.Goals as goal
 
@@ -6,3 +7,9 @@ pub returns-then-was_within-clause-within : goal.returns-then-was_within-clause-
 returns-then-was_within-clause-within c = λ yes.
     within-count c.args.nodes.now c.args.counts.now c.args.t.now c.args.budget c.requires.counted
     (c.if-was_within.ensures refl)
+
+pub returns-clause-within : goal.returns-clause-within
+returns-clause-within c =
+    IfOk-weaker c.are_within.result _ _
+    (λ few within yes.
+    within yes c.args.t.now (c.telling.ensures.determine c.args.nodes.now c.requires.made)) c.are_within.ensures.within
