@@ -1,8 +1,9 @@
 -- Nodes that were found below one.
-use Rattle.std.proofs.Common.{◌≡◌, ◌⊎◌, inl, inr, ℕ, zero, suc, ◌+◌, ◌-◌, ◌<◌, ◌≤◌, List, [], ◌∷◌, length, arith}
+use Rattle.std.proofs.Common.{◌≡◌, ◌⊎◌, inl, inr, ℕ, zero, suc, ◌+◌, ◌-◌, ◌<◌, ◌≤◌, List, [], ◌∷◌, ◌++◌, length, arith}
 use Rattle.std.proofs.Common.{refl, ap, sym, subst, ◌∙◌}
 use Rattle.std.specs.Prelude.{slice_get, Some}
 use Rattle.std.proofs.lemmas.Bool.{cases_lt}
+use Rattle.std.proofs.lemmas.List.{length-append}
 use Rattle.std.proofs.lemmas.Option.{same_Some, slice_get_within, slice_get_cases}
 use Rattle.mw_dd.specs.declared.nodes.Node.{Node}
 use Rattle.mw_dd.specs.Nodes.{IsDd, IsReduced}
@@ -124,6 +125,50 @@ nodes-constant nodes x there below = (
     branches = λ i y at k n e of.
         let same = only_is x i y at in
         absurd (omega (arith, same, e, below));
+  },
+)
+
+-- the numbers below one, in turn
+abbrev numbers : ℕ → List ℕ
+numbers zero = []
+numbers (suc n) = numbers n ++ n ∷ []
+
+length-numbers : (n : ℕ) → length (numbers n) ≡ n
+length-numbers zero = refl
+length-numbers (suc n) = omega (arith, length-append (numbers n) (n ∷ []), length-numbers n)
+
+numbers-has : (n x : ℕ) → x < n → Has (numbers n) x
+numbers-has zero x below = absurd (omega (arith, below))
+numbers-has (suc n) x below = elim (cases_lt x n) [
+  | inl less ↦ let before = numbers-has n x less in (before.0, get-push_old (numbers n) n before.0 x before.1)
+  | inr more ↦ (
+    length (numbers n),
+    subst (λ (y : ℕ). slice_get (numbers n ++ n ∷ []) (length (numbers n)) ≡ Some y) (omega (arith, below, more))
+        (get-push_new (numbers n) n),
+  )
+]
+
+numbers-below : (n i y : ℕ) → slice_get (numbers n) i ≡ Some y → y < n
+numbers-below zero i y at = absurd (none_there i y at)
+numbers-below (suc n) i y at = elim (get-push (numbers n) n i y at) [
+  | inl before ↦ let below = numbers-below n i y before in omega (arith, below)
+  | inr last ↦ omega (arith, last.1)
+]
+
+-- there are no more nodes below one than up to its own place
+pub nodes-before : (nodes : List Node) → IsReduced nodes → (x : ℕ) → IsDd nodes x → HasNodes nodes x (x + 1)
+nodes-before nodes r x there = (
+  numbers (suc x),
+  omega (arith, length-numbers (suc x)),
+  record {
+    itself = numbers-has (suc x) x (omega arith);
+    there = λ i y at. let below = numbers-below (suc x) i y at in omega (arith, below, there);
+    branches = λ i y at k n e of.
+        let below = numbers-below (suc x) i y at in
+        let own = r.inner k n of in (
+          numbers-has (suc x) n.low (omega (arith, below, own.low, e)),
+          numbers-has (suc x) n.high (omega (arith, below, own.high, e)),
+        );
   },
 )
 

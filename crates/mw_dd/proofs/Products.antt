@@ -13,7 +13,7 @@ use Rattle.mw_term.specs.Cofactors.{HasAtMostCofactors}
 use Rattle.mw_term.specs.Functions as functions
 use Rattle.mw_dd.specs.declared.nodes.Node.{Node}
 use Rattle.mw_dd.specs.declared.nodes.Triple.{Triple}
-use Rattle.mw_dd.specs.Bounds.{Has, AreBelow, IsBound, IsFew, AreAlike, Determine}
+use Rattle.mw_dd.specs.Bounds.{Has, AreBelow, AreFew, AreAlike, Determine}
 use Rattle.mw_dd.specs.Nodes.{value_at, IsFrom, IsReduced}
 use Rattle.mw_dd.specs.Steps.{meaning}
 use Rattle.mw_dd.proofs.Cofactors.{at_most_numbers}
@@ -222,15 +222,12 @@ module _ (nodes : List Node) (r : IsReduced nodes) (t whole : Triple) (determine
       (meaning nodes whole) n
       (λ u i is. let within = slice_get_within triples i is.own is.at in omega (arith, within, few)) place_in_box
 
--- the joint cofactors are at most as many as the product of three bounds of nodes that determine theirs
-pub product-bound : (nodes : List Node) → IsReduced nodes → (t : Triple) (f g h budget : ℕ) → IsBound nodes t.f f
-    → IsBound nodes t.g g → IsBound nodes t.h h → IsFew f g h budget → (whole : Triple) → Determine nodes t whole
-    → HasAtMostCofactors (meaning nodes whole) budget
-product-bound nodes r t f g h budget of_f of_g of_h few whole determine =
-    let one = of_f few.of_f.0 few.of_f.1 in
-    let two = of_g few.of_g.0 few.of_g.1 in
-    let three = of_h few.of_h.0 few.of_h.1 in
-    let inner = mul-le (length two.0) (length three.0) g h two.1 three.1 in
-    let outer = mul-le (length one.0) (length two.0 * length three.0) f (g * h) one.1 inner in
-    most_in_box nodes r t whole determine one.0 two.0 three.0 one.2 two.2 three.2 budget
-    (omega (arith, length-box one.0 two.0 three.0, outer, few.few))
+-- the joint cofactors are at most as many as the product of three bounds of nodes that tell theirs
+pub product-bound : (nodes : List Node) → IsReduced nodes → (t whole : Triple) (budget : ℕ) → AreFew nodes t budget
+    → Determine nodes t whole → HasAtMostCofactors (meaning nodes whole) budget
+product-bound nodes r t whole budget are determine =
+    let inner = mul-le (length are.g.0) (length are.h.0) are.of_g are.of_h are.g.1 are.h.1 in
+    let outer =
+    mul-le (length are.f.0) (length are.g.0 * length are.h.0) are.of_f (are.of_g * are.of_h) are.f.1 inner in
+    most_in_box nodes r t whole determine are.f.0 are.g.0 are.h.0 are.f.2 are.g.2 are.h.2 budget
+    (omega (arith, length-box are.f.0 are.g.0 are.h.0, outer, are.few))

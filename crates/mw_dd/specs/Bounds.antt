@@ -43,14 +43,17 @@ IsBound nodes x n = 0 < n → n < 2 ^ 16 - 1 → HasNodes nodes x n
 abbrev pub AreBounds : List Node → List ℕ → Type 0
 AreBounds nodes counts = (x n : ℕ) → slice_get counts x ≡ Some n → IsBound nodes x n
 
--- three bounds are known, and their product is within a budget
-pub record IsFew (f g h budget : ℕ) : Type 0 where
-  pub of_f : (0 < f) × (f < 2 ^ 16 - 1)
-  pub of_g : (0 < g) × (g < 2 ^ 16 - 1)
-  pub of_h : (0 < h) × (h < 2 ^ 16 - 1)
-  pub few : f * (g * h) ≤ budget
+-- the product of such bounds of three is within a budget
+pub record AreFew (nodes : List Node) (t : Triple) (budget : ℕ) : Type 0 where
+  pub of_f : ℕ
+  pub of_g : ℕ
+  pub of_h : ℕ
+  pub f : HasNodes nodes t.f of_f
+  pub g : HasNodes nodes t.g of_g
+  pub h : HasNodes nodes t.h of_h
+  pub few : of_f * (of_g * of_h) ≤ budget
 
--- ---- functions that others determine
+-- ---- functions whose values others tell
 
 -- a node has one value under two assignments
 abbrev pub IsAlike : List Node → (given more : Given) → ℕ → Type 0

@@ -7,7 +7,7 @@ ghost use Rattle.mw_dd.specs.declared.nodes.Triple as declared;
 ghost use Rattle.mw_dd.specs.Nodes.{IsDd, IsReduced};
 ghost use Rattle.mw_dd.specs.Steps.{AreDds, meaning};
 ghost use Rattle.mw_dd.specs.Kept.{IsKept, AreMade, AreCounts};
-ghost use Rattle.mw_dd.specs.Bounds.{Has, IsNoted, IsWalked, HasNodes, IsBound, AreBounds, IsFew};
+ghost use Rattle.mw_dd.specs.Bounds.{Has, IsNoted, IsWalked, HasNodes, IsBound, AreBounds, AreFew};
 ghost use Rattle.mw_dd.specs.Bounds.{AreComplements, IsOwn, Determine};
 
 use crate::dd::Dd;
@@ -125,15 +125,11 @@ impl Model for Bounds {
     ghost view = { λ b. b.counts.items };
 }
 
-/// Whether three bounds are known, and their product is within a budget.
-fn are_few(f: u16, g: u16, h: u16, budget: u32) -> bool
-    ensures { result ≡ true → IsFew f g h budget }
+/// Whether the product of three numbers is within a budget.
+fn is_product_within(f: u64, g: u64, h: u64, budget: u32) -> bool
+    ensures { result ≡ true → f * (g * h) ≤ budget }
 {
-    if f == 0 || g == 0 || h == 0 || f == MANY || g == MANY || h == MANY {
-        return false;
-    }
-    let pairs = u64::from(g).saturating_mul(u64::from(h));
-    u64::from(f).saturating_mul(pairs) <= u64::from(budget)
+    f.saturating_mul(g.saturating_mul(h)) <= u64::from(budget)
 }
 
 impl Bounds {
@@ -174,24 +170,18 @@ impl Bounds {
         }
     }
 
-    /// How many cofactors a function has at most, the constants with them, unless it is `MANY`.
-    fn bound(&mut self, nodes: &Nodes, x: Dd) -> Result<u16, NoMemory>
+    /// Counts the nodes below one, unless that was done before.
+    fn look(&mut self, nodes: &Nodes, x: Dd) -> Result<(), NoMemory>
         requires reduced { IsReduced nodes.now }
         requires there { IsDd nodes.now x }
         requires right { AreBounds nodes.now self.old }
-        ensures bound { IfOk result (IsBound nodes.now x) }
         ensures right { AreBounds nodes.now self.new }
     {
-        if x.position() < 2 {
-            return Ok(1);
-        }
-        let known = self.known(x);
-        if known > 0 {
-            return Ok(known);
+        if x.position() < 2 || self.known(x) > 0 {
+            return Ok(());
         }
         let count = self.count(nodes, x)?;
-        self.learn(x, count)?;
-        Ok(count)
+        self.learn(x, count)
     }
 
     /// Keeps what is known of a node.
@@ -207,8 +197,32 @@ impl Bounds {
         Ok(())
     }
 
-    /// Whether the product of the bounds of three functions is within a budget: then three that these determine can't
-    /// have more joint cofactors.
+    /// How many nodes there are at most below one, with it and the constants: as many as were counted, or as there
+    /// are at all up to its own place.
+    fn most(&self, x: Dd) -> u64
+        ensures { (nodes : List node.Node) → IsReduced nodes → IsDd nodes x → AreBounds nodes self.now
+            → HasNodes nodes x result }
+    {
+        if x.position() < 2 {
+            return 1;
+        }
+        let count = self.known(x);
+        if count > 0 && count < MANY {
+            return u64::from(count);
+        }
+        u64::from(x.position()) + 1
+    }
+
+    /// Whether the product of these numbers of three functions is within a budget.
+    fn are_few(&self, t: &Triple, budget: u32) -> bool
+        ensures { result ≡ true → (nodes : List node.Node) → IsReduced nodes → AreDds nodes t.now
+            → AreBounds nodes self.now → AreFew nodes t.now budget }
+    {
+        is_product_within(self.most(t.f), self.most(t.g), self.most(t.h), budget)
+    }
+
+    /// Whether the product of the bounds of three functions is within a budget: then three whose values these tell
+    /// can't have more joint cofactors. Nodes are counted only where it matters.
     ///
     /// # Errors
     ///
@@ -216,20 +230,22 @@ impl Bounds {
     pub(crate) fn are_within(
         &mut self,
         nodes: &Nodes,
-        t: Triple,
+        t: &Triple,
         budget: u32,
     ) -> Result<bool, NoMemory>
         requires reduced { IsReduced nodes.now }
-        requires there { AreDds nodes.now t }
+        requires there { AreDds nodes.now t.now }
         requires right { AreBounds nodes.now self.old }
-        ensures within { IfOk result (λ b. b ≡ true → (whole : declared.Triple) → Determine nodes.now t whole
-            → HasAtMostCofactors (meaning nodes.now whole) budget) }
+        ensures within { IfOk result (λ b. b ≡ true → AreFew nodes.now t.now budget) }
         ensures right { AreBounds nodes.now self.new }
     {
-        let f = self.bound(nodes, t.f)?;
-        let g = self.bound(nodes, t.g)?;
-        let h = self.bound(nodes, t.h)?;
-        Ok(are_few(f, g, h, budget))
+        if self.are_few(t, budget) {
+            return Ok(true);
+        }
+        self.look(nodes, t.f)?;
+        self.look(nodes, t.g)?;
+        self.look(nodes, t.h)?;
+        Ok(self.are_few(t, budget))
     }
 }
 
@@ -274,11 +290,20 @@ fn telling(results: &Kept, t: &Triple) -> Triple
     ensures there { (nodes : List node.Node) → AreDds nodes t.now → AreDds nodes result }
     ensures determine { (nodes : List node.Node) → AreMade nodes results.now → Determine nodes result t.now }
 {
+    let g = unless_told(results, t.g, t.f);
     let h = unless_told(results, t.h, t.f);
+    // Of two the earlier one stays, whose nodes were mostly counted before.
+    if g.position() < h.position() {
+        return Triple {
+            f: t.f,
+            g,
+            h: unless_told(results, h, g),
+        };
+    }
     Triple {
         f: t.f,
-        g: unless_told(results, t.g, t.f),
-        h: unless_told(results, h, t.g),
+        g: unless_told(results, g, h),
+        h,
     }
 }
 
@@ -307,5 +332,5 @@ pub(crate) fn is_within(
     if was_within(counts, t, budget) {
         return Ok(true);
     }
-    bounds.are_within(nodes, telling(results, t), budget)
+    bounds.are_within(nodes, &telling(results, t), budget)
 }
