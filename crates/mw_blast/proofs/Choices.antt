@@ -8,7 +8,7 @@ use Rattle.mw_term.specs.Functions.{Function, never, Triple, ite, made}
 use Rattle.mw_term.specs.Rows.{choices, index_row, last_made}
 use Rattle.mw_dd.specs.declared.dd.DdFault.{DdFault}
 use Rattle.mw_dd.specs.declared.dd.DdFault.TheVariants.{OverBudget, NoMemory}
-use Rattle.mw_dd.specs.declared.nodes.Node.{Node}
+use Rattle.mw_dd.specs.Nodes.{Node}
 use Rattle.mw_dd.specs.Diagrams.{Keeps}
 use Rattle.mw_base.specs.Words.{bit_of}
 use Rattle.mw_blast.specs.Bits.{StandsFor, AreThere, StandEach, AreFor}

@@ -12,7 +12,7 @@ use Rattle.mw_term.specs.Rows.{bit}
 use Rattle.mw_term.specs.Table.{Table, Extends, widths_of, term_width}
 use Rattle.mw_term.specs.Values.{values_of, term_value}
 use Rattle.mw_term.proofs.Tables.{widths_append, widths_begin, values_append, values_begin, widths_count, values_count}
-use Rattle.mw_dd.specs.declared.nodes.Node.{Node}
+use Rattle.mw_dd.specs.Nodes.{Node}
 use Rattle.mw_blast.specs.Bits.{StandsFor, AreBits}
 use Rattle.mw_blast.specs.Kept.{Made, made_of, start_of, is_made, AreMade, AreKept, IsOf, StaysWithTerms}
 use Rattle.mw_blast.specs.Kept.{StaysWithDiagrams, unmade}

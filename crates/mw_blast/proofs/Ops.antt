@@ -20,7 +20,7 @@ use Rattle.mw_term.proofs.Rows.{rows_make_values}
 use Rattle.mw_term.proofs.Tables.{terms_have_ops}
 use Rattle.mw_dd.specs.declared.dd.DdFault.{DdFault}
 use Rattle.mw_dd.specs.declared.dd.DdFault.TheVariants as dd
-use Rattle.mw_dd.specs.declared.nodes.Node.{Node}
+use Rattle.mw_dd.specs.Nodes.{Node}
 use Rattle.mw_blast.specs.declared.fault.RowFault.{RowFault}
 use Rattle.mw_blast.specs.declared.fault.RowFault.TheVariants.{Over, NoMemory}
 use Rattle.mw_blast.specs.declared.rows.Row.{Row}

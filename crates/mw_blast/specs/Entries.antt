@@ -3,7 +3,7 @@ use Rattle.std.specs.Prelude.{◌≡◌, ℕ, zero, suc, ◌+◌, ◌-◌, ◌^�
 use Rattle.mw_base.specs.Words.{bit_of}
 use Rattle.mw_term.specs.Functions.{Function, never, Triple, ite, made}
 use Rattle.mw_term.specs.Rows.{choices, index_row}
-use Rattle.mw_dd.specs.declared.nodes.Node.{Node}
+use Rattle.mw_dd.specs.Nodes.{Node}
 use Rattle.mw_dd.specs.Diagrams.{Keeps}
 use Rattle.mw_blast.specs.Bits.{AreThere, StandEach, AreFor}
 use Rattle.mw_blast.specs.Causes.{IsOneOver}

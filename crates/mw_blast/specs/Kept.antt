@@ -4,7 +4,7 @@ use Rattle.std.specs.Prelude.{Option, Some, None}
 use Rattle.std.specs.Prelude.{Bool, true, false, is_some, All}
 use Rattle.mw_term.specs.Rows.{bit}
 use Rattle.mw_term.specs.Table.{Table, Extends, ArePair, widths_of, term_width}
-use Rattle.mw_dd.specs.declared.nodes.Node.{Node}
+use Rattle.mw_dd.specs.Nodes.{Node}
 use Rattle.mw_dd.specs.Diagrams.{Keeps}
 use Rattle.mw_blast.specs.Bits.{StandsFor}
 use Rattle.mw_term.specs.Operands.{IsReached}

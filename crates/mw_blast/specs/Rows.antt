@@ -3,7 +3,7 @@ use Rattle.std.specs.Prelude.{◌≡◌, ℕ, zero, suc, ◌<◌, List, [], ◌�
 use Rattle.mw_term.specs.Functions.{Function, never, always, Triple, ite, made}
 use Rattle.mw_term.specs.Rows.{inverse, difference, sameness, next_carry, next_equal, next_less, xor_row, sum_row}
 use Rattle.mw_term.specs.Rows.{carry_row}
-use Rattle.mw_dd.specs.declared.nodes.Node.{Node}
+use Rattle.mw_dd.specs.Nodes.{Node}
 use Rattle.mw_blast.specs.declared.fault.BlastFault.{BlastFault}
 use Rattle.mw_blast.specs.declared.fault.BlastFault.TheVariants as blast
 use Rattle.mw_blast.specs.declared.fault.RowFault.{RowFault}

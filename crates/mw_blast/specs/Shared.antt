@@ -6,7 +6,7 @@ use Rattle.mw_term.specs.Standing.{IsFirstAt, StandsIn}
 use Rattle.mw_term.specs.Operands.{IsReached}
 use Rattle.mw_term.specs.Table.{Extends, Table}
 use Rattle.mw_term.specs.Values.{Keeps}
-use Rattle.mw_dd.specs.declared.nodes.Node.{Node}
+use Rattle.mw_dd.specs.Nodes.{Node}
 use Rattle.mw_blast.specs.declared.fault.BlastFault.{BlastFault}
 use Rattle.mw_blast.specs.declared.fault.BlastFault.TheVariants.{Over, NoMemory}
 use Rattle.mw_blast.specs.declared.shared.Shared.{Shared}

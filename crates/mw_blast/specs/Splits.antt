@@ -5,7 +5,7 @@ use Rattle.mw_term.specs.Functions.{Function, made}
 use Rattle.mw_term.specs.PathWords.{path_zero, path_one}
 use Rattle.mw_term.specs.Rows.{bit}
 use Rattle.mw_term.specs.Table.{Table}
-use Rattle.mw_dd.specs.declared.nodes.Node.{Node}
+use Rattle.mw_dd.specs.Nodes.{Node}
 use Rattle.mw_blast.specs.declared.split.Split.{Split}
 use Rattle.mw_blast.specs.declared.fault.BlastFault.{BlastFault}
 use Rattle.mw_blast.specs.declared.fault.BlastFault.TheVariants.{Over, NoMemory}

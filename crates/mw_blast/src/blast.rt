@@ -5,7 +5,7 @@ ghost use Rattle.mw_term.specs.declared.op.Op as ops;
 ghost use Rattle.mw_term.specs.Operands.{operands};
 ghost use Rattle.mw_term.specs.Rows.{bit};
 ghost use Rattle.mw_term.specs.Table.{Table, term_width};
-ghost use Rattle.mw_dd.specs.declared.nodes.Node as nodes;
+ghost use Rattle.mw_dd.specs.Nodes as nodes;
 ghost use Rattle.mw_dd.specs.Nodes.{IsDd, function_of};
 ghost use Rattle.mw_dd.specs.Diagrams.{Keeps};
 ghost use Rattle.mw_blast.specs.Bits.{AreBits};

@@ -4,7 +4,7 @@ ghost use Rattle.mw_term.specs.Functions.{Function};
 ghost use Rattle.mw_term.specs.Operands.{operands};
 ghost use Rattle.mw_term.specs.Rows.{bit, bit_made, row, row_bits};
 ghost use Rattle.mw_term.specs.Table.{IsBit, Fits, widths_of, term_width, width_over};
-ghost use Rattle.mw_dd.specs.declared.nodes.Node as nodes;
+ghost use Rattle.mw_dd.specs.Nodes as nodes;
 ghost use Rattle.mw_dd.specs.Nodes.{IsDd};
 ghost use Rattle.mw_dd.specs.Diagrams.{Keeps};
 ghost use Rattle.mw_blast.specs.Bits.{StandsFor, AreThere, StandEach, AreFor};

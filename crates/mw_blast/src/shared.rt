@@ -3,7 +3,7 @@ ghost use Rattle.std.specs.Prelude.{◌≡◌, ◌<◌, ℕ, List, [], length, s
 ghost use Rattle.mw_term.specs.Rows.{bit};
 ghost use Rattle.mw_term.specs.Standing.{IsFirstAt, StandsIn};
 ghost use Rattle.mw_term.specs.Table.{Table, table_of, term_width, IsMap, IsTable};
-ghost use Rattle.mw_dd.specs.declared.nodes.Node as nodes;
+ghost use Rattle.mw_dd.specs.Nodes as nodes;
 ghost use Rattle.mw_dd.specs.Nodes.{IsDd, function_of};
 ghost use Rattle.mw_dd.specs.Diagrams.{Keeps};
 ghost use Rattle.mw_blast.specs.Bits.{AreBits};

@@ -4,7 +4,11 @@ use Rattle.std.specs.Prelude.{slice_get, slice_index_or, Some}
 use Rattle.mw_term.specs.Assigned.{Given}
 use Rattle.mw_term.specs.Cofactors.{Variable, variable, value_of, is_before}
 use Rattle.mw_term.specs.Functions.{Function}
-use Rattle.mw_dd.specs.declared.nodes.Node.{Node}
+use Rattle.mw_dd.specs.declared.nodes.Node as declared
+
+-- a node that is no constant: its variable and its branches
+abbrev pub Node : Type 0
+Node = declared.Node
 
 -- a node's value, from the values of those before it
 abbrev pub node_value : Given → (before : List Bool) → Node → Bool

@@ -4,7 +4,7 @@ use Rattle.mw_term.specs.Standing.{StandsIn}
 use Rattle.mw_term.specs.Table.{Extends, Table, table_of}
 use Rattle.mw_term.specs.Values.{Keeps}
 use Rattle.mw_term.proofs.Standing.{stands_with_more}
-use Rattle.mw_dd.specs.declared.nodes.Node.{Node}
+use Rattle.mw_dd.specs.Nodes.{Node}
 use Rattle.mw_blast.specs.declared.shared.Shared.{Shared}
 use Rattle.mw_blast.specs.Kept.{IsOf}
 use Rattle.mw_blast.specs.Shared.{IsShared}

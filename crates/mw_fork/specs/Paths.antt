@@ -2,7 +2,7 @@
 use Rattle.std.specs.Prelude.{◌≡◌, ℕ, List}
 use Rattle.mw_term.specs.Table.{Extends, Table}
 use Rattle.mw_term.specs.Values as values
-use Rattle.mw_dd.specs.declared.nodes.Node.{Node}
+use Rattle.mw_dd.specs.Nodes.{Node}
 use Rattle.mw_dd.specs.Diagrams.{Keeps}
 use Rattle.mw_dd.specs.Nodes.{IsDd}
 use Rattle.mw_blast.specs.declared.shared.Shared.{Shared}
