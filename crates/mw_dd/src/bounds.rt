@@ -221,6 +221,25 @@ impl Bounds {
         is_product_within(self.most(t.f), self.most(t.g), self.most(t.h), budget)
     }
 
+    /// The same, once the nodes below one are counted.
+    fn are_few_once_counted(
+        &mut self,
+        nodes: &Table<Node>,
+        x: Dd,
+        t: &Triple,
+        budget: u32,
+    ) -> Result<bool, NoMemory>
+        requires reduced { IsReduced nodes.now }
+        requires own { IsDd nodes.now x }
+        requires there { AreDds nodes.now t.now }
+        requires right { AreBounds nodes.now self.old }
+        ensures within { IfOk result (λ b. b ≡ true → AreFew nodes.now t.now budget) }
+        ensures right { AreBounds nodes.now self.new }
+    {
+        self.look(nodes, x)?;
+        Ok(self.are_few(t, budget))
+    }
+
     /// Whether the product of the bounds of three functions is within a budget: then three whose values these tell
     /// can't have more joint cofactors. Nodes are counted only where it matters.
     ///
@@ -242,10 +261,13 @@ impl Bounds {
         if self.are_few(t, budget) {
             return Ok(true);
         }
-        self.look(nodes, t.f)?;
-        self.look(nodes, t.g)?;
-        self.look(nodes, t.h)?;
-        Ok(self.are_few(t, budget))
+        if self.are_few_once_counted(nodes, t.f, t, budget)? {
+            return Ok(true);
+        }
+        if self.are_few_once_counted(nodes, t.g, t, budget)? {
+            return Ok(true);
+        }
+        self.are_few_once_counted(nodes, t.h, t, budget)
     }
 }
 
