@@ -1,16 +1,17 @@
 -- What is kept stays right.
-use Rattle.std.proofs.Common.{◌≡◌, inl, inr, ℕ, ◌≤◌, List, [], arith, sym, ◌∙◌, subst, refl}
+use Rattle.std.proofs.Common.{◌≡◌, inl, inr, ℕ, ◌≤◌, List, [], arith, sym, ◌∙◌, subst, refl, ap}
 use Rattle.std.specs.Prelude.{slice_get, Some}
 use Rattle.mw_term.specs.Cofactors.{Variable, HasAtMostCofactors}
 use Rattle.mw_dd.specs.declared.kept.Slot.{Slot}
 use Rattle.mw_dd.specs.declared.nodes.Node.{Node}
 use Rattle.mw_dd.specs.declared.nodes.Triple.{Triple}
 use Rattle.mw_dd.specs.Kept.{IsKept, IsNone, AreNone, Stay, Adds, IsMade, AreMade, IsCount, AreCounts, AreRight}
-use Rattle.mw_dd.specs.Bounds.{AreBounds}
-use Rattle.mw_dd.specs.Nodes.{IsReduced}
+use Rattle.mw_dd.specs.Bounds.{AreBounds, AreComplements}
+use Rattle.mw_dd.specs.Nodes.{IsReduced, value_at}
 use Rattle.mw_dd.specs.Steps.{Grows, AreDds, IsResult, IsEnd, meaning}
 use Rattle.mw_dd.proofs.Below.{bounds-grow}
 use Rattle.mw_dd.proofs.Cofactors.{dds-grows, meaning-grows, most-same, end_among, at_most, same_back}
+use Rattle.mw_dd.proofs.Values.{value-zero, value-one}
 use Rattle.mw_dd.proofs.Memos.{end_result, result-grows, IsStep, step_result}
 
 -- ---- slots
@@ -188,3 +189,10 @@ right-counted old new before results more counts counted bounds now t r n grows 
     right-adds new results more counts counted now t r n (dds-grows old new t grows there) is few count result
     (right-made old new before results counts now grows reduced made (right-bounds old before counts bounds now bounded
     right))
+
+-- where the complement of y has the kept result x, they are complements
+pub complements-kept : (nodes : List Node) (slots : List Slot) (x y value : ℕ) (t : Triple) → AreMade nodes slots
+    → IsKept slots t value → value ≡ x → t.f ≡ y → t.g ≡ 0 → t.h ≡ 1 → AreComplements nodes x y
+complements-kept nodes slots x y value t made kept same f g h given =
+    ap (value_at given nodes) (sym same) ∙ (made t value kept).is.value given
+    ∙ rw (f, g, h, value-zero given nodes, value-one given nodes) refl

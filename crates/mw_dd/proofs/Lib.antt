@@ -7,7 +7,6 @@ pub mod Unique
 pub mod Values
 pub mod Made
 pub mod Cofactors
-pub mod Determined
 pub mod Memos
 pub mod Public
 pub mod Walks

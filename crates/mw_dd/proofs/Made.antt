@@ -9,46 +9,36 @@ use Rattle.mw_dd.specs.declared.nodes.Node.{Node}
 use Rattle.mw_dd.specs.declared.nodes.Triple.{Triple}
 use Rattle.mw_dd.specs.Links.{IsAbsent}
 use Rattle.mw_dd.specs.Nodes.{value_at, IsDd, IsFrom, IsInner, IsReduced, after}
-use Rattle.mw_dd.specs.Steps.{HasVariable, IsTop, IsHalf}
+use Rattle.mw_dd.specs.Steps.{HasVariable, IsTop, IsBranch}
 use Rattle.mw_dd.proofs.Lists.{get-push, get-push_new}
 use Rattle.mw_dd.proofs.Order.{not_before_itself, other_after}
 use Rattle.mw_dd.proofs.Values.{value-node, value-high, value-low, value-old, grows-push}
-use Rattle.mw_dd.proofs.From.{one_node, from_constant, from_node, from-trans, from-grows}
+use Rattle.mw_dd.proofs.From.{one_node, from_node, from-trans, from-grows}
 
 -- a node of another variable is from the place after this one
-half-from : (nodes : List Node) (x : ℕ) (v : Variable) (n : Node) → 2 ≤ x → slice_get nodes (x - 2) ≡ Some n
+branch-from : (nodes : List Node) (x : ℕ) (v : Variable) (n : Node) → 2 ≤ x → slice_get nodes (x - 2) ≡ Some n
     → IsFrom nodes v x → ¬ (n.variable ≡ v) → IsFrom nodes (after v) x
-half-from nodes x v n inner at from differ k m e of =
+branch-from nodes x v n inner at from differ k m e of =
     let same = one_node nodes (x - 2) k n m (omega (arith, e)) at of in
     other_after m.variable v (from k m e of) (λ alike. differ (subst (λ (y : Node). y.variable ≡ v) (sym same) alike))
 
 -- so it is itself, whatever value this has
-pub half-other : (nodes : List Node) (x : ℕ) (v : Variable) (n : Node) (b : Bool) → IsDd nodes x → 2 ≤ x
-    → slice_get nodes (x - 2) ≡ Some n → IsFrom nodes v x → ¬ (n.variable ≡ v) → IsHalf nodes x v b x
-half-other nodes x v n b there inner at from differ = record {
+pub branch-other : (nodes : List Node) (x : ℕ) (v : Variable) (n : Node) (b : Bool) → IsDd nodes x → 2 ≤ x
+    → slice_get nodes (x - 2) ≡ Some n → IsFrom nodes v x → ¬ (n.variable ≡ v) → IsBranch nodes x v b x
+branch-other nodes x v n b there inner at from differ = record {
   there = there;
   no_later = omega arith;
   earlier = λ has.
       let same = one_node nodes (x - 2) has.0 n has.1 (omega (arith, has.2)) at has.3 in
       absurd (differ (subst (λ (y : Node). y.variable ≡ v) (sym same) has.4));
   value = λ given holds. refl;
-  from = half-from nodes x v n inner at from differ;
-}
-
--- and so is a constant
-pub half-constant : (nodes : List Node) (x : ℕ) (v : Variable) (b : Bool) → IsDd nodes x → x < 2 → IsHalf nodes x v b x
-half-constant nodes x v b there below = record {
-  there = there;
-  no_later = omega arith;
-  earlier = λ has. absurd (omega (arith, has.2, below));
-  value = λ given holds. refl;
-  from = from_constant nodes (after v) x below;
+  from = branch-from nodes x v n inner at from differ;
 }
 
 -- a node of this variable is its branch
-pub half-high : (nodes : List Node) (x : ℕ) (v : Variable) (n : Node) → IsDd nodes x → 2 ≤ x
-    → slice_get nodes (x - 2) ≡ Some n → IsReduced nodes → n.variable ≡ v → IsHalf nodes x v true n.high
-half-high nodes x v n there inner at r same =
+pub branch-high : (nodes : List Node) (x : ℕ) (v : Variable) (n : Node) → IsDd nodes x → 2 ≤ x
+    → slice_get nodes (x - 2) ≡ Some n → IsReduced nodes → n.variable ≡ v → IsBranch nodes x v true n.high
+branch-high nodes x v n there inner at r same =
     let i = r.inner (x - 2) n at in
     let e : x - 2 + 2 ≡ x = omega (arith, inner) in
     record {
@@ -61,9 +51,9 @@ half-high nodes x v n there inner at r same =
       from = subst (λ (u : Variable). IsFrom nodes (after u) n.high) same i.high_later;
     }
 
-pub half-low : (nodes : List Node) (x : ℕ) (v : Variable) (n : Node) → IsDd nodes x → 2 ≤ x
-    → slice_get nodes (x - 2) ≡ Some n → IsReduced nodes → n.variable ≡ v → IsHalf nodes x v false n.low
-half-low nodes x v n there inner at r same =
+pub branch-low : (nodes : List Node) (x : ℕ) (v : Variable) (n : Node) → IsDd nodes x → 2 ≤ x
+    → slice_get nodes (x - 2) ≡ Some n → IsReduced nodes → n.variable ≡ v → IsBranch nodes x v false n.low
+branch-low nodes x v n there inner at r same =
     let i = r.inner (x - 2) n at in
     let e : x - 2 + 2 ≡ x = omega (arith, inner) in
     record {

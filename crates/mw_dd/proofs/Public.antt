@@ -1,6 +1,6 @@
 -- What the public calls say, from what the steps leave.
 use Rattle.std.proofs.Common.{◌≡◌, ℕ, List, [], arith, ap, ◌∙◌, sym}
-use Rattle.std.specs.Prelude.{Bool, true, false, if◌then◌else◌, Result, Ok, Err, OnOk, ◌↔◌, ◌==◌, IsTrue}
+use Rattle.std.specs.Prelude.{Bool, true, false, if◌then◌else◌, Result, Ok, Err, OnOk, OnErr, ◌↔◌, ◌==◌, IsTrue}
 use Rattle.std.proofs.lemmas.Bool.Decides.{nat_tests}
 use Rattle.mw_term.specs.Assigned.{Given}
 use Rattle.mw_term.specs.Cofactors.{Agree}
@@ -13,6 +13,16 @@ use Rattle.mw_dd.proofs.Unique.{canonical}
 pub on_ok_from : {T E : Type 0} (r : Result T E) (P Q : Type 0) → (P → Q) → OnOk r P → OnOk r Q
 on_ok_from (Ok x) P Q f p = f p
 on_ok_from (Err e) P Q f p = tt
+
+-- what holds in both cases
+pub in_both : {A E : Type 0} {P : Type 0} (r : Result A E) → OnOk r P → OnErr r P → P
+in_both (Ok x) ok err = ok
+in_both (Err e) ok err = err
+
+-- and what holds anyway, where there is an error
+pub on_err_anyway : {A E : Type 0} {P : Type 0} (r : Result A E) → P → OnErr r P
+on_err_anyway (Ok x) p = tt
+on_err_anyway (Err e) p = p
 
 pub reduced_none : IsReduced []
 reduced_none = record { inner = λ k n at. absurd (cc); once = λ j k n at of. absurd (cc) }

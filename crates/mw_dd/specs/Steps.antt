@@ -40,8 +40,8 @@ pub record IsTop (nodes : List Node) (t : Triple) (v : Variable) : Type 0 where
 abbrev pub size : Triple → ℕ
 size t = t.f + t.g + t.h
 
--- a node where a variable has a value
-pub record IsHalf (nodes : List Node) (x : ℕ) (v : Variable) (b : Bool) (y : ℕ) : Type 0 where
+-- what is left of a node where a variable has a value: one of its Shannon cofactors by it
+pub record IsBranch (nodes : List Node) (x : ℕ) (v : Variable) (b : Bool) (y : ℕ) : Type 0 where
   pub there : IsDd nodes y
   pub no_later : y ≤ x
   pub earlier : HasVariable nodes x v → y < x

@@ -19,7 +19,7 @@ use std::alloc::Global;
 use std::marker::Model;
 
 /// The most nodes of a function that are counted: a walk over so many is short beside what made the function.
-const MOST: usize = 8192;
+const MOST_COUNTED: usize = 8192;
 
 /// In place of how many nodes a function has: more than are counted.
 const MANY: u16 = 0xffff;
@@ -89,12 +89,12 @@ fn walk(
 {
     found.clear();
     note(found, places, x)?;
-    for at in 0..=MOST {
+    for at in 0..=MOST_COUNTED {
         let count = found.len();
         if at >= count {
             return Ok(Some(count as u16));
         }
-        if count > MOST {
+        if count > MOST_COUNTED {
             return Ok(None);
         }
         let y = found[at];
@@ -163,6 +163,7 @@ impl Bounds {
         ensures bound { IfOk result (IsBound nodes.now x) }
         ensures same { self.new ≡ self.old }
     {
+        // The last two nodes are met once at most, and need no place.
         self.places.resize(nodes.len(), 0)?;
         match walk(nodes, &mut self.found, &mut self.places, x)? {
             Some(count) => Ok(count),
@@ -199,7 +200,7 @@ impl Bounds {
 
     /// How many nodes there are at most below one, with it and the constants: as many as were counted, or as there
     /// are at all up to its own place.
-    fn most(&self, x: Dd) -> u64
+    fn bound(&self, x: Dd) -> u64
         ensures { (nodes : List node.Node) → IsReduced nodes → IsDd nodes x → AreBounds nodes self.now
             → HasNodes nodes x result }
     {
@@ -213,18 +214,18 @@ impl Bounds {
         u64::from(x.position()) + 1
     }
 
-    /// Whether the product of these numbers of three functions is within a budget.
+    /// Whether the product of the bounds of three functions, as far as they are known, is within a budget.
     fn are_few(&self, t: &Triple, budget: u32) -> bool
         ensures { result ≡ true → (nodes : List node.Node) → IsReduced nodes → AreDds nodes t.now
             → AreBounds nodes self.now → AreFew nodes t.now budget }
     {
-        is_product_within(self.most(t.f), self.most(t.g), self.most(t.h), budget)
+        is_product_within(self.bound(t.f), self.bound(t.g), self.bound(t.h), budget)
     }
 
     /// The same, once the nodes below one are counted.
     fn are_few_once_counted(
         &mut self,
-        nodes: &Table<Node>,
+        nodes: &Nodes,
         x: Dd,
         t: &Triple,
         budget: u32,
@@ -281,40 +282,42 @@ fn was_within(counts: &Kept, t: &Triple, budget: u32) -> bool
     }
 }
 
-/// Whether a function was made as the complement of another, and is kept.
-fn is_inverse(results: &Kept, x: Dd, y: Dd) -> bool
+/// Whether one function is known to be the complement of another: by the kept result of the operation that complements
+/// it.
+fn is_known_complement(results: &Kept, x: Dd, y: Dd) -> bool
     ensures { result ≡ true → (nodes : List node.Node) → AreMade nodes results.now → AreComplements nodes x y }
 {
-    let inverse = Triple {
+    let negation = Triple {
         f: y,
         g: Dd::at(0),
         h: Dd::at(1),
     };
-    match results.get(&inverse) {
+    match results.get(&negation) {
         Some(position) => position == x.position(),
         None => false,
     }
 }
 
-/// A function; or never, where another is known to tell its values, since it is the same or the complement.
+/// A function; or the constant 0, where another is known to tell its values: it is the same, or the complement.
 fn unless_told(results: &Kept, x: Dd, by: Dd) -> Dd
     ensures there { (nodes : List node.Node) → IsDd nodes x → IsDd nodes result }
     ensures own { (nodes : List node.Node) → AreMade nodes results.now → IsOwn nodes x by result }
 {
-    if x == by || is_inverse(results, x, by) || is_inverse(results, by, x) {
+    if x == by || is_known_complement(results, x, by) || is_known_complement(results, by, x) {
         return Dd::at(0);
     }
     x
 }
 
-/// Functions that tell the values of those of an operation: never stands in place of one that another tells.
+/// Functions that tell the values of those of an operation: the constant 0 stands in place of one that another is known
+/// to tell.
 fn telling(results: &Kept, t: &Triple) -> Triple
     ensures there { (nodes : List node.Node) → AreDds nodes t.now → AreDds nodes result }
     ensures determine { (nodes : List node.Node) → AreMade nodes results.now → Determine nodes result t.now }
 {
     let g = unless_told(results, t.g, t.f);
     let h = unless_told(results, t.h, t.f);
-    // Of two the earlier one stays, whose nodes were mostly counted before.
+    // Of two complements the earlier one stays: fewer nodes stand up to its place, and mostly they were counted before.
     if g.position() < h.position() {
         return Triple {
             f: t.f,

@@ -86,6 +86,7 @@ impl Diagrams {
         ensures keeps { Keeps self.old self.new }
         ensures canonical { IsCanonical self.new }
     {
+        // There is no hint: the variable is searched for, unless it is the first.
         make(
             &mut self.nodes,
             alloc,

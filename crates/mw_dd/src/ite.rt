@@ -120,7 +120,7 @@ fn go_on(
         low: waiting.low,
         high: made,
     };
-    let joined = make(nodes, alloc, node, top.number)?;
+    let joined = make(nodes, alloc, node, top.index)?;
     // A slot for four nodes: more would cost memory than lost results cost time.
     notes.end(alloc, &waiting, joined, nodes.len() / 4, budget)?;
     Ok(Next::Return(joined))

@@ -90,7 +90,6 @@ impl Kept {
             u64::from(t.f.position()),
             u64::from(t.g.position()),
             u64::from(t.h.position()),
-            0,
         );
         bucket(hash, self.slots.len())
     }

@@ -1,16 +1,16 @@
 // Nodes, ordered and reduced.
 ghost use Rattle.std.specs.Prelude.{◌≡◌, ◌⊎◌, ◌-◌, ◌<◌, ◌≤◌, ◌↔◌, true, false, Some, slice_get, IsTrue, IfOk};
-ghost use Rattle.std.specs.Prelude.{if◌then◌else◌, nat_lt};
+ghost use Rattle.std.specs.Prelude.{if◌then◌else◌};
 ghost use Rattle.mw_term.specs.Assigned.{Given};
 ghost use Rattle.mw_term.specs.Cofactors.{value_of, is_before};
 ghost use Rattle.mw_dd.specs.Nodes.{value_at, IsDd, IsFrom, IsReduced, after};
-ghost use Rattle.mw_dd.specs.Steps.{Grows, AreDds, HasVariable, IsTop, IsHalf, IsSide};
+ghost use Rattle.mw_dd.specs.Steps.{Grows, AreDds, HasVariable, IsTop, IsBranch, IsSide};
 
 use crate::dd::Dd;
 use crate::hash::scatter_near;
 use crate::table::Key;
 use crate::unique_table::Nodes;
-use crate::variable::{Numbered, Variable};
+use crate::variable::{Indexed, Variable};
 use mw_base::NoMemory;
 use std::alloc::Global;
 
@@ -42,12 +42,12 @@ pub(crate) struct Triple {
 impl Key for Triple {
     ghost use Rattle.mw_dd.specs.Hash.{scattered_near};
 
-    ghost hash_of = { λ t. scattered_near t.f t.h 0 t.g };
+    ghost hash_of = { λ t. scattered_near t.f t.h t.g };
 
     fn hash(&self) -> u32 {
         let f = u64::from(self.f.position());
         let h = u64::from(self.h.position());
-        scatter_near(f, h, 0, self.g.position())
+        scatter_near(f, h, self.g.position())
     }
 
     fn is(&self, other: &Triple) -> bool {
@@ -64,20 +64,20 @@ pub(crate) fn inner(nodes: &Nodes, x: Dd) -> Node
     nodes.get(x.position() - 2)
 }
 
-/// A node where a variable is 0, and where it is 1.
+/// What is left of a node where a variable is 0, and where it is 1: its Shannon cofactors.
 #[derive(Clone, Copy)]
 struct Branches {
     low: Dd,
     high: Dd,
 }
 
-/// A node where a variable is 0, and where it is 1. Its own variable isn't before that one.
+/// The Shannon cofactors of a node by a variable that isn't behind its own: its branches, or itself twice.
 fn branches_at(nodes: &Nodes, x: Dd, variable: Variable) -> Branches
     requires reduced { IsReduced nodes.now }
     requires there { IsDd nodes.now x }
     requires from { IsFrom nodes.now variable x }
-    ensures low { IsHalf nodes.now x variable false result.low }
-    ensures high { IsHalf nodes.now x variable true result.high }
+    ensures low { IsBranch nodes.now x variable false result.low }
+    ensures high { IsBranch nodes.now x variable true result.high }
 {
     if x.position() < 2 {
         return Branches { low: x, high: x };
@@ -92,8 +92,17 @@ fn branches_at(nodes: &Nodes, x: Dd, variable: Variable) -> Branches
     }
 }
 
+/// The variable of a node that is no constant, and its index.
+fn variable_of(nodes: &Nodes, x: Dd) -> Indexed
+    requires there { IsDd nodes.now x }
+    requires inner { 2 ≤ x }
+    ensures { HasVariable nodes.now x result.variable }
+{
+    nodes.variable(x.position() - 2)
+}
+
 /// The earlier of a variable and that of a node.
-fn earlier_variable(nodes: &Nodes, first: Numbered, x: Dd) -> Numbered
+fn earlier_variable(nodes: &Nodes, first: Indexed, x: Dd) -> Indexed
     requires { IsDd nodes.now x }
     ensures own { (result.variable ≡ first.variable) ⊎ HasVariable nodes.now x result.variable }
     ensures no_later { is_before first.variable result.variable ≡ false }
@@ -102,7 +111,7 @@ fn earlier_variable(nodes: &Nodes, first: Numbered, x: Dd) -> Numbered
     if x.position() < 2 {
         return first;
     }
-    let own = nodes.variable(x.position() - 2);
+    let own = variable_of(nodes, x);
     if own.variable.is_before(first.variable) {
         own
     } else {
@@ -110,25 +119,25 @@ fn earlier_variable(nodes: &Nodes, first: Numbered, x: Dd) -> Numbered
     }
 }
 
-/// The first variable of three nodes, the first of which is no constant.
-pub(crate) fn top(nodes: &Nodes, t: Triple) -> Numbered
+/// The top variable of three nodes, the first of which is no constant.
+pub(crate) fn top(nodes: &Nodes, t: Triple) -> Indexed
     requires there { AreDds nodes.now t }
     requires inner { 2 ≤ t.f }
     ensures { IsTop nodes.now t result.variable }
 {
-    let first = nodes.variable(t.f.position() - 2);
+    let first = variable_of(nodes, t.f);
     let first = earlier_variable(nodes, first, t.g);
     earlier_variable(nodes, first, t.h)
 }
 
-/// Three nodes where a variable is 0, and where it is 1.
+/// The halves of an operation: its three nodes where their top variable is 0, and where it is 1.
 #[derive(Clone, Copy)]
 pub(crate) struct Halves {
     pub low: Triple,
     pub high: Triple,
 }
 
-/// Three nodes where their first variable is 0, and where it is 1.
+/// The halves of an operation, by its top variable.
 pub(crate) fn halve(nodes: &Nodes, t: Triple, variable: Variable) -> Halves
     requires reduced { IsReduced nodes.now }
     requires there { AreDds nodes.now t }
@@ -153,14 +162,9 @@ pub(crate) fn halve(nodes: &Nodes, t: Triple, variable: Variable) -> Halves
     }
 }
 
-/// The node with these branches, made where it isn't there; where both are one, that branch. The number under which its
-/// variable may be known is asked first.
-pub(crate) fn make(
-    nodes: &mut Nodes,
-    alloc: Global,
-    node: Node,
-    number: u32,
-) -> Result<Dd, NoMemory>
+/// The node with these branches, made where it isn't there; where both are one, that branch. The hint may be the index
+/// of its variable.
+pub(crate) fn make(nodes: &mut Nodes, alloc: Global, node: Node, hint: u32) -> Result<Dd, NoMemory>
     requires reduced { IsReduced nodes.old }
     requires bit { node.variable.bit < 32 }
     requires low { IsDd nodes.old node.low }
@@ -178,9 +182,9 @@ pub(crate) fn make(
     if node.is_redundant() {
         return Ok(node.low);
     }
-    if let Some(place) = nodes.find(&node, number) {
+    if let Some(place) = nodes.find(&node, hint) {
         return Ok(Dd::at(place + 2));
     }
-    let place = nodes.add(alloc, node, number)?;
+    let place = nodes.add(alloc, node, hint)?;
     Ok(Dd::at(place + 2))
 }

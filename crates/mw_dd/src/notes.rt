@@ -9,7 +9,7 @@ use crate::dd::{Dd, DdFault};
 use crate::kept::Kept;
 use crate::memo::Memo;
 use crate::nodes::Triple;
-use crate::variable::Numbered;
+use crate::variable::Indexed;
 use mw_base::NoMemory;
 use std::alloc::Global;
 
@@ -19,8 +19,8 @@ pub(crate) struct Waiting {
     pub triple: Triple,
     /// Where it was met, if operations are counted.
     pub place: u32,
-    /// Its first variable.
-    pub top: Numbered,
+    /// Its top variable.
+    pub top: Indexed,
     pub at_high: Triple,
     /// Whether the low half has a result.
     pub has_low: bool,

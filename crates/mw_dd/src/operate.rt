@@ -8,7 +8,7 @@ use crate::bounds::{Bounds, is_within};
 use crate::dd::{Dd, DdFault};
 use crate::ite::{choose, end};
 use crate::kept::{Kept, Slot};
-use crate::nodes::{Node, Triple};
+use crate::nodes::Triple;
 use crate::notes::Notes;
 use crate::unique_table::Nodes;
 use std::alloc::Global;

@@ -23,10 +23,10 @@ impl Model for Variable {
 impl Key for Variable {
     ghost use Rattle.mw_dd.specs.Hash.{scattered};
 
-    ghost hash_of = { λ v. scattered v.word v.bit 0 0 };
+    ghost hash_of = { λ v. scattered v.word v.bit 0 };
 
     fn hash(&self) -> u32 {
-        scatter(self.word, u64::from(self.bit), 0, 0)
+        scatter(self.word, u64::from(self.bit), 0)
     }
 
     fn is(&self, other: &Variable) -> bool {
@@ -46,9 +46,9 @@ impl Variable {
     }
 }
 
-/// A variable, and under which number a table of nodes knows it: a hint, which is only asked first.
+/// A variable, and its index in the list of a table of nodes. That is a hint: nothing rests on it.
 #[derive(Clone, Copy)]
-pub(crate) struct Numbered {
+pub(crate) struct Indexed {
     pub variable: Variable,
-    pub number: u32,
+    pub index: u32,
 }

@@ -3,7 +3,7 @@ use Rattle.mw_dd.specs.declared.memo.Memo.{Memo}
 use Rattle.mw_dd.specs.Memos.{IsBegun}
 use Rattle.mw_dd.specs.declared.nodes.Triple.{Triple}
 use Rattle.mw_dd.specs.declared.notes.Waiting.{Waiting}
-use Rattle.mw_dd.specs.declared.variable.Numbered.{Numbered}
+use Rattle.mw_dd.specs.declared.variable.Indexed.{Indexed}
 use Rattle.mw_dd.specs.Steps.{size}
 use Rattle.mw_dd.proofs.Cofactors.{end_among}
 use Rattle.mw_dd.proofs.Memos.{end_result, over_here}
@@ -65,7 +65,7 @@ returns-in-Err-clause-over c = λ same whole noted waiting.
     )
 
 -- what waits now
-abbrev own : Triple → (place : ℕ) → Numbered → (at_high : Triple) → (low : ℕ) → Waiting
+abbrev own : Triple → (place : ℕ) → Indexed → (at_high : Triple) → (low : ℕ) → Waiting
 own t place top at_high low = record {
   triple = t;
   place = place;

@@ -13,11 +13,11 @@ pub returns-clause-found : goal.returns-clause-found
 returns-clause-found c =
     IfSome_then c.find.result c.find.ensures.found (λ place at.
     rw (← c.self.view_is)
-    (found c.self.inside.variables c.self.inside.stored c.in-Some.variable place c.args.node.now c.in-Some.ensures.found
+    (found c.self.inside.variables c.self.inside.stored c.in-Some.index place c.args.node.now c.in-Some.ensures.found
     at))
 
 pub returns-clause-absent : goal.returns-clause-absent
 returns-clause-absent c = λ none.
     rw (← c.self.view_is)
-    (absent_stored c.self.inside.variables c.self.inside.stored c.self.invariant c.in-Some.variable c.args.node.now
+    (absent_stored c.self.inside.variables c.self.inside.stored c.self.invariant c.in-Some.index c.args.node.now
     c.in-Some.ensures.found (c.find.ensures.absent none))

@@ -6,14 +6,14 @@ use Rattle.mw_dd.proofs.unique_table.Nodes.variable.Goals as goal
 
 pub returns : goal.returns
 returns c =
-    let number = c.get-number.result.variable in
+    let index = c.get-index.result.index in
     let node : Node =
-    record { variable = c.get.result; low = c.get-number.result.low; high = c.get-number.result.high } in (
+    record { variable = c.get.result; low = c.get-index.result.low; high = c.get-index.result.high } in (
       c.args.place,
       node,
       refl,
       sym (ap (λ (ns : List Node). slice_get ns c.args.place) c.self.view_is)
-          ∙ found c.self.inside.variables c.self.inside.stored number c.args.place node c.get.ensures
-          c.get-number.ensures,
+          ∙ found c.self.inside.variables c.self.inside.stored index c.args.place node c.get.ensures
+          c.get-index.ensures,
       refl,
     )

@@ -1,7 +1,7 @@
 use Rattle.std.proofs.Common.{◌≡◌, arith, refl}
 use Rattle.std.proofs.lemmas.Bool.Decides.{nat_tests}
-use Rattle.mw_dd.proofs.Determined.{complements-kept}
-use Rattle.mw_dd.proofs.bounds.is_inverse.Goals as goal
+use Rattle.mw_dd.proofs.Keeping.{complements-kept}
+use Rattle.mw_dd.proofs.bounds.is_known_complement.Goals as goal
 
 pub returns-in-Some : goal.returns-in-Some
 returns-in-Some c = λ yes nodes made.

@@ -1,7 +1,7 @@
 use Rattle.std.proofs.Common.{arith, ◌≡◌, ◌+◌, subst}
 use Rattle.mw_dd.specs.Bounds.{HasNodes}
 use Rattle.mw_dd.proofs.Below.{nodes-before, nodes-constant}
-use Rattle.mw_dd.proofs.bounds.Bounds.most.Goals as goal
+use Rattle.mw_dd.proofs.bounds.Bounds.bound.Goals as goal
 
 pub returns-then-position-lt2 : goal.returns-then-position-lt2
 returns-then-position-lt2 c = λ nodes r there are.
