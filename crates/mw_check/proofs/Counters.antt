@@ -15,7 +15,8 @@ use Rattle.mw_rel.specs.Job.{Job, IsJob, shape_of}
 use Rattle.mw_rel.specs.Relation.{Boundary}
 use Rattle.mw_rel.proofs.Elements.{pair_words}
 use Rattle.mw_rel.specs.Start.{Start}
-use Rattle.mw_fork.specs.Begins.{IsChosen, IsDiffering}
+use Rattle.mw_course.specs.Begins.{IsChosen}
+use Rattle.mw_fork.specs.Begins.{IsDiffering}
 use Rattle.mw_replay.specs.Counter.{IsCounter}
 
 -- ---- the values of a pair's free elements are words of these

@@ -15,9 +15,9 @@ use Rattle.mw_rel.specs.ComparisonWords.{compared_in}
 use Rattle.mw_rel.specs.Free.{numbered}
 use Rattle.mw_rel.specs.Job.{Job}
 use Rattle.mw_rel.specs.Start.{addresses_of}
-use Rattle.mw_fork.specs.declared.elements.Space.{Space}
+use Rattle.mw_course.specs.declared.elements.Space.{Space}
 use Rattle.mw_fork.specs.declared.run.Run.{Run}
-use Rattle.mw_fork.specs.Listed.{ComesTo, left_behind_cycle, left_in_cycle, left_of_cycles, left_of_step, list_of_space}
+use Rattle.mw_course.specs.Listed.{ComesTo, left_behind_cycle, left_in_cycle, left_of_cycles, left_of_step, list_of_space}
 use Rattle.mw_fork.specs.OnWay.{AsksInCycle}
 
 -- ---- along bits

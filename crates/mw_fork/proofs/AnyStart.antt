@@ -12,7 +12,7 @@ use Rattle.mw_rel.specs.Start.{Start}
 use Rattle.mw_rel.proofs.Choices.{each_choice_gives_a_pair}
 use Rattle.mw_explore.specs.Cases.{Before}
 use Rattle.mw_fork.specs.Forks.{OneIsToCome}
-use Rattle.mw_fork.proofs.Grounds.{numbered_is}
+use Rattle.mw_course.proofs.Grounds.{numbered_is}
 
 -- where all is 0
 abbrev nothing_at : (job : Job) (number : ℕ) → Begin

@@ -10,16 +10,18 @@ use Rattle.mw_symboard.specs.Turns.{Symbolic, decided_so}
 use Rattle.mw_symmach.specs.Along.{BitsGoAlong}
 use Rattle.mw_symmach.specs.Turns.{Stepping, is_asked}
 use Rattle.mw_rel.specs.Job.{Job}
-use Rattle.mw_fork.specs.declared.paths.Paths.{Paths}
+use Rattle.mw_path.specs.declared.paths.Paths.{Paths}
 use Rattle.mw_fork.specs.declared.run.Run.{Run}
-use Rattle.mw_fork.specs.CasePaths.{IsNextOfCase}
+use Rattle.mw_course.specs.CasePaths.{IsNextOfCase}
 use Rattle.mw_fork.specs.Courses.{IsGiven, IsOnCourse, IsReady, Waits, WaitsOnCourse}
-use Rattle.mw_fork.specs.Listed.{AsksFor}
-use Rattle.mw_fork.specs.OnWay.{HasDecided, IsOnRun, IsOnStep, IsOnWay, ground_in, path_in}
+use Rattle.mw_course.specs.Listed.{AsksFor}
+use Rattle.mw_course.specs.OnWay.{HasDecided, IsOnWay, ground_in}
+use Rattle.mw_fork.specs.OnWay.{IsOnRun, IsOnStep}
+use Rattle.mw_path.specs.Paths.{path_in}
 use Rattle.mw_fork.proofs.OnRun.{next_of_case, on_decided}
 use Rattle.mw_fork.proofs.OnStep.{asks_where, takes}
-use Rattle.mw_fork.proofs.Runs.{decided_under}
-use Rattle.mw_fork.proofs.Steps.{decided_underway}
+use Rattle.mw_course.proofs.Runs.{decided_under}
+use Rattle.mw_course.proofs.Steps.{decided_underway}
 
 -- ---- what is waited for
 

@@ -42,18 +42,20 @@ use Rattle.mw_rel.proofs.Relations.{is_there, solved_at}
 use Rattle.mw_rel.proofs.Same.{same_where_none}
 use Rattle.mw_rel.proofs.Shown.{is_shown}
 use Rattle.mw_rel.proofs.Steps.{step_fits}
-use Rattle.mw_fork.specs.CasePaths.{HasCase, HasSegment, IsCasePath}
+use Rattle.mw_course.specs.CasePaths.{HasCase, HasSegment, IsCasePath}
 use Rattle.mw_fork.specs.Comparing.{AreApart, AreOne, AreOneAtProbe, FailsFirst, GoesComparing}
-use Rattle.mw_fork.specs.declared.elements.Space.{Space}
+use Rattle.mw_course.specs.declared.elements.Space.{Space}
 use Rattle.mw_fork.specs.declared.run.Run.{Run}
 use Rattle.mw_fork.specs.Ends.{HaveEnded}
 use Rattle.mw_fork.specs.Failing.{IsFound, NoneDiffersOf}
-use Rattle.mw_fork.specs.Listed.{list_of_space}
-use Rattle.mw_fork.specs.OnWay.{HasMetCase, ground_in, path_in}
-use Rattle.mw_fork.specs.Starts.{IsGround, StandsForStart}
+use Rattle.mw_course.specs.Listed.{list_of_space}
+use Rattle.mw_fork.specs.OnWay.{HasMetCase}
+use Rattle.mw_course.specs.OnWay.{ground_in}
+use Rattle.mw_path.specs.Paths.{path_in}
+use Rattle.mw_course.specs.Starts.{IsGround, StandsForStart}
 use Rattle.mw_fork.proofs.ComparingOn.{wide_compared}
 use Rattle.mw_fork.proofs.Differing.{AreEven, even_where_nothing, nothing_shown, terms_there, wide_at_end}
-use Rattle.mw_fork.proofs.Grounds.{have_starts}
+use Rattle.mw_course.proofs.Grounds.{have_starts}
 use Rattle.mw_fork.proofs.OverCompared.{sought_by, sought_on_path}
 use Rattle.mw_fork.proofs.Probes.{ground_compared, reached_at, start_compared}
 use Rattle.mw_fork.proofs.Sides.{ComeTo, come_later, come_to, terms_at_end}

@@ -7,16 +7,16 @@ use Rattle.mw_symmem.proofs.Later.{goes_then, width_later, writes_then}
 use Rattle.mw_term.specs.Assigned.{Numbers}
 use Rattle.mw_term.specs.Cofactors.{Agree}
 use Rattle.mw_term.specs.Functions.{Function}
-use Rattle.mw_fork.specs.declared.elements.Space.{Space}
-use Rattle.mw_fork.specs.declared.paths.Paths.{Paths}
+use Rattle.mw_course.specs.declared.elements.Space.{Space}
+use Rattle.mw_path.specs.declared.paths.Paths.{Paths}
 use Rattle.mw_fork.specs.Faults.{RunStop}
-use Rattle.mw_fork.specs.Boundaries.{AreWide}
+use Rattle.mw_course.specs.Boundaries.{AreWide}
 use Rattle.mw_fork.specs.Comparing.{AreSidesOn, Compares, FailsFirst, GoesComparing, HaveCompared, IsComparedKind}
 use Rattle.mw_fork.specs.Comparing.{IsOutcome, StopsComparing}
-use Rattle.mw_fork.specs.Listed.{list_of_space}
+use Rattle.mw_course.specs.Listed.{list_of_space}
 use Rattle.mw_fork.specs.OnWay.{HavePaths}
 use Rattle.mw_fork.proofs.GoingOn.{GoesOnAs, front_then}
-use Rattle.mw_fork.proofs.Sharing.{shared_with_more}
+use Rattle.mw_path.proofs.Sharing.{shared_with_more}
 
 -- ---- from one space to the next
 

@@ -11,8 +11,8 @@ use Rattle.mw_term.specs.declared.decided.DecidedKind.{DecidedKind}
 use Rattle.mw_rel.specs.Free.{numbered}
 use Rattle.mw_rel.specs.Job.{IsJob, Job}
 use Rattle.mw_fork.specs.declared.course.Course.{Course}
-use Rattle.mw_fork.specs.declared.elements.Space.{Space}
-use Rattle.mw_fork.specs.declared.paths.Paths.{Paths}
+use Rattle.mw_course.specs.declared.elements.Space.{Space}
+use Rattle.mw_path.specs.declared.paths.Paths.{Paths}
 use Rattle.mw_fork.specs.declared.run.Run.{Run}
 use Rattle.mw_fork.specs.declared.segment.Came.{Came}
 use Rattle.mw_fork.specs.declared.segment.Came.TheVariants as came
@@ -21,8 +21,8 @@ use Rattle.mw_fork.specs.Courses.{IsTurnedOnCourse, Waits}
 use Rattle.mw_fork.specs.Courses.{WaitsOnCourse}
 use Rattle.mw_fork.specs.OnWay.{HasMetCase, HasMetSegment, HavePaths, IsFirst, IsOnRun, IsOnStep, IsRunOf}
 use Rattle.mw_fork.specs.OnWay.{IsTurnedOnStep}
-use Rattle.mw_fork.specs.Runs.{IsIdle}
-use Rattle.mw_fork.specs.Steps.{IsUnderway}
+use Rattle.mw_course.specs.Runs.{IsIdle}
+use Rattle.mw_course.specs.Steps.{IsUnderway}
 use Rattle.mw_fork.proofs.OnStep.{has_met_case}
 use Rattle.mw_fork.proofs.Tracing.{bound_within, late_met, on_run_first}
 

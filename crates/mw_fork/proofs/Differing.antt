@@ -42,14 +42,14 @@ use Rattle.mw_rel.proofs.Elements.{back_at, front_at, mapped_at, numbers_length,
 use Rattle.mw_rel.proofs.Relations.{is_at}
 use Rattle.mw_rel.proofs.Same.{none_where_same, same_where_none}
 use Rattle.mw_rel.proofs.Steps.{step_fits}
-use Rattle.mw_fork.specs.Boundaries.{AreWide}
+use Rattle.mw_course.specs.Boundaries.{AreWide}
 use Rattle.mw_fork.specs.Comparing.{ArePutOut, right_of}
-use Rattle.mw_fork.specs.declared.elements.Space.{Space}
+use Rattle.mw_course.specs.declared.elements.Space.{Space}
 use Rattle.mw_fork.specs.Ends.{HaveEnded}
-use Rattle.mw_fork.specs.Starts.{Ground}
-use Rattle.mw_fork.proofs.Boundaries.{board_wide}
+use Rattle.mw_course.specs.Starts.{Ground}
+use Rattle.mw_course.proofs.Boundaries.{board_wide}
 use Rattle.mw_fork.proofs.Sides.{ComeTo, terms_at_end}
-use Rattle.mw_fork.proofs.TakenInputs.{TakeFrom, run_takes, step_takes}
+use Rattle.mw_course.proofs.TakenInputs.{TakeFrom, run_takes, step_takes}
 
 -- ---- events
 

@@ -15,11 +15,14 @@ use Rattle.mw_dd.specs.Diagrams.{IsFirst}
 use Rattle.mw_symboard.specs.Seen.{AreFirst}
 use Rattle.mw_symmach.specs.Turns.{Stepping}
 use Rattle.mw_fork.specs.declared.run.Run.{Run}
-use Rattle.mw_fork.specs.Begins.{IsAssigned, IsChosen, IsFirstOfCase, IsOfCase}
-use Rattle.mw_fork.specs.Listed.{list_of_space}
-use Rattle.mw_fork.specs.OnWay.{HasMetCase, ground_in, path_in}
-use Rattle.mw_fork.specs.Starts.{IsGround, StandsForStart}
-use Rattle.mw_fork.proofs.Grounds.{have_starts}
+use Rattle.mw_course.specs.Begins.{IsAssigned, IsChosen}
+use Rattle.mw_fork.specs.Begins.{IsFirstOfCase, IsOfCase}
+use Rattle.mw_course.specs.Listed.{list_of_space}
+use Rattle.mw_fork.specs.OnWay.{HasMetCase}
+use Rattle.mw_course.specs.OnWay.{ground_in}
+use Rattle.mw_path.specs.Paths.{path_in}
+use Rattle.mw_course.specs.Starts.{IsGround, StandsForStart}
+use Rattle.mw_course.proofs.Grounds.{have_starts}
 use Rattle.mw_fork.proofs.Tracing.{case_met}
 
 -- a case that was met has a start, so its path is true somewhere

@@ -5,12 +5,13 @@ use Rattle.mw_rel.specs.Begin.{Begin}
 use Rattle.mw_rel.specs.Job.{Job}
 use Rattle.mw_rel.specs.Start.{Start}
 use Rattle.mw_term.specs.Assigned.{Numbers, given_by}
-use Rattle.mw_fork.specs.declared.elements.Space.{Space}
-use Rattle.mw_fork.specs.Begins.{IsAssigned, IsChosen, IsDiffering, IsLeast}
+use Rattle.mw_course.specs.declared.elements.Space.{Space}
+use Rattle.mw_course.specs.Begins.{IsAssigned, IsChosen}
+use Rattle.mw_fork.specs.Begins.{IsDiffering, IsLeast}
 use Rattle.mw_fork.specs.Failing.{IsFound}
-use Rattle.mw_fork.specs.Listed.{list_of_space}
-use Rattle.mw_fork.specs.OnWay.{ground_in}
-use Rattle.mw_fork.specs.Starts.{IsGround, StandsForStart}
+use Rattle.mw_course.specs.Listed.{list_of_space}
+use Rattle.mw_course.specs.OnWay.{ground_in}
+use Rattle.mw_course.specs.Starts.{IsGround, StandsForStart}
 
 -- what was found of a start that differs
 pub found_differs : (job : Job) (boundary : ℕ) (elements : List ℕ) (space : Space) (numbers : Numbers) (begin : Begin)

@@ -19,8 +19,10 @@ use Rattle.mw_fork.specs.declared.run.Run.{Run}
 use Rattle.mw_fork.specs.Courses.{HasGone}
 use Rattle.mw_fork.specs.Ends.{EndsBy}
 use Rattle.mw_fork.specs.Failing.{IsFound, NoneDiffersOf}
-use Rattle.mw_fork.specs.Listed.{list_of_space}
-use Rattle.mw_fork.specs.OnWay.{HasMetCase, ground_in, path_in}
+use Rattle.mw_course.specs.Listed.{list_of_space}
+use Rattle.mw_fork.specs.OnWay.{HasMetCase}
+use Rattle.mw_course.specs.OnWay.{ground_in}
+use Rattle.mw_path.specs.Paths.{path_in}
 use Rattle.mw_fork.proofs.CaseCompared.{found_on_path, late_differs, nowhere_none}
 
 -- a case with no step is late, and nothing is compared behind its cycles

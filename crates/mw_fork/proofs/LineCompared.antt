@@ -25,12 +25,12 @@ use Rattle.mw_term.specs.MemoryRead.{Held}
 use Rattle.mw_term.specs.Table.{Table, term_width}
 use Rattle.mw_term.specs.Values.{term_value}
 use Rattle.mw_term.specs.WordList.{Ended, WordList, ended}
-use Rattle.mw_fork.specs.declared.elements.Space.{Space}
+use Rattle.mw_course.specs.declared.elements.Space.{Space}
 use Rattle.mw_fork.specs.Faults.{RunStop}
-use Rattle.mw_fork.specs.Boundaries.{AreWide}
+use Rattle.mw_course.specs.Boundaries.{AreWide}
 use Rattle.mw_fork.specs.Comparing.{AreOneOn, AreSidesOn, AreTwoAt, FailsAt, GoesComparing, HoldsAt, IsComparedKind}
 use Rattle.mw_fork.specs.Comparing.{right_of}
-use Rattle.mw_fork.specs.Listed.{list_of_space}
+use Rattle.mw_course.specs.Listed.{list_of_space}
 use Rattle.mw_fork.proofs.ComparingOn.{comparing_then}
 
 -- ---- the shape of the elements' terms

@@ -15,12 +15,12 @@ use Rattle.mw_symmem.specs.Workspace.{IsWorkspace}
 use Rattle.mw_term.specs.Assigned.{Given}
 use Rattle.mw_term.specs.Cofactors.{Agree}
 use Rattle.mw_term.specs.Functions.{Function}
-use Rattle.mw_fork.specs.declared.elements.Space.{Space}
-use Rattle.mw_fork.specs.Boundaries.{AreWide}
+use Rattle.mw_course.specs.declared.elements.Space.{Space}
+use Rattle.mw_course.specs.Boundaries.{AreWide}
 use Rattle.mw_fork.specs.Comparing.{GoesComparing, HoldsAt}
 use Rattle.mw_fork.proofs.GoingOn.{GoesOnAs, lines_go_on}
 use Rattle.mw_fork.proofs.LineCompared.{holds_later}
-use Rattle.mw_fork.proofs.Related.{lines_rest, seen_count, seen_line}
+use Rattle.mw_course.proofs.Related.{lines_rest, seen_count, seen_line}
 
 -- the value that there is
 pub some_at : {X : Type 0} (P : X → Type 0) (o : Option X) (x : X) → o ≡ Some x → IfSome o P → P x

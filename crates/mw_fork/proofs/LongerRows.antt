@@ -23,7 +23,7 @@ use Rattle.mw_dd.proofs.Cofactors.{more-same}
 use Rattle.mw_blast.specs.Causes.{IsOneOver, IsOver}
 use Rattle.mw_symmem.proofs.Growth.{op_stays}
 use Rattle.mw_fork.specs.Comparing.{IsFrontOf}
-use Rattle.mw_fork.proofs.WordPaths.{made_same}
+use Rattle.mw_path.proofs.Triples.{made_same}
 
 -- ---- lists that are one
 

@@ -14,13 +14,14 @@ use Rattle.mw_rel.specs.Job.{Job}
 use Rattle.mw_rel.specs.Relation.{Boundary}
 use Rattle.mw_rel.specs.Start.{Start, addresses_of}
 use Rattle.mw_fork.specs.declared.run.Run.{Run}
-use Rattle.mw_fork.specs.CasePaths.{HasNoBoundary}
+use Rattle.mw_course.specs.CasePaths.{HasNoBoundary}
 use Rattle.mw_fork.specs.Ends.{IsBoardOf}
 use Rattle.mw_fork.specs.OnWay.{HasFinished, HasMetAll, HasMetSegment, IsOnRun, IsRunOf}
-use Rattle.mw_fork.specs.OnWay.{ground_in, path_in}
-use Rattle.mw_fork.specs.Starts.{StandsForStart, course_of}
+use Rattle.mw_course.specs.OnWay.{ground_in}
+use Rattle.mw_path.specs.Paths.{path_in}
+use Rattle.mw_course.specs.Starts.{StandsForStart, course_of}
 use Rattle.mw_fork.proofs.Along.{comes_to_next, left_at_boundary, left_at_end, left_at_none}
-use Rattle.mw_fork.proofs.Grounds.{boundary_is}
+use Rattle.mw_course.proofs.Grounds.{boundary_is}
 use Rattle.mw_rel.proofs.Cases.{segments_end}
 
 -- the board of each start on the path is at the board's control address

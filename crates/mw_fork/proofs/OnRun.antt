@@ -32,20 +32,22 @@ use Rattle.mw_rel.specs.CaseLaws.{HasNoBoundaryYet}
 use Rattle.mw_rel.specs.Free.{numbered}
 use Rattle.mw_rel.specs.Job.{Job, IsJob}
 use Rattle.mw_rel.specs.Relation.{Boundary}
-use Rattle.mw_fork.specs.Boundaries.{AreElements}
-use Rattle.mw_fork.specs.CasePaths.{IsNextOfCase}
-use Rattle.mw_fork.specs.declared.elements.Space.{Space}
-use Rattle.mw_fork.specs.declared.paths.Paths.{Paths}
+use Rattle.mw_course.specs.Boundaries.{AreElements}
+use Rattle.mw_course.specs.CasePaths.{IsNextOfCase}
+use Rattle.mw_course.specs.declared.elements.Space.{Space}
+use Rattle.mw_path.specs.declared.paths.Paths.{Paths}
 use Rattle.mw_fork.specs.declared.run.Run.{Run}
-use Rattle.mw_fork.specs.Listed.{ComesTo, left_in_cycle, list_of_space}
-use Rattle.mw_fork.specs.OnWay.{HasDecided, HasMetAll, IsOnRun, IsTurnedOnRun}
-use Rattle.mw_fork.specs.OnWay.{ground_in, path_in}
-use Rattle.mw_fork.specs.Starts.{course_of, origin_of}
+use Rattle.mw_course.specs.Listed.{ComesTo, left_in_cycle, list_of_space}
+use Rattle.mw_course.specs.OnWay.{HasDecided}
+use Rattle.mw_fork.specs.OnWay.{HasMetAll, IsOnRun, IsTurnedOnRun}
+use Rattle.mw_course.specs.OnWay.{ground_in}
+use Rattle.mw_path.specs.Paths.{path_in}
+use Rattle.mw_course.specs.Starts.{course_of, origin_of}
 use Rattle.mw_fork.proofs.Along.{asks_in_cycle, left_finished}
-use Rattle.mw_fork.proofs.Grounds.{boundary_is}
-use Rattle.mw_fork.proofs.Runs.{board_elements}
+use Rattle.mw_course.proofs.Grounds.{boundary_is}
+use Rattle.mw_course.proofs.Runs.{board_elements}
 use Rattle.mw_rel.proofs.Cases.{cases_begin_with_cycles, segments_end}
-use Rattle.mw_fork.proofs.Growing.{goes_to, on_path_later, on_path_narrower, way_later}
+use Rattle.mw_course.proofs.Growing.{goes_to, on_path_later, on_path_narrower, way_later}
 
 -- ---- the start
 

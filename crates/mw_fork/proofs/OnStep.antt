@@ -45,18 +45,20 @@ use Rattle.mw_rel.specs.Case.{bits_of_cycles, bits_of_step, case_of}
 use Rattle.mw_rel.specs.Job.{Job, IsJob}
 use Rattle.mw_rel.specs.Start.{Start}
 use Rattle.mw_rel.proofs.Cases.{cases_begin_with_cycles}
-use Rattle.mw_fork.specs.declared.elements.Space.{Space}
-use Rattle.mw_fork.specs.declared.paths.Paths.{Paths}
+use Rattle.mw_course.specs.declared.elements.Space.{Space}
+use Rattle.mw_path.specs.declared.paths.Paths.{Paths}
 use Rattle.mw_fork.specs.declared.run.Run.{Run}
-use Rattle.mw_fork.specs.CasePaths.{EndsSo}
+use Rattle.mw_course.specs.CasePaths.{EndsSo}
 use Rattle.mw_fork.specs.Ends.{IsBoardOf}
-use Rattle.mw_fork.specs.Listed.{AsksFor, ComesTo, left_behind_segment, list_of_space, standing_on}
-use Rattle.mw_fork.specs.OnWay.{HasDecided, HasMetCase, HasMetSegment, IsOnStep, IsTurnedOnStep, ground_in, path_in}
+use Rattle.mw_course.specs.Listed.{AsksFor, ComesTo, left_behind_segment, list_of_space, standing_on}
+use Rattle.mw_course.specs.OnWay.{HasDecided, ground_in}
+use Rattle.mw_fork.specs.OnWay.{HasMetCase, HasMetSegment, IsOnStep, IsTurnedOnStep}
+use Rattle.mw_path.specs.Paths.{path_in}
 use Rattle.mw_fork.specs.OnWay.{scene_of}
-use Rattle.mw_fork.specs.Starts.{GoesTo, Ground, IsGround, StandsForStart, course_of, registers_of}
-use Rattle.mw_fork.specs.Steps.{said_from}
-use Rattle.mw_fork.proofs.AlongStep.{along_none, along_turn, asks_for, ends_listed, left_at_start}
-use Rattle.mw_fork.proofs.Growing.{goes_to, on_path_later, on_path_narrower, start_before, way_later}
+use Rattle.mw_course.specs.Starts.{GoesTo, Ground, IsGround, StandsForStart, course_of, registers_of}
+use Rattle.mw_course.specs.Steps.{said_from}
+use Rattle.mw_course.proofs.AlongStep.{along_none, along_turn, asks_for, ends_listed, left_at_start}
+use Rattle.mw_course.proofs.Growing.{goes_to, on_path_later, on_path_narrower, start_before, way_later}
 
 -- ---- the bits of a case
 

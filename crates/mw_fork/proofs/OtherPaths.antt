@@ -7,13 +7,15 @@ use Rattle.mw_term.specs.declared.decided.Decided.{Decided}
 use Rattle.mw_symboard.specs.Paths.{IsPath}
 use Rattle.mw_symmach.specs.Turns.{Stepping}
 use Rattle.mw_rel.specs.Job.{Job}
-use Rattle.mw_fork.specs.declared.paths.Paths.{Paths}
+use Rattle.mw_path.specs.declared.paths.Paths.{Paths}
 use Rattle.mw_fork.specs.declared.run.Run.{Run}
-use Rattle.mw_fork.specs.CasePaths.{HasCase, HasNoBoundary, HasSegment}
+use Rattle.mw_course.specs.CasePaths.{HasCase, HasNoBoundary, HasSegment}
 use Rattle.mw_fork.specs.Courses.{IsOnCourse, IsReady}
 use Rattle.mw_fork.specs.Ends.{EndsBy, HaveEnded, IsBoardOf}
-use Rattle.mw_fork.specs.OnWay.{HasMetCase, IsOnRun, IsOnStep, IsOnWay, ground_in, path_in}
-use Rattle.mw_fork.specs.Starts.{origin_of}
+use Rattle.mw_fork.specs.OnWay.{HasMetCase, IsOnRun, IsOnStep}
+use Rattle.mw_course.specs.OnWay.{IsOnWay, ground_in}
+use Rattle.mw_path.specs.Paths.{path_in}
+use Rattle.mw_course.specs.Starts.{origin_of}
 
 -- functions that agree are one
 pub one_function : (f g : Function) → Agree f g → f ≡ g

@@ -11,11 +11,13 @@ use Rattle.mw_symmach.specs.Along.{BitsGoAlong}
 use Rattle.mw_rel.specs.Job.{Job}
 use Rattle.mw_fork.specs.declared.course.Course.{Course}
 use Rattle.mw_fork.specs.declared.course.Waiting.{Waiting}
-use Rattle.mw_fork.specs.declared.paths.Paths.{Paths}
+use Rattle.mw_path.specs.declared.paths.Paths.{Paths}
 use Rattle.mw_fork.specs.declared.run.Run.{Run}
 use Rattle.mw_fork.specs.Courses.{IsGoing, IsOther, IsWaiting, Waits, WaitsOnCourse, run_over}
-use Rattle.mw_fork.specs.OnWay.{HasDecided, HavePaths, ground_in, path_in}
-use Rattle.mw_fork.specs.Paths.{AreMade, HaveGrown}
+use Rattle.mw_course.specs.OnWay.{HasDecided, ground_in}
+use Rattle.mw_fork.specs.OnWay.{HavePaths}
+use Rattle.mw_path.specs.Paths.{path_in}
+use Rattle.mw_path.specs.Paths.{AreMade, HaveGrown}
 use Rattle.mw_fork.proofs.BitsGiven.{given_on, given_ready, run_with}
 use Rattle.mw_fork.proofs.OtherPaths.{is_ready, on_course, one_function}
 

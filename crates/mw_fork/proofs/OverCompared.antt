@@ -23,19 +23,20 @@ use Rattle.mw_rel.specs.PathWords.{comparison_word, path_of}
 use Rattle.mw_rel.specs.PathWords.StandsAtWord.{at_word}
 use Rattle.mw_rel.specs.Sought.{IsSought, NeverFails}
 use Rattle.mw_rel.specs.Sought.IsSought.{at_comparison as sought_at, on_path}
-use Rattle.mw_fork.specs.declared.elements.Space.{Space}
+use Rattle.mw_course.specs.declared.elements.Space.{Space}
 use Rattle.mw_fork.specs.Faults.{RunStop}
 use Rattle.mw_explore.specs.declared.fault.Fault.TheVariants.{NoMemory, Over}
 use Rattle.mw_fork.specs.declared.fault.Place.{Place}
 use Rattle.mw_fork.specs.Comparing.{FailsFirst, HaveCompared, IsComparedOver, IsFrontOf, StopsComparing, word_on}
 use Rattle.mw_fork.specs.Comparing.IsComparedOver.{at_comparison, in_list}
 use Rattle.mw_fork.specs.Failing.{ComparisonStops, ComparisonsAreWithin}
-use Rattle.mw_fork.specs.Listed.{list_of_space}
+use Rattle.mw_course.specs.Listed.{list_of_space}
 use Rattle.mw_fork.proofs.EachCompared.{IsComparedIn}
 use Rattle.mw_fork.proofs.LongerRows.{over_front}
 use Rattle.mw_fork.proofs.Numbered.{AreNumbered, numbered_whole}
 use Rattle.mw_fork.proofs.OverWords.{has_word, number_or_last, over_at, word_front}
-use Rattle.mw_fork.proofs.WordPaths.{at_most_same, made_same, path_word_same}
+use Rattle.mw_path.proofs.Triples.{at_most_same, made_same}
+use Rattle.mw_fork.proofs.WordPaths.{path_word_same}
 
 -- ---- path words of comparisons
 

@@ -33,9 +33,9 @@ use Rattle.mw_rel.specs.PathWords.StandsAtWord.{at_constant, at_word}
 use Rattle.mw_fork.specs.Faults.{RunStop}
 use Rattle.mw_explore.specs.declared.fault.Fault.TheVariants as stops
 use Rattle.mw_fork.specs.Comparing.{IsFrontOf}
-use Rattle.mw_fork.specs.Listed.{AsksFor}
-use Rattle.mw_fork.specs.OnWay.{IsOnWay}
-use Rattle.mw_fork.specs.Starts.{Ground, HaveStarts}
+use Rattle.mw_course.specs.Listed.{AsksFor}
+use Rattle.mw_course.specs.OnWay.{IsOnWay}
+use Rattle.mw_course.specs.Starts.{Ground, HaveStarts}
 use Rattle.mw_fork.specs.Stops.{StopsBy}
 use Rattle.mw_fork.proofs.GoingOn.{front_itself}
 use Rattle.mw_fork.proofs.WordPaths.{word_same}

@@ -24,13 +24,13 @@ use Rattle.mw_rel.specs.Case.{IsStartAt}
 use Rattle.mw_rel.specs.InRelation.{values_of}
 use Rattle.mw_rel.specs.Job.{Job, IsJob}
 use Rattle.mw_rel.specs.Start.{Start}
-use Rattle.mw_fork.specs.declared.elements.Space.{Space}
+use Rattle.mw_course.specs.declared.elements.Space.{Space}
 use Rattle.mw_fork.specs.Comparing.{GoesComparing, IsComparedKind}
-use Rattle.mw_fork.specs.OnWay.{ground_in}
-use Rattle.mw_fork.specs.Starts.{GoesTo, Ground, IsGround, StandsForStart}
-use Rattle.mw_fork.proofs.FreeValues.{same_kind, with_values}
-use Rattle.mw_fork.proofs.Grounds.{reached_from}
-use Rattle.mw_fork.proofs.Growing.{goes_to, ground_later, none_later, start_before, width_kept}
+use Rattle.mw_course.specs.OnWay.{ground_in}
+use Rattle.mw_course.specs.Starts.{GoesTo, Ground, IsGround, StandsForStart}
+use Rattle.mw_course.proofs.FreeValues.{same_kind, with_values}
+use Rattle.mw_course.proofs.Grounds.{reached_from}
+use Rattle.mw_course.proofs.Growing.{goes_to, ground_later, none_later, start_before, width_kept}
 
 -- ---- the probe's number is no other variable's
 

@@ -8,7 +8,7 @@ use Rattle.mw_rel.specs.Job.{Job}
 use Rattle.mw_fork.specs.declared.course.Course.{Course}
 use Rattle.mw_fork.specs.declared.course.Waiting.{Waiting}
 use Rattle.mw_fork.specs.Courses.{HasGone, IsWaiting, StaysAs, over_places}
-use Rattle.mw_fork.specs.OnWay.{path_in}
+use Rattle.mw_path.specs.Paths.{path_in}
 use Rattle.mw_fork.proofs.OtherPaths.{met_case, one_function}
 use Rattle.mw_fork.proofs.OthersWait.{waits_on}
 

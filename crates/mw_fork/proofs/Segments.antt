@@ -12,7 +12,7 @@ use Rattle.mw_symboard.specs.Seen.{Progress}
 use Rattle.mw_term.specs.declared.decided.DecidedKind.{DecidedKind}
 use Rattle.mw_fork.specs.declared.run.Run.{Run}
 use Rattle.mw_fork.specs.OnWay.{HasFinished, HasMetSegment, IsOnRun, IsRunOf, IsTurnedOnRun, Turns}
-use Rattle.mw_fork.specs.Runs.{IsIdle, IsTurned}
+use Rattle.mw_course.specs.Runs.{IsIdle, IsTurned}
 use Rattle.mw_fork.proofs.MetSegment.{late, next_of_segment, reached}
 
 -- A run that was on its way in the segment is so still, where it has come to.

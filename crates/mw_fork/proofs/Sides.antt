@@ -39,11 +39,11 @@ use Rattle.mw_rel.specs.InRelation.{pair_of, values_of}
 use Rattle.mw_rel.specs.Job.{Job, IsJob}
 use Rattle.mw_rel.specs.Start.{Start}
 use Rattle.mw_rel.proofs.Cases.{segments_have_cycles}
-use Rattle.mw_fork.specs.CasePaths.{HasSegment}
+use Rattle.mw_course.specs.CasePaths.{HasSegment}
 use Rattle.mw_fork.specs.Comparing.{GoesComparing}
-use Rattle.mw_fork.specs.declared.elements.Space.{Space}
+use Rattle.mw_course.specs.declared.elements.Space.{Space}
 use Rattle.mw_fork.specs.Ends.{HaveEnded}
-use Rattle.mw_fork.specs.Starts.{Ground, StandsForStart, course_of}
+use Rattle.mw_course.specs.Starts.{Ground, StandsForStart, course_of}
 
 -- the terms of all elements where both sides have ended
 abbrev pub terms_at_end : Job → Symbolic → Stepping → List ℕ

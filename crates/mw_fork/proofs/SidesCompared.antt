@@ -22,10 +22,10 @@ use Rattle.mw_rel.specs.Relation.{Boundary}
 use Rattle.mw_rel.specs.Rules.{IsLineOf}
 use Rattle.mw_fork.specs.Comparing.{AreApart, AreSidesOn, Compares, GoesComparing, HaveCompared, IsOutcome}
 use Rattle.mw_fork.specs.Comparing.{compared_all}
-use Rattle.mw_fork.specs.declared.elements.Space.{Space}
+use Rattle.mw_course.specs.declared.elements.Space.{Space}
 use Rattle.mw_fork.specs.Faults.{RunStop}
 use Rattle.mw_fork.specs.Failing.{ComparisonStops, ComparisonsAreWithin, IsFound}
-use Rattle.mw_fork.specs.Listed.{list_of_space, standing_on}
+use Rattle.mw_course.specs.Listed.{list_of_space, standing_on}
 use Rattle.mw_fork.proofs.CaseCompared.{IsEnded, found_apart, found_on_path, prefix_of_case, unlike_differs}
 use Rattle.mw_fork.proofs.CaseCompared.{words_compared}
 use Rattle.mw_fork.proofs.Numbered.{AreNumbered}

@@ -16,11 +16,13 @@ use Rattle.mw_rel.proofs.Cases.{cases_begin_with_cycles}
 use Rattle.mw_rel.proofs.Relations.{solved_at}
 use Rattle.mw_fork.specs.declared.run.Run.{Run}
 use Rattle.mw_fork.specs.Forks.{EndsEach}
-use Rattle.mw_fork.specs.OnWay.{HasMetCase, HasMetSegment, IsFirst, IsOnRun, ground_in, path_in}
-use Rattle.mw_fork.specs.Runs.{IsIdle}
+use Rattle.mw_fork.specs.OnWay.{HasMetCase, HasMetSegment, IsFirst, IsOnRun}
+use Rattle.mw_course.specs.OnWay.{ground_in}
+use Rattle.mw_path.specs.Paths.{path_in}
+use Rattle.mw_course.specs.Runs.{IsIdle}
 use Rattle.mw_fork.proofs.Along.{comes_to_next}
-use Rattle.mw_fork.proofs.Choosing.{assignment_for, none_feasible}
-use Rattle.mw_fork.proofs.Grounds.{have_starts}
+use Rattle.mw_course.proofs.Prefixes.{assignment_for, none_feasible}
+use Rattle.mw_course.proofs.Grounds.{have_starts}
 
 -- the bound of a boundary
 pub bound_within : (job : Job) (number : ℕ) (b : Boundary) → IsJob job → number < length job.relation.boundaries

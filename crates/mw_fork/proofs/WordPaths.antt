@@ -5,19 +5,19 @@ use Rattle.mw_term.specs.declared.decided.Decided.{Decided}
 use Rattle.mw_cycle.specs.Decided.{decided}
 use Rattle.mw_term.specs.Cofactors.{Agree, AreSame, HasAtMostCofactors}
 use Rattle.mw_term.specs.declared.decided.DecidedKind.{DecidedKind}
-use Rattle.mw_term.specs.Functions.{Function, Triple, always, made}
+use Rattle.mw_term.specs.Functions.{Function, always, made}
 use Rattle.mw_term.specs.Rows.{bit}
 use Rattle.mw_term.specs.Table.{table_of}
-use Rattle.mw_dd.specs.Nodes.{Node}
-use Rattle.mw_dd.proofs.Cofactors.{cofactor-same, same_back}
+use Rattle.mw_dd.specs.declared.nodes.Node.{Node}
 use Rattle.mw_blast.specs.declared.split.Split.{Split}
 use Rattle.mw_blast.specs.Splits.{IsSplit}
 use Rattle.mw_rel.specs.CaseWords.{CaseWords}
 use Rattle.mw_rel.specs.Job.{Job}
 use Rattle.mw_rel.specs.OverBudget as lists
 use Rattle.mw_rel.specs.PathWords.{bit_asked, next_bit, path_behind, path_of, path_word, table_with}
-use Rattle.mw_fork.specs.Listed.{AsksFor}
-use Rattle.mw_fork.specs.Starts.{Ground}
+use Rattle.mw_course.specs.Listed.{AsksFor}
+use Rattle.mw_course.specs.Starts.{Ground}
+use Rattle.mw_path.proofs.Triples.{at_most_same, made_same}
 
 -- ---- one bit more
 
@@ -50,28 +50,13 @@ next_bit_is job number bits g term map asks =
     ap (λ (w : CaseWords). bit_asked (table_with job w) w.asked) asks
     ∙ ap (λ (entries : List ℕ). bit (table_of g.table.ops entries) term 0) (sym map)
 
--- ---- path words of one function
+-- ---- path words
 
 -- over paths that agree they are one
 pub path_word_same : (path other b : Function) (value : Bool) → Agree path other
     → AreSame (path_word path b value) (path_word other b value)
 path_word_same path other b true agree = record { f = λ given. refl; g = agree; h = λ given. refl }
 path_word_same path other b false agree = record { f = λ given. refl; g = λ given. refl; h = agree }
-
--- triples that are one make one function
-pub made_same : (t u : Triple) → AreSame t u → Agree (made t) (made u)
-made_same t u same given =
-    ap (λ (b : Bool). if b then t.g given else t.h given) (same.f given)
-    ∙ ap (λ (y : Bool). if u.f given then y else t.h given) (same.g given)
-    ∙ ap (λ (z : Bool). if u.f given then u.g given else z) (same.h given)
-
--- and have as many joint cofactors
-pub at_most_same : (t u : Triple) (n : ℕ) → AreSame t u → HasAtMostCofactors t n → HasAtMostCofactors u n
-at_most_same t u n same most us are =
-    most us (record {
-      each = λ i d below. cofactor-same u t _ (same_back t u same) (are.each i d below);
-      different = are.different;
-    })
 
 -- a path word of the run is that of the list
 pub word_same : (job : Job) (number : ℕ) (bits : List Decided) (g : Ground) (path : Function) (term : ℕ) (value : Bool)

@@ -1,56 +1,19 @@
--- The start that an assignment gives, and starts that differ.
-use Rattle.std.specs.Prelude.{◌≡◌, ◌≢◌, ℕ, List, map, Option, Some, None, slice_index}
+-- The start that is given of a case, and starts that differ.
+use Rattle.std.specs.Prelude.{◌≡◌, ◌≢◌, ℕ, List, None}
 use Rattle.mw_term.specs.declared.decided.Decided.{Decided}
-use Rattle.mw_cycle.specs.declared.series.Series.{Series}
-use Rattle.mw_cycle.specs.Environment.{values_of}
-use Rattle.mw_cycle.specs.Series.{kind_of}
-use Rattle.mw_cycle.specs.Trimmed.{IsTrimmed}
-use Rattle.mw_rel.specs.Begin.{Begin, IsCompleted, free_elements}
-use Rattle.mw_rel.specs.Case.{IsStartAt, case_of}
+use Rattle.mw_rel.specs.Begin.{Begin}
+use Rattle.mw_rel.specs.Case.{case_of}
 use Rattle.mw_rel.specs.CaseWords.{case_words}
 use Rattle.mw_rel.specs.Differs.{difference_of}
-use Rattle.mw_rel.specs.Free.{numbered}
 use Rattle.mw_rel.specs.Job.{Job}
 use Rattle.mw_rel.specs.PathWords.{path_of}
 use Rattle.mw_rel.specs.Sought.{IsSought}
 use Rattle.mw_rel.specs.Start.{Start}
-use Rattle.mw_term.specs.declared.kinds.WordKind.{WordKind}
-use Rattle.mw_term.specs.declared.kinds.WordKind.TheVariants.{Element}
-use Rattle.mw_term.specs.Assigned.{Given, Numbers, given_by}
+use Rattle.mw_term.specs.Assigned.{Numbers, given_by}
 use Rattle.mw_term.specs.Functions.{Function}
-use Rattle.mw_term.specs.Table.{Table}
-use Rattle.mw_term.specs.Values.{term_value}
-use Rattle.mw_term.specs.WordList.{WordList, table_in, term_of}
+use Rattle.mw_term.specs.WordList.{WordList}
 use Rattle.mw_dd.specs.Diagrams.{IsFirst}
-use Rattle.mw_symmem.specs.Memory.{base_word}
-
--- what a term has under an assignment; 0 where there is none
-abbrev pub value_or_zero : Table → Given → Option ℕ → ℕ
-value_or_zero t given (Some term) = term_value t given term
-value_or_zero t given None = 0
-
--- what a list's variable of a kind has under an assignment
-abbrev pub kind_value : Table → WordList → Given → WordKind → ℕ
-kind_value t l given kind = value_or_zero t given (term_of l.words kind)
-
--- What an assignment gives by a list: the free elements and the lists of the environment have the values of their
--- variables, and the memory that of the oldest base read at an address, and 0 elsewhere.
-pub record IsAssigned (job : Job) (number : ℕ) (l : WordList) (given : Given) (begin : Begin) : Type 0 where
-  pub values : begin.values
-      ≡ map (λ e. kind_value (table_in job.board.map_entries l) l given (Element e))
-      (free_elements job (numbered job number))
-  pub memory : (address : ℕ)
-      → slice_index begin.memory address ≡ base_word (table_in job.board.map_entries l) given l.reads address
-  pub lists : (series : Series) (n : ℕ)
-      → slice_index (values_of begin.env series) n
-      ≡ kind_value (table_in job.board.map_entries l) l given (kind_of series n)
-  pub trimmed : IsTrimmed begin.env
-
--- a start of the boundary that a choice gives
-pub record IsChosen (job : Job) (number : ℕ) (begin : Begin) (start : Start) : Type 0 where
-  pub starts : IsStartAt job number start
-  pub pair : IsCompleted job (numbered job number) begin start.pair
-  pub env : start.env ≡ begin.env
+use Rattle.mw_course.specs.Begins.{IsAssigned, IsChosen}
 
 -- It gives a start with this case.
 pub record IsOfCase (job : Job) (number : ℕ) (bits : List Decided) (begin : Begin) : Type 0 where

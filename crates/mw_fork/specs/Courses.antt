@@ -20,14 +20,14 @@ use Rattle.mw_rel.specs.Free.{numbered}
 use Rattle.mw_rel.specs.Job.{Job}
 use Rattle.mw_fork.specs.declared.course.Course.{Course}
 use Rattle.mw_fork.specs.declared.course.Waiting.{Waiting}
-use Rattle.mw_fork.specs.declared.paths.Paths.{Paths}
+use Rattle.mw_path.specs.declared.paths.Paths.{Paths}
 use Rattle.mw_fork.specs.declared.run.Run.{Run}
 use Rattle.mw_fork.specs.declared.segment.Came.{Came}
 use Rattle.mw_fork.specs.declared.segment.Came.TheVariants as came
 use Rattle.mw_fork.specs.OnWay.{HasMetCase, HasMetSegment, HavePaths, IsOnRun, IsOnStep, IsRunOf, IsTurnedOnRun}
 use Rattle.mw_fork.specs.OnWay.{IsTurnedOnStep}
-use Rattle.mw_fork.specs.Paths.{AreMade, StayOnPath}
-use Rattle.mw_fork.specs.Steps.{IsUnderway}
+use Rattle.mw_path.specs.Paths.{AreMade, StayOnPath}
+use Rattle.mw_course.specs.Steps.{IsUnderway}
 
 -- ---- where it stands
 

@@ -14,10 +14,10 @@ use Rattle.mw_symboard.specs.Turns.{AreEvents, Symbolic}
 use Rattle.mw_symmach.specs.Steps.{Stands, now_of}
 use Rattle.mw_symmach.specs.Turns.{Stepping}
 use Rattle.mw_symmach.specs.Walks.{underway_in}
-use Rattle.mw_fork.specs.declared.elements.Space.{Space}
+use Rattle.mw_course.specs.declared.elements.Space.{Space}
 use Rattle.mw_fork.specs.declared.run.Run.{Run}
-use Rattle.mw_fork.specs.Listed.{list_of_space, standing_on}
-use Rattle.mw_fork.specs.Starts.{Ground, StandsForStart, course_of}
+use Rattle.mw_course.specs.Listed.{list_of_space, standing_on}
+use Rattle.mw_course.specs.Starts.{Ground, StandsForStart, course_of}
 
 -- under an assignment that stands for a start, the board is in the start's run, of which some bits were decided
 pub record IsWithStart (job : Job) (space : Space) (given : Given) (start : Start) (board : Symbolic) : Type 0 where

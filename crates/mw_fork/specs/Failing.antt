@@ -16,12 +16,12 @@ use Rattle.mw_term.specs.Cofactors.{HasAtMostCofactors}
 use Rattle.mw_term.specs.Functions.{Function}
 use Rattle.mw_dd.specs.Diagrams.{IsFirst}
 use Rattle.mw_fork.specs.Begins.{IsDiffering, IsLeast}
-use Rattle.mw_fork.specs.declared.elements.Space.{Space}
+use Rattle.mw_course.specs.declared.elements.Space.{Space}
 use Rattle.mw_fork.specs.Faults.{RunStop}
 use Rattle.mw_explore.specs.declared.fault.Fault.TheVariants.{NoMemory, Over}
-use Rattle.mw_fork.specs.Listed.{list_of_space}
-use Rattle.mw_fork.specs.OnWay.{ground_in}
-use Rattle.mw_fork.specs.Starts.{IsGround, StandsForStart}
+use Rattle.mw_course.specs.Listed.{list_of_space}
+use Rattle.mw_course.specs.OnWay.{ground_in}
+use Rattle.mw_course.specs.Starts.{IsGround, StandsForStart}
 
 -- no start with a case differs
 abbrev pub NoneDiffersOf : Job → (number : ℕ) → (bits : List Decided) → Type 0

@@ -7,44 +7,34 @@ use Rattle.mw_term.specs.Assigned.{Given}
 use Rattle.mw_term.specs.Cofactors.{Agree}
 use Rattle.mw_term.specs.declared.decided.DecidedKind.{DecidedKind}
 use Rattle.mw_term.specs.declared.decided.DecidedKind.TheVariants.{Branch}
-use Rattle.mw_term.specs.Functions.{Function, always}
-use Rattle.mw_dd.specs.Nodes.{function_of}
+use Rattle.mw_term.specs.Functions.{always}
 use Rattle.mw_symmem.specs.declared.turn.Turn.{Turn}
 use Rattle.mw_symmem.specs.declared.turn.Turn.TheVariants.{Ask, Finished}
-use Rattle.mw_symboard.specs.Paths.{AreAll, IsBy, IsNextBit, IsPath}
+use Rattle.mw_symboard.specs.Paths.{AreAll, IsNextBit, IsPath}
 use Rattle.mw_symboard.specs.Turns.{Symbolic, decided_so}
 use Rattle.mw_symboard.specs.Variables.{HasVariables}
 use Rattle.mw_symmach.specs.Along.{AsksAlong, IsAlong, IsDoneAlong}
 use Rattle.mw_symmach.specs.Laws.{IsInStep}
 use Rattle.mw_symmach.specs.Turns as step
 use Rattle.mw_symmach.specs.Turns.{Stepping, is_asked}
-use Rattle.mw_rel.specs.Case.{IsFeasiblePrefix}
 use Rattle.mw_rel.specs.CaseWords.{case_words, whole}
 use Rattle.mw_rel.specs.ComparisonWords.{compared_in}
 use Rattle.mw_rel.specs.Free.{numbered}
 use Rattle.mw_rel.specs.Job.{Job}
-use Rattle.mw_rel.specs.PathWords.{path_of}
 use Rattle.mw_rel.specs.Start.{Start}
-use Rattle.mw_fork.specs.declared.elements.Space.{Space}
-use Rattle.mw_fork.specs.declared.paths.Paths.{Paths}
+use Rattle.mw_course.specs.declared.elements.Space.{Space}
+use Rattle.mw_path.specs.declared.paths.Paths.{Paths}
 use Rattle.mw_fork.specs.declared.run.Run.{Run}
-use Rattle.mw_fork.specs.CasePaths.{HasCase, HasNoBoundary, HasSegment, IsCasePath, IsNextOfCase}
+use Rattle.mw_course.specs.CasePaths.{HasCase, HasNoBoundary, HasSegment, IsNextOfCase}
 use Rattle.mw_fork.specs.Ends.{EndsBy, IsBoardOf, IsStepOf}
-use Rattle.mw_fork.specs.Listed.{AsksFor, ComesTo, left_behind_cycle, left_behind_segment, left_in_cycle}
-use Rattle.mw_fork.specs.Listed.{left_of_cycles, left_of_step}
-use Rattle.mw_fork.specs.Listed.{list_of_space, standing_on}
-use Rattle.mw_fork.specs.Paths.{ArePaths}
-use Rattle.mw_fork.specs.Runs.{IsUnder}
-use Rattle.mw_fork.specs.Starts.{Ground, IsGround, StandsForStart, ground_of, origin_of, registers_of}
-use Rattle.mw_fork.specs.Steps.{said_from}
-
--- what a space has, with the terms of the elements at the start
-abbrev pub ground_in : Space → (elements : List ℕ) → Ground
-ground_in space elements = ground_of space.terms space.words space.memory elements
-
--- the path of a run
-abbrev pub path_in : Paths → Function
-path_in paths = function_of paths.dds paths.path
+use Rattle.mw_course.specs.Listed.{AsksFor, ComesTo, left_behind_cycle, left_behind_segment, left_in_cycle}
+use Rattle.mw_course.specs.Listed.{left_of_cycles, left_of_step}
+use Rattle.mw_course.specs.Listed.{list_of_space, standing_on}
+use Rattle.mw_course.specs.OnWay.{IsOnWay, ground_in}
+use Rattle.mw_path.specs.Paths.{ArePaths, path_in}
+use Rattle.mw_course.specs.Runs.{IsUnder}
+use Rattle.mw_course.specs.Starts.{IsGround, StandsForStart, origin_of, registers_of}
+use Rattle.mw_course.specs.Steps.{said_from}
 
 -- a run of a job, within a cycle of its board
 abbrev pub IsRunOf : Job → Run → Type 0
@@ -53,20 +43,6 @@ IsRunOf job run = IsUnder job run.space.terms run.space.words run.space.memory r
 -- the paths of a run are diagrams, and its bits are right for what was written in a space
 abbrev pub HavePaths : Space → Paths → Type 0
 HavePaths space paths = ArePaths space.terms paths.dds paths.shared paths.places paths.path
-
--- A course from a boundary is on its way through a case: its path is that of the bits that it has met, and that of the word
--- list; and a case begins with them.
-pub record IsOnWay (job : Job) (number : ℕ) (g : Ground) (bits : List Decided) (path : Function) : Type 0 where
-  pub stands : IsGround job number g
-  pub written : Agree path (path_of job number bits)
-  pub cases : IsCasePath job number g bits path
-  pub feasible : IsFeasiblePrefix job number bits
-
--- A bit was decided: the course is on its way with one more, along the path by it.
-pub record HasDecided (job : Job) (number : ℕ) (g : Ground) (bits : List Decided) (path next : Function)
-    (kind : DecidedKind) (term : ℕ) (value : Bool) : Type 0 where
-  pub on : IsOnWay job number g (bits ++ decided kind value ∷ []) next
-  pub by : IsBy g.table term value path next
 
 -- ---- through the cycles of the board
 

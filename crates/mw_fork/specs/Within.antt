@@ -7,9 +7,9 @@ use Rattle.mw_symmem.specs.Memory.{IsOfWidth}
 use Rattle.mw_rel.specs.Job.{Job}
 use Rattle.mw_rel.specs.OverBudget as lists
 use Rattle.mw_rel.specs.PathWords.{path_of}
-use Rattle.mw_fork.specs.CasePaths.{IsCasePath, IsNextOfCase}
-use Rattle.mw_fork.specs.Listed.{AsksFor}
-use Rattle.mw_fork.specs.Starts.{Ground, IsGround}
+use Rattle.mw_course.specs.CasePaths.{IsCasePath, IsNextOfCase}
+use Rattle.mw_course.specs.Listed.{AsksFor}
+use Rattle.mw_course.specs.Starts.{Ground, IsGround}
 
 -- What the word list says of a decided bit behind others. There is a ground that is the list's, with a path over it,
 -- which is the list's and true exactly of the starts whose cases begin with them; and the term of one bit for which the

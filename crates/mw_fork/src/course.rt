@@ -7,14 +7,13 @@ ghost use Rattle.mw_fork.specs.Courses.{HaveCome, IsGiven, IsGoing, IsOnCourse, 
 ghost use Rattle.mw_fork.specs.Courses.{IsTurnedOnCourse, MayBeGiven, course_over, with_board};
 ghost use Rattle.mw_fork.specs.OnWay.{HavePaths};
 
-use crate::elements::Space;
-use crate::paths::Paths;
-use crate::registers::Registers;
 use crate::run::Run;
 use crate::segment::{Came, segment};
 use crate::step::{begin, turn};
 use mw_base::NoMemory;
+use mw_course::{Registers, Space};
 use mw_dd::Dd;
+use mw_path::Paths;
 use mw_rel::Job;
 use mw_symboard::SymBoard;
 use mw_symmach::SymMach;

@@ -7,12 +7,11 @@ ghost use Rattle.mw_fork.specs.Courses.{HasGone, IsWaiting, StaysAs, over_places
 ghost use Rattle.mw_fork.specs.Failing.{ComparisonStops, IsFoundOf};
 ghost use Rattle.mw_fork.specs.declared.course.Waiting as waits;
 
-use crate::begin::begin_of;
 use crate::comparing::first_failing;
 use crate::course::Course;
-use crate::elements::Space;
 use crate::fault::RunStop;
 use mw_base::NoMemory;
+use mw_course::{Space, begin_of};
 use mw_rel::{Begin, Job};
 use mw_term::{Places, ShortcutBook, stands_with_more};
 use std::alloc::Global;

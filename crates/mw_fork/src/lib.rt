@@ -3,19 +3,14 @@
 //! in two; at its end both sides are compared. The order of cases, and the courses that wait, are `mw_explore`'s.
 #![tactic(auto)]
 
-mod begin;
 mod budget;
 mod cases;
 mod comparing;
 mod course;
 mod decide;
-mod elements;
 mod fault;
 mod fork;
 mod found;
-mod paths;
-mod reached;
-mod registers;
 mod run;
 mod segment;
 mod starts;

@@ -3,12 +3,11 @@ ghost use Rattle.std.specs.Prelude.{◌≡◌, ◌<◌, ℕ, List, IfOk, OnOk, N
 ghost use Rattle.mw_board.specs.Elements.{element_count};
 ghost use Rattle.mw_rel.specs.Views.{job_of};
 ghost use Rattle.mw_fork.specs.OnWay.{HavePaths, IsFirst, IsRunOf, Turns};
-ghost use Rattle.mw_fork.specs.Runs.{IsIdle, IsTurned};
+ghost use Rattle.mw_course.specs.Runs.{IsIdle, IsTurned};
 
-use crate::elements::{Space, elements_at};
-use crate::paths::Paths;
-use crate::registers::Registers;
 use mw_base::NoMemory;
+use mw_course::{Registers, Space, elements_at};
+use mw_path::Paths;
 use mw_rel::Job;
 use mw_symboard::SymBoard;
 use mw_symmem::Turn;

@@ -6,9 +6,9 @@ ghost use Rattle.mw_rel.specs.Views.{job_of};
 ghost use Rattle.mw_fork.specs.Courses.{Comes, IsComeTo};
 ghost use Rattle.mw_fork.specs.OnWay.{HavePaths, IsOnRun, IsRunOf};
 
-use crate::reached::is_boundary;
 use crate::run::Run;
 use mw_base::NoMemory;
+use mw_course::is_boundary;
 use mw_rel::Job;
 use mw_symmem::Turn;
 use mw_term::{DecidedKind, Term};

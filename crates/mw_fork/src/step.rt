@@ -8,14 +8,14 @@ ghost use Rattle.mw_symboard.specs.Turns.{Symbolic};
 ghost use Rattle.mw_symmach.specs.Turns.{IsSaid, is_asked};
 ghost use Rattle.mw_rel.specs.Views.{job_of};
 ghost use Rattle.mw_term.specs.declared.decided.Decided.{Decided};
-ghost use Rattle.mw_fork.specs.declared.paths.Paths as diagrams;
+ghost use Rattle.mw_path.specs.declared.paths.Paths as diagrams;
 ghost use Rattle.mw_fork.specs.OnWay.{HasMetSegment, HavePaths, IsOnStep, IsRunOf, IsTurnedOnStep};
-ghost use Rattle.mw_fork.specs.Runs.{HasLine};
-ghost use Rattle.mw_fork.specs.Steps.{IsUnderway};
+ghost use Rattle.mw_course.specs.Runs.{HasLine};
+ghost use Rattle.mw_course.specs.Steps.{IsUnderway};
 
-use crate::elements::Space;
 use crate::run::Run;
 use mw_base::NoMemory;
+use mw_course::Space;
 use mw_rel::Job;
 use mw_symmach::{SymMach, steps_go_along};
 use mw_symmem::{Turn, Words};

@@ -1,6 +1,6 @@
 use Rattle.std.proofs.Common.{sym}
 use Rattle.std.proofs.lemmas.Result.{IfErr-weaker}
-use Rattle.mw_fork.proofs.Sharing.{shared_at_first}
+use Rattle.mw_path.proofs.Sharing.{shared_at_first}
 use Rattle.mw_check.proofs.Answered.{names_over}
 use Rattle.mw_check.proofs.answer.bits_within.Goals as goal
 

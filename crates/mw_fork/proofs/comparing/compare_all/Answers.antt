@@ -7,10 +7,10 @@ use Rattle.mw_rel.specs.Seen.{lines_of}
 use Rattle.mw_rel.specs.Views.{job_of}
 use Rattle.mw_symmem.specs.Memory.{Memory}
 use Rattle.mw_fork.specs.Comparing.{AreApart, Compares}
-use Rattle.mw_fork.specs.OnWay.{path_in}
+use Rattle.mw_path.specs.Paths.{path_in}
 use Rattle.mw_fork.proofs.ComparedAll.{events_shown, events_then, lines_shown, one_all}
 use Rattle.mw_fork.proofs.ComparingOn.{compares_then, comparing_then, sides_compared}
-use Rattle.mw_fork.proofs.Grown.{stays_then}
+use Rattle.mw_path.proofs.Grown.{stays_then}
 use Rattle.mw_fork.proofs.LinesCompared.{some_at}
 use Rattle.mw_fork.proofs.comparing.compare_all.Goals as goal
 

@@ -8,10 +8,11 @@ use Rattle.mw_term.specs.declared.kinds.WordKind.TheVariants.{Probe}
 use Rattle.mw_term.specs.Assigned.{Given}
 use Rattle.mw_term.specs.Cofactors.{Agree}
 use Rattle.mw_term.specs.WordList.{term_of}
-use Rattle.mw_fork.specs.Boundaries.{AreWide, IsSpace}
+use Rattle.mw_course.specs.Boundaries.{AreWide, IsSpace}
 use Rattle.mw_fork.specs.Comparing.{AreSidesOn, GoesComparing, HoldsAt}
-use Rattle.mw_fork.specs.OnWay.{HavePaths, path_in}
-use Rattle.mw_fork.specs.Paths.{StayOnPath}
+use Rattle.mw_fork.specs.OnWay.{HavePaths}
+use Rattle.mw_path.specs.Paths.{path_in}
+use Rattle.mw_path.specs.Paths.{StayOnPath}
 use Rattle.mw_fork.proofs.CameTo.{CameTo}
 use Rattle.mw_fork.proofs.comparing.compare_lines.Given as goal
 

@@ -5,10 +5,10 @@ use Rattle.mw_rel.specs.Views.{job_of}
 use Rattle.mw_rel.proofs.Standing.{board_address}
 use Rattle.mw_symmem.specs.declared.side.Side.TheVariants as sides
 use Rattle.mw_symmem.proofs.Later.{width_later}
-use Rattle.mw_fork.specs.declared.elements.Space.{Space}
+use Rattle.mw_course.specs.declared.elements.Space.{Space}
 use Rattle.mw_fork.specs.Comparing.{GoesComparing}
-use Rattle.mw_fork.specs.OnWay.{path_in}
-use Rattle.mw_fork.proofs.Boundaries.{machine_word}
+use Rattle.mw_path.specs.Paths.{path_in}
+use Rattle.mw_course.proofs.Boundaries.{machine_word}
 use Rattle.mw_fork.proofs.ComparingOn.{compares_later, comparing_paths, comparing_then}
 use Rattle.mw_fork.proofs.MemoryCompared.{HasProbe, HasRead, memory_ends, one_at_probe, probe_made, two_in_memory}
 use Rattle.mw_fork.proofs.comparing.compare_memory.Given.{Over}

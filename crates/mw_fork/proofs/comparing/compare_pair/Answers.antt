@@ -2,7 +2,7 @@ use Rattle.std.specs.Prelude.{[], ◌∷◌, None, Ok}
 use Rattle.std.proofs.lemmas.Option.{IfSome_then}
 use Rattle.std.proofs.lemmas.Result.{IfOk-weaker}
 use Rattle.mw_rel.specs.ComparisonWords.{event, with_comparison, with_events}
-use Rattle.mw_fork.specs.OnWay.{path_in}
+use Rattle.mw_path.specs.Paths.{path_in}
 use Rattle.mw_fork.proofs.ComparingOn.{compares_as}
 use Rattle.mw_fork.proofs.EventsCompared.{none_or_some, pair_one, pair_out, pair_skip}
 use Rattle.mw_fork.proofs.comparing.compare_pair.Goals as goal

@@ -10,11 +10,12 @@ use Rattle.mw_term.specs.declared.event.SymEvent.{SymEvent}
 use Rattle.mw_rel.specs.Rules.{IsLineOf}
 use Rattle.mw_rel.specs.Seen.{boundary_of, lines_of}
 use Rattle.mw_rel.specs.Views.{job_of}
-use Rattle.mw_fork.specs.Boundaries.{AreWide}
+use Rattle.mw_course.specs.Boundaries.{AreWide}
 use Rattle.mw_symmach.specs.Steps.{event_term}
 use Rattle.mw_symmem.specs.Memory.{IsOfWidth}
 use Rattle.mw_fork.specs.Comparing.{AreApart, AreEventsOf, AreOne}
-use Rattle.mw_fork.specs.OnWay.{ground_in, path_in}
+use Rattle.mw_course.specs.OnWay.{ground_in}
+use Rattle.mw_path.specs.Paths.{path_in}
 use Rattle.mw_rel.specs.ComparisonWords.{are_alike, is_unlike}
 use Rattle.mw_fork.proofs.CaseCompared.{at_boundary, ended_met, lines_at, none_differs, nowhere_none}
 use Rattle.mw_fork.proofs.Differing.{wide_at_end}

@@ -9,12 +9,13 @@ use Rattle.mw_explore.specs.KeptBits.{IsChosen}
 use Rattle.mw_rel.specs.Case.{IsCase}
 use Rattle.mw_rel.specs.CaseWords.{bit_values}
 use Rattle.mw_rel.specs.Job.{IsJob, Job}
-use Rattle.mw_fork.specs.CasePaths.{IsNextOfCase}
-use Rattle.mw_fork.specs.Listed.{AsksFor}
-use Rattle.mw_fork.specs.OnWay.{HasDecided, IsOnWay, ground_in, path_in}
+use Rattle.mw_course.specs.CasePaths.{IsNextOfCase}
+use Rattle.mw_course.specs.Listed.{AsksFor}
+use Rattle.mw_course.specs.OnWay.{HasDecided, IsOnWay, ground_in}
+use Rattle.mw_path.specs.Paths.{path_in}
 use Rattle.mw_fork.proofs.Budgets.{within_more}
 use Rattle.mw_fork.proofs.Choosing.{IsChoice, free_at, has_decided, has_turned, is_chosen}
-use Rattle.mw_fork.proofs.Grounds.{have_starts}
+use Rattle.mw_course.proofs.Grounds.{have_starts}
 use Rattle.mw_fork.proofs.Numbered.{AreNumbered, numbered_case}
 use Rattle.mw_fork.proofs.OverWords.{stops_by}
 use Rattle.mw_fork.proofs.WordPaths.{within_split}

@@ -3,9 +3,9 @@ use Rattle.mw_macro.specs.StepWords.{begun_words}
 use Rattle.mw_symmach.specs.Turns.{Waits}
 use Rattle.mw_symmach.specs.Walks.{underway_of}
 use Rattle.mw_rel.specs.Views.{job_of}
-use Rattle.mw_fork.specs.Listed.{list_of_space}
+use Rattle.mw_course.specs.Listed.{list_of_space}
 use Rattle.mw_fork.proofs.OnStep.{Begins, begun_behind}
-use Rattle.mw_fork.proofs.Steps.{underway_behind, waits_behind}
+use Rattle.mw_course.proofs.Steps.{underway_behind, waits_behind}
 use Rattle.mw_fork.proofs.step.begin.Goals as goal
 
 pub returns-clause-under : goal.returns-clause-under

@@ -1,7 +1,7 @@
 use Rattle.mw_macro.specs.Described.{description_of}
 use Rattle.mw_rel.specs.Views.{job_of}
 use Rattle.mw_fork.proofs.OnStep.{turns}
-use Rattle.mw_fork.proofs.Steps.{underway_later}
+use Rattle.mw_course.proofs.Steps.{underway_later}
 use Rattle.mw_fork.proofs.step.turn.Goals as goal
 
 pub returns-clause-under : goal.returns-clause-under

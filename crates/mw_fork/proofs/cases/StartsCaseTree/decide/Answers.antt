@@ -6,7 +6,7 @@ use Rattle.mw_cycle.specs.Decided.{decided}
 use Rattle.mw_explore.specs.KeptBits.{IsChosen}
 use Rattle.mw_rel.specs.Views.{job_of}
 use Rattle.mw_fork.specs.declared.course.Course.{Course}
-use Rattle.mw_fork.specs.declared.paths.Paths.{Paths}
+use Rattle.mw_path.specs.declared.paths.Paths.{Paths}
 use Rattle.mw_fork.specs.declared.run.Run.{Run}
 use Rattle.mw_fork.specs.declared.starts.Starts.{Starts}
 use Rattle.mw_fork.specs.Courses.{IsGoing, IsWaiting}

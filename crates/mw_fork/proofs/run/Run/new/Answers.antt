@@ -10,9 +10,9 @@ use Rattle.mw_symboard.specs.Parts as board
 use Rattle.mw_rel.specs.Relation.{Boundary}
 use Rattle.mw_rel.specs.Views.{job_of}
 use Rattle.mw_rel.proofs.Elements.{widths_count}
-use Rattle.mw_fork.proofs.FirstListed.{first_listed}
+use Rattle.mw_course.proofs.FirstListed.{first_listed}
 use Rattle.mw_fork.proofs.OnRun.{path_begins}
-use Rattle.mw_fork.proofs.Runs.{address_at, board_elements, pointer_at, start_inputs, start_no_later, under_first}
+use Rattle.mw_course.proofs.Runs.{address_at, board_elements, pointer_at, start_inputs, start_no_later, under_first}
 use Rattle.mw_fork.proofs.run.Run.new.Goals as goal
 
 pub new-requires : goal.new-requires

@@ -1,6 +1,6 @@
 use Rattle.mw_rel.specs.Views.{job_of}
 use Rattle.mw_fork.proofs.OnRun.{on_turn}
-use Rattle.mw_fork.proofs.Runs.{turned}
+use Rattle.mw_course.proofs.Runs.{turned}
 use Rattle.mw_fork.proofs.run.Run.turn.Goals as goal
 
 pub returns-clause-turned : goal.returns-clause-turned

@@ -1,0 +1,133 @@
+-- The start that an assignment gives: the values of the variables of free elements, an image that the base reads fit,
+-- and an environment with the values of its variables.
+use Rattle.std.proofs.Common.{◌≡◌, ℕ, ◌<◌, ◌^◌, List, length, map, slice_index, ap, sym, subst, ◌∙◌, arith, refl}
+use Rattle.std.specs.Prelude.{true, Option, Some, None}
+use Rattle.std.proofs.lemmas.Nat.{pow_pos}
+use Rattle.mw_board.specs.declared.parts.BoardParts.{BoardParts}
+use Rattle.mw_cycle.specs.declared.series.Series.{Series}
+use Rattle.mw_cycle.specs.Environment.{Environment, values_of}
+use Rattle.mw_cycle.specs.Series.{kind_of, width_of}
+use Rattle.mw_cycle.specs.Trimmed.{IsTrimmed}
+use Rattle.mw_term.specs.declared.kinds.WordKind.{WordKind}
+use Rattle.mw_term.specs.declared.kinds.WordKind.TheVariants.{Element}
+use Rattle.mw_term.specs.declared.word.Word.{Word}
+use Rattle.mw_term.specs.Assigned.{Given}
+use Rattle.mw_term.specs.Table.{Table, IsTable, table_of}
+use Rattle.mw_term.specs.WordList.{table_in, term_of}
+use Rattle.mw_symmem.specs.Memory.{FitImage, IsImage, IsOfWidth, base_word}
+use Rattle.mw_symmem.specs.Words.{HaveOwnKinds}
+use Rattle.mw_symmem.proofs.Images.{value_within}
+use Rattle.mw_symboard.specs.Laws.{IsEnvironmentOf}
+use Rattle.mw_symboard.specs.Variables.{HaveVariables}
+use Rattle.mw_rel.specs.Begin.{Begin, free_elements}
+use Rattle.mw_rel.specs.Free.{is_free, numbered}
+use Rattle.mw_rel.specs.Job.{Job, IsJob}
+use Rattle.mw_rel.specs.Start.{Start}
+use Rattle.mw_symboard.proofs.Environments.{own_found, variables_have_widths}
+use Rattle.mw_course.specs.declared.elements.Space.{Space}
+use Rattle.mw_course.specs.Begins.{IsAssigned, IsChosen, kind_value, value_or_zero}
+use Rattle.mw_course.specs.Boundaries.{IsSpace}
+use Rattle.mw_course.specs.Entries.{entry, is_outside}
+use Rattle.mw_course.specs.Listed.{list_of_space}
+use Rattle.mw_course.specs.OnWay.{ground_in}
+use Rattle.mw_course.specs.Starts.{Ground, IsGround, StandsForStart}
+use Rattle.mw_course.proofs.FreeValues.{term_at}
+use Rattle.mw_course.proofs.Grounds.{start_with}
+use Rattle.mw_course.proofs.Placing.{entry_of, outside_of}
+use Rattle.mw_course.proofs.Taking.{free_same}
+
+-- an environment has the values of the variables that an assignment gives
+abbrev pub HasEntries : Table → List Word → Given → Environment → Type 0
+HasEntries t words given env =
+    (kind : WordKind) → is_outside kind ≡ true → entry env kind ≡ value_or_zero t given (term_of words kind)
+
+-- the value of an element's variable
+abbrev pub own_value : Table → List Word → Given → (e : ℕ) → ℕ
+own_value t words given e = value_or_zero t given (term_of words (Element e))
+
+value_below : (t : Table) (given : Given) (o : Option ℕ) (width : ℕ) → IsTable t
+    → ((term : ℕ) → o ≡ Some term → IsOfWidth t width term) → value_or_zero t given o < 2 ^ width
+value_below t given None width table wide = pow_pos width
+value_below t given (Some term) width table wide = value_within t given width term table (wide term refl)
+
+-- each value of its lists is that of its variable
+listed : (t : Table) (words : List Word) (given : Given) (env : Environment) (series : Series) (n : ℕ)
+    → HasEntries t words given env
+    → slice_index (values_of env series) n ≡ value_or_zero t given (term_of words (kind_of series n))
+listed t words given env series n entries =
+    sym (entry_of env series n) ∙ entries (kind_of series n) (outside_of series n)
+
+-- it is one of the assignment
+environment_of : (board : BoardParts) (t : Table) (words : List Word) (cycles : ℕ) (given : Given) (env : Environment)
+    → IsTable t → HaveOwnKinds words → HaveVariables board t words cycles → HasEntries t words given env
+    → IsEnvironmentOf board t words given env
+environment_of board t words cycles given env table own have entries = record {
+  within = record {
+    values = λ series i.
+        (let bits = width_of board.width series in
+        subst (λ v. v < 2 ^ bits) (sym (listed t words given env series i entries))
+        (value_below t given (term_of words (kind_of series i)) bits table
+        (variables_have_widths board t words cycles have series i)));
+  };
+  values = λ series n place term is.
+      listed t words given env series n entries
+      ∙ ap (value_or_zero t given) (own_found words place term (kind_of series n) own is);
+}
+
+-- the variables of the free elements have the values of their terms
+free_are : (job : Job) (number : ℕ) (g : Ground) (given : Given) → IsGround job number g
+    → map (own_value g.table g.words given) (free_elements job (numbered job number))
+    ≡ map (term_at g.table given g.elements) (free_elements job (numbered job number))
+free_are job number g given ground =
+    free_same (is_free (numbered job number)) (own_value g.table g.words given) (term_at g.table given g.elements) 0
+    (length job.relation.shape.widths)
+    (λ e below free.
+    let own = ground.free e (omega (arith, below)) free in
+    ap (value_or_zero g.table given) (own_found g.words own.0 (slice_index g.elements e) (Element e) ground.own own.1))
+
+-- the start that they choose is one of the assignment
+pub start_begun : (job : Job) (number : ℕ) (space : Space) (elements : List ℕ) (given : Given) (begin : Begin)
+    → IsJob job
+    → IsGround job number (ground_in space elements)
+    → begin.values ≡ map (own_value space.terms space.words given) (free_elements job (numbered job number))
+    → IsImage space.memory begin.memory → FitImage space.terms given space.memory.reads begin.memory
+    → HasEntries space.terms space.words given begin.env
+    → (start : Start) × IsChosen job number begin start
+    × StandsForStart job number (ground_in space elements) given start
+start_begun job number space elements given begin is ground values image fit entries =
+    let g = ground_in space elements in
+    let outside = environment_of job.board g.table g.words ground.cycles given begin.env ground.space.workspace.table
+    ground.own ground.variables entries in
+    let one = start_with job number g is ground given begin.memory begin.env image fit outside in
+    let same : map (term_at g.table given elements) (free_elements job (numbered job number)) ≡ begin.values =
+    sym (values ∙ free_are job number g given ground) in (
+      one.0,
+      subst
+          (λ vs. IsChosen job number (record { values = vs; memory = begin.memory; env = begin.env }) one.0) same one.1,
+      one.2,
+    )
+
+-- the table of a space is that of its list
+table_is : (job : Job) (space : Space) → IsSpace job space.terms space.words space.memory
+    → table_in job.board.map_entries (list_of_space space) ≡ space.terms
+table_is job space is = ap (table_of space.terms.ops) (sym is.map)
+
+-- what an assignment gives by the list of a space
+pub assigned_by : (job : Job) (number : ℕ) (space : Space) (given : Given) (begin : Begin)
+    → IsSpace job space.terms space.words space.memory
+    → begin.values ≡ map (own_value space.terms space.words given) (free_elements job (numbered job number))
+    → ((address : ℕ) → slice_index begin.memory address ≡ base_word space.terms given space.memory.reads address)
+    → HasEntries space.terms space.words given begin.env → IsTrimmed begin.env
+    → IsAssigned job number (list_of_space space) given begin
+assigned_by job number space given begin is values memory entries trimmed =
+    let l = list_of_space space in
+    let table = sym (table_is job space is) in
+    let free = free_elements job (numbered job number) in
+    record {
+      values = values ∙ ap (λ (t : Table). map (λ e. kind_value t l given (Element e)) free) table;
+      memory = λ address. memory address ∙ ap (λ (t : Table). base_word t given l.reads address) table;
+      lists = λ series n.
+          listed space.terms space.words given begin.env series n entries
+          ∙ ap (λ (t : Table). kind_value t l given (kind_of series n)) table;
+      trimmed = trimmed;
+    }

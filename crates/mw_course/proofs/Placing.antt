@@ -1,0 +1,221 @@
+-- A value that is put into a list of an environment, and what an environment has for its variables.
+use Rattle.std.proofs.Common.{◌≡◌, ◌≢◌, inl, inr, ◌⊎◌, ℕ, zero, suc, ◌+◌, ◌-◌, ◌^◌, ◌<◌, ◌≤◌, Bool, true, false, ◌==◌}
+use Rattle.std.proofs.Common.{List, [], ◌∷◌, ◌++◌, length, slice_index, refl, sym, ap, subst, ◌∙◌, arith}
+use Rattle.std.specs.Prelude.{if◌then◌else◌, is_some, Option, Some, None, slice_set}
+use Rattle.std.specs.Cmp.{both_ways}
+use Rattle.std.proofs.lemmas.Bool.{eqb-true, eq-eqb}
+use Rattle.std.proofs.lemmas.Bool.Decides.{nat_tests}
+use Rattle.std.proofs.lemmas.List.{length-set}
+use Rattle.std.proofs.lemmas.Nat.{pow_pos}
+use Rattle.mw_cycle.specs.declared.series.Series.{Series}
+use Rattle.mw_cycle.specs.Environment.{Environment, values_of, with_value, with_values}
+use Rattle.mw_cycle.specs.Series.{kind_of, series_of_kind, width_of}
+use Rattle.mw_cycle.specs.Trimmed.{EndsWell, IsTrimmed}
+use Rattle.mw_cycle.proofs.Named.{kind_named, own_number, own_series, same_or_other, series_of_kind_back}
+use Rattle.mw_cycle.proofs.Lists.{behind_length, other_behind, other_set, own_behind, own_set}
+use Rattle.mw_term.specs.declared.kinds.WordKind.{WordKind}
+use Rattle.mw_term.specs.WordList.{same_kind}
+use Rattle.mw_symmem.specs.Kinds.{kind_is, kind_own}
+use Rattle.mw_symmem.proofs.Meaning.{set_at}
+use Rattle.mw_course.specs.Entries.{HasTaken, entry, is_outside, value_at}
+
+-- ---- what an environment has for its variables
+
+pub entry_of : (env : Environment) (series : Series) (n : ℕ)
+    → entry env (kind_of series n) ≡ slice_index (values_of env series) n
+entry_of env series n = ap (value_at env) (series_of_kind_back series n)
+
+pub outside_of : (series : Series) (n : ℕ) → is_outside (kind_of series n) ≡ true
+outside_of series n = ap (λ named. is_some named) (series_of_kind_back series n)
+
+-- the kinds that are those of variables of an environment
+outside_named : (kind : WordKind) (o : Option (Series × ℕ)) → series_of_kind kind ≡ o → is_some o ≡ true
+    → (series : Series) × (n : ℕ) × (kind ≡ kind_of series n)
+outside_named kind (Some named) is some = (named.0, named.1, kind_named kind named.0 named.1 is)
+outside_named kind None is some = absurd cc
+
+-- a kind has a value where it is one of an environment's variables, and else 0
+entry_by : (env : Environment) (o : Option (Series × ℕ)) → (is_some o ≡ true → value_at env o ≡ 0) → value_at env o ≡ 0
+entry_by env (Some named) each = each refl
+entry_by env None each = refl
+
+pub entry_none : (env : Environment) (kind : WordKind) → (is_outside kind ≡ true → entry env kind ≡ 0)
+    → entry env kind ≡ 0
+entry_none env kind each = entry_by env (series_of_kind kind) each
+
+-- ---- one entry is another
+
+tested_apart : (a b : WordKind) (test : Bool) → same_kind a b ≡ test → a ≢ b → same_kind a b ≡ false
+tested_apart a b true is other = absurd (other (kind_is a b is))
+tested_apart a b false is other = is
+
+-- kinds that aren't one are told apart
+kinds_apart : (a b : WordKind) → a ≢ b → same_kind a b ≡ false
+kinds_apart a b other = tested_apart a b (same_kind a b) refl other
+
+-- it is enough that the lists have it
+taken_by : (old new : Environment) (kind : WordKind) (value : ℕ)
+    → ((series : Series) (n : ℕ) → slice_index (values_of new series) n
+    ≡ (if same_kind kind (kind_of series n) then value else slice_index (values_of old series) n))
+    → HasTaken old new kind value
+taken_by old new kind value each other outside =
+    let named = outside_named other (series_of_kind other) refl outside in
+    let series = named.0 in
+    let n = named.1 in
+    subst (λ (k : WordKind). entry new k ≡ (if same_kind kind k then value else entry old k)) (sym named.2)
+    (entry_of new series n ∙ each series n
+    ∙ ap (λ v. if same_kind kind (kind_of series n) then value else v) (sym (entry_of old series n)))
+
+-- ---- lists
+
+-- a 0 behind numbers is what is there past their end
+zero_behind : (xs : List ℕ) (n : ℕ) → slice_index (xs ++ 0 ∷ []) n ≡ slice_index xs n
+zero_behind [] zero = refl
+zero_behind [] (suc n) = refl
+zero_behind (x ∷ xs) zero = refl
+zero_behind (x ∷ xs) (suc n) = zero_behind xs n
+
+turned : (a b : ℕ) → (a == b) ≡ (b == a)
+turned a b = grind (arith, nat_tests)
+
+set_value : (xs : List ℕ) (number value n : ℕ) → number < length xs
+    → slice_index (slice_set xs number value) n ≡ (if number == n then value else slice_index xs n)
+set_value xs number value n inside =
+    set_at xs number value n inside
+    ∙ ap (λ (b : Bool). if b then value else slice_index xs n) (turned n number)
+
+last_by : (xs : List ℕ) (number value : ℕ) (b : Bool) → (number == length xs - 1) ≡ b → value ≢ 0
+    → number < length xs → EndsWell xs ⊎ (length xs ≤ number + 1)
+    → (if b then value else slice_index xs (length xs - 1)) ≢ 0
+last_by xs number value true at some inside ends = some
+last_by xs number value false at some inside ends = elim ends [
+  | inl well ↦ well (omega (arith, inside))
+  | inr short ↦
+      let last : number ≡ length xs - 1 = omega (arith, inside, short) in
+      let so : (number == length xs - 1) ≡ true = eq-eqb number (length xs - 1) last in absurd cc
+]
+
+-- a list ends well where its last number is one that was put there, or where it ended well before
+set_ends : (xs : List ℕ) (number value : ℕ) → value ≢ 0 → number < length xs
+    → EndsWell xs ⊎ (length xs ≤ number + 1) → EndsWell (slice_set xs number value)
+set_ends xs number value some inside ends = λ any none.
+    (let last : slice_index (slice_set xs number value) (length (slice_set xs number value) - 1)
+    ≡ (if number == length xs - 1 then value else slice_index xs (length xs - 1)) =
+    ap (λ n. slice_index (slice_set xs number value) (n - 1)) (length-set xs number value)
+    ∙ set_value xs number value (length xs - 1) inside in
+    last_by xs number value (number == length xs - 1) refl some inside ends (sym last ∙ none))
+
+-- ---- zeros up to a place
+
+-- A list was filled with zeros up to a place: no value is another, and a list that ended well does so still, but for
+-- that one, which then ends at the place.
+pub record HasFilled (series : Series) (at : ℕ) (old new : Environment) : Type 0 where
+  pub values : (other : Series) (n : ℕ) → slice_index (values_of new other) n ≡ slice_index (values_of old other) n
+  pub ends : (other : Series) → EndsWell (values_of old other)
+      → EndsWell (values_of new other) ⊎ ((other ≡ series) × (length (values_of new series) ≤ at + 1))
+
+one_behind : (series other : Series) (env : Environment) (n : ℕ)
+    → slice_index (values_of (with_values series (0 ∷ []) env) other) n ≡ slice_index (values_of env other) n
+one_behind series other env n = elim (same_or_other other series) [
+  | inl is ↦
+      let new = with_values series (0 ∷ []) env in
+      subst (λ (s : Series). slice_index (values_of new s) n ≡ slice_index (values_of env s) n) (sym is)
+      (ap (λ xs. slice_index xs n) (own_behind series 32 0 env (pow_pos (width_of 32 series)))
+      ∙ zero_behind (values_of env series) n)
+  | inr differs ↦ ap (λ xs. slice_index xs n) (other_behind series other (0 ∷ []) env differs)
+]
+
+-- with one more
+pub one_filled : (series : Series) (at : ℕ) (old env new : Environment) → length (values_of env series) ≤ at
+    → new ≡ with_values series (0 ∷ []) env → HasFilled series at old env → HasFilled series at old new
+one_filled series at old env new before is filled =
+    subst (HasFilled series at old) (sym is) (record {
+      values = λ other n. one_behind series other env n ∙ filled.values other n;
+      ends = λ other well. elim (same_or_other other series) [
+        | inl own ↦ inr (own, omega (arith, before, behind_length series (0 ∷ []) env))
+        | inr differs ↦ elim (filled.ends other well) [
+          | inl still ↦ inl (subst (EndsWell) (sym (other_behind series other (0 ∷ []) env differs)) still)
+          | inr own ↦ absurd (differs own.0)
+        ]
+      ];
+    })
+
+-- ---- a value at the place
+
+same_of : (series : Series) (m n : ℕ) → same_kind (kind_of series m) (kind_of series n) ≡ (m == n)
+same_of series m n =
+    both_ways (same_kind (kind_of series m) (kind_of series n)) (m == n)
+    (λ same. eq-eqb m n (own_number series series m n (kind_is (kind_of series m) (kind_of series n) same)))
+    (λ equal.
+    subst (λ (k : ℕ). same_kind (kind_of series m) (kind_of series k) ≡ true) (eqb-true m n equal)
+    (kind_own (kind_of series m)))
+
+own_put : (series : Series) (number value : ℕ) (env : Environment) (n : ℕ) → value < 2 ^ width_of 32 series
+    → number < length (values_of env series)
+    → slice_index (values_of (with_value series number value env) series) n
+    ≡ (if same_kind (kind_of series number) (kind_of series n) then value else slice_index (values_of env series) n)
+own_put series number value env n small inside =
+    ap (λ xs. slice_index xs n) (own_set series 32 number value env small)
+    ∙ set_value (values_of env series) number value n inside
+    ∙ ap (λ (b : Bool). if b then value else slice_index (values_of env series) n) (sym (same_of series number n))
+
+other_put : (series other : Series) (number value : ℕ) (env : Environment) (n : ℕ) → other ≢ series
+    → slice_index (values_of (with_value series number value env) other) n
+    ≡ (if same_kind (kind_of series number) (kind_of other n) then value else slice_index (values_of env other) n)
+other_put series other number value env n differs =
+    let apart =
+    kinds_apart (kind_of series number) (kind_of other n) (λ is. differs (sym (own_series series other number n is))) in
+    ap (λ xs. slice_index xs n) (other_set series other number value env differs)
+    ∙ ap (λ (b : Bool). if b then value else slice_index (values_of env other) n) (sym apart)
+
+put_value : (series other : Series) (number value : ℕ) (env : Environment) (n : ℕ) → value < 2 ^ width_of 32 series
+    → number < length (values_of env series)
+    → slice_index (values_of (with_value series number value env) other) n
+    ≡ (if same_kind (kind_of series number) (kind_of other n) then value else slice_index (values_of env other) n)
+put_value series other number value env n small inside = elim (same_or_other other series) [
+  | inl is ↦
+      let new = with_value series number value env in
+      subst (λ (s : Series). slice_index (values_of new s) n
+      ≡ (if same_kind (kind_of series number) (kind_of s n) then value else slice_index (values_of env s) n)) (sym is)
+      (own_put series number value env n small inside)
+  | inr differs ↦ other_put series other number value env n differs
+]
+
+-- the entry of its variable is the value
+pub put_taken : (series : Series) (number value : ℕ) (old env new : Environment) → value < 2 ^ width_of 32 series
+    → number < length (values_of env series) → HasFilled series number old env
+    → new ≡ with_value series number value env → HasTaken old new (kind_of series number) value
+put_taken series number value old env new small inside filled is =
+    taken_by old new (kind_of series number) value
+    (λ other n.
+    ap (λ (e : Environment). slice_index (values_of e other) n) is
+    ∙ put_value series other number value env n small inside
+    ∙ ap (λ v. if same_kind (kind_of series number) (kind_of other n) then value else v) (filled.values other n))
+
+put_ends : (series other : Series) (number value : ℕ) (old env : Environment) → value ≢ 0
+    → value < 2 ^ width_of 32 series → number < length (values_of env series) → HasFilled series number old env
+    → EndsWell (values_of old other) → EndsWell (values_of (with_value series number value env) other)
+put_ends series other number value old env some small inside filled well = elim (filled.ends other well) [
+  | inl still ↦ elim (same_or_other other series) [
+    | inl is ↦
+        let new = with_value series number value env in
+        subst (λ (s : Series). EndsWell (values_of new s)) (sym is)
+        (subst (EndsWell) (sym (own_set series 32 number value env small))
+        (set_ends (values_of env series) number value some inside
+        (inl (subst (λ (s : Series). EndsWell (values_of env s)) is still))))
+    | inr differs ↦ subst (EndsWell) (sym (other_set series other number value env differs)) still
+  ]
+  | inr own ↦
+      let new = with_value series number value env in
+      subst (λ (s : Series). EndsWell (values_of new s)) (sym own.0)
+      (subst (EndsWell) (sym (own_set series 32 number value env small))
+      (set_ends (values_of env series) number value some inside (inr own.1)))
+]
+
+-- and no list has a 0 at its end, where none had
+pub put_trimmed : (series : Series) (number value : ℕ) (old env new : Environment) → value ≢ 0
+    → value < 2 ^ width_of 32 series → number < length (values_of env series) → HasFilled series number old env
+    → new ≡ with_value series number value env → IsTrimmed old → IsTrimmed new
+put_trimmed series number value old env new some small inside filled is trimmed =
+    subst IsTrimmed (sym is)
+    (λ other. put_ends series other number value old env some small inside filled (trimmed other))

@@ -1,0 +1,10 @@
+pub mod Begins
+pub mod Boundaries
+pub mod CasePaths
+pub mod Entries
+pub mod Listed
+pub mod OnWay
+pub mod OwnTerms
+pub mod Runs
+pub mod Starts
+pub mod Steps
