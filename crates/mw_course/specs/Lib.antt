@@ -1,6 +1,8 @@
 pub mod Begins
 pub mod Boundaries
 pub mod CasePaths
+pub mod Courses
+pub mod Ends
 pub mod Entries
 pub mod Listed
 pub mod OnWay

@@ -57,6 +57,10 @@ impl Space {
     }
 
     /// The same once more.
+    ///
+    /// # Errors
+    ///
+    /// Memory ran out.
     pub fn copy(&self, alloc: Global) -> Result<Space, NoMemory>
         ensures { IfOk result (λ copy. copy ≡ self.now) }
     {
@@ -252,6 +256,10 @@ pub struct Elements {
 
 /// The elements at the boundary of this number: first a variable for each that is free, by their numbers, and then the
 /// terms of the right sides, in the order of the lines.
+///
+/// # Errors
+///
+/// Memory ran out.
 pub fn elements_at(alloc: Global, job: &Job, boundary: usize) -> Result<Elements, NoMemory>
     requires boundary { boundary < length (job_of job.now).relation.boundaries }
     ensures elements { IfOk result (λ e. AreElements (job_of job.now)

@@ -22,6 +22,10 @@ impl Model for Registers {
 
 impl Registers {
     /// These terms.
+    ///
+    /// # Errors
+    ///
+    /// Memory ran out.
     pub fn new(alloc: Global, terms: &[Term]) -> Result<Registers, NoMemory>
         ensures { IfOk result (λ registers. registers ≡ terms.now) }
     {
@@ -38,6 +42,10 @@ impl Registers {
     }
 
     /// The same registers once more.
+    ///
+    /// # Errors
+    ///
+    /// Memory ran out.
     pub fn copy(&self, alloc: Global) -> Result<Registers, NoMemory>
         ensures { IfOk result (λ copy. copy ≡ self.now) }
     {

@@ -230,6 +230,7 @@ compared_over nodes old new places path subject term (faults.Over named i) stop 
           (over_by nodes new map places path subject term named i same (cause named i refl));
       front = front_itself (list_of_space new);
     }
-compared_over nodes old new places path subject term faults.NoMemory stop same table cause told = λ so_far have place is.
+compared_over nodes old new places path subject term faults.NoMemory stop same table cause told = λ so_far have place
+    is.
     let other = told.none refl in
     absurd cc

@@ -45,13 +45,11 @@ use Rattle.mw_rel.proofs.Steps.{step_fits}
 use Rattle.mw_course.specs.CasePaths.{HasCase, HasSegment, IsCasePath}
 use Rattle.mw_fork.specs.Comparing.{AreApart, AreOne, AreOneAtProbe, FailsFirst, GoesComparing}
 use Rattle.mw_course.specs.declared.elements.Space.{Space}
-use Rattle.mw_fork.specs.declared.run.Run.{Run}
-use Rattle.mw_fork.specs.Ends.{HaveEnded}
+use Rattle.mw_course.specs.declared.run.Run.{Run}
+use Rattle.mw_course.specs.Ends.{HaveEnded}
 use Rattle.mw_fork.specs.Failing.{IsFound, NoneDiffersOf}
 use Rattle.mw_course.specs.Listed.{list_of_space}
-use Rattle.mw_fork.specs.OnWay.{HasMetCase}
-use Rattle.mw_course.specs.OnWay.{ground_in}
-use Rattle.mw_path.specs.Paths.{path_in}
+use Rattle.mw_course.specs.OnWay.{HasMetCase, ground_in}
 use Rattle.mw_course.specs.Starts.{IsGround, StandsForStart}
 use Rattle.mw_fork.proofs.ComparingOn.{wide_compared}
 use Rattle.mw_fork.proofs.Differing.{AreEven, even_where_nothing, nothing_shown, terms_there, wide_at_end}
@@ -59,7 +57,7 @@ use Rattle.mw_course.proofs.Grounds.{have_starts}
 use Rattle.mw_fork.proofs.OverCompared.{sought_by, sought_on_path}
 use Rattle.mw_fork.proofs.Probes.{ground_compared, reached_at, start_compared}
 use Rattle.mw_fork.proofs.Sides.{ComeTo, come_later, come_to, terms_at_end}
-use Rattle.mw_fork.proofs.Tracing.{case_met}
+use Rattle.mw_course.proofs.Tracing.{case_met}
 
 -- what is known of a case whose sides have ended
 pub record IsEnded (job : Job) (number : ℕ) (elements : List ℕ) (bits : List Decided) (cycles : ℕ) (space : Space)
@@ -74,16 +72,17 @@ pub record IsEnded (job : Job) (number : ℕ) (elements : List ℕ) (bits : List
   pub ended : HaveEnded job number (ground_in space elements) bits cycles space path board step
 
 pub ended_met : (job : Job) (number : ℕ) (elements : List ℕ) (cycles : ℕ) (late : Bool) (bits : List Decided)
-    (run : Run) (step : Stepping) → IsJob job → HasMetCase job number elements cycles late bits run (Some step)
-    → IsEnded job number elements bits cycles run.space (path_in run.paths) run.board step
-ended_met job number elements cycles late bits run step valid met = record {
+    (path : Function) (run : Run) (step : Stepping) → IsJob job
+    → HasMetCase job number elements cycles late bits path run (Some step)
+    → IsEnded job number elements bits cycles run.space path run.board step
+ended_met job number elements cycles late bits path run step valid met = record {
   stands = met.on.stands;
   cases = met.on.cases;
   written = met.on.written;
   whole = met.whole;
-  feasible = case_met job number elements cycles late bits run (Some step) valid met;
+  feasible = case_met job number elements cycles late bits path run (Some step) valid met;
   segment = met.segment;
-  of_segment = subst (λ (b : Bool). HasSegment job number (ground_in run.space elements) (path_in run.paths) cycles b
+  of_segment = subst (λ (b : Bool). HasSegment job number (ground_in run.space elements) path cycles b
       met.segment) met.ends.0 met.ended;
   ended = met.ends.1;
 }

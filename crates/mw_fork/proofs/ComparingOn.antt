@@ -14,7 +14,7 @@ use Rattle.mw_course.specs.Boundaries.{AreWide}
 use Rattle.mw_fork.specs.Comparing.{AreSidesOn, Compares, FailsFirst, GoesComparing, HaveCompared, IsComparedKind}
 use Rattle.mw_fork.specs.Comparing.{IsOutcome, StopsComparing}
 use Rattle.mw_course.specs.Listed.{list_of_space}
-use Rattle.mw_fork.specs.OnWay.{HavePaths}
+use Rattle.mw_fork.specs.Traces.{HavePaths}
 use Rattle.mw_fork.proofs.GoingOn.{GoesOnAs, front_then}
 use Rattle.mw_path.proofs.Sharing.{shared_with_more}
 

@@ -45,7 +45,7 @@ use Rattle.mw_rel.proofs.Steps.{step_fits}
 use Rattle.mw_course.specs.Boundaries.{AreWide}
 use Rattle.mw_fork.specs.Comparing.{ArePutOut, right_of}
 use Rattle.mw_course.specs.declared.elements.Space.{Space}
-use Rattle.mw_fork.specs.Ends.{HaveEnded}
+use Rattle.mw_course.specs.Ends.{HaveEnded}
 use Rattle.mw_course.specs.Starts.{Ground}
 use Rattle.mw_course.proofs.Boundaries.{board_wide}
 use Rattle.mw_fork.proofs.Sides.{ComeTo, terms_at_end}

@@ -14,24 +14,22 @@ use Rattle.mw_term.specs.WordList.{WordList}
 use Rattle.mw_dd.specs.Diagrams.{IsFirst}
 use Rattle.mw_symboard.specs.Seen.{AreFirst}
 use Rattle.mw_symmach.specs.Turns.{Stepping}
-use Rattle.mw_fork.specs.declared.run.Run.{Run}
+use Rattle.mw_course.specs.declared.run.Run.{Run}
 use Rattle.mw_course.specs.Begins.{IsAssigned, IsChosen}
 use Rattle.mw_fork.specs.Begins.{IsFirstOfCase, IsOfCase}
 use Rattle.mw_course.specs.Listed.{list_of_space}
-use Rattle.mw_fork.specs.OnWay.{HasMetCase}
-use Rattle.mw_course.specs.OnWay.{ground_in}
-use Rattle.mw_path.specs.Paths.{path_in}
+use Rattle.mw_course.specs.OnWay.{HasMetCase, ground_in}
 use Rattle.mw_course.specs.Starts.{IsGround, StandsForStart}
 use Rattle.mw_course.proofs.Grounds.{have_starts}
-use Rattle.mw_fork.proofs.Tracing.{case_met}
+use Rattle.mw_course.proofs.Tracing.{case_met}
 
 -- a case that was met has a start, so its path is true somewhere
 pub not_nowhere : (job : Job) (number : ℕ) (elements : List ℕ) (cycles : ℕ) (late : Bool)
-    (bits : List Decided) (run : Run) (step : Option Stepping) → IsJob job
-    → HasMetCase job number elements cycles late bits run step → Agree (path_in run.paths) never → ⊥
-not_nowhere job number elements cycles late bits run step valid met nowhere =
+    (bits : List Decided) (path : Function) (run : Run) (step : Option Stepping) → IsJob job
+    → HasMetCase job number elements cycles late bits path run step → Agree path never → ⊥
+not_nowhere job number elements cycles late bits path run step valid met nowhere =
     let bits = bits in
-    let case = case_met job number elements cycles late bits run step valid met in
+    let case = case_met job number elements cycles late bits path run step valid met in
     let one = (have_starts job number (ground_in run.space elements) valid met.on.stands).reached
     case.start case.starts in
     let on = met.on.cases.only one.0 case.start one.1
@@ -41,11 +39,12 @@ not_nowhere job number elements cycles late bits run step valid met nowhere =
 
 -- the list of what was run is that of the case before anything is compared
 uncompared_is : (job : Job) (number : ℕ) (elements : List ℕ) (cycles : ℕ) (late : Bool) (bits : List Decided)
-    (run : Run) (step : Option Stepping) → HasMetCase job number elements cycles late bits run step
+    (path : Function) (run : Run) (step : Option Stepping) → HasMetCase job number elements cycles late bits path run
+    step
     → (case_words job number bits).uncompared ≡ list_of_space run.space
-uncompared_is job number elements cycles late bits run None met =
+uncompared_is job number elements cycles late bits path run None met =
     ap (λ (w : CaseWords). w.uncompared) met.ends.1
-uncompared_is job number elements cycles late bits run (Some step) met =
+uncompared_is job number elements cycles late bits path run (Some step) met =
     ap (λ (w : CaseWords). w.uncompared) met.ends.1.listed
 
 -- the first under which one function holds is so of each that agrees with it
@@ -57,25 +56,25 @@ first_same f g numbers same is = record {
 
 -- the start that the first assignment on the path gives has the case
 pub of_case : (job : Job) (number : ℕ) (elements : List ℕ) (cycles : ℕ) (late : Bool) (bits : List Decided)
-    (run : Run) (step : Option Stepping) (numbers : Numbers) (begin : Begin)
-    → HasMetCase job number elements cycles late bits run step → IsFirst (path_in run.paths) numbers
+    (path : Function) (run : Run) (step : Option Stepping) (numbers : Numbers) (begin : Begin)
+    → HasMetCase job number elements cycles late bits path run step → IsFirst path numbers
     → ((elements : List ℕ) → IsGround job number (ground_in run.space elements)
     → (start : Start) × IsChosen job number begin start
     × StandsForStart job number (ground_in run.space elements) (given_by numbers) start)
     → IsOfCase job number bits begin
-of_case job number elements cycles late bits run step numbers begin met first begins =
+of_case job number elements cycles late bits path run step numbers begin met first begins =
     let is = begins elements met.on.stands in
     record { start = is.0; chosen = is.1; of_case = met.whole (given_by numbers) is.0 is.2 first.holds }
 
 -- it is the first of the case
 pub first_of_case : (job : Job) (number : ℕ) (elements : List ℕ) (cycles : ℕ) (late : Bool)
-    (bits : List Decided) (run : Run) (step : Option Stepping) (numbers : Numbers) (begin : Begin)
-    → HasMetCase job number elements cycles late bits run step → IsFirst (path_in run.paths) numbers
+    (bits : List Decided) (path : Function) (run : Run) (step : Option Stepping) (numbers : Numbers) (begin : Begin)
+    → HasMetCase job number elements cycles late bits path run step → IsFirst path numbers
     → IsAssigned job number (list_of_space run.space) (given_by numbers) begin
     → IsFirstOfCase job number bits begin
-first_of_case job number elements cycles late bits run step numbers begin met first assigned = record {
+first_of_case job number elements cycles late bits path run step numbers begin met first assigned = record {
   numbers = numbers;
-  first = first_same (path_in run.paths) (path_of job number bits) numbers met.on.written first;
+  first = first_same path (path_of job number bits) numbers met.on.written first;
   assigned = subst (λ (l : WordList). IsAssigned job number l (given_by numbers) begin)
-      (sym (uncompared_is job number elements cycles late bits run step met)) assigned;
+      (sym (uncompared_is job number elements cycles late bits path run step met)) assigned;
 }

@@ -142,7 +142,8 @@ stops_comparing job number nodes bits map space path compared NoMemory law laws 
 -- ---- within a budget
 
 -- where all comparisons were made, each is within the budget
-pub within_all : {uncompared : WordList} (job : Job) (number nodes : ℕ) (bits : List Decided) (map : List ℕ) (space : Space) (path : Function)
+pub within_all : {uncompared : WordList} (job : Job) (number nodes : ℕ) (bits : List Decided) (map : List ℕ)
+    (space : Space) (path : Function)
     (compared : Compared) → map ≡ job.board.map_entries → case_words job number bits ≡ whole uncompared compared
     → Agree path (path_of job number bits) → HaveCompared map nodes space path compared
     → ComparisonsAreWithin job number nodes bits
@@ -176,7 +177,8 @@ never_fails : (job : Job) (number : ℕ) (bits : List Decided) (path : Function)
 never_fails job number bits path c written none given =
     sym (made_same _ _ (compared_same job number bits path c written) given) ∙ none given
 
-pub sought_by : {uncompared : WordList} (job : Job) (number : ℕ) (bits : List Decided) (map : List ℕ) (space : Space) (path : Function)
+pub sought_by : {uncompared : WordList} (job : Job) (number : ℕ) (bits : List Decided) (map : List ℕ) (space : Space)
+    (path : Function)
     (compared : Compared) (numbers : Numbers) → map ≡ job.board.map_entries
     → case_words job number bits ≡ whole uncompared compared
     → Agree path (path_of job number bits) → FailsFirst map space path compared numbers

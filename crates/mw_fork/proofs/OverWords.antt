@@ -196,9 +196,11 @@ pub record Tells (words : List Word) (fault : BlastFault) (stop : RunStop) : Typ
 
 -- a run whose path wasn't split stops by that
 pub stops_by : (job : Job) (number nodes : ℕ) (g : Ground) (bits : List Decided) (places : List ℕ)
-    (path : Function) (term : ℕ) (fault : BlastFault) (stop : RunStop) → OverHaveNumbers → IsNumbered (case_words job number bits).list
+    (path : Function) (term : ℕ) (fault : BlastFault) (stop : RunStop) → OverHaveNumbers
+    → IsNumbered (case_words job number bits).list
     → HaveStarts job number g → IsOnWay job number g bits path → AsksFor job number bits g term
-    → IsWrittenSplitCause g.table places path term nodes fault → Tells g.words fault stop → StopsBy job number nodes bits stop
+    → IsWrittenSplitCause g.table places path term nodes fault → Tells g.words fault stop
+    → StopsBy job number nodes bits stop
 stops_by job number nodes g bits places path term (faults.Over named j) stop law numbered starts on asks cause tells =
     let map = on.stands.space.map in
     let feasible = on.feasible in

@@ -1,6 +1,6 @@
 -- Both sides of a case where they have ended: what the start's run and step come to has the values of their terms.
-use Rattle.std.proofs.Common.{◌≡◌, ℕ, zero, suc, ◌+◌, ◌<◌, List, [], ◌∷◌, ◌++◌, length, map, take, Bool}
-use Rattle.std.proofs.Common.{true, false, Some, None, refl, ap, ap₂, sym, subst, ◌∙◌, arith}
+use Rattle.std.proofs.Common.{◌≡◌, ℕ, zero, suc, ◌+◌, ◌<◌, List, [], ◌∷◌, ◌++◌, length, map, take, Bool, true, false}
+use Rattle.std.proofs.Common.{Some, None, refl, ap, ap₂, sym, subst, ◌∙◌, arith}
 use Rattle.std.specs.Prelude.{if◌then◌else◌}
 use Rattle.std.proofs.lemmas.List.{map-append, take-map}
 use Rattle.mw_base.specs.declared.event.Event.{Event}
@@ -42,7 +42,7 @@ use Rattle.mw_rel.proofs.Cases.{segments_have_cycles}
 use Rattle.mw_course.specs.CasePaths.{HasSegment}
 use Rattle.mw_fork.specs.Comparing.{GoesComparing}
 use Rattle.mw_course.specs.declared.elements.Space.{Space}
-use Rattle.mw_fork.specs.Ends.{HaveEnded}
+use Rattle.mw_course.specs.Ends.{HaveEnded}
 use Rattle.mw_course.specs.Starts.{Ground, StandsForStart, course_of}
 
 -- the terms of all elements where both sides have ended

@@ -5,23 +5,27 @@ use Rattle.mw_explore.specs.Cases.{Leads}
 use Rattle.mw_rel.specs.Case.{IsBefore}
 use Rattle.mw_rel.specs.Views.{job_of}
 use Rattle.mw_rel.proofs.Cases.{one_case_is_first}
-use Rattle.mw_fork.specs.declared.course.Course.{Course}
+use Rattle.mw_fork.specs.declared.traced.Traced.{Traced}
 use Rattle.mw_fork.specs.declared.starts.Starts.{Starts}
 use Rattle.mw_fork.specs.StartCases.{HasGoneThrough, IsCaseAt}
-use Rattle.mw_fork.proofs.AnyStart.{some_case as case_at}
-use Rattle.mw_fork.proofs.Tracing.{case_met}
+use Rattle.mw_course.proofs.AnyStart.{some_case as case_at}
+use Rattle.mw_course.proofs.Tracing.{case_met}
+use Rattle.mw_path.specs.Paths.{path_in}
 
 -- what was gone through is a case
-pub gone_is_case : (s : Starts) (course : Course) (bits : List Decided) → HasGoneThrough s course bits → IsCaseAt s bits
-gone_is_case s course bits has =
-    case_met (job_of s.job.now) s.boundary has.gone.elements course.cycles _ bits course.run course.step s.job.now.is_job
-    has.gone.met
+pub gone_is_case : (s : Starts) (traced : Traced) (bits : List Decided) → HasGoneThrough s traced bits
+    → IsCaseAt s bits
+gone_is_case s traced bits has =
+    let course = traced.course in
+    case_met (job_of s.job.now) s.boundary has.gone.course.elements course.cycles _ bits
+    (path_in traced.paths) course.run
+    course.step s.job.now.is_job has.gone.course.met
 
 -- there is a case
 pub some_case : (s : Starts) → Leads (IsCaseAt s) []
 some_case s =
     let one = case_at (job_of s.job.now) s.boundary s.job.now.is_job s.there in
-    record { rest = one.other; case = one.feasible }
+    record { rest = one.0; case = one.1 }
 
 -- of two cases one comes before the other
 pub in_order : (s : Starts) (one two : List Decided) → IsCaseAt s one → IsCaseAt s two → one ≢ two

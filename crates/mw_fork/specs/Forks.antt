@@ -1,12 +1,11 @@
 -- What a fork gives: the feasible cases of a boundary, one after another.
-use Rattle.std.specs.Prelude.{◌≡◌, ℕ, ◌<◌, ◌≤◌, List, length, Bool}
+use Rattle.std.specs.Prelude.{◌≡◌, ℕ, ◌<◌, ◌≤◌, List, length}
 use Rattle.mw_term.specs.declared.decided.Decided.{Decided}
 use Rattle.mw_explore.specs.Cases as cases
 use Rattle.mw_explore.specs.Cases.{Standing}
 use Rattle.mw_explore.specs.Explorers.{Explorer}
-use Rattle.mw_rel.specs.Case.{IsCase, IsStartAt, case_of, cycles_of, is_late}
+use Rattle.mw_rel.specs.Case.{IsCase}
 use Rattle.mw_rel.specs.Job.{Job}
-use Rattle.mw_rel.specs.Start.{Start}
 use Rattle.mw_rel.specs.Views.{job_of}
 use Rattle.mw_fork.specs.declared.budget.Budget.{Budget}
 use Rattle.mw_fork.specs.declared.starts.Starts.{Starts}
@@ -22,11 +21,6 @@ NoneIsToCome job number at = cases.NoneIsToCome (IsCase job number) at
 -- a case of the boundary is to come
 abbrev pub OneIsToCome : Job → (number : ℕ) → Standing → Type 0
 OneIsToCome job number at = cases.OneIsToCome (IsCase job number) at
-
--- each start with this case has a segment of so many cycles, which is late or isn't
-abbrev pub EndsEach : Job → (number : ℕ) → (bits : List Decided) → (cycles : ℕ) → (late : Bool) → Type 0
-EndsEach job number bits cycles late = (start : Start) → IsStartAt job number start → case_of job start ≡ bits
-    → (cycles_of job start ≡ cycles) × (is_late job start ≡ late)
 
 -- its job, the number of its boundary, its budget, how many cases were given, and where it stands among them
 pub record Fork : Type 0 where

@@ -1,13 +1,11 @@
 pub mod Begins
 pub mod Codes
 pub mod Comparing
-pub mod Courses
-pub mod Ends
 pub mod Failing
 pub mod Faults
 pub mod Forks
-pub mod OnWay
 pub mod StartCases
 pub mod Stops
+pub mod Traces
 pub mod Walks
 pub mod Within

@@ -2,21 +2,22 @@
 use Rattle.std.specs.Prelude.{◌≡◌, ℕ, List, Option}
 use Rattle.mw_term.specs.declared.decided.Decided.{Decided}
 use Rattle.mw_term.specs.declared.decided.DecidedKind.{DecidedKind}
+use Rattle.mw_path.specs.Paths.{path_in}
 use Rattle.mw_rel.specs.Begin.{Begin}
 use Rattle.mw_rel.specs.Case.{IsCase}
 use Rattle.mw_rel.specs.OverBudget.{AreNodesOver}
 use Rattle.mw_rel.specs.Views.{job_of}
-use Rattle.mw_fork.specs.declared.course.Course.{Course}
-use Rattle.mw_fork.specs.declared.course.Waiting.{Waiting}
 use Rattle.mw_fork.specs.declared.fault.Place.{Place}
 use Rattle.mw_fork.specs.declared.starts.Ended.{Ended}
 use Rattle.mw_fork.specs.declared.starts.Starts.{Starts}
-use Rattle.mw_fork.specs.Courses as courses
-use Rattle.mw_fork.specs.Courses.{HasGone, IsGoing, Waits, WaitsOnCourse}
+use Rattle.mw_fork.specs.declared.traced.Traced.{Traced}
+use Rattle.mw_fork.specs.declared.traced.Waiting.{Waiting}
+use Rattle.mw_course.specs.Courses.{Waits, WaitsOnCourse}
 use Rattle.mw_fork.specs.Failing.{IsFoundOf}
-use Rattle.mw_fork.specs.Forks.{EndsEach}
-use Rattle.mw_fork.specs.OnWay.{HavePaths}
+use Rattle.mw_course.specs.CasePaths.{EndsEach}
 use Rattle.mw_fork.specs.Stops.{IsDecisionOver}
+use Rattle.mw_fork.specs.Traces as traces
+use Rattle.mw_fork.specs.Traces.{HasGone, HavePaths, IsGoing}
 use Rattle.mw_fork.specs.Within.{AreDecidedWithin}
 
 -- the bits are those of a case of the boundary
@@ -28,27 +29,28 @@ abbrev pub AreWithin : Starts → List Decided → Type 0
 AreWithin s bits = AreDecidedWithin (job_of s.job.now) s.boundary s.nodes bits
 
 -- a course has come along these bits, and waits for none
-pub record HasCome (s : Starts) (course : Course) (bits : List Decided) : Type 0 where
-  pub going : IsGoing (job_of s.job.now) s.boundary bits course
+pub record HasCome (s : Starts) (traced : Traced) (bits : List Decided) : Type 0 where
+  pub going : IsGoing (job_of s.job.now) s.boundary bits traced
   pub within : AreWithin s bits
 
 -- it waits for a bit of this kind behind them, which this term has
-pub record Asks (s : Starts) (course : Course) (bits : List Decided) (kind : DecidedKind) (term : ℕ) : Type 0 where
+pub record Asks (s : Starts) (traced : Traced) (bits : List Decided) (kind : DecidedKind) (term : ℕ) : Type 0 where
   pub elements : List ℕ
-  pub cycles : course.cycles ≡ course.run.board.place.cycle
-  pub paths : HavePaths course.run.space course.run.paths
-  pub waits : Waits (job_of s.job.now) s.boundary course.run course.step kind term
-  pub on : WaitsOnCourse (job_of s.job.now) s.boundary elements bits course.run course.step kind term
+  pub cycles : traced.course.cycles ≡ traced.course.run.board.place.cycle
+  pub paths : HavePaths traced.course.run.space traced.paths
+  pub waits : Waits (job_of s.job.now) s.boundary traced.course.run traced.course.step kind term
+  pub on : WaitsOnCourse (job_of s.job.now) s.boundary elements bits (path_in traced.paths) traced.course.run
+      traced.course.step kind term
   pub within : AreWithin s bits
 
 -- it has met all bits of a case, which these are
-pub record HasGoneThrough (s : Starts) (course : Course) (bits : List Decided) : Type 0 where
-  pub gone : HasGone (job_of s.job.now) s.boundary bits course
+pub record HasGoneThrough (s : Starts) (traced : Traced) (bits : List Decided) : Type 0 where
+  pub gone : HasGone (job_of s.job.now) s.boundary bits traced
   pub within : AreWithin s bits
 
 -- one that waits has come along these bits, over what a course has made
-pub record IsWaitingAt (s : Starts) (made : Course) (w : Waiting) (bits : List Decided) : Type 0 where
-  pub waits : courses.IsWaiting (job_of s.job.now) s.boundary made.run.paths bits w
+pub record IsWaitingAt (s : Starts) (made : Traced) (w : Waiting) (bits : List Decided) : Type 0 where
+  pub waits : traces.IsWaiting (job_of s.job.now) s.boundary made.paths bits w
   pub within : AreWithin s bits
 
 -- each start with the case ends so

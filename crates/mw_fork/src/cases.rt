@@ -1,15 +1,16 @@
 // How a course goes through a case of the starts at a boundary.
 ghost use Rattle.std.specs.Prelude.{◌≡◌, IfOk, IfSome};
 ghost use Rattle.std.specs.Option.{is_some};
-ghost use Rattle.mw_fork.specs.Courses.{IsOther, MayBeGiven};
+ghost use Rattle.mw_course.specs.Courses.{MayBeGiven};
 ghost use Rattle.mw_fork.specs.StartCases.{Asks, IsEndAt, HasCome, HasGoneThrough, IsCaseAt, IsComparisonOverAt};
 ghost use Rattle.mw_fork.specs.StartCases.{IsFoundAt, IsOverAt, IsWaitingAt};
+ghost use Rattle.mw_fork.specs.Traces.{IsOther};
 
-use crate::course::{Course, Waiting};
 use crate::decide::decide;
 use crate::fault::{Place, RunStop};
 use crate::found::differing;
 use crate::starts::{Ended, Starts};
+use crate::traced::{Traced, Waiting};
 use mw_base::NoMemory;
 use mw_dd::Dd;
 use mw_explore::{CaseTree, Choice};
@@ -20,19 +21,19 @@ use mw_term::{DecidedKind, ShortcutBook, Term, stands_with_more};
 use std::alloc::Global;
 
 /// The course that waits with 1 for the bit that is waited for, where there is a path for that.
-fn other_of(alloc: Global, course: &Course, other: Option<Dd>) -> Result<Option<Waiting>, NoMemory>
-    requires { MayBeGiven course.now.run.board course.now.step }
+fn other_of(alloc: Global, traced: &Traced, other: Option<Dd>) -> Result<Option<Waiting>, NoMemory>
+    requires { MayBeGiven traced.now.course.run.board traced.now.course.step }
     ensures same { IfOk result (λ waiting. is_some waiting ≡ is_some other) }
-    ensures other { IfOk result (λ waiting. IfSome waiting (λ w. IfSome other (λ path. IsOther course.now path w))) }
+    ensures other { IfOk result (λ waiting. IfSome waiting (λ w. IfSome other (λ path. IsOther traced.now path w))) }
 {
     match other {
-        Some(path) => Ok(Some(course.other(alloc, path)?)),
+        Some(path) => Ok(Some(traced.other(alloc, path)?)),
         None => Ok(None),
     }
 }
 
 impl<'a> CaseTree for Starts<'a> {
-    type Course = Course;
+    type Course = Traced;
 
     type Waiting = Waiting;
 
@@ -62,20 +63,20 @@ impl<'a> CaseTree for Starts<'a> {
 
     fn are_in_order(&self) {}
 
-    fn begin(&self, alloc: Global) -> Result<Course, NoMemory> {
-        let course = Course::new(alloc, self.job, self.boundary)?;
+    fn begin(&self, alloc: Global) -> Result<Traced, NoMemory> {
+        let course = Traced::new(alloc, self.job, self.boundary)?;
         Ok(course)
     }
 
-    fn turn(&self, alloc: Global, course: &mut Course) -> Result<Turn, NoMemory> {
-        let turn = course.turn(alloc, self.job, self.boundary)?;
+    fn turn(&self, alloc: Global, course: &mut Traced) -> Result<Turn, NoMemory> {
+        let turn = course.course.turn(alloc, self.job, self.boundary)?;
         Ok(turn)
     }
 
     fn decide(
         &self,
         alloc: Global,
-        course: &mut Course,
+        course: &mut Traced,
         kind: DecidedKind,
         term: Term,
         book: &ShortcutBook,
@@ -86,36 +87,36 @@ impl<'a> CaseTree for Starts<'a> {
         steps_go_along();
         let decision = decide(
             alloc,
-            &course.run.space,
-            &mut course.run.paths,
+            &course.course.run.space,
+            &mut course.paths,
             kind,
             term,
             self.nodes,
             book,
         )?;
         let other = other_of(alloc, course, decision.other)?;
-        course.decide(decision.value);
+        course.course.decide(decision.value);
         Ok(Choice {
             value: decision.value,
             other,
         })
     }
 
-    fn end(&self, course: &Course) -> Ended {
+    fn end(&self, course: &Traced) -> Ended {
         Ended {
-            cycles: course.cycles,
-            late: course.step.is_none(),
+            cycles: course.course.cycles,
+            late: course.course.step.is_none(),
         }
     }
 
-    fn go_on(&self, waiting: Waiting, made: Course) -> Course {
+    fn go_on(&self, waiting: Waiting, made: Traced) -> Traced {
         waiting.over(made.into_paths())
     }
 
     fn compare(
         &self,
         alloc: Global,
-        course: &mut Course,
+        course: &mut Traced,
         book: &ShortcutBook,
     ) -> Result<Option<Begin>, RunStop> {
         differing(alloc, self.job, self.boundary, course, self.nodes, book)

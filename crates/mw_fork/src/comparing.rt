@@ -23,24 +23,23 @@ ghost use Rattle.mw_fork.specs.Comparing.{AreApart, AreEventsOf, AreOne, AreOneA
 ghost use Rattle.mw_fork.specs.Comparing.{AreSidesOn, AreTwoAt, AreTwoInMemory};
 ghost use Rattle.mw_fork.specs.Comparing.{AreWritesOn, Compares, FailsAt, GoesComparing, HoldsAt};
 ghost use Rattle.mw_fork.specs.Comparing.{compared_all};
-ghost use Rattle.mw_fork.specs.Courses.{HasGone, StaysAs};
 ghost use Rattle.mw_rel.specs.CaseWords.{terms_with};
 ghost use Rattle.mw_symboard.specs.Parts.{AreParts};
 ghost use Rattle.mw_symmem.specs.Words.{HaveOwnKinds};
 ghost use Rattle.mw_term.specs.Table.{Table};
 ghost use Rattle.mw_course.specs.Listed.{list_of_space};
 ghost use Rattle.mw_fork.specs.Failing.{ComparisonStops, ComparisonsAreWithin, IsFound, NoneDiffersOf};
-ghost use Rattle.mw_fork.specs.OnWay.{HasMetCase, HavePaths};
+ghost use Rattle.mw_course.specs.OnWay.{HasMetCase};
+ghost use Rattle.mw_fork.specs.Traces.{HasGone, HavePaths, StaysAs};
 ghost use Rattle.mw_path.specs.Paths.{path_in};
 ghost use Rattle.mw_path.specs.Paths.{AreMade, StayOnPath};
 
-use crate::course::Course;
 use crate::decide::stop_of;
 use crate::fault::RunStop;
-use crate::run::Run;
+use crate::traced::Traced;
 use mw_base::NoMemory;
 use mw_blast::over_have_numbers;
-use mw_course::{Space, boundary_at};
+use mw_course::{Run, Space, boundary_at};
 use mw_macro::words_are_numbered;
 use mw_path::Paths;
 use mw_rel::{Job, Line, words_of_cases_are_numbered};
@@ -405,34 +404,40 @@ fn compare_sides(
     alloc: Global,
     job: &Job,
     run: &mut Run,
+    paths: &mut Paths,
     step: &SymMach,
     nodes: u32,
     book: &ShortcutBook,
 ) -> Result<Option<Assignment>, RunStop>
     requires met { (number cycles : ℕ) × (elements : List ℕ) × (late : Bool) × (bits : List Decided)
-        × HasMetCase (job_of job.now) number elements cycles late bits run.old (Some step.now) }
+        × HasMetCase (job_of job.now) number elements cycles late bits (path_in paths.old) run.old
+        (Some step.now) }
     requires few { length run.old.space.memory.reads ≤ 1024 }
     requires fresh { term_of run.old.space.words Probe ≡ None }
-    requires paths { HavePaths run.old.space run.old.paths }
-    ensures made { OnOk result (AreMade run.new.paths) }
-    ensures stays { OnOk result (StayOnPath run.old.paths run.new.paths) }
+    requires paths { HavePaths run.old.space paths.old }
+    ensures made { OnOk result (AreMade paths.new) }
+    ensures stays { OnOk result (StayOnPath paths.old paths.new) }
     ensures board { run.new.board ≡ run.old.board }
     ensures registers { run.new.registers ≡ run.old.registers }
     ensures none { IfOk result (λ o. o ≡ None
         → (number cycles : ℕ) (elements : List ℕ) (late : Bool) (bits : List Decided)
-        → HasMetCase (job_of job.now) number elements cycles late bits run.old (Some step.now)
+        → HasMetCase (job_of job.now) number elements cycles late bits (path_in paths.old) run.old
+        (Some step.now)
         → NoneDiffersOf (job_of job.now) number bits) }
     ensures within { IfOk result (λ o. o ≡ None
         → (number cycles : ℕ) (elements : List ℕ) (late : Bool) (bits : List Decided)
-        → HasMetCase (job_of job.now) number elements cycles late bits run.old (Some step.now)
+        → HasMetCase (job_of job.now) number elements cycles late bits (path_in paths.old) run.old
+        (Some step.now)
         → ComparisonsAreWithin (job_of job.now) number nodes bits) }
     ensures found { IfOk result (λ o. IfSome o (λ numbers.
         (number cycles : ℕ) (elements : List ℕ) (late : Bool) (bits : List Decided)
-        → HasMetCase (job_of job.now) number elements cycles late bits run.old (Some step.now)
+        → HasMetCase (job_of job.now) number elements cycles late bits (path_in paths.old) run.old
+        (Some step.now)
         → IsFound (job_of job.now) number elements bits run.new.space numbers)) }
     ensures over { IfErr result
         (λ stop. (number cycles : ℕ) (elements : List ℕ) (late : Bool) (bits : List Decided)
-        → HasMetCase (job_of job.now) number elements cycles late bits run.old (Some step.now)
+        → HasMetCase (job_of job.now) number elements cycles late bits (path_in paths.old) run.old
+        (Some step.now)
         → ComparisonStops (job_of job.now) number nodes bits stop) }
 {
     // Laws for the proof: each term of the word list that is no constant has a word, and so has one that is over a
@@ -445,14 +450,14 @@ fn compare_sides(
         unreachable!()
     };
     if !alike(run.board.events(), step.events()) | (run.board.sp() != reached.sp) {
-        return Ok(run.paths.first_assignment(alloc)?);
+        return Ok(paths.first_assignment(alloc)?);
     }
     let elements = elements_at_end(alloc, job, &run.board, step)?;
     let found = compare_all(
         alloc,
         job,
         &mut run.space,
-        &mut run.paths,
+        paths,
         &elements,
         reached.lines.as_slice(),
         run.board.events(),
@@ -468,27 +473,36 @@ pub(crate) fn first_failing(
     alloc: Global,
     job: &Job,
     boundary: usize,
-    course: &mut Course,
+    traced: &mut Traced,
     nodes: u32,
     book: &ShortcutBook,
 ) -> Result<Option<Assignment>, RunStop>
-    requires gone { (bits : List Decided) × HasGone (job_of job.now) boundary bits course.old }
-    ensures stays { OnOk result (StaysAs course.old course.new) }
+    requires gone { (bits : List Decided) × HasGone (job_of job.now) boundary bits traced.old }
+    ensures stays { OnOk result (StaysAs traced.old traced.new) }
     ensures none { IfOk result (λ o. o ≡ None → (bits : List Decided)
-        → HasGone (job_of job.now) boundary bits course.old
+        → HasGone (job_of job.now) boundary bits traced.old
         → NoneDiffersOf (job_of job.now) boundary bits) }
     ensures within { IfOk result (λ o. o ≡ None → (bits : List Decided)
-        → HasGone (job_of job.now) boundary bits course.old
+        → HasGone (job_of job.now) boundary bits traced.old
         → ComparisonsAreWithin (job_of job.now) boundary nodes bits) }
     ensures found { IfOk result (λ o. IfSome o (λ numbers. (bits : List Decided)
-        → (gone : HasGone (job_of job.now) boundary bits course.old)
-        → IsFound (job_of job.now) boundary gone.elements bits course.new.run.space numbers)) }
+        → (gone : HasGone (job_of job.now) boundary bits traced.old)
+        → IsFound (job_of job.now) boundary gone.course.elements bits traced.new.course.run.space
+        numbers)) }
     ensures over { IfErr result (λ stop. (bits : List Decided)
-        → HasGone (job_of job.now) boundary bits course.old
+        → HasGone (job_of job.now) boundary bits traced.old
         → ComparisonStops (job_of job.now) boundary nodes bits stop) }
 {
-    match &course.step {
-        None => Ok(course.run.paths.first_assignment(alloc)?),
-        Some(step) => compare_sides(alloc, job, &mut course.run, step, nodes, book),
+    match &traced.course.step {
+        None => Ok(traced.paths.first_assignment(alloc)?),
+        Some(step) => compare_sides(
+            alloc,
+            job,
+            &mut traced.course.run,
+            &mut traced.paths,
+            step,
+            nodes,
+            book,
+        ),
     }
 }

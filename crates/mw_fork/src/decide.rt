@@ -14,7 +14,7 @@ ghost use Rattle.mw_rel.specs.Job.{IsJob, Job};
 ghost use Rattle.mw_course.specs.CasePaths.{IsNextOfCase};
 ghost use Rattle.mw_course.specs.Listed.{AsksFor};
 ghost use Rattle.mw_course.specs.OnWay.{HasDecided, IsOnWay, ground_in};
-ghost use Rattle.mw_fork.specs.OnWay.{HavePaths};
+ghost use Rattle.mw_fork.specs.Traces.{HavePaths};
 ghost use Rattle.mw_path.specs.Paths.{path_in};
 ghost use Rattle.mw_path.specs.Paths.{HaveGrown};
 ghost use Rattle.mw_fork.specs.Stops.{StopsBy};

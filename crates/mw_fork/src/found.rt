@@ -3,13 +3,13 @@ ghost use Rattle.std.specs.Prelude.{◌≡◌, ℕ, List, Option, IfErr, IfOk, O
 ghost use Rattle.mw_term.specs.declared.decided.Decided.{Decided};
 ghost use Rattle.mw_rel.specs.Views.{job_of};
 ghost use Rattle.mw_fork.specs.Begins.{IsFirstOfCase, IsOfCase};
-ghost use Rattle.mw_fork.specs.Courses.{HasGone, IsWaiting, StaysAs, over_places};
+ghost use Rattle.mw_fork.specs.Traces.{HasGone, IsWaiting, StaysAs, over_places};
 ghost use Rattle.mw_fork.specs.Failing.{ComparisonStops, IsFoundOf};
-ghost use Rattle.mw_fork.specs.declared.course.Waiting as waits;
+ghost use Rattle.mw_fork.specs.declared.traced.Waiting as waits;
 
 use crate::comparing::first_failing;
-use crate::course::Course;
 use crate::fault::RunStop;
+use crate::traced::Traced;
 use mw_base::NoMemory;
 use mw_course::{Space, begin_of};
 use mw_rel::{Begin, Job};
@@ -22,19 +22,19 @@ pub(crate) fn first_start(
     alloc: Global,
     job: &Job,
     boundary: usize,
-    course: &Course,
+    traced: &Traced,
 ) -> Result<Begin, NoMemory>
-    requires gone { (bits : List Decided) × HasGone (job_of job.now) boundary bits course.now }
+    requires gone { (bits : List Decided) × HasGone (job_of job.now) boundary bits traced.now }
     ensures of_case { IfOk result (λ begin. (bits : List Decided)
-        → HasGone (job_of job.now) boundary bits course.now → IsOfCase (job_of job.now) boundary bits begin) }
+        → HasGone (job_of job.now) boundary bits traced.now → IsOfCase (job_of job.now) boundary bits begin) }
     ensures first { IfOk result (λ begin. (bits : List Decided)
-        → HasGone (job_of job.now) boundary bits course.now → IsFirstOfCase (job_of job.now) boundary bits begin) }
+        → HasGone (job_of job.now) boundary bits traced.now → IsFirstOfCase (job_of job.now) boundary bits begin) }
 {
-    let Some(given) = course.run.paths.first_assignment(alloc)? else {
+    let Some(given) = traced.paths.first_assignment(alloc)? else {
         // The case is feasible, so an assignment takes its path.
         unreachable!()
     };
-    begin_of(alloc, job, boundary, &course.run.space, &given)
+    begin_of(alloc, job, boundary, &traced.course.run.space, &given)
 }
 
 /// A start of the case that differs: the first of those that are sought.
@@ -42,21 +42,21 @@ fn sought(
     alloc: Global,
     job: &Job,
     boundary: usize,
-    course: &mut Course,
+    traced: &mut Traced,
     nodes: u32,
     book: &ShortcutBook,
 ) -> Result<Option<Begin>, RunStop>
-    requires gone { (bits : List Decided) × HasGone (job_of job.now) boundary bits course.old }
-    ensures stays { OnOk result (StaysAs course.old course.new) }
-    ensures found { IfOk result (λ found. (bits : List Decided) → HasGone (job_of job.now) boundary bits course.old
+    requires gone { (bits : List Decided) × HasGone (job_of job.now) boundary bits traced.old }
+    ensures stays { OnOk result (StaysAs traced.old traced.new) }
+    ensures found { IfOk result (λ found. (bits : List Decided) → HasGone (job_of job.now) boundary bits traced.old
         → IsFoundOf (job_of job.now) boundary nodes bits found) }
-    ensures over { IfErr result (λ stop. (bits : List Decided) → HasGone (job_of job.now) boundary bits course.old
+    ensures over { IfErr result (λ stop. (bits : List Decided) → HasGone (job_of job.now) boundary bits traced.old
         → ComparisonStops (job_of job.now) boundary nodes bits stop) }
 {
-    match first_failing(alloc, job, boundary, course, nodes, book) {
+    match first_failing(alloc, job, boundary, traced, nodes, book) {
         Ok(None) => Ok(None),
         Ok(Some(given)) => {
-            let begin = begin_of(alloc, job, boundary, &course.run.space, &given)?;
+            let begin = begin_of(alloc, job, boundary, &traced.course.run.space, &given)?;
             Ok(Some(begin))
         }
         Err(stop) => Err(stop),
@@ -64,16 +64,16 @@ fn sought(
 }
 
 /// Puts back what a course worked on, and where that stands.
-fn restore(course: &mut Course, space: Space, places: Places)
-    ensures space { course.new.run.space ≡ space }
-    ensures paths { course.new.run.paths ≡ over_places course.old.run.paths places }
-    ensures board { course.new.run.board ≡ course.old.run.board }
-    ensures registers { course.new.run.registers ≡ course.old.run.registers }
-    ensures cycles { course.new.cycles ≡ course.old.cycles }
-    ensures step { course.new.step ≡ course.old.step }
+fn restore(traced: &mut Traced, space: Space, places: Places)
+    ensures space { traced.new.course.run.space ≡ space }
+    ensures paths { traced.new.paths ≡ over_places traced.old.paths places }
+    ensures board { traced.new.course.run.board ≡ traced.old.course.run.board }
+    ensures registers { traced.new.course.run.registers ≡ traced.old.course.run.registers }
+    ensures cycles { traced.new.course.cycles ≡ traced.old.course.cycles }
+    ensures step { traced.new.course.step ≡ traced.old.course.step }
 {
-    course.run.space = space;
-    course.run.paths.places = places;
+    traced.course.run.space = space;
+    traced.paths.places = places;
 }
 
 /// A start of the case that differs, if there is one. The course has gone through the case as before: what is written
@@ -82,26 +82,26 @@ pub(crate) fn differing(
     alloc: Global,
     job: &Job,
     boundary: usize,
-    course: &mut Course,
+    traced: &mut Traced,
     nodes: u32,
     book: &ShortcutBook,
 ) -> Result<Option<Begin>, RunStop>
-    requires gone { (bits : List Decided) × HasGone (job_of job.now) boundary bits course.old }
-    ensures gone { OnOk result ((bits : List Decided) → HasGone (job_of job.now) boundary bits course.old
-        → HasGone (job_of job.now) boundary bits course.new) }
+    requires gone { (bits : List Decided) × HasGone (job_of job.now) boundary bits traced.old }
+    ensures gone { OnOk result ((bits : List Decided) → HasGone (job_of job.now) boundary bits traced.old
+        → HasGone (job_of job.now) boundary bits traced.new) }
     ensures waiting { OnOk result ((w : waits.Waiting) (bits : List Decided)
-        → IsWaiting (job_of job.now) boundary course.old.run.paths bits w
-        → IsWaiting (job_of job.now) boundary course.new.run.paths bits w) }
-    ensures found { IfOk result (λ found. (bits : List Decided) → HasGone (job_of job.now) boundary bits course.old
+        → IsWaiting (job_of job.now) boundary traced.old.paths bits w
+        → IsWaiting (job_of job.now) boundary traced.new.paths bits w) }
+    ensures found { IfOk result (λ found. (bits : List Decided) → HasGone (job_of job.now) boundary bits traced.old
         → IsFoundOf (job_of job.now) boundary nodes bits found) }
-    ensures over { IfErr result (λ stop. (bits : List Decided) → HasGone (job_of job.now) boundary bits course.old
+    ensures over { IfErr result (λ stop. (bits : List Decided) → HasGone (job_of job.now) boundary bits traced.old
         → ComparisonStops (job_of job.now) boundary nodes bits stop) }
 {
     // A law for the proof: what stands in a table goes on to stand there when more is in it.
     stands_with_more();
-    let space = course.run.space.copy(alloc)?;
-    let places = course.run.paths.places.copy(alloc)?;
-    let begin = sought(alloc, job, boundary, course, nodes, book)?;
-    restore(course, space, places);
+    let space = traced.course.run.space.copy(alloc)?;
+    let places = traced.paths.places.copy(alloc)?;
+    let begin = sought(alloc, job, boundary, traced, nodes, book)?;
+    restore(traced, space, places);
     Ok(begin)
 }

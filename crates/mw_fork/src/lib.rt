@@ -6,15 +6,12 @@
 mod budget;
 mod cases;
 mod comparing;
-mod course;
 mod decide;
 mod fault;
 mod fork;
 mod found;
-mod run;
-mod segment;
 mod starts;
-mod step;
+mod traced;
 mod walk;
 
 pub use budget::Budget;

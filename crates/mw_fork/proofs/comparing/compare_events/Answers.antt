@@ -62,7 +62,8 @@ returns-in-Some-clause-memory g c = c.in_ok-found.ensures.memory ∙ c.loop-numb
 
 pub returns-in-Some-clause-stays : goal.returns-in-Some-clause-stays
 returns-in-Some-clause-stays g c =
-    stays_then c.args.paths.now c.loop-number.paths c.compare_pair.new.paths c.loop-number.invariant.stays c.in_ok-found.ensures.stays
+    stays_then c.args.paths.now c.loop-number.paths c.compare_pair.new.paths c.loop-number.invariant.stays
+    c.in_ok-found.ensures.stays
 
 pub returns-in-Some-clause-probe : goal.returns-in-Some-clause-probe
 returns-in-Some-clause-probe g c = c.in_ok-found.ensures.probe ∙ c.loop-number.invariant.probe

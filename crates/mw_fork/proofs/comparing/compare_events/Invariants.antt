@@ -5,7 +5,7 @@ use Rattle.mw_term.specs.declared.kinds.WordKind.TheVariants.{Probe}
 use Rattle.mw_term.specs.Cofactors.{Agree}
 use Rattle.mw_term.specs.WordList.{term_of}
 use Rattle.mw_fork.specs.Comparing.{AreOneOn, ArePutOut, GoesComparing}
-use Rattle.mw_fork.specs.OnWay.{HavePaths}
+use Rattle.mw_fork.specs.Traces.{HavePaths}
 use Rattle.mw_path.specs.Paths.{path_in}
 use Rattle.mw_path.specs.Paths.{StayOnPath}
 use Rattle.mw_fork.proofs.CameTo.{CameTo}

@@ -61,7 +61,8 @@ returns-in-Some-clause-goes g c =
 
 pub returns-in-Some-clause-stays : goal.returns-in-Some-clause-stays
 returns-in-Some-clause-stays g c =
-    stays_then c.args.paths.now c.loop-line.paths c.compare_line.new.paths c.loop-line.invariant.stays c.in_ok-found.ensures.stays
+    stays_then c.args.paths.now c.loop-line.paths c.compare_line.new.paths c.loop-line.invariant.stays
+    c.in_ok-found.ensures.stays
 
 pub returns-in-Some-clause-probe : goal.returns-in-Some-clause-probe
 returns-in-Some-clause-probe g c = c.in_ok-found.ensures.probe ∙ c.loop-line.invariant.probe

@@ -10,7 +10,7 @@ use Rattle.mw_term.specs.Cofactors.{Agree}
 use Rattle.mw_term.specs.WordList.{term_of}
 use Rattle.mw_course.specs.Boundaries.{AreWide, IsSpace}
 use Rattle.mw_fork.specs.Comparing.{AreSidesOn, GoesComparing, HoldsAt}
-use Rattle.mw_fork.specs.OnWay.{HavePaths}
+use Rattle.mw_fork.specs.Traces.{HavePaths}
 use Rattle.mw_path.specs.Paths.{path_in}
 use Rattle.mw_path.specs.Paths.{StayOnPath}
 use Rattle.mw_fork.proofs.CameTo.{CameTo}

@@ -32,15 +32,15 @@ unreachable-requires g c =
     let run = c.args.run.now in
     let m = c.requires.met in
     let valid = c.args.job.now.is_job in
-    at_boundary job m.0 m.2 m.4 m.1 run.space (path_in run.paths) run.board c.args.step.now valid
-    (ended_met job m.0 m.2 m.1 m.3 m.4 run c.args.step.now valid m.5)
+    at_boundary job m.0 m.2 m.4 m.1 run.space (path_in c.args.paths.now) run.board c.args.step.now valid
+    (ended_met job m.0 m.2 m.1 m.3 m.4 (path_in c.args.paths.now) run c.args.step.now valid m.5)
     (ap (boundary_at job) (sym c.at.ensures) ∙ c.in_default.ensures.none refl)
 
 pub returns-then-alike-sp-clause-none : goal.returns-then-alike-sp-clause-none
 returns-then-alike-sp-clause-none g c = λ none number cycles elements late bits met.
     let run = c.args.run.now in
     nowhere_none (job_of c.args.job.now) number elements bits run.space
-    (path_in run.paths) c.args.job.now.is_job
+    (path_in c.args.paths.now) c.args.job.now.is_job
     met.on.stands met.on.cases (c.in_ok-first_assignment.ensures.none none)
 
 pub returns-then-alike-sp-clause-within : goal.returns-then-alike-sp-clause-within
@@ -52,11 +52,11 @@ returns-then-alike-sp-clause-within g c = λ none number cycles elements late bi
     let reached = boundary_of c.in-Some.reached.now in
     let there : boundary_at job run.board.place.at ≡ Some reached =
     ap (boundary_at job) (sym c.at.ensures) ∙ c.in-Some.ensures.some in
-    let is = ended_met job number elements cycles late bits run step valid met in
+    let is = ended_met job number elements cycles late bits (path_in c.args.paths.now) run step valid met in
     let unlike = unlike_as job run.space run.board step reached c.alike.result c.sp.result true
     (c.alike.ensures ∙ ap₂ are_alike c.events.ensures c.events-2.ensures) c.sp.ensures c.if-alike-sp.true in
     unlike_within job number c.args.nodes elements bits cycles run.space
-    (path_in run.paths) run.board step reached is
+    (path_in c.args.paths.now) run.board step reached is
     there unlike
 
 pub returns-then-alike-sp-clause-found : goal.returns-then-alike-sp-clause-found
@@ -74,8 +74,9 @@ returns-then-alike-sp-clause-found g c =
     IfSome_then c.in_ok-first_assignment.field-0 c.in_ok-first_assignment.ensures.first
     (λ numbers first number cycles elements late bits met.
     unlike_found job number elements bits cycles run.space
-    (path_in run.paths) run.board step reached numbers valid
-    (ended_met job number elements cycles late bits run step valid met) lines.0 there unlike first)
+    (path_in c.args.paths.now) run.board step reached numbers valid
+    (ended_met job number elements cycles late bits (path_in c.args.paths.now) run step valid met) lines.0 there
+    unlike first)
 
 pub compare_all-requires-clause-events : goal.compare_all-requires-clause-events
 compare_all-requires-clause-events g c =
@@ -84,7 +85,7 @@ compare_all-requires-clause-events g c =
     let step = c.args.step.now in
     let valid = c.args.job.now.is_job in
     let m = c.requires.met in
-    let is = ended_met job m.0 m.2 m.1 m.3 m.4 run step valid m.5 in (
+    let is = ended_met job m.0 m.2 m.1 m.3 m.4 (path_in c.args.paths.now) run step valid m.5 in (
       job.board.width,
       subst (AreEventsOf run.space.terms job.board.width) (sym c.events-3.ensures)
           is.ended.of_board.events,
@@ -127,9 +128,9 @@ compare_all-requires-clause-wide g c =
     let step = c.args.step.now in
     let valid = c.args.job.now.is_job in
     let m = c.requires.met in
-    let is = ended_met job m.0 m.2 m.1 m.3 m.4 run step valid m.5 in
+    let is = ended_met job m.0 m.2 m.1 m.3 m.4 (path_in c.args.paths.now) run step valid m.5 in
     subst (AreWide run.space.terms job.relation.shape.widths) (sym (c.deref.ensures.value ∙ c.in_ok-elements.ensures))
-    (wide_at_end job m.0 (ground_in run.space m.2) m.4 m.1 run.space (path_in run.paths) run.board step valid
+    (wide_at_end job m.0 (ground_in run.space m.2) m.4 m.1 run.space (path_in c.args.paths.now) run.board step valid
     is.ended)
 
 -- ---- where all was compared
@@ -166,11 +167,11 @@ returns-clause-none g c = λ none number cycles elements late bits met.
     let valid = c.args.job.now.is_job in
     let reached = reached_in g c in
     let new = c.compare_all.new.space in
-    let path = path_in run.paths in
+    let path = path_in c.args.paths.now in
     let e = c.in_ok-found.ensures in
     let alike = alike_at job run.space run.board step reached (are_like g c) in
     none_differs job number elements bits cycles run.space new path run.board step reached valid
-    (ended_met job number elements cycles late bits run step valid met) e.goes e.own
+    (ended_met job number elements cycles late bits (path_in c.args.paths.now) run step valid met) e.goes e.own
     (lines_at job run.board.place.at reached valid (reached_is g c)).0 (reached_is g c) alike.0 alike.1
     (at_ends g c (λ t ls b m. AreOne job.relation.shape new path t ls b m) (e.same none))
 
@@ -180,11 +181,12 @@ returns-clause-within g c = λ none number cycles elements late bits met.
     let run = c.args.run.now in
     let step = c.args.step.now in
     let new = c.compare_all.new.space in
-    let path = path_in run.paths in
+    let path = path_in c.args.paths.now in
     let compared = at_ends g c (CompareAll job c.args.nodes run.space new path (Ok c.in_ok-found.found))
     c.in_ok-found.ensures.compared in
     alike_within job number c.args.nodes elements bits cycles run.space new path run.board step (reached_in g c)
-    (ended_met job number elements cycles late bits run step c.args.job.now.is_job met) (reached_is g c) (are_like g c)
+    (ended_met job number elements cycles late bits (path_in c.args.paths.now) run step c.args.job.now.is_job met)
+    (reached_is g c) (are_like g c)
     (subst (λ o. CompareAll job c.args.nodes run.space new path (Ok o) (terms_at_end job run.board step)
     (reached_in g c).lines run.board.events step.parts.events) none compared)
 
@@ -196,7 +198,7 @@ returns-clause-found g c =
     let valid = c.args.job.now.is_job in
     let reached = reached_in g c in
     let new = c.compare_all.new.space in
-    let path = path_in run.paths in
+    let path = path_in c.args.paths.now in
     let nodes = c.args.nodes in
     let terms = terms_at_end job run.board step in
     let e = c.in_ok-found.ensures in
@@ -207,7 +209,7 @@ returns-clause-found g c =
     step.parts.events) _ found
     (λ numbers fails apart number cycles elements late bits met.
     alike_found job number nodes elements bits cycles run.space new path run.board step reached numbers valid
-    (ended_met job number elements cycles late bits run step valid met) e.goes e.own
+    (ended_met job number elements cycles late bits (path_in c.args.paths.now) run step valid met) e.goes e.own
     (lines_at job run.board.place.at reached valid (reached_is g c)).0 (reached_is g c) (are_like g c) fails apart)
     (at_ends g c (CompareAll job nodes run.space new path (Ok found)) e.compared)
     (at_ends g c (λ t ls b m. IfSome found (λ numbers. AreApart job.relation.shape new (given_by numbers) t ls b m))
@@ -226,7 +228,7 @@ returns-in_err-found-clause-over g c =
     let terms = c.deref.ensures.value ∙ c.in_ok-elements.ensures in
     let old = run.space in
     let new = c.compare_all.new.space in
-    let path = path_in run.paths in
+    let path = path_in c.args.paths.now in
     let nodes = c.args.nodes in
     let unlike = unlike_as job run.space run.board step reached c.alike.result c.sp.result false
     (c.alike.ensures ∙ ap₂ are_alike c.events.ensures c.events-2.ensures) c.sp.ensures c.if-alike-sp.false in
@@ -241,6 +243,6 @@ returns-in_err-found-clause-over g c =
     alike_stops job number nodes elements bits cycles old new path run.board step reached
     c.in_err-found.field-0.0
     c.over_have_numbers.ensures.over laws
-    (ended_met job number elements cycles late bits run step valid met) there unlike
+    (ended_met job number elements cycles late bits (path_in c.args.paths.now) run step valid met) there unlike
     (same_ends (CompareAll job nodes old new path (Err c.in_err-found.field-0.0)) _ _ _ _ _ _ _ _ terms here
     c.events-3.ensures c.events-4.ensures c.in_err-found.ensures.compared))

@@ -26,12 +26,14 @@ use Rattle.mw_fork.proofs.decide.decide.Goals as goal
 -- which values are feasible
 free : (g : Over) (c : After-other_path g) (job : Job) (number : ℕ) (elements : List ℕ) (bits : List Decided)
     → IsJob job → IsOnWay job number (ground_in c.args.space.now elements) bits (path_in c.args.paths.now)
-    → IsNextOfCase job number (ground_in c.args.space.now elements) bits (path_in c.args.paths.now) c.args.kind c.args.term
+    → IsNextOfCase job number (ground_in c.args.space.now elements) bits
+    (path_in c.args.paths.now) c.args.kind c.args.term
     → IsChoice job number bits c.args.kind c.feasible-feasible.result
 free g c job number elements bits valid on asked =
     let ground = ground_in c.args.space.now elements in
     let e = c.feasible-feasible.ensures in
-    free_at job number ground bits c.split.new.self.dds (path_in c.args.paths.now) _ c.in-Ok.split c.args.kind c.args.term
+    free_at job number ground bits c.split.new.self.dds (path_in c.args.paths.now) _ c.in-Ok.split c.args.kind
+    c.args.term
     c.feasible-feasible.result (have_starts job number ground valid on.stands) on.stands.space.workspace.table
     c.requires.wide on asked c.in-Ok.ensures.split (record {
       zero_somewhere = e.zero_somewhere;
@@ -68,7 +70,8 @@ turned_so : (g : Over) (c : After-other_path g) (other : Option ℕ)
     × (c.feasible-feasible.result.one ≡ true))
     → IfSome other (λ path. (job : Job) (number : ℕ) (elements : List ℕ) (bits : List Decided) → IsJob job
     → IsOnWay job number (ground_in c.args.space.now elements) bits (path_in c.args.paths.now)
-    → IsNextOfCase job number (ground_in c.args.space.now elements) bits (path_in c.args.paths.now) c.args.kind c.args.term
+    → IsNextOfCase job number (ground_in c.args.space.now elements) bits
+    (path_in c.args.paths.now) c.args.kind c.args.term
     → AsksFor job number bits (ground_in c.args.space.now elements) c.args.term
     → HasDecided job number (ground_in c.args.space.now elements) bits (path_in c.args.paths.now)
     (function_of c.go.new.self.dds path) c.args.kind c.args.term true)
@@ -101,7 +104,8 @@ returns-clause-nodes g c = λ job number elements bits value valid on asked asks
         wide = c.requires.wide;
         next = asked;
       };
-      within = within_split job number c.args.nodes bits (ground_in c.args.space.now elements) (path_in c.args.paths.now)
+      within = within_split job number c.args.nodes bits (ground_in c.args.space.now elements)
+          (path_in c.args.paths.now)
           c.args.term _ c.in-Ok.split on.stands.space.map asks on.written c.in-Ok.ensures.split;
     })
 
@@ -114,7 +118,8 @@ returns-in-Err-clause-over g c = λ job number elements bits valid on asks.
       steps = c.words_are_numbered.ensures.steps;
       comparisons = c.words_of_cases_are_numbered.ensures.comparisons;
     } in
-    stops_by job number c.args.nodes ground bits _ (path_in c.args.paths.now) c.args.term c.in-Err.fault c.stop_of.result
+    stops_by job number c.args.nodes ground bits _ (path_in c.args.paths.now) c.args.term c.in-Err.fault
+    c.stop_of.result
     c.over_have_numbers.ensures.over (numbered_case laws job number (bit_values bits))
     (have_starts job number ground valid on.stands) on asks c.in-Err.ensures.over
     (record { over = c.stop_of.ensures.over; none = c.stop_of.ensures.none })

@@ -14,7 +14,7 @@ begin_of-requires g c =
     let gone = c.requires.gone in
     record {
       stands = (
-        gone.1.elements,
+        gone.1.course.elements,
         (some_at _ _ c.in-Ok-Some.given c.in-Ok-Some.field-0-is c.in-Ok-Some.ensures.found gone.0 gone.1).stands,
       );
     }
@@ -22,8 +22,8 @@ begin_of-requires g c =
 pub returns-in_ok-begin-in-Ok-Some-clause-found : goal.returns-in_ok-begin-in-Ok-Some-clause-found
 returns-in_ok-begin-in-Ok-Some-clause-found g c = λ bits gone.
     let found = some_at _ _ c.in-Ok-Some.given c.in-Ok-Some.field-0-is c.in-Ok-Some.ensures.found bits gone in (
-      found_differs (job_of c.args.job.now) c.args.boundary gone.elements _ c.in-Ok-Some.given _ _ found
+      found_differs (job_of c.args.job.now) c.args.boundary gone.course.elements _ c.in-Ok-Some.given _ _ found
           c.in_ok-begin-in-Ok-Some.ensures.start,
-      found_least (job_of c.args.job.now) c.args.boundary gone.elements _ c.in-Ok-Some.given _ _ found
+      found_least (job_of c.args.job.now) c.args.boundary gone.course.elements _ c.in-Ok-Some.given _ _ found
           c.in_ok-begin-in-Ok-Some.ensures.assigned,
     )

@@ -1,8 +1,19 @@
 use Rattle.std.proofs.Common.{subst}
-use Rattle.std.proofs.lemmas.Result.{IfErr-weaker}
+use Rattle.std.proofs.lemmas.Result.{IfErr-weaker, on_ok_weaker}
 use Rattle.mw_rel.specs.Views.{job_of}
 use Rattle.mw_fork.specs.Failing.{ComparisonStops}
 use Rattle.mw_fork.proofs.cases.StartsCaseTree.compare.Goals as goal
+
+pub returns-clause-gone : goal.returns-clause-gone
+returns-clause-gone g c =
+    on_ok_weaker c.differing.result (λ goes bits has. record { gone = goes bits has.gone; within = has.within })
+    c.differing.ensures.gone
+
+pub returns-clause-waiting : goal.returns-clause-waiting
+returns-clause-waiting g c =
+    on_ok_weaker c.differing.result
+    (λ goes w bits waiting. record { waits = goes w bits waiting.waits; within = waiting.within })
+    c.differing.ensures.waiting
 
 pub returns-clause-over : goal.returns-clause-over
 returns-clause-over g c =

@@ -1,9 +1,0 @@
-use Rattle.mw_rel.specs.Views.{job_of}
-use Rattle.mw_fork.proofs.Courses.{begins}
-use Rattle.mw_fork.proofs.course.Course.new.Goals as goal
-
-pub returns : goal.returns
-returns c =
-    let e = c.in_ok-new.ensures in
-    begins (job_of c.args.job.now) c.args.boundary e.first.0 c.in_ok-new.field-0 c.args.job.now.is_job c.requires
-    e.under e.idle e.first.1 e.paths

@@ -1,0 +1,62 @@
+-- A course with the diagrams of its path, and those that wait.
+use Rattle.std.specs.Prelude.{◌≡◌, ℕ, List}
+use Rattle.mw_term.specs.declared.decided.Decided.{Decided}
+use Rattle.mw_path.specs.declared.paths.Paths.{Paths}
+use Rattle.mw_path.specs.Paths.{AreMade, ArePaths, StayOnPath, path_in}
+use Rattle.mw_rel.specs.Job.{Job}
+use Rattle.mw_course.specs.declared.elements.Space.{Space}
+use Rattle.mw_course.specs.Courses as courses
+use Rattle.mw_course.specs.Courses.{IsOtherCourse}
+use Rattle.mw_fork.specs.declared.traced.Traced.{Traced}
+use Rattle.mw_fork.specs.declared.traced.Waiting.{Waiting}
+
+-- ---- courses
+
+-- the paths of a course are diagrams, and its bits are right for what was written in a space
+abbrev pub HavePaths : Space → Paths → Type 0
+HavePaths space paths = ArePaths space.terms paths.dds paths.shared paths.places paths.path
+
+-- one that is on its way, and waits for no bit
+pub record IsGoing (job : Job) (number : ℕ) (bits : List Decided) (traced : Traced) : Type 0 where
+  pub course : courses.IsGoing job number bits (path_in traced.paths) traced.course
+  pub paths : HavePaths traced.course.run.space traced.paths
+
+-- one that has ended, and has met all bits of a case
+pub record HasGone (job : Job) (number : ℕ) (bits : List Decided) (traced : Traced) : Type 0 where
+  pub course : courses.HasGone job number bits (path_in traced.paths) traced.course
+  pub paths : HavePaths traced.course.run.space traced.paths
+
+-- ---- a comparison
+
+-- a course that was compared: only what it works on has changed, and what was made has grown
+pub record StaysAs (old new : Traced) : Type 0 where
+  pub made : AreMade new.paths
+  pub paths : StayOnPath old.paths new.paths
+  pub board : new.course.run.board ≡ old.course.run.board
+  pub registers : new.course.run.registers ≡ old.course.run.registers
+  pub cycles : new.course.cycles ≡ old.course.cycles
+  pub step : new.course.step ≡ old.course.step
+
+-- these paths, where what was written stands at these places
+abbrev pub over_places : Paths → List ℕ → Paths
+over_places paths places = record { dds = paths.dds; shared = paths.shared; places = places; path = paths.path }
+
+-- ---- those that wait
+
+-- one was let wait by a course on this path, with 1 for the bit that is waited for
+pub record IsOther (traced : Traced) (path : ℕ) (w : Waiting) : Type 0 where
+  pub course : IsOtherCourse traced.course w.course
+  pub places : w.places ≡ traced.paths.places
+  pub path_is : w.path ≡ path
+
+-- the paths of one that waits, over what was made
+abbrev pub paths_over : Paths → Waiting → Paths
+paths_over made w = record { dds = made.dds; shared = made.shared; places = w.places; path = w.path }
+
+-- and its course
+abbrev pub traced_over : Paths → Waiting → Traced
+traced_over made w = record { course = w.course; paths = paths_over made w }
+
+-- it has come along these bits
+abbrev pub IsWaiting : Job → (number : ℕ) → Paths → (bits : List Decided) → Waiting → Type 0
+IsWaiting job number made bits w = IsGoing job number bits (traced_over made w)
