@@ -10,9 +10,9 @@ use Rattle.mw_rel.specs.Start.{Start}
 use Rattle.mw_fork.specs.declared.budget.Budget.{Budget}
 use Rattle.mw_fork.specs.Faults.{ForkFault}
 use Rattle.mw_explore.specs.declared.fault.Fault.TheVariants as faults
+use Rattle.mw_course.proofs.AnyStart.{some_case}
 use Rattle.mw_fork.specs.declared.fault.Over.TheVariants.{Nodes, Paths}
 use Rattle.mw_fork.specs.Walks.{AreAllCases, HasWalked, StopsWalk}
-use Rattle.mw_fork.proofs.AnyStart.{some_case}
 use Rattle.mw_bounds.specs.declared.extreme.Extremes.{Extremes}
 use Rattle.mw_bounds.specs.declared.extreme.Shown.{Shown}
 use Rattle.mw_bounds.specs.declared.extreme.Side.{Side}
@@ -36,7 +36,7 @@ pub not_none : (job : Job) (number : ℕ) (side : Side) (o : Option Shown) (case
     → o ≡ None → ⊥
 not_none job number side o cases is inside all extreme none =
     let some = some_case job number is inside in
-    let among = all.all some.other some.feasible in
+    let among = all.all some.0 some.1 in
     let empty : cases ≡ [] = subst (λ (x : Option Shown). IsExtreme job number side x cases) none extreme in
     absurd (omega (arith, among.1, ap length empty))
 

@@ -14,9 +14,9 @@ use Rattle.mw_rel.specs.Start.{Start}
 use Rattle.mw_fork.specs.declared.budget.Budget.{Budget}
 use Rattle.mw_fork.specs.Faults.{ForkFault}
 use Rattle.mw_explore.specs.declared.fault.Fault.TheVariants as faults
+use Rattle.mw_course.proofs.AnyStart.{some_case}
 use Rattle.mw_fork.specs.declared.fault.Over.TheVariants as overs
 use Rattle.mw_fork.specs.Walks.{HasStopped, HasWalked, ReachTo, StopsWalk}
-use Rattle.mw_fork.proofs.AnyStart.{some_case}
 use Rattle.mw_replay.specs.Counter.{Counter}
 use Rattle.mw_replay.specs.CounterPrinted.{AreShort}
 use Rattle.mw_check.specs.declared.certification.Found.{Found}
@@ -108,7 +108,7 @@ all_gone job number budget search is there walked =
     let through : (other : List Decided) → IsCase job number other → IsGoneThrough job number budget.nodes other =
     λ other feasible. All-contains (IsGoneThrough job number budget.nodes) cases other gone.each (all other feasible) in
     let has : HasCases job number summary.cases = record { cases = cases; are = walked.all; counted = gone.counted } in
-    let some = (some_case job number is there).feasible in
+    let some = (some_case job number is there).1 in
     let longest : (start : Start) × IsStartAt job number start × (cycles_of job start ≡ summary.cycles) =
     elim gone.one [
       | inr one ↦ one
