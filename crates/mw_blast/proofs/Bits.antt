@@ -1,8 +1,7 @@
 -- What nodes stand for, along diagrams that grow.
 use Rattle.std.proofs.Common.{◌≡◌, ℕ, zero, suc, ◌<◌, List, [], ◌∷◌, ◌++◌, length, slice_index, refl, ◌∙◌, arith}
 use Rattle.mw_term.specs.Functions.{Function}
-use Rattle.mw_dd.specs.Nodes.{Node}
-use Rattle.mw_dd.specs.Nodes.{function_of, IsDd}
+use Rattle.mw_dd.specs.Nodes.{Node, function_of, IsDd}
 use Rattle.mw_dd.specs.Diagrams.{Keeps}
 use Rattle.mw_blast.specs.Bits.{StandsFor, AreThere, StandEach}
 

@@ -8,8 +8,7 @@ use Rattle.mw_term.specs.Cofactors.{Agree, HasMoreCofactors, AreSame}
 use Rattle.mw_term.specs.Functions.{Function, Triple, ite, made}
 use Rattle.mw_dd.specs.declared.dd.DdFault.{DdFault}
 use Rattle.mw_dd.specs.declared.dd.DdFault.TheVariants.{OverBudget, NoMemory}
-use Rattle.mw_dd.specs.Nodes.{Node}
-use Rattle.mw_dd.specs.Nodes.{function_of, IsDd}
+use Rattle.mw_dd.specs.Nodes.{Node, function_of, IsDd}
 use Rattle.mw_dd.specs.Diagrams.{functions_of}
 use Rattle.mw_dd.proofs.Cofactors.{more-same}
 use Rattle.mw_blast.specs.Bits.{StandsFor}

@@ -4,8 +4,7 @@ use Rattle.std.proofs.Common.{length-append, subst, sym}
 use Rattle.mw_term.specs.Functions.{Function, Triple}
 use Rattle.mw_dd.specs.declared.dd.DdFault.{DdFault}
 use Rattle.mw_dd.specs.declared.dd.DdFault.TheVariants.{OverBudget, NoMemory}
-use Rattle.mw_dd.specs.Nodes.{Node}
-use Rattle.mw_dd.specs.Nodes.{IsDd}
+use Rattle.mw_dd.specs.Nodes.{Node, IsDd}
 use Rattle.mw_dd.specs.Diagrams.{Keeps}
 use Rattle.mw_blast.specs.declared.rows.Row.{Row}
 use Rattle.mw_blast.specs.declared.rows.Step.{Step}

@@ -4,8 +4,7 @@ use Rattle.mw_term.specs.Cofactors.{Agree}
 use Rattle.mw_term.specs.Functions.{Function}
 use Rattle.mw_term.specs.Rows.{bit}
 use Rattle.mw_term.specs.Table.{Table, term_width}
-use Rattle.mw_dd.specs.Nodes.{Node}
-use Rattle.mw_dd.specs.Nodes.{function_of, IsDd}
+use Rattle.mw_dd.specs.Nodes.{Node, function_of, IsDd}
 
 -- a node stands for a function
 pub record StandsFor (nodes : List Node) (x : ℕ) (f : Function) : Type 0 where

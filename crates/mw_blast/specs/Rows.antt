@@ -3,7 +3,6 @@ use Rattle.std.specs.Prelude.{◌≡◌, ℕ, zero, suc, ◌<◌, List, [], ◌�
 use Rattle.mw_term.specs.Functions.{Function, never, always, Triple, ite, made}
 use Rattle.mw_term.specs.Rows.{inverse, difference, sameness, next_carry, next_equal, next_less, xor_row, sum_row}
 use Rattle.mw_term.specs.Rows.{carry_row}
-use Rattle.mw_dd.specs.Nodes.{Node}
 use Rattle.mw_blast.specs.declared.fault.BlastFault.{BlastFault}
 use Rattle.mw_blast.specs.declared.fault.BlastFault.TheVariants as blast
 use Rattle.mw_blast.specs.declared.fault.RowFault.{RowFault}
@@ -14,7 +13,7 @@ use Rattle.mw_blast.specs.declared.rows.Row.{Row}
 use Rattle.mw_blast.specs.declared.rows.Row.TheVariants.{Not, And, Or, Xor, Sum, Carry, Equal, Less, Choice}
 use Rattle.mw_blast.specs.declared.rows.Step.{Step}
 use Rattle.mw_blast.specs.Bits.{StandsFor, AreThere, StandEach}
-use Rattle.mw_dd.specs.Nodes.{IsDd}
+use Rattle.mw_dd.specs.Nodes.{Node, IsDd}
 use Rattle.mw_dd.specs.Diagrams.{Keeps}
 use Rattle.mw_blast.specs.Causes.{IsOneOver}
 

@@ -13,8 +13,7 @@ use Rattle.mw_term.specs.Rows.{bit}
 use Rattle.mw_term.specs.Table.{Table}
 use Rattle.mw_term.specs.WordList.{word_number}
 use Rattle.mw_dd.specs.Diagrams.{IsFirst}
-use Rattle.mw_dd.specs.Nodes.{Node}
-use Rattle.mw_dd.specs.Nodes.{function_of}
+use Rattle.mw_dd.specs.Nodes.{Node, function_of}
 use Rattle.mw_blast.specs.Bits.{StandsFor, AreBits}
 use Rattle.mw_blast.specs.declared.fault.BlastFault.{BlastFault}
 use Rattle.mw_blast.specs.declared.fault.BlastFault.TheVariants as blast

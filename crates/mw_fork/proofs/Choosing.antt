@@ -10,8 +10,7 @@ use Rattle.mw_term.specs.Functions.{Function, made, never}
 use Rattle.mw_term.specs.Rows.{bit}
 use Rattle.mw_term.specs.Table.{Table, IsTable}
 use Rattle.mw_term.specs.Values.{term_value}
-use Rattle.mw_dd.specs.Nodes.{Node}
-use Rattle.mw_dd.specs.Nodes.{function_of}
+use Rattle.mw_dd.specs.Nodes.{Node, function_of}
 use Rattle.mw_blast.specs.declared.split.Split.{Split}
 use Rattle.mw_blast.specs.Splits.{IsSplit}
 use Rattle.mw_symmem.specs.Memory.{IsOfWidth}

@@ -8,7 +8,7 @@ use Rattle.mw_term.specs.declared.decided.DecidedKind.{DecidedKind}
 use Rattle.mw_term.specs.Functions.{Function, always, made}
 use Rattle.mw_term.specs.Rows.{bit}
 use Rattle.mw_term.specs.Table.{table_of}
-use Rattle.mw_dd.specs.declared.nodes.Node.{Node}
+use Rattle.mw_dd.specs.Nodes.{Node}
 use Rattle.mw_blast.specs.declared.split.Split.{Split}
 use Rattle.mw_blast.specs.Splits.{IsSplit}
 use Rattle.mw_rel.specs.CaseWords.{CaseWords}

@@ -1,9 +1,8 @@
 -- The first assignment on a path under which a term of one bit is 0.
 use Rattle.std.proofs.Common.{◌≡◌, ap, subst, sym, ◌∙◌, arith, ℕ, List, slice_index}
 use Rattle.std.specs.Prelude.{IfSome, None, Option, Some}
-use Rattle.mw_dd.specs.Nodes.{Node}
 use Rattle.mw_dd.specs.Diagrams.{IsFirst, Keeps, functions_of}
-use Rattle.mw_dd.specs.Nodes.{IsDd, function_of}
+use Rattle.mw_dd.specs.Nodes.{Node, IsDd, function_of}
 use Rattle.mw_term.specs.Assigned.{Numbers, given_by}
 use Rattle.mw_term.specs.Cofactors.{Agree, AreSame}
 use Rattle.mw_term.specs.Functions.{Function, never}

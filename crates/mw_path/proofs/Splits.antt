@@ -4,8 +4,7 @@ use Rattle.std.specs.Prelude.{Bool, true, false, if◌then◌else◌}
 use Rattle.mw_term.specs.Cofactors.{Agree, HasAtMostCofactors}
 use Rattle.mw_term.specs.Functions.{Function, Triple}
 use Rattle.mw_term.specs.Laws.{TerminalCasesHaveNone}
-use Rattle.mw_dd.specs.Nodes.{Node}
-use Rattle.mw_dd.specs.Nodes.{function_of, IsDd}
+use Rattle.mw_dd.specs.Nodes.{Node, function_of, IsDd}
 use Rattle.mw_blast.specs.Bits.{StandsFor}
 use Rattle.mw_blast.specs.Splits.{IsSplit}
 use Rattle.mw_term.specs.PathWords.{path_zero, path_one}

@@ -3,9 +3,8 @@ use Rattle.std.specs.Prelude.{◌≡◌, ℕ, List}
 use Rattle.mw_term.specs.Table.{Extends, Table}
 use Rattle.mw_term.specs.Functions.{Function}
 use Rattle.mw_term.specs.Values as values
-use Rattle.mw_dd.specs.Nodes.{Node}
 use Rattle.mw_dd.specs.Diagrams.{Keeps}
-use Rattle.mw_dd.specs.Nodes.{IsDd, function_of}
+use Rattle.mw_dd.specs.Nodes.{Node, IsDd, function_of}
 use Rattle.mw_blast.specs.declared.shared.Shared.{Shared}
 use Rattle.mw_blast.specs.declared.split.Split.{Split}
 use Rattle.mw_blast.specs.Kept.{IsOf}

@@ -1,7 +1,6 @@
 use Rattle.std.proofs.Common.{◌≡◌, ℕ, List, ap, sym, subst, ◌∙◌}
 use Rattle.std.specs.Prelude.{Option, Some, None, IfSome, cond, true, not}
-use Rattle.mw_dd.specs.Nodes.{Node}
-use Rattle.mw_dd.specs.Nodes.{function_of}
+use Rattle.mw_dd.specs.Nodes.{Node, function_of}
 use Rattle.mw_term.specs.declared.decided.Decided.{Decided}
 use Rattle.mw_term.specs.Functions.{Function}
 use Rattle.mw_cycle.specs.Decided.{decided}
