@@ -142,7 +142,7 @@ impl Reader {
 
     fn begin_row(&mut self, name: &str, line: u64) -> Result<(), Fault> {
         self.end_of_part()?;
-        self.begun = Some(Begun {
+        let earlier = self.begun.replace(Begun {
             line,
             name: String::from_str(self.alloc, name)?,
             files: RowFiles {
@@ -152,6 +152,7 @@ impl Reader {
             },
             work: None,
         });
+        drop(earlier);
         self.section = Section::Row;
         Ok(())
     }
@@ -198,17 +199,18 @@ impl Reader {
         if !self.has_file(name) {
             return Err(wrong("no such file"));
         }
-        let change = Change {
-            file: String::from_str(self.alloc, name)?,
-            without: Vec::new(self.alloc),
-            lines: Vec::new(self.alloc),
-            turned: false,
-        };
+        let alloc = self.alloc;
         let row = self.row()?;
         if row.files.change.is_some() {
             return Err(wrong("a row has one change"));
         }
-        row.files.change = Some(change);
+        let none = row.files.change.replace(Change {
+            file: String::from_str(alloc, name)?,
+            without: Vec::new(alloc),
+            lines: Vec::new(alloc),
+            turned: false,
+        });
+        drop(none);
         self.section = Section::Change;
         Ok(())
     }
@@ -222,12 +224,23 @@ impl Reader {
         Ok(())
     }
 
-    fn take_work(&mut self, work: Work) -> Result<(), Fault> {
+    /// The place where the work of the row at hand goes, which has none yet.
+    fn work(&mut self) -> Result<&mut Option<Work>, Fault> {
         let row = self.row()?;
         if row.work.is_some() {
             return Err(wrong("a row has one call"));
         }
-        row.work = Some(work);
+        Ok(&mut row.work)
+    }
+
+    fn take_work(&mut self, work: Work) -> Result<(), Fault> {
+        match self.work() {
+            Ok(place) => drop(place.replace(work)),
+            Err(fault) => {
+                drop(work);
+                return Err(fault);
+            }
+        }
         self.section = Section::Row;
         Ok(())
     }
@@ -243,6 +256,8 @@ impl Reader {
             work,
         } = begun;
         let Some(work) = work else {
+            drop(name);
+            drop(files);
             return Err(wrong("the row has no call"));
         };
         let row = Row {
@@ -318,6 +333,32 @@ impl Reader {
             Line::Repeated(text) => push_repeated(self.text()?, text),
         }
     }
+
+    /// Takes the lines of a text.
+    fn take_all(&mut self, text: &str) -> Result<(), Fault> {
+        let mut number = 0u64;
+        for line in text.lines() {
+            number = number.saturating_add(1);
+            let taken = match line_of(line) {
+                Some(line) => self.take(line, number),
+                None => Err(wrong("no such line")),
+            };
+            if let Err(fault) = taken {
+                return Err(fault.at(number));
+            }
+        }
+        match self.end_of_part() {
+            Ok(()) => Ok(()),
+            Err(fault) => Err(fault.at(number)),
+        }
+    }
+
+    /// The rows that were read.
+    fn into_rows(self) -> Rows {
+        let Reader { rows, begun, .. } = self;
+        drop(begun);
+        rows
+    }
 }
 
 /// Reads a file of rows.
@@ -327,19 +368,11 @@ impl Reader {
 /// The first line that isn't what it has to be, and want of memory.
 pub fn rows_of(alloc: Global, text: &str) -> Result<Rows, Fault> {
     let mut reader = Reader::new(alloc);
-    let mut number = 0u64;
-    for line in text.lines() {
-        number = number.saturating_add(1);
-        let taken = match line_of(line) {
-            Some(line) => reader.take(line, number),
-            None => Err(wrong("no such line")),
-        };
-        if let Err(fault) = taken {
-            return Err(fault.at(number));
+    match reader.take_all(text) {
+        Ok(()) => Ok(reader.into_rows()),
+        Err(fault) => {
+            drop(reader);
+            Err(fault)
         }
-    }
-    match reader.end_of_part() {
-        Ok(()) => Ok(reader.rows),
-        Err(fault) => Err(fault.at(number)),
     }
 }

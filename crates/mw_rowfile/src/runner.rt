@@ -137,11 +137,17 @@ fn run_row<R: Print + AllocGlobal, W: Worker>(
     turned: bool,
 ) -> Result<bool, Fault> {
     let files = files_of(rt.alloc(), rows, &row.files, turned)?;
-    let came = worker.ended(rt.alloc(), &row.work, &files)?;
+    let came = worker.ended(rt.alloc(), &row.work, &files);
+    drop(files);
+    let came = came?;
     let wanted = is_wanted(row, &came);
-    if !wanted {
-        print_row(rt, file, row, &came)?;
-    }
+    let printed = if wanted {
+        Ok(())
+    } else {
+        print_row(rt, file, row, &came)
+    };
+    drop(came);
+    printed?;
     Ok(wanted)
 }
 
@@ -186,8 +192,10 @@ fn run_file<R: Files + Print + AllocGlobal, W: Worker>(
 ) -> Result<(u64, u64), Fault> {
     let text = fs::read_to_string(rt, name)?;
     let rows = rows_of(rt.alloc(), &text)?;
-    let otherwise = run_rows(rt, worker, name, &rows)?;
+    let otherwise = run_rows(rt, worker, name, &rows);
     let count = rows.rows.len() as u64;
+    drop(rows);
+    let otherwise = otherwise?;
     println!(rt; "{name}: {count} rows")?;
     Ok((count, otherwise))
 }

@@ -72,21 +72,24 @@ fn is_of_sequencer(name: &str) -> bool {
     matches!(name, "pc" | "r" | "sp" | "stack")
 }
 
-/// The state of a file; what isn't named is 0, but for the sequencer, which is named whole.
-pub fn state_of(alloc: Global, board: &Board, files: &[File]) -> Result<State, Fault> {
-    let mut state = State::new(alloc, board)?;
-    let words = file_words(alloc, files, "state")?;
-    for part in &words {
+/// Sets the parts of a state that these words name, but for the sequencer.
+fn set_parts(state: &mut State, words: &[String]) -> Result<(), Fault> {
+    for part in words {
         match part.split_once('=') {
             Some((name, _)) if is_of_sequencer(name) => {}
             Some((name, number)) => {
                 let number = hexadecimal(number)?;
-                set_part(&mut state, name, number)?;
+                set_part(state, name, number)?;
             }
             None => return Err(wrong("a part of a state is NAME=NUMBER")),
         }
     }
-    let seq = match sequencer_of(&words) {
+    Ok(())
+}
+
+/// Sets the sequencer of a state of the board, which these words name whole.
+fn set_sequencer(state: &mut State, board: &Board, words: &[String]) -> Result<(), Fault> {
+    let seq = match sequencer_of(words) {
         Ok(seq) => seq,
         Err(fault) => return Err(fault),
     };
@@ -94,7 +97,26 @@ pub fn state_of(alloc: Global, board: &Board, files: &[File]) -> Result<State, F
         return Err(wrong("a stack has as many words as the board's"));
     }
     state.seq = seq;
-    Ok(state)
+    Ok(())
+}
+
+/// Sets what the file `state` names of a state of the board.
+fn set_state(alloc: Global, state: &mut State, board: &Board, files: &[File]) -> Result<(), Fault> {
+    let words = file_words(alloc, files, "state")?;
+    set_parts(state, &words)?;
+    set_sequencer(state, board, &words)
+}
+
+/// The state of a file; what isn't named is 0, but for the sequencer, which is named whole.
+pub fn state_of(alloc: Global, board: &Board, files: &[File]) -> Result<State, Fault> {
+    let mut state = State::new(alloc, board)?;
+    match set_state(alloc, &mut state, board, files) {
+        Ok(()) => Ok(state),
+        Err(fault) => {
+            drop(state);
+            Err(fault)
+        }
+    }
 }
 
 /// What the outside has for the cycle.
