@@ -71,8 +71,4 @@ fn main(rt: HostRuntime) -> ExitCode {
 }
 
 #[cfg(test)]
-mod fault_tests;
-#[cfg(test)]
 mod pdp8_tests;
-#[cfg(test)]
-mod small;

@@ -1,4 +1,5 @@
-use crate::small::call;
+// The PDP-8 whose texts are constants. What commands print, and that each fetch and each put may fail, rows show.
+use crate::bench_by_shortcuts;
 use mw_cases::{Texts, pdp8};
 use mw_outside::{MemoryShelf, MemorySink};
 use std::alloc::Global;
@@ -20,6 +21,21 @@ fn texts(alloc: Global) -> Result<MemoryShelf, Fail> {
     Ok(shelf)
 }
 
+/// The number of the status with which a call with these words ends.
+fn call(
+    alloc: Global,
+    words: &[&str],
+    shelf: &mut MemoryShelf,
+    out: &mut MemorySink,
+) -> Result<u8, Fail> {
+    let mut owned = Vec::new(alloc);
+    for &word in words {
+        owned.push(String::from_str(alloc, word)?)?;
+    }
+    let status = bench_by_shortcuts(alloc, &owned, shelf, out);
+    Ok(status.ok().ok_or("shortcuts")?.number())
+}
+
 #[test]
 fn certify_pdp8_yes(rt: HostRuntime) -> Result<(), Fail> {
     let mut shelf = texts(rt.alloc())?;
@@ -28,15 +44,5 @@ fn certify_pdp8_yes(rt: HostRuntime) -> Result<(), Fail> {
     assert_eq!(rt; call(rt.alloc(), &words, &mut shelf, &mut out)?, 0);
     let yes = b"yes\nboundary 0x0 cases 31 cycles 21 machine-states all\n".as_slice();
     assert!(rt; out.bytes() == yes);
-    Ok(())
-}
-
-#[test]
-fn certify_pdp8_unknown(rt: HostRuntime) -> Result<(), Fail> {
-    let mut shelf = texts(rt.alloc())?;
-    let mut out = MemorySink::new(rt.alloc(), 4096, &[])?;
-    let words = ["certify", "b", "m", "k", "r", "--nodes", "1"];
-    assert_eq!(rt; call(rt.alloc(), &words, &mut shelf, &mut out)?, 2);
-    assert!(rt; out.bytes().starts_with(b"unknown nodes boundary "));
     Ok(())
 }
