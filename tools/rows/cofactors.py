@@ -18,9 +18,9 @@ from model.cofactors import Tables
 
 COFACTORS = """\
 # Functions of three variables made in two ways, sums of words of eight bits, and the budgets with which operations are
-# made: all 4,096 on three functions of two variables, and a thousand on three functions of three; and some with budgets up
-# to the product of the cofactors of their functions. tools/rows/cofactors.py prints these rows, and works out the answers
-# from truth tables, without the crates.
+# made: all 4,096 on three functions of two variables, and a thousand on three functions of three; some with budgets up to
+# the product of the cofactors of their functions; and some of whose functions one is another or its complement.
+# tools/rows/cofactors.py prints these rows, and works out the answers from truth tables, without the crates.
 """
 DIGITS = {"0", "1"}
 # The greatest budget that a line can name.
@@ -193,11 +193,25 @@ def product_rows():
         yield row(f"operations up to the product of their functions' cofactors, {number + 1}", lines)
 
 
+def told_rows():
+    """Budgets of operations of whose functions one is another, or its complement."""
+    draw, three = random.Random(7), tables_of(3)
+    for name, triple in [
+            ("the third is the complement of the second", lambda f, g: (f, g, complement(g))),
+            ("the second is the complement of the third", lambda f, g: (f, complement(g), g)),
+            ("the second is the complement of the first", lambda f, g: (f, complement(f), g)),
+            ("the third is the complement of the first", lambda f, g: (complement(f), g, f)),
+            ("the second is the first", lambda f, g: (f, f, g)),
+            ("the third is the first", lambda f, g: (f, g, f))]:
+        lines = ["budgets 12 " + " ".join(triple(*draw.choices(three, k=2))) for _ in range(20)]
+        yield row(f"operations on functions of three variables, where {name}", lines)
+
+
 def main():
     match sys.argv[1:]:
         case ["cofactors"]:
             print(COFACTORS)
-            for lines in [*function_rows(), *sum_rows(), *budget_rows(), *product_rows()]:
+            for lines in [*function_rows(), *sum_rows(), *budget_rows(), *product_rows(), *told_rows()]:
                 print("\n".join(lines) + "\n")
         case ["check", *paths]:
             sys.exit(read_anew(paths, report_of))
