@@ -1,4 +1,4 @@
-// The Am2901 as one word: a worked sum and shift. Sums of four bits are rows.
+// The Am2901 as one word: worked sums and shifts.
 use mw_alu::{AluOut, Pins, alu, shift};
 use mw_base::Width;
 use std::test::Fail;
@@ -9,6 +9,22 @@ fn flags(out: AluOut) -> u32 {
         | u32::from(out.overflow) << 2
         | u32::from(out.zero) << 1
         | u32::from(out.sign)
+}
+
+#[test]
+fn subr_of_zeros(rt: HostRuntime) -> Result<(), Fail> {
+    let width = Width::new(4).ok_or("a width")?;
+    let out = alu(width, 0o117, 0, 0, 0, 0, false);
+    assert_eq!(rt; (out.f, flags(out)), (15, 0b0001));
+    Ok(())
+}
+
+#[test]
+fn add_overflows(rt: HostRuntime) -> Result<(), Fail> {
+    let width = Width::new(4).ok_or("a width")?;
+    let out = alu(width, 0o105, 1, 0, 0, 7, false);
+    assert_eq!(rt; (out.f, flags(out)), (8, 0b0101));
+    Ok(())
 }
 
 #[test]
@@ -31,5 +47,14 @@ fn ramqd_shifts(rt: HostRuntime) -> Result<(), Fail> {
     let out = shift(width, 0o400, 3, 4, pins);
     assert!(rt; out.write_b && out.write_q);
     assert_eq!(rt; (out.b, out.q), (1, 10));
+    Ok(())
+}
+
+#[test]
+fn or_undefined_carry(rt: HostRuntime) -> Result<(), Fail> {
+    let width = Width::new(4).ok_or("a width")?;
+    let out = alu(width, 0o135, 15, 0, 0, 15, true);
+    assert!(rt; !out.defined && !out.carry && !out.overflow);
+    assert_eq!(rt; out.f, 15);
     Ok(())
 }

@@ -1,4 +1,4 @@
-// The Am2901 as slices: a worked sum and shift. Sums of one slice are rows.
+// The Am2901 as slices: worked sums and shifts.
 use mw_alu::{AluOut, Pins};
 use mw_base::Width;
 use mw_slice::{sliced, sliced_shift};
@@ -10,6 +10,22 @@ fn flags(out: AluOut) -> u32 {
         | u32::from(out.overflow) << 2
         | u32::from(out.zero) << 1
         | u32::from(out.sign)
+}
+
+#[test]
+fn subr_of_zeros(rt: HostRuntime) -> Result<(), Fail> {
+    let width = Width::new(4).ok_or("a width")?;
+    let out = sliced(width, 0o117, 0, 0, 0, 0, false);
+    assert_eq!(rt; (out.f, flags(out)), (15, 0b0001));
+    Ok(())
+}
+
+#[test]
+fn add_overflows(rt: HostRuntime) -> Result<(), Fail> {
+    let width = Width::new(4).ok_or("a width")?;
+    let out = sliced(width, 0o105, 1, 0, 0, 7, false);
+    assert_eq!(rt; (out.f, flags(out)), (8, 0b0101));
+    Ok(())
 }
 
 #[test]
