@@ -3,6 +3,7 @@
 
 mod beginning;
 mod block;
+mod difference;
 mod element;
 mod keep;
 mod programs;
@@ -10,5 +11,6 @@ mod reading;
 mod said;
 mod site;
 
+pub use difference::TwinDifference;
 pub use keep::{Block, Keep, KeepLine};
 pub use reading::read_keep;
