@@ -8,7 +8,9 @@ ghost use Rattle.mw_top.specs.Status.{status_number};
 
 use mw_base::NoMemory;
 use mw_outside::{FolderShelf, ScreenSink, Shelf, Sink};
-use mw_short::{all_constant, double_not, fixed_choice, neutral_constant, same_operands};
+use mw_short::{
+    all_constant, double_not, fixed_choice, neutral_constant, part_of_join, same_operands,
+};
 use mw_term::ShortcutBook;
 use mw_top::{Status, bench};
 use std::alloc::Global;
@@ -45,6 +47,7 @@ fn bench_by_shortcuts<S: Shelf, K: Sink>(
     book.add(alloc, Box::new(alloc, neutral_constant)?)?;
     book.add(alloc, Box::new(alloc, fixed_choice)?)?;
     book.add(alloc, Box::new(alloc, all_constant)?)?;
+    book.add(alloc, Box::new(alloc, part_of_join)?)?;
     Ok(bench(alloc, words, shelf, out, &book))
 }
 

@@ -18,7 +18,7 @@ use Rattle.mw_ready.proofs.Entries.{left_below}
 use Rattle.mw_ready.proofs.Steady.{nothing_is_thinned}
 
 -- what is left of an environment is one
-thinned_below : (board : BoardParts) (store : List ℕ) (env : ReadyEnvironment) (start : BoardState)
+pub thinned_below : (board : BoardParts) (store : List ℕ) (env : ReadyEnvironment) (start : BoardState)
     → IsReadyEnvironment board env → (series : Series) (i : ℕ)
     → slice_index (values_of (thinned board store env start) series) i < 2 ^ width_of board.width series
 thinned_below board store env start is Inputs i = is.inputs i

@@ -5,3 +5,10 @@ pub mod KeepLines
 pub mod KeepText
 pub mod Kept
 pub mod Sites
+pub mod Revision
+pub mod Together
+pub mod Twins
+pub mod Agreement
+pub mod TwinDiffers
+pub mod Laws
+pub mod Examples

@@ -5,6 +5,8 @@ ghost use Rattle.mw_base.specs.Steps.{steps};
 ghost use Rattle.mw_base.specs.TokenLines.{last_fault};
 ghost use Rattle.mw_revise.specs.KeepText.{at_first, with_said, with_tokens, known_after, keep_with, finished, keep_of};
 ghost use Rattle.mw_revise.specs.Kept.{IsOpen, IsKnown, IsKeep};
+ghost use Rattle.mw_revise.specs.Revision.{AreApart};
+ghost use Rattle.mw_revise.specs.declared.programs.Side.{Side};
 
 use crate::beginning::beginning_of;
 use crate::block::OpenBlock;
@@ -211,6 +213,7 @@ pub fn read_keep(
     ensures gives { Gives (λ keep. keep) result (keep_of
         (record { board = board.now; before = before.now.labels; after = after.now.labels }) text.now) }
     ensures kept { IfOk result (λ keep. IsKeep board.now keep) }
+    ensures apart { IfOk result (λ keep. (side : Side) → AreApart side keep.blocks) }
 {
     let programs = Programs {
         board,

@@ -6,7 +6,9 @@ mod outside;
 
 use mw_base::NoMemory;
 use mw_rowfile::{End, Fault, File, Work, Worker, run, wrong};
-use mw_short::{all_constant, double_not, fixed_choice, neutral_constant, same_operands};
+use mw_short::{
+    all_constant, double_not, fixed_choice, neutral_constant, part_of_join, same_operands,
+};
 use mw_term::ShortcutBook;
 use mw_top::Status;
 use outside::{Outside, bench_over, steady_status};
@@ -81,6 +83,7 @@ fn run_rows<R: Env + Files + Print + AllocGlobal>(rt: &R) -> Result<ExitCode, No
     book.add(alloc, Box::new(alloc, neutral_constant)?)?;
     book.add(alloc, Box::new(alloc, fixed_choice)?)?;
     book.add(alloc, Box::new(alloc, all_constant)?)?;
+    book.add(alloc, Box::new(alloc, part_of_join)?)?;
     Ok(run(rt, &Commands { book: &book }))
 }
 

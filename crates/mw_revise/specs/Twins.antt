@@ -1,0 +1,58 @@
+-- Runs of both programs from states that stand together.
+use Rattle.std.specs.Prelude.{◌≡◌, ℕ, Bool}
+use Rattle.mw_cycle.specs.Boundary.{IsBoundary}
+use Rattle.mw_cycle.specs.State.{BoardState}
+use Rattle.mw_ready.specs.Environment.{ReadyEnvironment, IsReadyEnvironment}
+use Rattle.mw_ready.specs.Run.{ReadyRun, run_of_cycles, line_of_cycle}
+use Rattle.mw_revise.specs.declared.keep.Block.{Block}
+use Rattle.mw_revise.specs.declared.programs.Side.{Side}
+use Rattle.mw_revise.specs.declared.programs.Side.TheVariants.{Old, New}
+use Rattle.mw_revise.specs.Revision.{Revision, store_of, addresses_of, IsBlockOf}
+use Rattle.mw_revise.specs.Together.{StandTogether}
+
+-- where the run of a program begins: a state, and an environment
+pub record ProgramStart : Type 0 where
+  pub state : BoardState
+  pub env : ReadyEnvironment
+
+-- a boundary, and where the run of each program begins
+pub record Twins : Type 0 where
+  pub block : Block
+  pub before : ProgramStart
+  pub after : ProgramStart
+
+-- where the run of one of both programs begins
+abbrev pub start_on : Side → Twins → ProgramStart
+start_on Old twins = twins.before
+start_on New twins = twins.after
+
+-- its run of n cycles
+abbrev pub run_on : Side → Revision → Twins → ℕ → ReadyRun
+run_on side revision twins n =
+    run_of_cycles revision.board (store_of side revision) (start_on side twins).env (start_on side twins).state n
+
+-- the control address after n cycles of it
+abbrev pub address_after : Side → Revision → Twins → ℕ → ℕ
+address_after side revision twins n = (run_on side revision twins n).state.at
+
+-- the line of the clock that makes cycle n of it
+abbrev pub line_on : Side → Revision → Twins → ℕ → Bool
+line_on side revision twins n =
+    line_of_cycle revision.board (store_of side revision) (start_on side twins).env (start_on side twins).state n
+
+-- boundary k of it is at cycle c
+abbrev pub IsBoundaryOn : Side → Revision → Twins → ℕ → ℕ → Type 0
+IsBoundaryOn side revision twins k c =
+    IsBoundary (addresses_of side revision) (address_after side revision twins) k c
+
+-- a boundary of the file, two states that stand together there, and two environments with equal inputs
+pub record AreTwins (revision : Revision) (twins : Twins) : Type 0 where
+  pub block : IsBlockOf revision twins.block
+  pub together : StandTogether revision.board twins.block twins.before.state twins.after.state
+  pub environments : (side : Side) → IsReadyEnvironment revision.board (start_on side twins).env
+  pub inputs : twins.before.env.inputs ≡ twins.after.env.inputs
+
+-- a twin start: twins whose first segments have the same line in their first cycle
+pub record IsTwinStart (revision : Revision) (twins : Twins) : Type 0 where
+  pub are : AreTwins revision twins
+  pub line : line_on Old revision twins 0 ≡ line_on New revision twins 0

@@ -1,0 +1,47 @@
+// Worked revisions, computed on the definitions.
+ghost use Rattle.std.specs.Prelude.{◌≡◌, [], ◌∷◌, Some, None, true};
+ghost use Rattle.mw_board.specs.Examples.{small_board};
+ghost use Rattle.mw_ready.specs.Examples.{memory_board, waiting, writing_board};
+ghost use Rattle.mw_revise.specs.declared.difference.TwinDifference.TheVariants as differences;
+ghost use Rattle.mw_revise.specs.declared.programs.Side.TheVariants.{Old, New};
+ghost use Rattle.mw_revise.specs.Agreement.{Agreement};
+ghost use Rattle.mw_revise.specs.Examples.{adds, block_with, leaves, nothing, ors, parted_revision, pushes, reached};
+ghost use Rattle.mw_revise.specs.Examples.{reached_as, register_lines, revision_with, shown, small_revision, small_twins};
+ghost use Rattle.mw_revise.specs.Examples.{speaking_board, staying, twins_with};
+ghost use Rattle.mw_revise.specs.TwinDiffers.{twin_difference};
+ghost use Rattle.mw_revise.specs.Twins.{line_on};
+
+/// A program that adds and jumps in two cycles, and others in its place. One that does it in one cycle shows no
+/// difference, and both have come to the same registers after three segments. With an or in place of the sum the first
+/// register is another where a carry matters, and nothing where it doesn't. A bound of one cycle makes the old program
+/// late; a new program that never comes back is late; the second of two outputs is missing; a boundary between the
+/// words is met by the old program alone; a push is on one stack alone; and where no line is compared the memories
+/// differ. Waits before the old program's cycles change nothing, and its first line is that of the clock behind them.
+pub fn revisions_are_worked()
+    ensures sums { shown adds (9 ∷ 8 ∷ []) ≡ None }
+    ensures old_register { reached Old adds (9 ∷ 8 ∷ []) 6 ≡ reached_as 0 1 8 }
+    ensures new_register { reached New adds (9 ∷ 8 ∷ []) 3 ≡ reached_as 4 1 8 }
+    ensures carry { shown ors (8 ∷ 8 ∷ []) ≡ Some (differences.Element 0) }
+    ensures no_carry { shown ors (8 ∷ 7 ∷ []) ≡ None }
+    ensures late_old { twin_difference (revision_with small_board adds (block_with 1 register_lines ∷ []))
+        (twins_with (block_with 1 register_lines) (9 ∷ 8 ∷ []) nothing nothing) ≡ Some differences.LateOld }
+    ensures late_new { shown leaves (9 ∷ 8 ∷ []) ≡ Some differences.LateNew }
+    ensures event { twin_difference (revision_with speaking_board adds (block_with 2 register_lines ∷ []))
+        (small_twins (9 ∷ 8 ∷ [])) ≡ Some (differences.Event 1) }
+    ensures boundary { twin_difference parted_revision (small_twins (9 ∷ 8 ∷ [])) ≡ Some differences.Boundary }
+    ensures stack_pointer { shown pushes (9 ∷ 8 ∷ []) ≡ Some differences.StackPointer }
+    ensures memory { twin_difference (revision_with writing_board ors (block_with 2 [] ∷ []))
+        (twins_with (block_with 2 []) (8 ∷ 8 ∷ []) nothing nothing) ≡ Some (differences.Memory 0) }
+    ensures waits { twin_difference (revision_with memory_board adds (block_with 2 register_lines ∷ []))
+        (twins_with (block_with 2 register_lines) (9 ∷ 8 ∷ []) waiting nothing) ≡ None }
+    ensures line { line_on Old (revision_with memory_board adds (block_with 2 register_lines ∷ []))
+        (twins_with (block_with 2 register_lines) (9 ∷ 8 ∷ []) waiting nothing) 0 ≡ true }
+{}
+
+/// The law of revisions, used in both directions: two programs that only jump to their boundary agree, over all runs,
+/// since no twin start of theirs differs; and a program that takes an or in place of a sum doesn't agree with the one
+/// that adds, since a twin start differs.
+pub fn agreement_is_worked()
+    ensures agree { Agreement staying }
+    ensures differ { ¬ Agreement (small_revision ors) }
+{}
