@@ -1,7 +1,7 @@
 -- The boundaries that a KEEP text says are at control addresses of their own in both programs.
-use Rattle.std.proofs.Common.{◌≡◌, ℕ, zero, suc, ◌+◌, List, [], ◌∷◌, ◌++◌, Bool, true, false, not, ◌==◌, cond, find, Option}
-use Rattle.std.proofs.Common.{Some, None, Result, Ok, Err, refl, sym, ap, ◌∙◌, subst, ◌⊎◌, inl, inr}
-use Rattle.std.specs.Prelude.{IfSome, is_none, nat_lt, length, ok_or, slice_get}
+use Rattle.std.proofs.Common.{◌≡◌, ℕ, zero, suc, ◌+◌, List, [], ◌∷◌, ◌++◌, Bool, true, false, not, ◌||◌, ◌==◌, cond, find}
+use Rattle.std.proofs.Common.{Option, Some, None, Result, Ok, Err, refl, sym, ap, ◌∙◌, subst, ◌⊎◌, inl, inr}
+use Rattle.std.specs.Prelude.{IfOk, IfSome, is_none, nat_lt, length, ok_or, slice_get}
 use Rattle.std.specs.List.{list_any}
 use Rattle.std.specs.Option.{option_or}
 use Rattle.std.proofs.lemmas.Bool.{eq-eqb}
@@ -11,11 +11,12 @@ use Rattle.mw_base.specs.declared.cursor.Dotted.{Dotted}
 use Rattle.mw_base.specs.declared.cursor.Numeral.{Numeral}
 use Rattle.mw_base.specs.declared.line.Line.{Line}
 use Rattle.mw_base.specs.declared.place.Place.{Place}
+use Rattle.mw_base.specs.declared.refusal.Refused.{Refused}
 use Rattle.mw_base.specs.declared.refusal.TextFault.{TextFault}
 use Rattle.mw_base.specs.declared.token.Token.{Token}
 use Rattle.mw_base.specs.Cursors.{at_line}
 use Rattle.mw_base.specs.Places.{address_of}
-use Rattle.mw_base.specs.Reading.{◌>>=◌}
+use Rattle.mw_base.specs.Reading.{◌>>=◌, Gives}
 use Rattle.mw_base.specs.Steps.{steps}
 use Rattle.mw_base.specs.TokenLines.{fault_on, text_end, token_lines}
 use Rattle.mw_base.proofs.Results.{bind_ok, if_ok, ok_is, ok_of}
@@ -48,7 +49,7 @@ use Rattle.mw_revise.specs.Sites.{Programs, address_on, both, free_address, is_t
 -- ---- boundaries with one more behind them
 
 -- where no boundary passes, none is found
-none_at : (here : Bool) (block : Block) (found : Option Block) (rest : Bool) → cond here true rest ≡ false
+none_at : (here : Bool) (block : Block) (found : Option Block) (rest : Bool) → (here || rest) ≡ false
     → (rest ≡ false → found ≡ None) → cond here (Some block) found ≡ None
 none_at true block found rest taken others = cc
 none_at false block found rest taken others = others taken
@@ -266,3 +267,10 @@ keep_is_apart programs text keep is =
     (λ before after line. any_apart programs text before after line line.tokens) at_first two.0 one.0 two.1
     first_apart in
     finished_apart (text_end one.0 BadSyntax) two.0.blocks two.0.block keep two.2 known.blocks
+
+-- so are those of a text that was read
+pub read_is_apart : (programs : Programs) (text : List ℕ) (read : Result Keep (Refused TextFault))
+    → Gives (λ keep. keep) read (keep_of programs text)
+    → IfOk read (λ keep. (side : Side) → AreApart side keep.blocks)
+read_is_apart programs text (Ok keep) gives = keep_is_apart programs text keep gives
+read_is_apart programs text (Err refusal) gives = tt

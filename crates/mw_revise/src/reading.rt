@@ -177,6 +177,19 @@ impl Known {
     }
 }
 
+/// What a text says of two programs, as `read_keep` has it.
+#[tactic(auto, unfolding(crate::specs::KeepText::keep_of))]
+fn keep_of(alloc: Global, programs: &Programs, text: &[u8]) -> Result<Keep, Refusal>
+    requires { length text.now < 2 ^ 32 }
+    ensures gives { Gives (λ keep. keep) result (keep_of programs.now text.now) }
+    ensures kept { IfOk result (λ keep. IsKeep programs.now.board keep) }
+{
+    let lines = lines(alloc, text)?;
+    let known = Known::of_lines(alloc, programs, text, &lines)?;
+    let end = text_end(&lines, Cause::BadSyntax);
+    known.finish(programs.board, end).map_err(Refused::At)
+}
+
 /// What a text says of two programs on one board.
 ///
 /// A text is of blocks. A block begins with a line `boundary PLACE BOUND` and ends with a line `end`; PLACE is a label
@@ -201,7 +214,6 @@ impl Known {
 ///
 /// Last come 60 just past the text's last line, where a block is open there, and 53 at line 1 and column 1, where there
 /// is none. Want of memory.
-#[tactic(auto, unfolding(crate::specs::KeepText::keep_of))]
 pub fn read_keep(
     alloc: Global,
     board: &Board,
@@ -220,8 +232,5 @@ pub fn read_keep(
         before: before.labels.as_slice(),
         after: after.labels.as_slice(),
     };
-    let lines = lines(alloc, text)?;
-    let known = Known::of_lines(alloc, &programs, text, &lines)?;
-    let end = text_end(&lines, Cause::BadSyntax);
-    known.finish(board, end).map_err(Refused::At)
+    keep_of(alloc, &programs, text)
 }
