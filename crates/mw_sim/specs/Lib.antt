@@ -3,4 +3,5 @@ pub mod Lines
 pub mod Settings
 pub mod Start
 pub mod Views
+pub mod StateText
 pub mod Texts

@@ -1,5 +1,5 @@
 -- The texts of reports.
-use Rattle.std.specs.Prelude.{ℕ, ◌-◌, List, [], ◌∷◌, ◌++◌, codes, slice_index_or, ◌==◌, nat_lt, if◌then◌else◌}
+use Rattle.std.specs.Prelude.{ℕ, ◌-◌, List, [], ◌++◌, codes, slice_index_or, nat_lt, if◌then◌else◌}
 use Rattle.std.specs.Option.{unwrap_or}
 use Rattle.mw_base.specs.Numbers.{hex, decimal}
 use Rattle.mw_base.specs.Causes.{cause_number}
@@ -18,10 +18,6 @@ use Rattle.mw_top.specs.declared.fault.Fault.TheVariants.{Text, Board}
 -- what faulty words are answered with
 abbrev pub usage_line : List ℕ
 usage_line = line (codes "usage: mw_bench COMMAND FILES [--nodes N] [--paths P] [--steps K] [--cycles C] [--parts]")
-
--- the line of a value, which begins with what and whose it is; none where it is 0
-unfoldable pub value_line : (front name : List ℕ) → ℕ → List ℕ
-value_line front name value = if value == 0 then [] else line (front ++ name ++ 32 ∷ hex value)
 
 -- a file that can't be read
 abbrev pub fault_line : List ℕ → List ℕ

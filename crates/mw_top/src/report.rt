@@ -1,7 +1,7 @@
 // The texts of reports.
 ghost use Rattle.std.specs.Prelude.{◌≡◌, ◌++◌, [], OnOk, slice_index_or};
 ghost use Rattle.mw_sim.specs.Texts.{line};
-ghost use Rattle.mw_top.specs.Report.{usage_line, value_line, fault_line, cause_text, place_text, reader_text};
+ghost use Rattle.mw_top.specs.Report.{usage_line, fault_line, cause_text, place_text, reader_text};
 ghost use Rattle.mw_top.specs.Report.{fault_text, refusal_line};
 ghost use Rattle.mw_top.specs.Differences.{AreOf32Bits};
 ghost use Rattle.mw_top.specs.Report.{difference_line, difference_text, element_text};
@@ -15,7 +15,7 @@ use mw_macro::Machine;
 use mw_plan::FileFault;
 use mw_rel::Job;
 use mw_replay::Difference;
-use mw_sim::{append_hex_line, append_line};
+use mw_sim::append_line;
 use std::alloc::Global;
 
 const USAGE: &[u8] =
@@ -33,25 +33,6 @@ pub(crate) fn append_decimal_line(
     report.extend_from_slice(front)?;
     append_decimal(alloc, report, u64::from(number))?;
     append_line(report, b"")
-}
-
-/// Appends the line of a value, which begins with what and whose it is; none where it is 0.
-#[tactic(auto, unfolding(crate::specs::Report::value_line))]
-pub(crate) fn append_value_line(
-    alloc: Global,
-    report: &mut Vec<u8>,
-    front: &[u8],
-    name: &[u8],
-    value: u32,
-) -> Result<(), NoMemory>
-    ensures { OnOk result (report.new.items ≡ report.old.items ++ value_line front.now name.now value) }
-{
-    if value != 0 {
-        report.extend_from_slice(front)?;
-        report.extend_from_slice(name)?;
-        append_hex_line(alloc, report, b" ", value)?;
-    }
-    Ok(())
 }
 
 /// Appends the answer to faulty words.
