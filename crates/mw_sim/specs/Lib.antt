@@ -1,3 +1,4 @@
+pub mod DifferenceWords
 pub mod Run
 pub mod Lines
 pub mod Settings

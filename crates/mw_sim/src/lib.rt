@@ -2,6 +2,7 @@
 //! reports that show it.
 #![tactic(auto)]
 
+mod difference_words;
 mod lines;
 mod parts;
 mod run;
@@ -10,6 +11,7 @@ mod start;
 mod state_text;
 mod texts;
 
+pub use difference_words::{append_element_words, append_event_words, append_memory_words};
 pub use parts::Parts;
 pub use run::{Late, run_cycles, run_to_boundary};
 pub use settings::{Owner, Settable, Settings, given_by, two_to, value_below};
