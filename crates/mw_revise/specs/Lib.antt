@@ -5,3 +5,4 @@ pub mod KeepLines
 pub mod KeepText
 pub mod Kept
 pub mod Sites
+pub mod TwinText
