@@ -12,3 +12,4 @@ pub mod Agreement
 pub mod TwinDiffers
 pub mod Laws
 pub mod Examples
+pub mod TwinText

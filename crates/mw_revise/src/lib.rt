@@ -1,5 +1,5 @@
-//! Revisions of microprograms: what a KEEP text says of an old and a new program on one board, and what it is that they
-//! agree.
+//! Revisions of microprograms: what a KEEP text says of an old and a new program on one board, what it is that they
+//! agree, and the text of a start from which they differ.
 #![tactic(auto)]
 
 mod beginning;
@@ -13,9 +13,11 @@ mod programs;
 mod reading;
 mod said;
 mod site;
+mod twin;
 
 pub use difference::TwinDifference;
-pub use examples::revisions_are_worked;
+pub use examples::{agreement_is_worked, revisions_are_worked};
 pub use keep::{Block, Keep, KeepLine};
 pub use laws::{agree_where_none_differs, same_show_nothing};
 pub use reading::read_keep;
+pub use twin::{Twin, print_twin};

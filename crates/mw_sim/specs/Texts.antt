@@ -9,6 +9,10 @@ use Rattle.mw_base.specs.declared.event.Event.TheVariants.{Out, Taken}
 abbrev pub line : List ℕ → List ℕ
 line text = text ++ 10 ∷ []
 
+-- the line of a value, which begins with what and whose it is; none where it is 0
+unfoldable pub value_line : (front name : List ℕ) → ℕ → List ℕ
+value_line front name value = if value == 0 then [] else line (front ++ name ++ 32 ∷ hex value)
+
 -- the line of an event
 abbrev pub event_line : Event → List ℕ
 event_line (Out word) = line (codes "out " ++ hex word)

@@ -1,7 +1,7 @@
 // Lines of reports that several commands print.
 ghost use Rattle.std.specs.Prelude.{◌≡◌, ◌<◌, ◌++◌, OnOk, length, slice_index};
 ghost use Rattle.mw_base.specs.Numbers.{hex};
-ghost use Rattle.mw_sim.specs.Texts.{event_line, line, memory_lines, word_line};
+ghost use Rattle.mw_sim.specs.Texts.{event_line, line, memory_lines, value_line, word_line};
 
 use mw_base::{Event, NoMemory, append_hex};
 use std::alloc::Global;
@@ -35,6 +35,29 @@ pub fn append_hex_line(
     report.extend_from_slice(front)?;
     append_hex(alloc, report, u128::from(number))?;
     append_line(report, b"")
+}
+
+/// Appends the line of a value, which begins with what and whose it is; none where it is 0.
+///
+/// # Errors
+///
+/// Memory ran out: the text may only be dropped then.
+#[tactic(auto, unfolding(crate::specs::Texts::value_line))]
+pub fn append_value_line(
+    alloc: Global,
+    report: &mut Vec<u8>,
+    front: &[u8],
+    name: &[u8],
+    value: u32,
+) -> Result<(), NoMemory>
+    ensures { OnOk result (report.new.items ≡ report.old.items ++ value_line front.now name.now value) }
+{
+    if value != 0 {
+        report.extend_from_slice(front)?;
+        report.extend_from_slice(name)?;
+        append_hex_line(alloc, report, b" ", value)?;
+    }
+    Ok(())
 }
 
 /// Appends the line of an event.

@@ -12,7 +12,7 @@ use Rattle.mw_replay.specs.CounterPrinted.{environment_lines}
 use Rattle.mw_replay.proofs.Starts.{starts_are_one}
 use Rattle.mw_top.specs.Commands.Compare.{compare_report}
 use Rattle.mw_top.specs.Commands.Pal.{pal_report, printed_lines, start_text}
-use Rattle.mw_top.specs.StateText.{state_text}
+use Rattle.mw_sim.specs.StateText.{state_text}
 
 -- the start of a counter with this pair
 abbrev pub start_of : Job → Counter → Pair → Start

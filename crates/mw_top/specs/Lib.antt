@@ -15,7 +15,6 @@ pub mod PrefixText
 pub mod Report
 pub mod Request
 pub mod RunText
-pub mod StateText
 pub mod Status
 pub mod Upgraded
 pub mod Work

@@ -1,16 +1,16 @@
 -- The texts of reports.
-use Rattle.std.specs.Prelude.{ℕ, ◌-◌, List, [], ◌∷◌, ◌++◌, codes, slice_index_or, ◌==◌, nat_lt, if◌then◌else◌}
-use Rattle.std.specs.Option.{unwrap_or}
-use Rattle.mw_base.specs.Numbers.{hex, decimal}
+use Rattle.std.specs.Prelude.{ℕ, ◌-◌, List, [], ◌++◌, codes, slice_index_or, nat_lt, if◌then◌else◌}
+use Rattle.mw_base.specs.Numbers.{decimal}
 use Rattle.mw_base.specs.Causes.{cause_number}
 use Rattle.mw_base.specs.declared.cause.Cause.{Cause}
 use Rattle.mw_base.specs.declared.cause.Cause.TheVariants.{FileTooLong}
-use Rattle.mw_board.specs.Elements.{element_count, element_name}
+use Rattle.mw_board.specs.Elements.{element_count}
 use Rattle.mw_plan.specs.declared.fault.FileFault.{FileFault}
 use Rattle.mw_plan.specs.declared.fault.FileFault.TheVariants.{TooLong, At}
 use Rattle.mw_rel.specs.declared.difference.Difference.{Difference}
 use Rattle.mw_rel.specs.declared.difference.Difference.TheVariants.{Late, Event, StackPointer, Element, Memory}
 use Rattle.mw_rel.specs.Job.{Job}
+use Rattle.mw_sim.specs.DifferenceWords.{element_words, event_words, memory_words}
 use Rattle.mw_sim.specs.Texts.{line}
 use Rattle.mw_top.specs.declared.fault.Fault.{Fault}
 use Rattle.mw_top.specs.declared.fault.Fault.TheVariants.{Text, Board}
@@ -18,10 +18,6 @@ use Rattle.mw_top.specs.declared.fault.Fault.TheVariants.{Text, Board}
 -- what faulty words are answered with
 abbrev pub usage_line : List ℕ
 usage_line = line (codes "usage: mw_bench COMMAND FILES [--nodes N] [--paths P] [--steps K] [--cycles C] [--parts]")
-
--- the line of a value, which begins with what and whose it is; none where it is 0
-unfoldable pub value_line : (front name : List ℕ) → ℕ → List ℕ
-value_line front name value = if value == 0 then [] else line (front ++ name ++ 32 ∷ hex value)
 
 -- a file that can't be read
 abbrev pub fault_line : List ℕ → List ℕ
@@ -52,16 +48,16 @@ refusal_line file fault = line (codes "refused " ++ file ++ fault_text fault)
 -- an element of a job: those of the board come first, and behind them the machine's registers
 abbrev pub element_text : Job → ℕ → List ℕ
 element_text job e =
-    if nat_lt e (element_count job.board) then codes "element b." ++ unwrap_or (element_name job.board e) []
+    if nat_lt e (element_count job.board) then element_words job.board e
     else codes "element m." ++ slice_index_or job.machine.names (e - element_count job.board) []
 
 -- a difference that a start of a job shows
 unfoldable pub difference_text : Job → Difference → List ℕ
 difference_text job Late = codes "late"
-difference_text job (Event n) = codes "event " ++ decimal n
+difference_text job (Event n) = event_words n
 difference_text job StackPointer = codes "element b.sp"
 difference_text job (Element e) = element_text job e
-difference_text job (Memory a) = codes "memory " ++ hex a
+difference_text job (Memory a) = memory_words a
 
 -- the line of a difference that a start of a job shows
 abbrev pub difference_line : Job → Difference → List ℕ

@@ -5,7 +5,7 @@ use Rattle.mw_base.specs.Numbers.{decimal}
 use Rattle.mw_board.specs.declared.parts.BoardParts.{BoardParts}
 use Rattle.mw_cycle.specs.Run.{BoardRun, run_of}
 use Rattle.mw_sim.specs.Texts.{event_line, line}
-use Rattle.mw_top.specs.StateText.{state_text}
+use Rattle.mw_sim.specs.StateText.{state_text}
 use Rattle.mw_top.specs.Work.{Prepared}
 
 -- a run of so many cycles: their number, the events in order, and the state after them

@@ -8,7 +8,6 @@ mod outcome;
 mod prefix_text;
 mod report;
 mod request;
-mod state_text;
 mod status;
 mod top_call;
 

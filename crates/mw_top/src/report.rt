@@ -1,21 +1,21 @@
 // The texts of reports.
 ghost use Rattle.std.specs.Prelude.{◌≡◌, ◌++◌, [], OnOk, slice_index_or};
 ghost use Rattle.mw_sim.specs.Texts.{line};
-ghost use Rattle.mw_top.specs.Report.{usage_line, value_line, fault_line, cause_text, place_text, reader_text};
+ghost use Rattle.mw_top.specs.Report.{usage_line, fault_line, cause_text, place_text, reader_text};
 ghost use Rattle.mw_top.specs.Report.{fault_text, refusal_line};
 ghost use Rattle.mw_top.specs.Differences.{AreOf32Bits};
 ghost use Rattle.mw_top.specs.Report.{difference_line, difference_text, element_text};
-ghost use Rattle.mw_base.specs.Numbers.{decimal, hex};
+ghost use Rattle.mw_base.specs.Numbers.{decimal};
 ghost use Rattle.mw_macro.specs.Described.{description_of};
 ghost use Rattle.mw_rel.specs.Views.{job_of};
 
 use crate::fault::Fault;
-use mw_base::{Cause, NoMemory, append_decimal, append_hex};
+use mw_base::{Cause, NoMemory, append_decimal};
 use mw_macro::Machine;
 use mw_plan::FileFault;
 use mw_rel::Job;
 use mw_replay::Difference;
-use mw_sim::{append_hex_line, append_line};
+use mw_sim::{append_element_words, append_event_words, append_line, append_memory_words};
 use std::alloc::Global;
 
 const USAGE: &[u8] =
@@ -33,25 +33,6 @@ pub(crate) fn append_decimal_line(
     report.extend_from_slice(front)?;
     append_decimal(alloc, report, u64::from(number))?;
     append_line(report, b"")
-}
-
-/// Appends the line of a value, which begins with what and whose it is; none where it is 0.
-#[tactic(auto, unfolding(crate::specs::Report::value_line))]
-pub(crate) fn append_value_line(
-    alloc: Global,
-    report: &mut Vec<u8>,
-    front: &[u8],
-    name: &[u8],
-    value: u32,
-) -> Result<(), NoMemory>
-    ensures { OnOk result (report.new.items ≡ report.old.items ++ value_line front.now name.now value) }
-{
-    if value != 0 {
-        report.extend_from_slice(front)?;
-        report.extend_from_slice(name)?;
-        append_hex_line(alloc, report, b" ", value)?;
-    }
-    Ok(())
 }
 
 /// Appends the answer to faulty words.
@@ -155,8 +136,7 @@ fn append_element(report: &mut Vec<u8>, job: &Job, element: u32) -> Result<(), N
     let number = element as usize;
     let of_board = job.board.element_count();
     if number < of_board {
-        report.extend_from_slice(b"element b.")?;
-        report.extend_from_slice(job.board.element_name(number).unwrap_or(b""))?;
+        append_element_words(report, &job.board, number)?;
     } else {
         report.extend_from_slice(b"element m.")?;
         report.extend_from_slice(register_name(&job.machine, number - of_board))?;
@@ -177,16 +157,10 @@ fn append_difference(
 {
     match difference {
         Difference::Late => report.extend_from_slice(b"late")?,
-        Difference::Event(number) => {
-            report.extend_from_slice(b"event ")?;
-            append_decimal(alloc, report, u64::from(number))?;
-        }
+        Difference::Event(number) => append_event_words(alloc, report, number)?,
         Difference::StackPointer => report.extend_from_slice(b"element b.sp")?,
         Difference::Element(element) => append_element(report, job, element)?,
-        Difference::Memory(address) => {
-            report.extend_from_slice(b"memory ")?;
-            append_hex(alloc, report, u128::from(address))?;
-        }
+        Difference::Memory(address) => append_memory_words(alloc, report, address)?,
     }
     Ok(())
 }

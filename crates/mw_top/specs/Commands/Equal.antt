@@ -9,14 +9,13 @@ use Rattle.mw_check.specs.Question.{Asked, IsQuestion}
 use Rattle.mw_check.specs.QuestionText.{question_of}
 use Rattle.mw_expr.specs.Values.{value}
 use Rattle.mw_plan.specs.Plan.{Plan, done, ◌>>=◌, next_by}
-use Rattle.mw_sim.specs.Texts.{line}
+use Rattle.mw_sim.specs.Texts.{line, value_line}
 use Rattle.mw_top.specs.declared.commands.Work.{Work}
 use Rattle.mw_top.specs.declared.commands.Work.TheVariants as works
 use Rattle.mw_top.specs.declared.fault.Fault.{Fault}
 use Rattle.mw_top.specs.declared.fault.Fault.TheVariants.{Text}
 use Rattle.mw_top.specs.declared.status.Status.{Status}
 use Rattle.mw_top.specs.declared.status.Status.TheVariants.{Done, Differs, Unknown}
-use Rattle.mw_top.specs.Report.{value_line}
 
 -- the question of the file
 unfoldable pub equal_plan : Plan Fault Work

@@ -21,7 +21,7 @@ use Rattle.mw_top.specs.declared.fault.Fault.TheVariants.{Text}
 use Rattle.mw_top.specs.declared.status.Status.{Status}
 use Rattle.mw_top.specs.Commands.Compare.{compare_report, compare_status}
 use Rattle.mw_top.specs.Commands.Job.{job_plan}
-use Rattle.mw_top.specs.StateText.{state_text}
+use Rattle.mw_sim.specs.StateText.{state_text}
 use Rattle.mw_top.specs.Work.{Console}
 
 -- ---- its files

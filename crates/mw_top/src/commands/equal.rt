@@ -12,14 +12,13 @@ ghost use Rattle.mw_top.specs.Commands.Equal.{variable_line, variable_lines, wor
 use super::Work;
 use crate::fault::Fault;
 use crate::outcome::Outcome;
-use crate::report::append_value_line;
 use crate::status::Status;
 use mw_base::{Name, NoMemory, Refusal, append_decimal, append_hex};
 use mw_check::{Equality, Question, equal, read_question};
 use mw_expr::value;
 use mw_outside::Shelf;
 use mw_plan::{Files, Stop};
-use mw_sim::append_line;
+use mw_sim::{append_line, append_value_line};
 use mw_term::ShortcutBook;
 use std::alloc::Global;
 use std::marker::Model;

@@ -17,7 +17,6 @@ use super::compare::{append_comparison, status_of};
 use super::job::{Labelled, read_job};
 use crate::fault::Fault;
 use crate::outcome::Outcome;
-use crate::state_text::append_state;
 use mw_base::{Cause, Items, NoMemory, Refusal, Refused, TextFault};
 use mw_check::{Compared, compare};
 use mw_outside::Shelf;
@@ -25,7 +24,7 @@ use mw_pal::{Talk, console, fits_pal, read_pal};
 use mw_plan::{Files, Stop};
 use mw_rel::{Begin, Job, complete};
 use mw_replay::{Counter, append_environment, append_values_lines};
-use mw_sim::append_line;
+use mw_sim::{append_line, append_state};
 use std::alloc::Global;
 use std::marker::Model;
 

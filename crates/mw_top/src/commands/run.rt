@@ -16,7 +16,6 @@ use super::prepared::{Prepared, read_prepared};
 use crate::fault::Fault;
 use crate::outcome::Outcome;
 use crate::report::append_decimal_line;
-use crate::state_text::append_state;
 use crate::status::Status;
 use mw_asm::Program;
 use mw_base::{Event, NoMemory};
@@ -24,7 +23,7 @@ use mw_board::{Board, Store};
 use mw_cycle::{Clock, Datapath, Env, State, Whole};
 use mw_outside::Shelf;
 use mw_plan::{Files, Stop};
-use mw_sim::{Parts, Start, append_event, run_cycles};
+use mw_sim::{Parts, Start, append_event, append_state, run_cycles};
 use std::alloc::Global;
 
 /// Runs a board from its state, over an environment, by its arithmetic part. The events of its cycles, in order.

@@ -1,4 +1,4 @@
-use Rattle.std.proofs.Common.{◌≡◌, ◌+◌, ◌<◌, length, arith, rules, ◌∙◌, sym}
+use Rattle.std.proofs.Common.{◌<◌, length, arith, rules}
 use Rattle.mw_board.specs.Elements.{element_count}
 use Rattle.mw_sim.specs.Start.{settables_of}
 use Rattle.mw_sim.proofs.Starts.{pointer_in, settable_count, value_in}

@@ -4,7 +4,7 @@ use Rattle.mw_replay.specs.CounterPrinted.{environment_lines}
 use Rattle.mw_rel.specs.Start.{Start}
 use Rattle.mw_rel.specs.Views.{job_of}
 use Rattle.mw_top.specs.Commands.Pal.{start_text}
-use Rattle.mw_top.specs.StateText.{state_text}
+use Rattle.mw_sim.specs.StateText.{state_text}
 use Rattle.mw_top.proofs.Consoles.{completed_is, state_behind}
 use Rattle.mw_top.proofs.commands.pal.append_begin.Goals as goal
 

@@ -2,13 +2,12 @@
 ghost use Rattle.std.specs.Prelude.{◌≡◌, ◌<◌, ◌++◌, OnOk};
 ghost use Rattle.mw_board.specs.Elements.{element_count};
 ghost use Rattle.mw_cycle.specs.State.{Fits};
-ghost use Rattle.mw_top.specs.StateText.{element_line, element_lines, set_line, state_text};
+ghost use Rattle.mw_sim.specs.StateText.{element_line, element_lines, set_line, state_text};
 
-use crate::report::append_value_line;
+use crate::texts::{append_hex_line, append_memory, append_value_line};
 use mw_base::NoMemory;
 use mw_board::Board;
 use mw_cycle::State;
-use mw_sim::{append_hex_line, append_memory};
 use std::alloc::Global;
 
 /// Appends the line that sets an element with a name; none where its value is 0.
@@ -53,8 +52,12 @@ fn append_elements(
 /// Appends the lines of an environment from which a run goes on in this state: the control address, the elements that
 /// aren't 0 by number, the stack pointer where it isn't 0, and the words of the memory that aren't 0 in rising order of
 /// addresses. The state fits the board.
+///
+/// # Errors
+///
+/// Memory ran out: the text may only be dropped then.
 #[tactic(auto, unfolding(crate::specs::StateText::state_text))]
-pub(crate) fn append_state(
+pub fn append_state(
     alloc: Global,
     report: &mut Vec<u8>,
     board: &Board,

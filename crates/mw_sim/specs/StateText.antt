@@ -7,8 +7,7 @@ use Rattle.mw_board.specs.declared.parts.BoardParts.{BoardParts}
 use Rattle.mw_board.specs.Elements.{element_count, element_name, stack_pointer_name}
 use Rattle.mw_cycle.specs.Elements.{element}
 use Rattle.mw_cycle.specs.State.{BoardState}
-use Rattle.mw_sim.specs.Texts.{line, memory_lines}
-use Rattle.mw_top.specs.Report.{value_line}
+use Rattle.mw_sim.specs.Texts.{line, memory_lines, value_line}
 
 -- the line that sets an element with a name; none where its value is 0
 abbrev pub set_line : List ℕ → ℕ → List ℕ

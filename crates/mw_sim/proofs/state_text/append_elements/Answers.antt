@@ -1,6 +1,6 @@
-use Rattle.mw_top.specs.StateText.{element_line}
+use Rattle.mw_sim.specs.StateText.{element_line}
 use Rattle.mw_sim.proofs.NumberedLines.{numbered_more}
-use Rattle.mw_top.proofs.state_text.append_elements.Goals as goal
+use Rattle.mw_sim.proofs.state_text.append_elements.Goals as goal
 
 pub loop-number-preserved : goal.loop-number-preserved
 loop-number-preserved c =

@@ -1,7 +1,7 @@
 use Rattle.std.proofs.Common.{◌≡◌, ◌++◌}
 use Rattle.std.specs.List.{flat_map, range_with_len}
-use Rattle.mw_top.specs.StateText.{element_line}
-use Rattle.mw_top.proofs.state_text.append_elements.Given as goal
+use Rattle.mw_sim.specs.StateText.{element_line}
+use Rattle.mw_sim.proofs.state_text.append_elements.Given as goal
 
 abbrev pub invariant-loop-number : goal.invariant-loop-number
 invariant-loop-number l =
