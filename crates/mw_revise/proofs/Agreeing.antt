@@ -1,11 +1,11 @@
 -- The law of revisions: two programs agree exactly where no twin start differs.
-use Rattle.std.proofs.Common.{◌≡◌, ℕ, zero, suc, ◌+◌, ◌<◌, ◌≤◌, ◌++◌, drop, List, Some, None, refl, sym, ap, ap₂, ◌∙◌}
+use Rattle.std.proofs.Common.{◌≡◌, ℕ, zero, suc, ◌+◌, ◌≤◌, ◌++◌, drop, List, Some, None, sym, ap, ap₂, ◌∙◌}
 use Rattle.std.proofs.Common.{subst, add-one, inl, inr, arith}
 use Rattle.std.proofs.lemmas.Bool.{cases_lt}
 use Rattle.mw_cycle.specs.Boundary.{IsBoundary}
 use Rattle.mw_macro.specs.Laws.{inputs_in}
 use Rattle.mw_ready.specs.Environment.{IsReadyEnvironment}
-use Rattle.mw_ready.specs.Run.{ReadyRun, then_ready_run}
+use Rattle.mw_ready.specs.Run.{ReadyRun}
 use Rattle.mw_ready.proofs.Further.{ready_rests_are_environments}
 use Rattle.mw_rel.proofs.Boundaries.{boundary_once, first_next, next_on}
 use Rattle.mw_rel.proofs.Unlike.{one_some, never_some}
@@ -230,10 +230,16 @@ same_where_agree : (revision : Revision) (twins : Twins) → IsRevision revision
     → AgreeAt revision twins 1 → AreSame revision twins
 same_where_agree revision twins is begins agree =
     let are = begins.are in
-    let old_within : agree.before ≤ twins.block.bound = omega (arith, agree.bounds Old 0 0 agree.before twins.block
-    (omega arith) IsBoundary.first agree.old_comes (begins_at Old revision twins is are are.together.old_at)) in
-    let new_within : agree.after ≤ twins.block.bound = omega (arith, agree.bounds New 0 0 agree.after twins.block
-    (omega arith) IsBoundary.first agree.new_comes (begins_at New revision twins is are are.together.new_at)) in
+    let old_within : agree.before ≤ twins.block.bound = omega (
+      arith,
+      agree.bounds Old 0 0 agree.before twins.block
+          (omega arith) IsBoundary.first agree.old_comes (begins_at Old revision twins is are are.together.old_at),
+    ) in
+    let new_within : agree.after ≤ twins.block.bound = omega (
+      arith,
+      agree.bounds New 0 0 agree.after twins.block
+          (omega arith) IsBoundary.first agree.new_comes (begins_at New revision twins is are are.together.new_at),
+    ) in
     record {
       old_run = run_on Old revision twins agree.before;
       new_run = run_on New revision twins agree.after;

@@ -16,7 +16,7 @@ use Rattle.mw_base.specs.declared.refusal.TextFault.{TextFault}
 use Rattle.mw_base.specs.declared.token.Token.{Token}
 use Rattle.mw_base.specs.Cursors.{at_line}
 use Rattle.mw_base.specs.Places.{address_of}
-use Rattle.mw_base.specs.Reading.{◌>>=◌, Gives}
+use Rattle.mw_base.specs.Reading.{Gives}
 use Rattle.mw_base.specs.Steps.{steps}
 use Rattle.mw_base.specs.TokenLines.{fault_on, text_end, token_lines}
 use Rattle.mw_base.proofs.Results.{bind_ok, if_ok, ok_is, ok_of}
@@ -73,7 +73,7 @@ apart_more : (side : Side) (blocks : List Block) (last : Block) → AreApart sid
 apart_more side blocks last apart free n block at =
     let at_address : ℕ → Block → Bool = λ address other. address_on side other == address in
     let parts : (address : ℕ) → find (at_address address) (blocks ++ last ∷ [])
-        ≡ option_or (find (at_address address) blocks) (find (at_address address) (last ∷ [])) =
+    ≡ option_or (find (at_address address) blocks) (find (at_address address) (last ∷ [])) =
     λ address. find-append (at_address address) blocks (last ∷ []) in
     elim (before_or_last blocks last n block at) [
       | inl before ↦ parts (address_on side block)

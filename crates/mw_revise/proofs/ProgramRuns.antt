@@ -1,23 +1,22 @@
 -- Runs of one program: how far they have come, how they go on, and where their first segments end.
-use Rattle.std.proofs.Common.{◌≡◌, ℕ, ◌+◌, ◌≤◌, List, [], drop, Bool, false, Option, Some, None, option_map}
+use Rattle.std.proofs.Common.{◌≡◌, ℕ, ◌+◌, ◌≤◌, List, [], Bool, false, Option, Some, None, option_map}
 use Rattle.std.proofs.Common.{slice_index_or}
 use Rattle.std.proofs.Common.{refl, sym, ap, ◌∙◌, subst, add-zero}
 use Rattle.std.specs.Option.{option_to_list}
 use Rattle.std.proofs.lemmas.List.{get_or-drop}
-use Rattle.mw_base.specs.declared.event.Event.{Event}
 use Rattle.mw_board.specs.declared.parts.BoardParts.{BoardParts}
 use Rattle.mw_board.specs.Valid.{IsBoard}
 use Rattle.mw_cycle.specs.Boundary.{first_boundary, IsNextBoundary}
 use Rattle.mw_cycle.specs.Cycle.{state_after, nets_of}
 use Rattle.mw_cycle.specs.Environment.{Environment, at_start, given_at}
 use Rattle.mw_cycle.specs.Run.{BoardRun, longer_run, run_of}
-use Rattle.mw_cycle.specs.State.{BoardState, Fits}
+use Rattle.mw_cycle.specs.State.{Fits}
 use Rattle.mw_cycle.specs.declared.state.CycleIn.{CycleIn}
 use Rattle.mw_cycle.proofs.Times.{next_boundary}
 use Rattle.mw_macro.specs.Laws.{inputs_in}
 use Rattle.mw_ready.specs.Boundary.{ready_first_segment}
-use Rattle.mw_ready.specs.Environment.{ReadyEnvironment, IsReadyEnvironment, ready_rest_at}
-use Rattle.mw_ready.specs.Run.{ReadyRun, clocks_for, line_of_cycle, run_of_cycles, then_ready_run}
+use Rattle.mw_ready.specs.Environment.{IsReadyEnvironment, ready_rest_at}
+use Rattle.mw_ready.specs.Run.{ReadyRun, line_of_cycle, run_of_cycles, then_ready_run}
 use Rattle.mw_ready.specs.Thinned.{but_clocks, thinned}
 use Rattle.mw_ready.proofs.Begins.{thinned_below}
 use Rattle.mw_ready.proofs.Clocks.{cycles_come}

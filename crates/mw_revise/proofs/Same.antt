@@ -1,11 +1,10 @@
 -- A twin start shows no difference exactly where it is the same on both sides.
-use Rattle.std.proofs.Common.{◌≡◌, ℕ, Bool, true, false, ◌==◌, ◌&&◌, Option, Some, None, refl, ap, ap₂, ◌∙◌, sym, subst}
+use Rattle.std.proofs.Common.{◌≡◌, Bool, true, false, ◌==◌, ◌&&◌, Option, Some, None, refl, ap, ap₂, ◌∙◌}
 use Rattle.std.specs.Prelude.{All, if◌then◌else◌}
 use Rattle.std.specs.Option.{option_or}
 use Rattle.std.proofs.lemmas.Bool.{and_parts, eqb-true, eq-eqb}
 use Rattle.mw_board.specs.declared.parts.BoardParts.{BoardParts}
 use Rattle.mw_cycle.specs.State.{BoardState, Fits}
-use Rattle.mw_cycle.specs.Elements.{element}
 use Rattle.mw_ready.specs.Run.{ReadyRun}
 use Rattle.mw_rel.specs.Differs.{same_event}
 use Rattle.mw_rel.proofs.Unlike.{same_lists, never_unlike, event_is, event_itself, number_itself, nothing_made}
@@ -18,9 +17,9 @@ use Rattle.mw_revise.specs.declared.programs.Side.{Side}
 use Rattle.mw_revise.specs.declared.programs.Side.TheVariants.{Old, New}
 use Rattle.mw_revise.specs.Laws.{AreSame, SameShowNothing}
 use Rattle.mw_revise.specs.Revision.{Revision, IsRevision, block_at, store_of, addresses_of}
-use Rattle.mw_revise.specs.Together.{Holds, holds, StandTogether}
+use Rattle.mw_revise.specs.Together.{Holds, holds}
 use Rattle.mw_revise.specs.TwinDiffers.{event_difference, boundary_difference, pointer_difference, line_difference}
-use Rattle.mw_revise.specs.TwinDiffers.{memory_difference, difference_at, segment_on, shown_at, shown_by}
+use Rattle.mw_revise.specs.TwinDiffers.{difference_at, segment_on, shown_at, shown_by}
 use Rattle.mw_revise.specs.TwinDiffers.{twin_difference}
 use Rattle.mw_revise.specs.Twins.{Twins, IsTwinStart, start_on}
 use Rattle.mw_revise.proofs.Blocks.{there_is, is_there, is_at}

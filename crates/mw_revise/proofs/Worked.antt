@@ -1,12 +1,11 @@
 -- The law of revisions on two that are worked: one that agrees, and one that doesn't.
-use Rattle.std.proofs.Common.{◌≡◌, ℕ, zero, suc, ◌+◌, ◌<◌, ◌≤◌, ◌^◌, List, [], ◌∷◌, Bool, false, ◌||◌, ◌==◌, find, length}
-use Rattle.std.proofs.Common.{Option, Some, None, refl, sym, ap, ◌∙◌, subst, arith, lit<, lit≤}
+use Rattle.std.proofs.Common.{◌≡◌, ℕ, zero, suc, ◌+◌, ◌<◌, ◌≤◌, ◌^◌, List, [], ◌∷◌, false, ◌||◌, ◌==◌, find}
+use Rattle.std.proofs.Common.{Some, None, refl, sym, ap, ◌∙◌, subst, arith, lit<, lit≤}
 use Rattle.std.specs.Prelude.{All, replicate, slice_get, slice_index}
 use Rattle.std.specs.Option.{option_to_list}
 use Rattle.std.proofs.lemmas.Bool.{eq-eqb}
 use Rattle.std.proofs.lemmas.Nat.{pow_pos}
 use Rattle.std.proofs.lemmas.List.Elements.{All-nil, All-cons, All-head, All-tail}
-use Rattle.mw_base.specs.declared.event.Event.{Event}
 use Rattle.mw_board.specs.Examples.{small_board}
 use Rattle.mw_board.specs.Valid.{IsBoard}
 use Rattle.mw_board.proofs.Valid.{is_board}
@@ -17,9 +16,7 @@ use Rattle.mw_cycle.specs.declared.state.CycleIn.{CycleIn}
 use Rattle.mw_cycle.proofs.OnLiterals.{cycle_on_literals}
 use Rattle.mw_ready.specs.Boundary.{ready_first_segment}
 use Rattle.mw_ready.specs.Environment.{IsReadyEnvironment}
-use Rattle.mw_ready.specs.Run.{ReadyRun}
 use Rattle.mw_ready.proofs.OnLiterals.{waits_on_literals}
-use Rattle.mw_revise.specs.declared.difference.TwinDifference.{TwinDifference}
 use Rattle.mw_revise.specs.declared.difference.TwinDifference.TheVariants as differences
 use Rattle.mw_revise.specs.declared.keep.Block.{Block}
 use Rattle.mw_revise.specs.declared.keep.KeepLine.{KeepLine}
@@ -32,7 +29,7 @@ use Rattle.mw_revise.specs.Examples.{state_at}
 use Rattle.mw_revise.specs.Laws.{AreSame, NoTwinDiffers}
 use Rattle.mw_revise.specs.Revision.{AreApart, IsRevision}
 use Rattle.mw_revise.specs.Together.{Holds, StandTogether}
-use Rattle.mw_revise.specs.TwinDiffers.{TwinDiffers, twin_difference}
+use Rattle.mw_revise.specs.TwinDiffers.{TwinDiffers}
 use Rattle.mw_revise.specs.Twins.{ProgramStart, Twins, AreTwins, IsTwinStart, start_on}
 use Rattle.mw_revise.proofs.Agreeing.{agree_where_none_differs}
 use Rattle.mw_revise.proofs.OnLiterals.{revisions_on_literals, rules_on_literals}
@@ -121,7 +118,7 @@ lines_hold old_state new_state old_next new_next old_pc new_pc old_regs new_regs
     let now = Holds small_board old_next new_next in
     let registers = All-tail before (Fixed 19 1 5) (Equal 0 ∷ Equal 1 ∷ []) lines in
     let same : (n : ℕ) → slice_index old_state.regs n ≡ slice_index new_state.regs n
-        → slice_index old_next.regs n ≡ slice_index new_next.regs n =
+    → slice_index old_next.regs n ≡ slice_index new_next.regs n =
     λ n kept. ap (λ regs. slice_index regs n) old_regs ∙ kept ∙ sym (ap (λ regs. slice_index regs n) new_regs) in
     All-cons now (Fixed 19 1 5) (Equal 0 ∷ Equal 1 ∷ []) (old_pc, new_pc)
     (All-cons now (Equal 0) (Equal 1 ∷ []) (same 0 (All-head before (Equal 0) (Equal 1 ∷ []) registers))
@@ -245,12 +242,13 @@ eights_together = record {
   lines = lines_of_eights;
   memory = refl;
 }
-    where
-      now : KeepLine → Type 0
-      now = Holds small_board (state_at 0 1 (8 ∷ 8 ∷ [])) (state_at 4 5 (8 ∷ 8 ∷ []))
-      lines_of_eights : All now register_lines
-      lines_of_eights = All-cons now (Fixed 19 1 5) (Equal 0 ∷ Equal 1 ∷ []) (refl, refl)
-          (All-cons now (Equal 0) (Equal 1 ∷ []) refl (All-cons now (Equal 1) [] refl (All-nil now)))
+  where
+    now : KeepLine → Type 0
+    now = Holds small_board (state_at 0 1 (8 ∷ 8 ∷ [])) (state_at 4 5 (8 ∷ 8 ∷ []))
+
+    lines_of_eights : All now register_lines
+    lines_of_eights = All-cons now (Fixed 19 1 5) (Equal 0 ∷ Equal 1 ∷ []) (refl, refl)
+        (All-cons now (Equal 0) (Equal 1 ∷ []) refl (All-cons now (Equal 1) [] refl (All-nil now)))
 
 eights_start : IsTwinStart (small_revision ors) (small_twins (8 ∷ 8 ∷ []))
 unfolding cycle_on_literals waits_on_literals

@@ -1,5 +1,5 @@
 -- Worked revisions on the small board, as values on which the definitions compute.
-use Rattle.std.specs.Prelude.{ℕ, ◌-◌, List, [], ◌∷◌, ◌++◌, length, replicate, Bool, Option, slice_index}
+use Rattle.std.specs.Prelude.{ℕ, ◌-◌, List, [], ◌∷◌, ◌++◌, length, replicate, Option, slice_index}
 use Rattle.mw_board.specs.Examples.{small_board, small_points}
 use Rattle.mw_board.specs.declared.control.Control.TheVariants.{Fixed as FixedPoint}
 use Rattle.mw_board.specs.declared.parts.BoardParts.{BoardParts}
@@ -12,7 +12,7 @@ use Rattle.mw_revise.specs.declared.keep.KeepLine.TheVariants.{Equal, Fixed}
 use Rattle.mw_revise.specs.declared.programs.Side.{Side}
 use Rattle.mw_revise.specs.Revision.{Revision}
 use Rattle.mw_revise.specs.TwinDiffers.{twin_difference}
-use Rattle.mw_revise.specs.Twins.{Twins, address_after, run_on}
+use Rattle.mw_revise.specs.Twins.{Twins, run_on}
 
 -- the old program adds A = 1 into B = 0, and then jumps to its boundary at 0
 abbrev pub two_words : List ℕ

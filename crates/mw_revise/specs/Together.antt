@@ -1,5 +1,5 @@
 -- When a state of the old program and one of the new program stand together at a boundary.
-use Rattle.std.specs.Prelude.{◌≡◌, ℕ, Bool, ◌==◌, ◌&&◌, All}
+use Rattle.std.specs.Prelude.{◌≡◌, Bool, ◌==◌, ◌&&◌, All}
 use Rattle.mw_board.specs.declared.parts.BoardParts.{BoardParts}
 use Rattle.mw_cycle.specs.Elements.{element}
 use Rattle.mw_cycle.specs.State.{BoardState, Fits}

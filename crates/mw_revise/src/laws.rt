@@ -1,5 +1,6 @@
 // Laws of twin starts, and of what two programs agree in.
-ghost use Rattle.mw_revise.specs.Laws.{AgreeWhereNoneDiffers, SameShowNothing};
+ghost use Rattle.mw_revise.specs.Laws.{AgreeWhereNoneDiffers, AreTwinsThinned, DifferWhereThinnedDo, SameShowNothing};
+ghost use Rattle.mw_revise.specs.Laws.{TwinsDifferAsThinned};
 
 /// The law of twin starts: one shows no difference exactly where both first segments keep the bound, end at the same
 /// boundary with states that stand together there, and have the same events.
@@ -11,4 +12,20 @@ pub fn same_show_nothing()
 /// segments.
 pub fn agree_where_none_differs()
     ensures { AgreeWhereNoneDiffers }
+{}
+
+/// The law of twin starts with waits: without its waits a twin start is one.
+pub fn are_twins_thinned()
+    ensures { AreTwinsThinned }
+{}
+
+/// The law of what twins show: the difference, if any, that they show without their waits.
+pub fn twins_differ_as_thinned()
+    ensures { TwinsDifferAsThinned }
+{}
+
+/// The law of differences with waits: no twin start differs exactly where none does that has no waits. So whether two
+/// programs agree can be decided over environments without waits.
+pub fn differ_where_thinned_do()
+    ensures { DifferWhereThinnedDo }
 {}
