@@ -8,14 +8,21 @@ use Rattle.mw_board.specs.Rules.{address_rule, bit_rule, carry_in_rule, chosen_r
 use Rattle.mw_board.specs.Rules.{field_rule, fields_rule, flipflop_name_rule, flipflops_rule, list_rule, load_rule}
 use Rattle.mw_board.specs.Rules.{map_bits_rule, map_entries_rule, map_entry_rule, mask_rule, microword_rule, name_rule}
 use Rattle.mw_board.specs.Rules.{point_rule, source_rule, stack_rule, vector_rule, width_rule, word_rule}
+use Rattle.mw_cycle.specs.Decided.{decided_of}
 use Rattle.mw_cycle.specs.Elements.{element_of}
 use Rattle.mw_ready.specs.Boundary.{ready_first_segment}
 use Rattle.mw_revise.specs.Examples.{speaking_board}
+use Rattle.mw_revise.specs.TwinCase.{bits_of_cycles, twin_case}
 use Rattle.mw_revise.specs.TwinDiffers.{difference_at, twin_difference}
 
 unfoldable pub revisions_on_literals : ⊤
 unfolding element_of ready_first_segment speaking_board difference_at twin_difference
 revisions_on_literals = tt
+
+-- And to compute what they decide.
+unfoldable pub twin_cases_on_literals : ⊤
+unfolding decided_of bits_of_cycles twin_case
+twin_cases_on_literals = tt
 
 -- And to compute that a board keeps its rules.
 unfoldable pub rules_on_literals : ⊤

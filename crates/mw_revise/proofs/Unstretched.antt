@@ -1,24 +1,29 @@
 -- A twin start shows what it shows without its waits.
-use Rattle.std.proofs.Common.{◌≡◌, ℕ, List, Option, Some, None, option_map, refl, sym, ap, ap₂, ◌∙◌}
+use Rattle.std.proofs.Common.{◌≡◌, ℕ, zero, suc, List, [], ◌++◌, Bool, Option, Some, None, option_map, refl, sym, ap}
+use Rattle.std.proofs.Common.{ap₂, ◌∙◌}
+use Rattle.std.specs.Prelude.{if◌then◌else◌}
+use Rattle.std.specs.Option.{is_none, unwrap_or}
 use Rattle.mw_board.specs.declared.parts.BoardParts.{BoardParts}
 use Rattle.mw_cycle.specs.Boundary.{first_boundary}
-use Rattle.mw_cycle.specs.Environment.{Environment}
+use Rattle.mw_cycle.specs.Decided.{decided_of}
+use Rattle.mw_cycle.specs.Environment.{Environment, given_at}
 use Rattle.mw_cycle.specs.Run.{BoardRun, run_of}
 use Rattle.mw_ready.specs.Boundary.{ready_first_segment}
 use Rattle.mw_ready.specs.Environment.{IsReadyEnvironment}
-use Rattle.mw_ready.specs.Run.{ReadyRun}
+use Rattle.mw_ready.specs.Run.{ReadyRun, given_to_cycle}
 use Rattle.mw_ready.specs.Thinned.{but_clocks, thinned}
 use Rattle.mw_ready.proofs.Begins.{thinned_below}
 use Rattle.mw_ready.proofs.Steady.{nothing_is_thinned}
-use Rattle.mw_ready.proofs.Thinning.{line_thinned, runs_are_thinned}
+use Rattle.mw_ready.proofs.Thinning.{cycle_given, line_thinned, runs_are_thinned}
 use Rattle.mw_cycle.specs.declared.series.Series.TheVariants.{Noise}
 use Rattle.std.proofs.Common.{slice_index_or, false}
 use Rattle.mw_revise.specs.declared.keep.Block.{Block}
 use Rattle.mw_revise.specs.declared.programs.Side.{Side}
 use Rattle.mw_revise.specs.declared.programs.Side.TheVariants.{Old, New}
-use Rattle.mw_revise.specs.Laws.{TwinsDifferAsThinned, thinned_start}
+use Rattle.mw_revise.specs.Laws.{CasesAreThinned, TwinsDifferAsThinned, thinned_start}
 use Rattle.mw_revise.specs.Laws.{thinned_twins, DifferWhereThinnedDo, AreTwinsThinned}
 use Rattle.mw_revise.specs.Revision.{Revision, block_at, addresses_of}
+use Rattle.mw_revise.specs.TwinCase.{bits_of_cycles, bits_of_segment, cycles_on, end_on, twin_case}
 use Rattle.mw_revise.specs.TwinDiffers.{difference_at, segment_on, shown_at, shown_by, twin_difference}
 use Rattle.mw_revise.specs.Twins.{ProgramStart, Twins, start_on}
 use Rattle.mw_revise.proofs.ProgramRuns.{run, line}
@@ -136,3 +141,63 @@ differ_where_thinned_do revision = (
   }) refl refl,
   λ none twins difference differs old_waits new_waits. none twins difference differs,
 )
+
+-- ---- what they decide
+
+-- a cycle is given what the cycle without waits is given
+given_alike : (board : BoardParts) (store : List ℕ) (start : ProgramStart) (n : ℕ)
+    → (let other = thinned_start board store start in
+    given_to_cycle board store start.env start.state n ≡ given_to_cycle board store other.env other.state n)
+given_alike board store start n =
+    let thin = thinned board store start.env start.state in
+    let other = thinned_start board store start in
+    cycle_given board store start.env start.state n
+    ∙ ap (λ (env : Environment). given_at env (run_of board store env start.state n).clock)
+    (sym (nothing_is_thinned board store thin start.state))
+    ∙ sym (cycle_given board store other.env other.state n)
+
+-- so it decides the same
+cycle_alike : (board : BoardParts) (store : List ℕ) (start : ProgramStart) (n : ℕ)
+    → (let other = thinned_start board store start in
+    decided_of board store (run board store start n).state (given_to_cycle board store start.env start.state n)
+    ≡ decided_of board store (run board store other n).state (given_to_cycle board store other.env other.state n))
+cycle_alike board store start n =
+    let other = thinned_start board store start in
+    ap (λ (r : BoardRun). decided_of board store r.state (given_to_cycle board store start.env start.state n))
+    (run_alike board store start n)
+    ∙ ap (decided_of board store (run board store other n).state) (given_alike board store start n)
+
+cycles_alike : (side : Side) (revision : Revision) (twins : Twins) (n : ℕ)
+    → bits_of_cycles side revision twins n ≡ bits_of_cycles side revision (thinned_twins revision twins) n
+unfolding bits_of_cycles
+cycles_alike side revision twins zero = refl
+cycles_alike Old revision twins (suc n) =
+    ap₂ (λ xs ys. xs ++ ys) (cycles_alike Old revision twins n)
+    (cycle_alike revision.board revision.before twins.before n)
+cycles_alike New revision twins (suc n) =
+    ap₂ (λ xs ys. xs ++ ys) (cycles_alike New revision twins n)
+    (cycle_alike revision.board revision.after twins.after n)
+
+ends_alike : (side : Side) (revision : Revision) (twins : Twins)
+    → end_on side revision twins ≡ end_on side revision (thinned_twins revision twins)
+ends_alike Old revision twins = ap (λ (at : ℕ → ℕ). first_boundary (addresses_of Old revision) at twins.block.bound)
+    (λ i n. (run_alike revision.board revision.before twins.before n i).state.at)
+ends_alike New revision twins = ap (λ (at : ℕ → ℕ). first_boundary (addresses_of New revision) at twins.block.bound)
+    (λ i n. (run_alike revision.board revision.after twins.after n i).state.at)
+
+segments_alike : (side : Side) (revision : Revision) (twins : Twins)
+    → bits_of_segment side revision twins ≡ bits_of_segment side revision (thinned_twins revision twins)
+segments_alike side revision twins =
+    cycles_alike side revision twins (cycles_on side revision twins)
+    ∙ ap (λ end. bits_of_cycles side revision (thinned_twins revision twins) (unwrap_or end twins.block.bound))
+    (ends_alike side revision twins)
+
+pub cases_are_thinned : CasesAreThinned
+unfolding twin_case
+cases_are_thinned revision twins = record {
+  cycles = λ side. ap (λ end. unwrap_or end twins.block.bound) (ends_alike side revision twins);
+  late = λ side. ap is_none (ends_alike side revision twins);
+  bits = ap₂ (λ xs ys. xs ++ ys) (segments_alike Old revision twins)
+      (ap₂ (λ (late : Bool) ys. if late then [] else ys) (ap is_none (ends_alike Old revision twins))
+      (segments_alike New revision twins));
+}

@@ -5,12 +5,15 @@ use Rattle.mw_board.specs.declared.control.Control.TheVariants.{Fixed as FixedPo
 use Rattle.mw_board.specs.declared.parts.BoardParts.{BoardParts}
 use Rattle.mw_cycle.specs.State.{BoardState}
 use Rattle.mw_ready.specs.Environment.{ReadyEnvironment}
+use Rattle.mw_rel.specs.CaseExamples.{goes_to}
+use Rattle.mw_term.specs.declared.decided.Decided.{Decided}
 use Rattle.mw_revise.specs.declared.difference.TwinDifference.{TwinDifference}
 use Rattle.mw_revise.specs.declared.keep.Block.{Block}
 use Rattle.mw_revise.specs.declared.keep.KeepLine.{KeepLine}
 use Rattle.mw_revise.specs.declared.keep.KeepLine.TheVariants.{Equal, Fixed}
 use Rattle.mw_revise.specs.declared.programs.Side.{Side}
 use Rattle.mw_revise.specs.Revision.{Revision}
+use Rattle.mw_revise.specs.TwinCase.{twin_case}
 use Rattle.mw_revise.specs.TwinDiffers.{twin_difference}
 use Rattle.mw_revise.specs.Twins.{Twins, run_on}
 
@@ -125,3 +128,15 @@ staying = record {
   after = at_four 0x4010C0040;
   keep = record { blocks = block_with 1 register_lines ∷ [] };
 }
+
+-- what twin starts of the small revisions decide
+abbrev pub decided_with : (after registers : List ℕ) → List Decided
+decided_with after registers = twin_case (small_revision after) (small_twins registers)
+
+-- the bits of address 4
+abbrev pub to_four : List Decided
+to_four = goes_to (0 ∷ 0 ∷ 0 ∷ 0 ∷ 0 ∷ 0 ∷ 0 ∷ 0 ∷ 0 ∷ 1 ∷ 0 ∷ 0 ∷ [])
+
+-- and those of address 5
+abbrev pub to_five : List Decided
+to_five = goes_to (0 ∷ 0 ∷ 0 ∷ 0 ∷ 0 ∷ 0 ∷ 0 ∷ 0 ∷ 0 ∷ 1 ∷ 0 ∷ 1 ∷ [])

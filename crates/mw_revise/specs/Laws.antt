@@ -5,10 +5,12 @@ use Rattle.mw_ready.specs.Run.{ReadyRun}
 use Rattle.mw_ready.specs.Thinned.{never_waiting, thinned}
 use Rattle.mw_revise.specs.declared.difference.TwinDifference.{TwinDifference}
 use Rattle.mw_revise.specs.declared.keep.Block.{Block}
+use Rattle.mw_revise.specs.declared.programs.Side.{Side}
 use Rattle.mw_revise.specs.declared.programs.Side.TheVariants.{Old, New}
 use Rattle.mw_revise.specs.Agreement.{Agreement}
 use Rattle.mw_revise.specs.Revision.{Revision, IsRevision, IsBlockOf}
 use Rattle.mw_revise.specs.Together.{StandTogether}
+use Rattle.mw_revise.specs.TwinCase.{cycles_on, is_late_on, twin_case}
 use Rattle.mw_revise.specs.TwinDiffers.{TwinDiffers, segment_on, twin_difference}
 use Rattle.mw_revise.specs.Twins.{ProgramStart, Twins, IsTwinStart}
 
@@ -70,3 +72,13 @@ NoTwinDiffersWithoutWaits revision = (twins : Twins) (difference : TwinDifferenc
 -- no twin start differs exactly where none does that has no waits
 abbrev pub DifferWhereThinnedDo : Type 0
 DifferWhereThinnedDo = (revision : Revision) → NoTwinDiffersWithoutWaits revision ↔ NoTwinDiffers revision
+
+-- twins have as many cycles on each side, are late there, and decide what they decide, without their waits
+pub record HaveCaseOfThinned (revision : Revision) (twins : Twins) : Type 0 where
+  pub cycles : (side : Side) → cycles_on side revision twins ≡ cycles_on side revision (thinned_twins revision twins)
+  pub late : (side : Side) → is_late_on side revision twins ≡ is_late_on side revision (thinned_twins revision twins)
+  pub bits : twin_case revision twins ≡ twin_case revision (thinned_twins revision twins)
+
+-- so do all
+abbrev pub CasesAreThinned : Type 0
+CasesAreThinned = (revision : Revision) (twins : Twins) → HaveCaseOfThinned revision twins

@@ -10,6 +10,7 @@ pub mod Together
 pub mod Twins
 pub mod Agreement
 pub mod TwinDiffers
+pub mod TwinCase
 pub mod Laws
 pub mod Examples
 pub mod TwinText

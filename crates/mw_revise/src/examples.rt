@@ -1,13 +1,16 @@
 // Worked revisions, computed on the definitions.
-ghost use Rattle.std.specs.Prelude.{◌≡◌, [], ◌∷◌, Some, None, true};
+ghost use Rattle.std.specs.Prelude.{◌≡◌, [], ◌∷◌, ◌++◌, Some, None, true};
 ghost use Rattle.mw_board.specs.Examples.{small_board};
 ghost use Rattle.mw_ready.specs.Examples.{memory_board, waiting, writing_board};
 ghost use Rattle.mw_revise.specs.declared.difference.TwinDifference.TheVariants as differences;
 ghost use Rattle.mw_revise.specs.declared.programs.Side.TheVariants.{Old, New};
 ghost use Rattle.mw_revise.specs.Agreement.{Agreement};
+ghost use Rattle.mw_rel.specs.CaseExamples.{to_one, to_zero};
+ghost use Rattle.mw_revise.specs.Examples.{decided_with, to_five, to_four};
 ghost use Rattle.mw_revise.specs.Examples.{adds, block_with, leaves, nothing, ors, parted_revision, pushes, reached};
 ghost use Rattle.mw_revise.specs.Examples.{reached_as, register_lines, revision_with, shown, small_revision, small_twins};
 ghost use Rattle.mw_revise.specs.Examples.{speaking_board, staying, twins_with};
+ghost use Rattle.mw_revise.specs.TwinCase.{twin_case};
 ghost use Rattle.mw_revise.specs.TwinDiffers.{twin_difference};
 ghost use Rattle.mw_revise.specs.Twins.{line_on};
 
@@ -36,6 +39,17 @@ pub fn revisions_are_worked()
         (twins_with (block_with 2 register_lines) (9 ∷ 8 ∷ []) waiting nothing) ≡ None }
     ensures line { line_on Old (revision_with memory_board adds (block_with 2 register_lines ∷ []))
         (twins_with (block_with 2 register_lines) (9 ∷ 8 ∷ []) waiting nothing) 0 ≡ true }
+{}
+
+/// What twin starts decide: the two cycles of the old program and then the one of the new program; and, where the old
+/// segment is late, those of its bound alone.
+pub fn twin_cases_are_worked()
+    ensures both { decided_with adds (9 ∷ 8 ∷ []) ≡ to_one ++ (to_zero ++ to_four) }
+    ensures late_old { twin_case (revision_with small_board adds (block_with 1 register_lines ∷ []))
+        (twins_with (block_with 1 register_lines) (9 ∷ 8 ∷ []) nothing nothing) ≡ to_one }
+    ensures late_new { decided_with leaves (9 ∷ 8 ∷ []) ≡ to_one ++ (to_zero ++ (to_five ++ to_zero)) }
+    ensures waits { twin_case (revision_with memory_board adds (block_with 2 register_lines ∷ []))
+        (twins_with (block_with 2 register_lines) (9 ∷ 8 ∷ []) waiting nothing) ≡ to_one ++ (to_zero ++ to_four) }
 {}
 
 /// The law of revisions, used in both directions: two programs that only jump to their boundary agree, over all runs,

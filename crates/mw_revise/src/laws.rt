@@ -1,6 +1,6 @@
 // Laws of twin starts, and of what two programs agree in.
 ghost use Rattle.mw_revise.specs.Laws.{AgreeWhereNoneDiffers, AreTwinsThinned, DifferWhereThinnedDo, SameShowNothing};
-ghost use Rattle.mw_revise.specs.Laws.{TwinsDifferAsThinned};
+ghost use Rattle.mw_revise.specs.Laws.{CasesAreThinned, TwinsDifferAsThinned};
 
 /// The law of twin starts: one shows no difference exactly where both first segments keep the bound, end at the same
 /// boundary with states that stand together there, and have the same events.
@@ -28,4 +28,10 @@ pub fn twins_differ_as_thinned()
 /// programs agree can be decided over environments without waits.
 pub fn differ_where_thinned_do()
     ensures { DifferWhereThinnedDo }
+{}
+
+/// The law of cases with waits: a twin start has as many cycles on each side, is late there, and decides what it
+/// decides, without its waits.
+pub fn cases_are_thinned()
+    ensures { CasesAreThinned }
 {}
