@@ -1,5 +1,6 @@
 -- The boundaries that a KEEP text says are at control addresses of their own in both programs.
-use Rattle.std.proofs.Common.{◌≡◌, ℕ, zero, suc, ◌+◌, List, [], ◌∷◌, ◌++◌, Bool, true, false, not, ◌||◌, ◌==◌, cond, find}
+use Rattle.std.proofs.Common.{◌≡◌, ℕ, zero, suc, ◌+◌, List, [], ◌∷◌, ◌++◌, Bool, true, false}
+use Rattle.std.proofs.Common.{not, ◌||◌, ◌==◌, cond, find}
 use Rattle.std.proofs.Common.{Option, Some, None, Result, Ok, Err, refl, sym, ap, ◌∙◌, subst, ◌⊎◌, inl, inr}
 use Rattle.std.specs.Prelude.{IfOk, IfSome, is_none, nat_lt, length, ok_or, slice_get}
 use Rattle.std.specs.List.{list_any}
@@ -78,7 +79,8 @@ apart_more side blocks last apart free n block at =
     elim (before_or_last blocks last n block at) [
       | inl before ↦ parts (address_on side block)
           ∙ ap (λ found. option_or found (find (at_address (address_on side block)) (last ∷ []))) (apart n block before)
-      | inr same ↦ subst (λ (b : Block). find (at_address (address_on side b)) (blocks ++ last ∷ []) ≡ Some b) (sym same)
+      | inr same ↦ subst (λ (b : Block). find (at_address (address_on side b)) (blocks ++ last ∷ []) ≡ Some b)
+          (sym same)
           (parts (address_on side last)
           ∙ ap (λ found. option_or found (find (at_address (address_on side last)) (last ∷ [])))
           (none_found (at_address (address_on side last)) blocks free)
@@ -110,7 +112,8 @@ free_there : (side : Side) (programs : Programs) (text : List ℕ) (blocks : Lis
 unfolding free_address
 free_there side programs text blocks place address is =
     let one = bind_ok (address_of text (label_named (labels_of side programs)) place) _ address is in
-    let two = bind_ok (allowed (not (is_taken side blocks one.0)) (fault_on (place_token place) Twice)) _ address one.2 in
+    let two = bind_ok (allowed (not (is_taken side blocks one.0)) (fault_on (place_token place) Twice)) _ address
+    one.2 in
     subst (λ a. is_taken side blocks a ≡ false) (ok_is {F = TextFault} one.0 address two.2)
     (not_true _ (allowed_only (not (is_taken side blocks one.0)) (fault_on (place_token place) Twice) two.0 two.1))
 
@@ -257,7 +260,7 @@ finished_apart : (fault : TextFault) (blocks : List Block) (block : Option OpenB
 finished_apart fault blocks None keep is apart = kept_apart blocks keep is apart
 finished_apart fault blocks (Some block) keep is apart = cc
 
-pub keep_is_apart : (programs : Programs) (text : List ℕ) (keep : Keep) → keep_of programs text ≡ Ok keep
+keep_is_apart : (programs : Programs) (text : List ℕ) (keep : Keep) → keep_of programs text ≡ Ok keep
     → (side : Side) → AreApart side keep.blocks
 unfolding keep_of
 keep_is_apart programs text keep is =

@@ -9,12 +9,12 @@ use Rattle.mw_revise.specs.declared.programs.Side.{Side}
 use Rattle.mw_revise.specs.Revision.{Revision, IsRevision, IsBlockOf, block_at}
 use Rattle.mw_revise.specs.Sites.{address_on}
 
--- a boundary of the file is the one at its address
+-- a boundary of the revision is the one at its address
 pub there_is : (side : Side) (revision : Revision) (block : Block) → IsRevision revision → IsBlockOf revision block
     → block_at side revision (address_on side block) ≡ Some block
 there_is side revision block is there = is.apart side there.0 block there.1
 
--- the boundary at an address is one of the file
+-- the boundary at an address is one of the revision
 pub is_there : (side : Side) (revision : Revision) (at : ℕ) (block : Block) → block_at side revision at ≡ Some block
     → IsBlockOf revision block
 is_there side revision at block found =

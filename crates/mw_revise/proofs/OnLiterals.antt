@@ -29,5 +29,6 @@ unfoldable pub rules_on_literals : ⊤
 unfolding width_rule microword_rule address_rule word_rule vector_rule stack_rule fields_rule name_rule field_rule
     flipflops_rule flipflop_name_rule control_rule point_rule chosen_rule list_rule bit_rule carry_in_rule load_rule
     source_rule mask_rule d_source_rule map_bits_rule map_entry_rule map_entries_rule each_from list_check sizes_check
-    fields_check flipflop_check flipflops_from flipflops_check points_check lists_check map_check check_of depth_of is_name
+    fields_check flipflop_check flipflops_from flipflops_check points_check lists_check map_check check_of depth_of
+    is_name
 rules_on_literals = tt

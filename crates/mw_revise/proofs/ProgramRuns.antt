@@ -26,7 +26,7 @@ use Rattle.mw_ready.proofs.Thinning.{line_thinned, runs_are_thinned}
 use Rattle.mw_rel.proofs.Boundaries.{found_within}
 use Rattle.mw_rel.proofs.Cycles.{run_fits}
 use Rattle.mw_rel.proofs.Runs.{inputs_are}
-use Rattle.mw_revise.specs.Twins.{ProgramStart}
+use Rattle.mw_revise.specs.TwinStart.{ProgramStart}
 
 -- the run of n cycles of a program
 abbrev pub run : BoardParts → List ℕ → ProgramStart → ℕ → ReadyRun
@@ -45,7 +45,8 @@ line board store start n = line_of_cycle board store start.env start.state n
 
 -- without waits it is this run
 without_waits : (board : BoardParts) (store : List ℕ) (start : ProgramStart) (n : ℕ)
-    → but_clocks (run board store start n) ≡ run_of board store (thinned board store start.env start.state) start.state n
+    → but_clocks (run board store start n)
+    ≡ run_of board store (thinned board store start.env start.state) start.state n
 without_waits board store start n = runs_are_thinned board store start.env start.state n
 
 -- before its first cycle

@@ -1,8 +1,8 @@
 -- A twin start shows no difference exactly where it is the same on both sides.
-use Rattle.std.proofs.Common.{◌≡◌, Bool, true, false, ◌==◌, ◌&&◌, Option, Some, None, refl, ap, ap₂, ◌∙◌}
+use Rattle.std.proofs.Common.{◌≡◌, Bool, true, false, ◌==◌, Option, Some, None, refl, ap, ap₂, ◌∙◌}
 use Rattle.std.specs.Prelude.{All, if◌then◌else◌}
 use Rattle.std.specs.Option.{option_or}
-use Rattle.std.proofs.lemmas.Bool.{and_parts, eqb-true, eq-eqb}
+use Rattle.std.proofs.lemmas.Bool.{and_from, and_parts, eqb-true, eq-eqb}
 use Rattle.mw_board.specs.declared.parts.BoardParts.{BoardParts}
 use Rattle.mw_cycle.specs.State.{BoardState, Fits}
 use Rattle.mw_ready.specs.Run.{ReadyRun}
@@ -17,11 +17,11 @@ use Rattle.mw_revise.specs.declared.programs.Side.{Side}
 use Rattle.mw_revise.specs.declared.programs.Side.TheVariants.{Old, New}
 use Rattle.mw_revise.specs.Laws.{AreSame, SameShowNothing}
 use Rattle.mw_revise.specs.Revision.{Revision, IsRevision, block_at, store_of, addresses_of}
-use Rattle.mw_revise.specs.Together.{Holds, holds}
+use Rattle.mw_revise.specs.Together.{Holds, line_holds}
 use Rattle.mw_revise.specs.TwinDiffers.{event_difference, boundary_difference, pointer_difference, line_difference}
 use Rattle.mw_revise.specs.TwinDiffers.{difference_at, segment_on, shown_at, shown_by}
 use Rattle.mw_revise.specs.TwinDiffers.{twin_difference}
-use Rattle.mw_revise.specs.Twins.{Twins, IsTwinStart, start_on}
+use Rattle.mw_revise.specs.TwinStart.{TwinStart, IsTwinStart, start_on}
 use Rattle.mw_revise.proofs.Blocks.{there_is, is_there, is_at}
 use Rattle.mw_revise.proofs.ProgramRuns.{Segment, segment, fits}
 
@@ -39,19 +39,16 @@ shows_none true difference none = refl
 shows_none false difference none = cc
 
 line_is : (board : BoardParts) (old_state new_state : BoardState) (line : KeepLine)
-    → holds board old_state new_state line ≡ true → Holds board old_state new_state line
+    → line_holds board old_state new_state line ≡ true → Holds board old_state new_state line
 line_is board old_state new_state (Equal number) passes = eqb-true _ _ passes
 line_is board old_state new_state (Fixed number old_value new_value) passes =
     let parts = and_parts _ _ passes in (eqb-true _ _ parts.0, eqb-true _ _ parts.1)
 
-both_pass : (first second : Bool) → first ≡ true → second ≡ true → (first && second) ≡ true
-both_pass first second one two = ap₂ (λ x y. x && y) one two
-
 line_passes : (board : BoardParts) (old_state new_state : BoardState) (line : KeepLine)
-    → Holds board old_state new_state line → holds board old_state new_state line ≡ true
+    → Holds board old_state new_state line → line_holds board old_state new_state line ≡ true
 line_passes board old_state new_state (Equal number) is = eq-eqb _ _ is
 line_passes board old_state new_state (Fixed number old_value new_value) is =
-    both_pass _ _ (eq-eqb _ _ is.0) (eq-eqb _ _ is.1)
+    and_from _ _ (eq-eqb _ _ is.0) (eq-eqb _ _ is.1)
 
 -- what is compared where the old run has reached a boundary
 record Agree (board : BoardParts) (reached : Block) (old_run new_run : ReadyRun) : Type 0 where
@@ -76,7 +73,7 @@ agree_at board reached old_run new_run none =
       at = eqb-true _ _ (shows_none _ _ two.0);
       old_sp = eqb-true _ _ pointers.0;
       new_sp = eqb-true _ _ pointers.1;
-      lines = none_fails (holds board old_run.state new_run.state) (Holds board old_run.state new_run.state)
+      lines = none_fails (line_holds board old_run.state new_run.state) (Holds board old_run.state new_run.state)
           (line_is board old_run.state new_run.state) reached.lines (nothing_made _ _ four.0);
       memory = same_lists (λ x y. x == y) (λ x y same. eqb-true x y same) 0 old_run.state.memory new_run.state.memory
           (nothing_made _ _ four.1);
@@ -94,7 +91,7 @@ nothing_at board reached old_run new_run agree =
       agree.old_sp,
       agree.new_sp,
       number_itself reached.sp,
-      all_pass (holds board old_run.state new_run.state) (Holds board old_run.state new_run.state)
+      all_pass (line_holds board old_run.state new_run.state) (Holds board old_run.state new_run.state)
           (line_passes board old_run.state new_run.state) reached.lines agree.lines,
       agree.memory,
       never_unlike (λ x y. x == y) number_itself 0 new_run.state.memory,
@@ -119,7 +116,7 @@ shown_block revision old_run new_run (Some reached) none = (reached, refl, none)
 shown_block revision old_run new_run None none = cc
 
 -- the first segment of a program of a twin start
-pub segment_of : (side : Side) (revision : Revision) (twins : Twins) (ended : ReadyRun)
+pub segment_of : (side : Side) (revision : Revision) (twins : TwinStart) (ended : ReadyRun)
     → segment_on side revision twins ≡ Some ended
     → Segment revision.board (store_of side revision) (start_on side twins) (addresses_of side revision)
     twins.block.bound ended
@@ -128,7 +125,7 @@ segment_of side revision twins ended is =
     twins.block.bound ended is
 
 -- the state where it ends fits
-ended_fits : (side : Side) (revision : Revision) (twins : Twins) (ended : ReadyRun) → IsRevision revision
+ended_fits : (side : Side) (revision : Revision) (twins : TwinStart) (ended : ReadyRun) → IsRevision revision
     → IsTwinStart revision twins → Fits revision.board (start_on side twins).state
     → segment_on side revision twins ≡ Some ended → Fits revision.board ended.state
 ended_fits side revision twins ended is begins fit ends =
@@ -136,7 +133,7 @@ ended_fits side revision twins ended is begins fit ends =
     rw ran.is (fits revision.board (store_of side revision) (start_on side twins) ran.length is.board
     (begins.are.environments side) fit)
 
-pub same_where_none : (revision : Revision) (twins : Twins) → IsRevision revision → IsTwinStart revision twins
+pub same_where_none : (revision : Revision) (twins : TwinStart) → IsRevision revision → IsTwinStart revision twins
     → twin_difference revision twins ≡ None → AreSame revision twins
 unfolding twin_difference
 same_where_none revision twins is begins none =
@@ -165,7 +162,7 @@ same_where_none revision twins is begins none =
       events = agree.events;
     }
 
-pub none_where_same : (revision : Revision) (twins : Twins) → IsRevision revision → AreSame revision twins
+pub none_where_same : (revision : Revision) (twins : TwinStart) → IsRevision revision → AreSame revision twins
     → twin_difference revision twins ≡ None
 unfolding twin_difference
 none_where_same revision twins is same =

@@ -5,7 +5,7 @@ use Rattle.std.specs.Prelude.{All, replicate, slice_get, slice_index}
 use Rattle.std.specs.Option.{option_to_list}
 use Rattle.std.proofs.lemmas.Bool.{eq-eqb}
 use Rattle.std.proofs.lemmas.Nat.{pow_pos}
-use Rattle.std.proofs.lemmas.List.Elements.{All-nil, All-cons, All-head, All-tail}
+use Rattle.std.proofs.lemmas.List.Elements.{All-nil, All-cons, All-head, All-replicate, All-tail}
 use Rattle.mw_board.specs.Examples.{small_board}
 use Rattle.mw_board.specs.Valid.{IsBoard}
 use Rattle.mw_board.proofs.Valid.{is_board}
@@ -24,13 +24,13 @@ use Rattle.mw_revise.specs.declared.keep.KeepLine.TheVariants.{Equal, Fixed}
 use Rattle.mw_revise.specs.declared.programs.Side.{Side}
 use Rattle.mw_revise.specs.declared.programs.Side.TheVariants.{Old, New}
 use Rattle.mw_revise.specs.Agreement.{Agreement}
-use Rattle.mw_revise.specs.Examples.{block_with, nothing, ors, register_lines, small_revision, small_twins, staying}
+use Rattle.mw_revise.specs.Examples.{nothing, ors, register_block, register_lines, small_revision, small_twins, staying}
 use Rattle.mw_revise.specs.Examples.{state_at}
 use Rattle.mw_revise.specs.Laws.{AreSame, NoTwinDiffers}
 use Rattle.mw_revise.specs.Revision.{AreApart, IsRevision}
 use Rattle.mw_revise.specs.Together.{Holds, StandTogether}
 use Rattle.mw_revise.specs.TwinDiffers.{TwinDiffers}
-use Rattle.mw_revise.specs.Twins.{ProgramStart, Twins, AreTwins, IsTwinStart, start_on}
+use Rattle.mw_revise.specs.TwinStart.{ProgramStart, TwinStart, AreTwins, IsTwinStart, start_on}
 use Rattle.mw_revise.proofs.Agreeing.{agree_where_none_differs}
 use Rattle.mw_revise.proofs.OnLiterals.{revisions_on_literals, rules_on_literals}
 use Rattle.mw_revise.proofs.ProgramRuns.{run, fits, first_given, one_cycle_state, one_cycle_events, segment_is}
@@ -38,23 +38,19 @@ use Rattle.mw_revise.proofs.Same.{none_where_same}
 
 -- ---- the board and the boundary
 
-pub small_is_board : IsBoard small_board
+small_is_board : IsBoard small_board
 unfolding waits_on_literals rules_on_literals
 small_is_board = is_board small_board refl
 
--- the boundary at 0 and 4 alone
-abbrev one_block : (bound : ℕ) → Block
-one_block bound = block_with bound register_lines
-
-only_block : (bound n : ℕ) (block : Block) → slice_get (one_block bound ∷ []) n ≡ Some block → one_block bound ≡ block
+only_block : (bound n : ℕ) (block : Block) → slice_get (register_block bound ∷ []) n ≡ Some block → register_block bound ≡ block
 only_block bound zero block at = cc
 only_block bound (suc n) block at = cc
 
-apart : (bound : ℕ) (side : Side) → AreApart side (one_block bound ∷ [])
+apart : (bound : ℕ) (side : Side) → AreApart side (register_block bound ∷ [])
 apart bound Old n block at = subst (λ (b : Block). find (λ (other : Block). other.before == b.before)
-    (one_block bound ∷ []) ≡ Some b) (only_block bound n block at) refl
+    (register_block bound ∷ []) ≡ Some b) (only_block bound n block at) refl
 apart bound New n block at = subst (λ (b : Block). find (λ (other : Block). other.after == b.after)
-    (one_block bound ∷ []) ≡ Some b) (only_block bound n block at) refl
+    (register_block bound ∷ []) ≡ Some b) (only_block bound n block at) refl
 
 -- ---- programs that stay where they are
 
@@ -125,10 +121,10 @@ lines_hold old_state new_state old_next new_next old_pc new_pc old_regs new_regs
     (All-cons now (Equal 1) [] (same 1 (All-head before (Equal 1) []
     (All-tail before (Equal 0) (Equal 1 ∷ []) registers))) (All-nil now)))
 
-staying_same : (twins : Twins) → one_block 1 ≡ twins.block → AreTwins staying twins → AreSame staying twins
+staying_same : (twins : TwinStart) → register_block 1 ≡ twins.block → AreTwins staying twins → AreSame staying twins
 staying_same twins is are =
-    let block : twins.block ≡ one_block 1 = sym is in
-    let together : StandTogether small_board (one_block 1) twins.before.state twins.after.state =
+    let block : twins.block ≡ register_block 1 = sym is in
+    let together : StandTogether small_board (register_block 1) twins.before.state twins.after.state =
     subst (λ (b : Block). StandTogether small_board b twins.before.state twins.after.state) block are.together in
     let old_given = first_given small_board staying.before twins.before in
     let new_given = first_given small_board staying.after twins.after in
@@ -136,16 +132,16 @@ staying_same twins is are =
     let new_stay = new_stays twins.after.state new_given together.new_at in
     let old_state = one_cycle_state small_board staying.before twins.before in
     let new_state = one_cycle_state small_board staying.after twins.after in
-    let bound = λ (limit : ℕ). ready_first_segment small_board staying.before twins.before.env
+    let old_within = λ (limit : ℕ). ready_first_segment small_board staying.before twins.before.env
     twins.before.state (0 ∷ []) limit in
-    let new_bound = λ (limit : ℕ). ready_first_segment small_board staying.after twins.after.env
+    let new_within = λ (limit : ℕ). ready_first_segment small_board staying.after twins.after.env
     twins.after.state (4 ∷ []) limit in
     record {
       old_run = run small_board staying.before twins.before 1;
       new_run = run small_board staying.after twins.after 1;
-      reached = one_block 1;
-      old_segment = ap (λ (b : Block). bound b.bound) block ∙ ends staying.before 0 twins.before old_stay;
-      new_segment = ap (λ (b : Block). new_bound b.bound) block ∙ ends staying.after 4 twins.after new_stay;
+      reached = register_block 1;
+      old_segment = ap (λ (b : Block). old_within b.bound) block ∙ ends staying.before 0 twins.before old_stay;
+      new_segment = ap (λ (b : Block). new_within b.bound) block ∙ ends staying.after 4 twins.after new_stay;
       there = (0, refl);
       together = record {
         old_fits = fits small_board staying.before twins.before 1 small_is_board (are.environments Old)
@@ -189,17 +185,13 @@ below [] bound some all i = some
 below (x ∷ rest) bound some all zero = All-head (λ x. x < bound) x rest all
 below (x ∷ rest) bound some all (suc i) = below rest bound some (All-tail (λ x. x < bound) x rest all) i
 
-all_nothing : (n bound : ℕ) → 0 < bound → All (λ x. x < bound) (replicate n 0)
-all_nothing zero bound some = All-nil (λ x. x < bound)
-all_nothing (suc n) bound some = All-cons (λ x. x < bound) 0 (replicate n 0) some (all_nothing n bound some)
-
 -- with 8 in the first two registers the sum is 0 and the or is 8
 abbrev eights : List ℕ
 eights = 8 ∷ 8 ∷ replicate 14 0
 
 eights_below : (i : ℕ) → slice_index eights i < 2 ^ 4
 eights_below = below eights (2 ^ 4) (lit< tt) (All-cons (λ x. x < 2 ^ 4) 8 (8 ∷ replicate 14 0) (lit< tt)
-    (All-cons (λ x. x < 2 ^ 4) 8 (replicate 14 0) (lit< tt) (all_nothing 14 (2 ^ 4) (lit< tt))))
+    (All-cons (λ x. x < 2 ^ 4) 8 (replicate 14 0) (lit< tt) (All-replicate (λ x. x < 2 ^ 4) 14 0 (lit< tt))))
 
 eights_fit : (at pc : ℕ) → at < 2 ^ 12 → pc < 2 ^ 12 → Fits small_board (state_at at pc (8 ∷ 8 ∷ []))
 unfolding waits_on_literals rules_on_literals
@@ -214,12 +206,12 @@ eights_fit at pc at_below pc_below = record {
   seq = record {
     pc = pc_below;
     r = lit< tt;
-    words = below (replicate 5 0) (2 ^ 12) (lit< tt) (all_nothing 5 (2 ^ 12) (lit< tt));
+    words = below (replicate 5 0) (2 ^ 12) (lit< tt) (All-replicate (λ x. x < 2 ^ 12) 5 0 (lit< tt));
     size = refl;
     sp = lit≤ tt;
   };
   size = refl;
-  memory = below (replicate 16 0) (2 ^ 4) (lit< tt) (all_nothing 16 (2 ^ 4) (lit< tt));
+  memory = below (replicate 16 0) (2 ^ 4) (lit< tt) (All-replicate (λ x. x < 2 ^ 4) 16 0 (lit< tt));
 }
 
 -- an environment of nothing is one
@@ -230,7 +222,7 @@ nothing_on : (side : Side) → IsReadyEnvironment small_board (start_on side (sm
 nothing_on Old = nothing_is
 nothing_on New = nothing_is
 
-eights_together : StandTogether small_board (one_block 2) (state_at 0 1 (8 ∷ 8 ∷ [])) (state_at 4 5 (8 ∷ 8 ∷ []))
+eights_together : StandTogether small_board (register_block 2) (state_at 0 1 (8 ∷ 8 ∷ [])) (state_at 4 5 (8 ∷ 8 ∷ []))
 unfolding waits_on_literals revisions_on_literals
 eights_together = record {
   old_fits = eights_fit 0 1 (lit< tt) (lit< tt);

@@ -1,11 +1,12 @@
 -- Worked revisions on the small board, as values on which the definitions compute.
-use Rattle.std.specs.Prelude.{ℕ, ◌-◌, List, [], ◌∷◌, ◌++◌, length, replicate, Option, slice_index}
+use Rattle.std.specs.Prelude.{ℕ, List, [], ◌∷◌, true, Option, slice_index}
 use Rattle.mw_board.specs.Examples.{small_board, small_points}
 use Rattle.mw_board.specs.declared.control.Control.TheVariants.{Fixed as FixedPoint}
 use Rattle.mw_board.specs.declared.parts.BoardParts.{BoardParts}
 use Rattle.mw_cycle.specs.State.{BoardState}
 use Rattle.mw_ready.specs.Environment.{ReadyEnvironment}
 use Rattle.mw_rel.specs.CaseExamples.{goes_to}
+use Rattle.mw_rel.specs.Examples.{pair_with}
 use Rattle.mw_term.specs.declared.decided.Decided.{Decided}
 use Rattle.mw_revise.specs.declared.difference.TwinDifference.{TwinDifference}
 use Rattle.mw_revise.specs.declared.keep.Block.{Block}
@@ -15,7 +16,7 @@ use Rattle.mw_revise.specs.declared.programs.Side.{Side}
 use Rattle.mw_revise.specs.Revision.{Revision}
 use Rattle.mw_revise.specs.TwinCase.{twin_case}
 use Rattle.mw_revise.specs.TwinDiffers.{twin_difference}
-use Rattle.mw_revise.specs.Twins.{Twins, run_on}
+use Rattle.mw_revise.specs.TwinStart.{TwinStart, run_on}
 
 -- the old program adds A = 1 into B = 0, and then jumps to its boundary at 0
 abbrev pub two_words : List ℕ
@@ -49,6 +50,10 @@ register_lines = Fixed 19 1 5 ∷ Equal 0 ∷ Equal 1 ∷ []
 abbrev pub block_with : (bound : ℕ) → List KeepLine → Block
 block_with bound lines = record { before = 0; after = 4; bound = bound; sp = 0; lines = lines }
 
+-- where the registers are compared
+abbrev pub register_block : (bound : ℕ) → Block
+register_block bound = block_with bound register_lines
+
 -- the old program and a new one on a board, with these boundaries
 abbrev pub revision_with : BoardParts → (after : List ℕ) → List Block → Revision
 revision_with board after blocks =
@@ -56,12 +61,12 @@ revision_with board after blocks =
 
 -- the small board, with one boundary and two cycles at most
 abbrev pub small_revision : (after : List ℕ) → Revision
-small_revision after = revision_with small_board after (block_with 2 register_lines ∷ [])
+small_revision after = revision_with small_board after (register_block 2 ∷ [])
 
 -- with another boundary, which the old program meets between its words
 abbrev pub parted_revision : Revision
 parted_revision = revision_with small_board adds
-    (block_with 2 register_lines ∷ record { before = 1; after = 5; bound = 2; sp = 0; lines = [] } ∷ [])
+    (register_block 2 ∷ record { before = 1; after = 5; bound = 2; sp = 0; lines = [] } ∷ [])
 
 -- the small board that puts out Y in each cycle
 unfoldable pub speaking_board : BoardParts
@@ -69,23 +74,20 @@ speaking_board = record small_board { control = record small_points { out = Fixe
 
 -- a state at an address, with this PC and these registers; all else is 0
 abbrev pub state_at : (at pc : ℕ) → (registers : List ℕ) → BoardState
-state_at at pc registers = record {
-  at = at;
-  regs = registers ++ replicate (16 - length registers) 0;
-  q = 0;
-  mar = 0;
-  ir = 0;
-  flips = 0;
-  seq = record { pc = pc; r = 0; stack = replicate 5 0; sp = 0 };
-  memory = replicate 16 0;
-}
+state_at at pc registers =
+    let first = (pair_with registers).board in
+    record first { at = at; seq = record first.seq { pc = pc } }
 
 -- an environment that has nothing but 0
 abbrev pub nothing : ReadyEnvironment
 nothing = record { line = []; noise = []; wait = []; inputs = [] }
 
--- twins at the first boundary of a revision, with these registers in both
-abbrev pub twins_with : Block → (registers : List ℕ) → (old_env new_env : ReadyEnvironment) → Twins
+-- one whose first line is 1
+abbrev pub requested : ReadyEnvironment
+requested = record nothing { line = true ∷ [] }
+
+-- twins at a boundary, with these registers in both and these environments
+abbrev pub twins_with : Block → (registers : List ℕ) → (old_env new_env : ReadyEnvironment) → TwinStart
 twins_with block registers old_env new_env = record {
   block = block;
   before = record { state = state_at 0 1 registers; env = old_env };
@@ -93,8 +95,8 @@ twins_with block registers old_env new_env = record {
 }
 
 -- those of the small revisions, where the environments have nothing but 0
-abbrev pub small_twins : (registers : List ℕ) → Twins
-small_twins registers = twins_with (block_with 2 register_lines) registers nothing nothing
+abbrev pub small_twins : (registers : List ℕ) → TwinStart
+small_twins registers = twins_with (register_block 2) registers nothing nothing
 
 -- what they show with a new program
 abbrev pub shown : (after registers : List ℕ) → Option TwinDifference
@@ -126,7 +128,7 @@ staying = record {
   board = small_board;
   before = 0x4000C0040 ∷ [];
   after = at_four 0x4010C0040;
-  keep = record { blocks = block_with 1 register_lines ∷ [] };
+  keep = record { blocks = register_block 1 ∷ [] };
 }
 
 -- what twin starts of the small revisions decide

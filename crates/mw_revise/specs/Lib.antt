@@ -7,7 +7,7 @@ pub mod Kept
 pub mod Sites
 pub mod Revision
 pub mod Together
-pub mod Twins
+pub mod TwinStart
 pub mod Agreement
 pub mod TwinDiffers
 pub mod TwinCase

@@ -8,7 +8,7 @@ use Rattle.mw_revise.specs.declared.programs.Side.{Side}
 use Rattle.mw_revise.specs.declared.programs.Side.TheVariants.{Old, New}
 use Rattle.mw_revise.specs.Sites.{address_on}
 
--- the board, the microwords of both programs from address 0 on, and what stands of them
+-- the board, the microwords of both programs from address 0 on, and what a KEEP text says of them
 pub record Revision : Type 0 where
   pub board : BoardParts
   pub before : List ℕ
@@ -28,7 +28,7 @@ addresses_of side revision = map (address_on side) revision.keep.blocks
 abbrev pub block_at : Side → Revision → ℕ → Option Block
 block_at side revision at = find (λ (block : Block). address_on side block == at) revision.keep.blocks
 
--- a boundary of the file
+-- a boundary of the revision
 abbrev pub IsBlockOf : Revision → Block → Type 0
 IsBlockOf revision block = (n : ℕ) × (slice_get revision.keep.blocks n ≡ Some block)
 

@@ -14,13 +14,13 @@ Holds board old_state new_state (Fixed number old_value new_value) =
     (element board old_state number ≡ old_value) × (element board new_state number ≡ new_value)
 
 -- the same as a test
-abbrev pub holds : BoardParts → (old_state new_state : BoardState) → KeepLine → Bool
-holds board old_state new_state (Equal number) = element board old_state number == element board new_state number
-holds board old_state new_state (Fixed number old_value new_value) =
+abbrev pub line_holds : BoardParts → (old_state new_state : BoardState) → KeepLine → Bool
+line_holds board old_state new_state (Equal number) = element board old_state number == element board new_state number
+line_holds board old_state new_state (Fixed number old_value new_value) =
     (element board old_state number == old_value) && (element board new_state number == new_value)
 
 -- each state fits the board, and is at the boundary's address in its own program; both stack pointers are the
--- boundary's number; each line holds; and the memories are equal
+-- boundary's number; each line line_holds; and the memories are equal
 pub record StandTogether (board : BoardParts) (block : Block) (old_state new_state : BoardState) : Type 0 where
   pub old_fits : Fits board old_state
   pub new_fits : Fits board new_state

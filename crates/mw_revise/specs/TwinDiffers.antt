@@ -14,8 +14,8 @@ use Rattle.mw_revise.specs.declared.programs.Side.{Side}
 use Rattle.mw_revise.specs.declared.programs.Side.TheVariants.{Old, New}
 use Rattle.mw_revise.specs.Elements.{element_in}
 use Rattle.mw_revise.specs.Revision.{Revision, store_of, addresses_of, block_at}
-use Rattle.mw_revise.specs.Together.{holds}
-use Rattle.mw_revise.specs.Twins.{Twins, IsTwinStart, start_on}
+use Rattle.mw_revise.specs.Together.{line_holds}
+use Rattle.mw_revise.specs.TwinStart.{TwinStart, IsTwinStart, start_on}
 
 -- the first event that differs
 abbrev pub event_difference : (old_events new_events : List Event) → Option TwinDifference
@@ -35,7 +35,7 @@ pointer_difference reached old_state new_state =
 abbrev pub line_difference : BoardParts → Block → (old_state new_state : BoardState) → Option TwinDifference
 line_difference board reached old_state new_state =
     option_map (λ line. differences.Element (element_in line))
-    (find (λ line. not (holds board old_state new_state line)) reached.lines)
+    (find (λ line. not (line_holds board old_state new_state line)) reached.lines)
 
 -- the least address with two contents
 abbrev pub memory_difference : (old_memory new_memory : List ℕ) → Option TwinDifference
@@ -54,12 +54,12 @@ difference_at board reached old_run new_run =
 
 -- the first segment of a program, where it keeps its bound; nothing where the bound's number of cycles passes without
 -- a boundary
-abbrev pub segment_on : Side → Revision → Twins → Option ReadyRun
+abbrev pub segment_on : Side → Revision → TwinStart → Option ReadyRun
 segment_on side revision twins =
     ready_first_segment revision.board (store_of side revision) (start_on side twins).env (start_on side twins).state
     (addresses_of side revision) twins.block.bound
 
--- what first segments show whose old one ends at a boundary; each ends at one, so there is one
+-- what both first segments show, where the old one ended at this boundary; a segment ends at one, so there is one
 abbrev pub shown_at : Revision → Option Block → (old_run new_run : ReadyRun) → Option TwinDifference
 shown_at revision None old_run new_run = Some differences.LateOld
 shown_at revision (Some reached) old_run new_run = difference_at revision.board reached old_run new_run
@@ -72,10 +72,10 @@ shown_by revision (Some old_run) (Some new_run) =
     shown_at revision (block_at Old revision old_run.state.at) old_run new_run
 
 -- the first difference that a twin start shows
-unfoldable pub twin_difference : Revision → Twins → Option TwinDifference
+unfoldable pub twin_difference : Revision → TwinStart → Option TwinDifference
 twin_difference revision twins = shown_by revision (segment_on Old revision twins) (segment_on New revision twins)
 
 -- a twin start differs: it shows this difference
-pub record TwinDiffers (revision : Revision) (twins : Twins) (difference : TwinDifference) : Type 0 where
+pub record TwinDiffers (revision : Revision) (twins : TwinStart) (difference : TwinDifference) : Type 0 where
   pub begins : IsTwinStart revision twins
   pub shows : twin_difference revision twins ≡ Some difference

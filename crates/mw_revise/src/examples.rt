@@ -6,17 +6,17 @@ ghost use Rattle.mw_revise.specs.declared.difference.TwinDifference.TheVariants 
 ghost use Rattle.mw_revise.specs.declared.programs.Side.TheVariants.{Old, New};
 ghost use Rattle.mw_revise.specs.Agreement.{Agreement};
 ghost use Rattle.mw_rel.specs.CaseExamples.{to_one, to_zero};
-ghost use Rattle.mw_revise.specs.Examples.{decided_with, to_five, to_four};
-ghost use Rattle.mw_revise.specs.Examples.{adds, block_with, leaves, nothing, ors, parted_revision, pushes, reached};
-ghost use Rattle.mw_revise.specs.Examples.{reached_as, register_lines, revision_with, shown, small_revision, small_twins};
-ghost use Rattle.mw_revise.specs.Examples.{speaking_board, staying, twins_with};
+ghost use Rattle.mw_revise.specs.Examples.{adds, block_with, decided_with, leaves, nothing, ors, parted_revision};
+ghost use Rattle.mw_revise.specs.Examples.{pushes, reached, reached_as, register_block, requested, revision_with};
+ghost use Rattle.mw_revise.specs.Examples.{shown, small_revision, small_twins, speaking_board, staying, to_five};
+ghost use Rattle.mw_revise.specs.Examples.{to_four, twins_with};
 ghost use Rattle.mw_revise.specs.TwinCase.{twin_case};
 ghost use Rattle.mw_revise.specs.TwinDiffers.{twin_difference};
-ghost use Rattle.mw_revise.specs.Twins.{line_on};
+ghost use Rattle.mw_revise.specs.TwinStart.{line_on};
 
 /// A program that adds and jumps in two cycles, and others in its place. One that does it in one cycle shows no
 /// difference, and both have come to the same registers after three segments. With an or in place of the sum the first
-/// register is another where a carry matters, and nothing where it doesn't. A bound of one cycle makes the old program
+/// register differs where the sum has a carry, and nothing where it has none. A bound of one cycle makes the old program
 /// late; a new program that never comes back is late; the second of two outputs is missing; a boundary between the
 /// words is met by the old program alone; a push is on one stack alone; and where no line is compared the memories
 /// differ. Waits before the old program's cycles change nothing, and its first line is that of the clock behind them.
@@ -26,30 +26,33 @@ pub fn revisions_are_worked()
     ensures new_register { reached New adds (9 ∷ 8 ∷ []) 3 ≡ reached_as 4 1 8 }
     ensures carry { shown ors (8 ∷ 8 ∷ []) ≡ Some (differences.Element 0) }
     ensures no_carry { shown ors (8 ∷ 7 ∷ []) ≡ None }
-    ensures late_old { twin_difference (revision_with small_board adds (block_with 1 register_lines ∷ []))
-        (twins_with (block_with 1 register_lines) (9 ∷ 8 ∷ []) nothing nothing) ≡ Some differences.LateOld }
+    ensures late_old { twin_difference (revision_with small_board adds (register_block 1 ∷ []))
+        (twins_with (register_block 1) (9 ∷ 8 ∷ []) nothing nothing) ≡ Some differences.LateOld }
     ensures late_new { shown leaves (9 ∷ 8 ∷ []) ≡ Some differences.LateNew }
-    ensures event { twin_difference (revision_with speaking_board adds (block_with 2 register_lines ∷ []))
+    ensures event { twin_difference (revision_with speaking_board adds (register_block 2 ∷ []))
         (small_twins (9 ∷ 8 ∷ [])) ≡ Some (differences.Event 1) }
     ensures boundary { twin_difference parted_revision (small_twins (9 ∷ 8 ∷ [])) ≡ Some differences.Boundary }
     ensures stack_pointer { shown pushes (9 ∷ 8 ∷ []) ≡ Some differences.StackPointer }
     ensures memory { twin_difference (revision_with writing_board ors (block_with 2 [] ∷ []))
         (twins_with (block_with 2 []) (8 ∷ 8 ∷ []) nothing nothing) ≡ Some (differences.Memory 0) }
-    ensures waits { twin_difference (revision_with memory_board adds (block_with 2 register_lines ∷ []))
-        (twins_with (block_with 2 register_lines) (9 ∷ 8 ∷ []) waiting nothing) ≡ None }
-    ensures line { line_on Old (revision_with memory_board adds (block_with 2 register_lines ∷ []))
-        (twins_with (block_with 2 register_lines) (9 ∷ 8 ∷ []) waiting nothing) 0 ≡ true }
+    ensures waits { twin_difference (revision_with memory_board adds (register_block 2 ∷ []))
+        (twins_with (register_block 2) (9 ∷ 8 ∷ []) waiting requested) ≡ None }
+    ensures old_line { line_on Old (revision_with memory_board adds (register_block 2 ∷ []))
+        (twins_with (register_block 2) (9 ∷ 8 ∷ []) waiting requested) 0 ≡ true }
+    ensures new_line { line_on New (revision_with memory_board adds (register_block 2 ∷ []))
+        (twins_with (register_block 2) (9 ∷ 8 ∷ []) waiting requested) 0 ≡ true }
 {}
 
-/// What twin starts decide: the two cycles of the old program and then the one of the new program; and, where the old
-/// segment is late, those of its bound alone.
+/// What twin starts decide: the two cycles of the old program and then the one of the new program, also with waits;
+/// where the old segment is late, the cycles of its bound alone; and where the new one is, those of its bound behind the
+/// old ones.
 pub fn twin_cases_are_worked()
     ensures both { decided_with adds (9 ∷ 8 ∷ []) ≡ to_one ++ (to_zero ++ to_four) }
-    ensures late_old { twin_case (revision_with small_board adds (block_with 1 register_lines ∷ []))
-        (twins_with (block_with 1 register_lines) (9 ∷ 8 ∷ []) nothing nothing) ≡ to_one }
+    ensures late_old { twin_case (revision_with small_board adds (register_block 1 ∷ []))
+        (twins_with (register_block 1) (9 ∷ 8 ∷ []) nothing nothing) ≡ to_one }
     ensures late_new { decided_with leaves (9 ∷ 8 ∷ []) ≡ to_one ++ (to_zero ++ (to_five ++ to_zero)) }
-    ensures waits { twin_case (revision_with memory_board adds (block_with 2 register_lines ∷ []))
-        (twins_with (block_with 2 register_lines) (9 ∷ 8 ∷ []) waiting nothing) ≡ to_one ++ (to_zero ++ to_four) }
+    ensures waits { twin_case (revision_with memory_board adds (register_block 2 ∷ []))
+        (twins_with (register_block 2) (9 ∷ 8 ∷ []) waiting requested) ≡ to_one ++ (to_zero ++ to_four) }
 {}
 
 /// The law of revisions, used in both directions: two programs that only jump to their boundary agree, over all runs,

@@ -1,5 +1,5 @@
 //! Revisions of microprograms: what a KEEP text says of an old and a new program on one board, what it is that they
-//! agree, and the text of a start from which they differ.
+//! agree, what a twin start shows and decides, and the text of one.
 #![tactic(auto)]
 
 mod beginning;
@@ -19,8 +19,9 @@ pub use difference::TwinDifference;
 pub use examples::{agreement_is_worked, revisions_are_worked, twin_cases_are_worked};
 pub use keep::{Block, Keep, KeepLine};
 pub use laws::{
-    agree_where_none_differs, are_twins_thinned, cases_are_thinned, differ_where_thinned_do,
-    same_show_nothing, twins_differ_as_thinned,
+    agree_where_none_differs, none_differs_alike, same_show_nothing, thinned_are_twin_starts,
+    twin_cases_are_thinned, twin_differences_are_thinned,
 };
+pub use programs::Side;
 pub use reading::read_keep;
 pub use twin::{Twin, print_twin};

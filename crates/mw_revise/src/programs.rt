@@ -9,7 +9,7 @@ use std::marker::Model;
 
 /// The old program or the new one.
 #[derive(Clone, Copy)]
-pub(crate) enum Side {
+pub enum Side {
     /// The old one.
     Old,
     /// The new one.

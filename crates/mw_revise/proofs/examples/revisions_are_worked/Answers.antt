@@ -52,6 +52,10 @@ pub returns-clause-waits : goal.returns-clause-waits
 unfolding cycle_on_literals waits_on_literals revisions_on_literals
 returns-clause-waits c = refl
 
-pub returns-clause-line : goal.returns-clause-line
+pub returns-clause-old_line : goal.returns-clause-old_line
 unfolding cycle_on_literals waits_on_literals revisions_on_literals
-returns-clause-line c = refl
+returns-clause-old_line c = refl
+
+pub returns-clause-new_line : goal.returns-clause-new_line
+unfolding cycle_on_literals waits_on_literals revisions_on_literals
+returns-clause-new_line c = refl

@@ -8,5 +8,6 @@ returns c =
     let words = twin_difference_words c.args.board.now c.args.difference in
     c.in_ok-append_line.ensures ∙ ap (λ (xs : List ℕ). xs ++ 10 ∷ [])
     (c.in_ok-append_difference.ensures ∙ ap (λ (xs : List ℕ). xs ++ words) c.in_ok-append_words.ensures)
-    ∙ append_assoc (old ++ codes "difference ") words (10 ∷ []) ∙ append_assoc old (codes "difference ") (words ++ 10 ∷ [])
+    ∙ append_assoc (old ++ codes "difference ") words (10 ∷ [])
+    ∙ append_assoc old (codes "difference ") (words ++ 10 ∷ [])
     ∙ ap (λ (xs : List ℕ). old ++ xs) (sym (append_assoc (codes "difference ") words (10 ∷ [])))

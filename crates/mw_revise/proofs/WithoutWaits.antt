@@ -1,10 +1,11 @@
--- A twin start shows what it shows without its waits.
+-- Twins show and decide what they show and decide without their waits.
 use Rattle.std.proofs.Common.{◌≡◌, ℕ, zero, suc, List, [], ◌++◌, Bool, Option, Some, None, option_map, refl, sym, ap}
-use Rattle.std.proofs.Common.{ap₂, ◌∙◌}
+use Rattle.std.proofs.Common.{ap₂, ◌∙◌, slice_index_or, false}
 use Rattle.std.specs.Prelude.{if◌then◌else◌}
 use Rattle.std.specs.Option.{is_none, unwrap_or}
 use Rattle.mw_board.specs.declared.parts.BoardParts.{BoardParts}
 use Rattle.mw_cycle.specs.Boundary.{first_boundary}
+use Rattle.mw_cycle.specs.declared.series.Series.TheVariants.{Noise}
 use Rattle.mw_cycle.specs.Decided.{decided_of}
 use Rattle.mw_cycle.specs.Environment.{Environment, given_at}
 use Rattle.mw_cycle.specs.Run.{BoardRun, run_of}
@@ -15,53 +16,53 @@ use Rattle.mw_ready.specs.Thinned.{but_clocks, thinned}
 use Rattle.mw_ready.proofs.Begins.{thinned_below}
 use Rattle.mw_ready.proofs.Steady.{nothing_is_thinned}
 use Rattle.mw_ready.proofs.Thinning.{cycle_given, line_thinned, runs_are_thinned}
-use Rattle.mw_cycle.specs.declared.series.Series.TheVariants.{Noise}
-use Rattle.std.proofs.Common.{slice_index_or, false}
 use Rattle.mw_revise.specs.declared.keep.Block.{Block}
 use Rattle.mw_revise.specs.declared.programs.Side.{Side}
 use Rattle.mw_revise.specs.declared.programs.Side.TheVariants.{Old, New}
-use Rattle.mw_revise.specs.Laws.{CasesAreThinned, TwinsDifferAsThinned, thinned_start}
-use Rattle.mw_revise.specs.Laws.{thinned_twins, DifferWhereThinnedDo, AreTwinsThinned}
-use Rattle.mw_revise.specs.Revision.{Revision, block_at, addresses_of}
+use Rattle.mw_revise.specs.Laws.{NoneDiffersAlike, ThinnedAreTwinStarts, TwinCasesAreThinned}
+use Rattle.mw_revise.specs.Laws.{TwinDifferencesAreThinned}
+use Rattle.mw_revise.specs.Revision.{Revision, addresses_of, block_at, store_of}
 use Rattle.mw_revise.specs.TwinCase.{bits_of_cycles, bits_of_segment, cycles_on, end_on, twin_case}
 use Rattle.mw_revise.specs.TwinDiffers.{difference_at, segment_on, shown_at, shown_by, twin_difference}
-use Rattle.mw_revise.specs.Twins.{ProgramStart, Twins, start_on}
+use Rattle.mw_revise.specs.TwinStart.{ProgramStart, TwinStart, start_on, start_without_waits}
+use Rattle.mw_revise.specs.TwinStart.{twins_without_waits}
 use Rattle.mw_revise.proofs.ProgramRuns.{run, line}
 
 -- ---- one program
 
 -- its run has the states and the events of the one without waits
 run_alike : (board : BoardParts) (store : List ℕ) (start : ProgramStart) (n : ℕ)
-    → but_clocks (run board store start n) ≡ but_clocks (run board store (thinned_start board store start) n)
+    → but_clocks (run board store start n) ≡ but_clocks (run board store (start_without_waits board store start) n)
 run_alike board store start n =
     let thin = thinned board store start.env start.state in
     runs_are_thinned board store start.env start.state n
     ∙ ap (λ (env : Environment). run_of board store env start.state n) (sym (nothing_is_thinned board store thin
     start.state))
-    ∙ sym (runs_are_thinned board store (thinned_start board store start).env start.state n)
+    ∙ sym (runs_are_thinned board store (start_without_waits board store start).env start.state n)
 
 line_alike : (board : BoardParts) (store : List ℕ) (start : ProgramStart) (n : ℕ)
-    → line board store start n ≡ line board store (thinned_start board store start) n
+    → line board store start n ≡ line board store (start_without_waits board store start) n
 line_alike board store start n =
     let thin = thinned board store start.env start.state in
     line_thinned board store start.env start.state n
-    ∙ ap (λ (env : Environment). slice_index_or env.line n false) (sym (nothing_is_thinned board store thin start.state))
-    ∙ sym (line_thinned board store (thinned_start board store start).env start.state n)
+    ∙ ap (λ (env : Environment). slice_index_or env.line n false)
+    (sym (nothing_is_thinned board store thin start.state))
+    ∙ sym (line_thinned board store (start_without_waits board store start).env start.state n)
 
 mapped : (board : BoardParts) (store : List ℕ) (start : ProgramStart) (found : Option ℕ)
     → option_map but_clocks (option_map (run board store start) found)
-    ≡ option_map but_clocks (option_map (run board store (thinned_start board store start)) found)
+    ≡ option_map but_clocks (option_map (run board store (start_without_waits board store start)) found)
 mapped board store start None = refl
 mapped board store start (Some n) = ap Some (run_alike board store start n)
 
 -- so has its first segment
 segment_alike : (board : BoardParts) (store : List ℕ) (start : ProgramStart) (addresses : List ℕ) (limit : ℕ)
-    → (let other = thinned_start board store start in
+    → (let other = start_without_waits board store start in
     option_map but_clocks (ready_first_segment board store start.env start.state addresses limit)
     ≡ option_map but_clocks (ready_first_segment board store other.env other.state addresses limit))
 unfolding ready_first_segment
 segment_alike board store start addresses limit =
-    let other = thinned_start board store start in
+    let other = start_without_waits board store start in
     let ends = λ (at : ℕ → ℕ). option_map but_clocks (option_map (run board store other)
     (first_boundary addresses at limit)) in
     mapped board store start (first_boundary addresses (λ n. (run board store start n).state.at) limit)
@@ -99,30 +100,36 @@ shown_alike revision (Some a) (Some b) (Some c) (Some d) old_same new_same =
     ap (λ (r : BoardRun). shown_at revision (block_at Old revision r.state.at) a b) old_run
     ∙ shown_there revision (block_at Old revision c.state.at) a b c d old_run new_run
 
-pub twins_differ_as_thinned : TwinsDifferAsThinned
+pub twin_differences_are_thinned : TwinDifferencesAreThinned
 unfolding twin_difference
-twins_differ_as_thinned revision twins =
+twin_differences_are_thinned revision twins =
     shown_alike revision (segment_on Old revision twins) (segment_on New revision twins)
-    (segment_on Old revision (thinned_twins revision twins)) (segment_on New revision (thinned_twins revision twins))
+    (segment_on Old revision (twins_without_waits revision twins))
+    (segment_on New revision (twins_without_waits revision twins))
     (segment_alike revision.board revision.before twins.before (addresses_of Old revision) twins.block.bound)
     (segment_alike revision.board revision.after twins.after (addresses_of New revision) twins.block.bound)
 
 -- ---- twin starts
 
-environments_thinned : (revision : Revision) (twins : Twins)
-    → ((side : Side) → IsReadyEnvironment revision.board (start_on side twins).env) → (side : Side)
-    → IsReadyEnvironment revision.board (start_on side (thinned_twins revision twins)).env
-environments_thinned revision twins are Old = record {
-  noise = thinned_below revision.board revision.before twins.before.env twins.before.state (are Old) Noise;
-  inputs = (are Old).inputs;
-}
-environments_thinned revision twins are New = record {
-  noise = thinned_below revision.board revision.after twins.after.env twins.after.state (are New) Noise;
-  inputs = (are New).inputs;
-}
+-- where the run of a program begins, without its waits
+on_side : (side : Side) (revision : Revision) (twins : TwinStart)
+    → start_on side (twins_without_waits revision twins)
+    ≡ start_without_waits revision.board (store_of side revision) (start_on side twins)
+on_side Old revision twins = refl
+on_side New revision twins = refl
 
-pub are_twins_thinned : AreTwinsThinned
-are_twins_thinned revision twins begins = record {
+environments_thinned : (revision : Revision) (twins : TwinStart)
+    → ((side : Side) → IsReadyEnvironment revision.board (start_on side twins).env) → (side : Side)
+    → IsReadyEnvironment revision.board (start_on side (twins_without_waits revision twins)).env
+environments_thinned revision twins are side =
+    let start = start_on side twins in
+    rw (on_side side revision twins) (record {
+      noise = thinned_below revision.board (store_of side revision) start.env start.state (are side) Noise;
+      inputs = (are side).inputs;
+    })
+
+pub thinned_are_twin_starts : ThinnedAreTwinStarts
+thinned_are_twin_starts revision twins begins = record {
   are = record {
     block = begins.are.block;
     together = begins.are.together;
@@ -133,11 +140,11 @@ are_twins_thinned revision twins begins = record {
       ∙ line_alike revision.board revision.after twins.after 0;
 }
 
-pub differ_where_thinned_do : DifferWhereThinnedDo
-differ_where_thinned_do revision = (
-  λ none twins difference differs. none (thinned_twins revision twins) difference (record {
-    begins = are_twins_thinned revision twins differs.begins;
-    shows = sym (twins_differ_as_thinned revision twins) ∙ differs.shows;
+pub none_differs_alike : NoneDiffersAlike
+none_differs_alike revision = (
+  λ none twins difference differs. none (twins_without_waits revision twins) difference (record {
+    begins = thinned_are_twin_starts revision twins differs.begins;
+    shows = sym (twin_differences_are_thinned revision twins) ∙ differs.shows;
   }) refl refl,
   λ none twins difference differs old_waits new_waits. none twins difference differs,
 )
@@ -146,11 +153,11 @@ differ_where_thinned_do revision = (
 
 -- a cycle is given what the cycle without waits is given
 given_alike : (board : BoardParts) (store : List ℕ) (start : ProgramStart) (n : ℕ)
-    → (let other = thinned_start board store start in
+    → (let other = start_without_waits board store start in
     given_to_cycle board store start.env start.state n ≡ given_to_cycle board store other.env other.state n)
 given_alike board store start n =
     let thin = thinned board store start.env start.state in
-    let other = thinned_start board store start in
+    let other = start_without_waits board store start in
     cycle_given board store start.env start.state n
     ∙ ap (λ (env : Environment). given_at env (run_of board store env start.state n).clock)
     (sym (nothing_is_thinned board store thin start.state))
@@ -158,43 +165,42 @@ given_alike board store start n =
 
 -- so it decides the same
 cycle_alike : (board : BoardParts) (store : List ℕ) (start : ProgramStart) (n : ℕ)
-    → (let other = thinned_start board store start in
+    → (let other = start_without_waits board store start in
     decided_of board store (run board store start n).state (given_to_cycle board store start.env start.state n)
     ≡ decided_of board store (run board store other n).state (given_to_cycle board store other.env other.state n))
 cycle_alike board store start n =
-    let other = thinned_start board store start in
+    let other = start_without_waits board store start in
     ap (λ (r : BoardRun). decided_of board store r.state (given_to_cycle board store start.env start.state n))
     (run_alike board store start n)
     ∙ ap (decided_of board store (run board store other n).state) (given_alike board store start n)
 
-cycles_alike : (side : Side) (revision : Revision) (twins : Twins) (n : ℕ)
-    → bits_of_cycles side revision twins n ≡ bits_of_cycles side revision (thinned_twins revision twins) n
+cycles_alike : (side : Side) (revision : Revision) (twins : TwinStart) (n : ℕ)
+    → bits_of_cycles side revision twins n ≡ bits_of_cycles side revision (twins_without_waits revision twins) n
 unfolding bits_of_cycles
 cycles_alike side revision twins zero = refl
-cycles_alike Old revision twins (suc n) =
-    ap₂ (λ xs ys. xs ++ ys) (cycles_alike Old revision twins n)
-    (cycle_alike revision.board revision.before twins.before n)
-cycles_alike New revision twins (suc n) =
-    ap₂ (λ xs ys. xs ++ ys) (cycles_alike New revision twins n)
-    (cycle_alike revision.board revision.after twins.after n)
+cycles_alike side revision twins (suc n) =
+    ap₂ (λ xs ys. xs ++ ys) (cycles_alike side revision twins n)
+    (rw (on_side side revision twins)
+    (cycle_alike revision.board (store_of side revision) (start_on side twins) n))
 
-ends_alike : (side : Side) (revision : Revision) (twins : Twins)
-    → end_on side revision twins ≡ end_on side revision (thinned_twins revision twins)
-ends_alike Old revision twins = ap (λ (at : ℕ → ℕ). first_boundary (addresses_of Old revision) at twins.block.bound)
-    (λ i n. (run_alike revision.board revision.before twins.before n i).state.at)
-ends_alike New revision twins = ap (λ (at : ℕ → ℕ). first_boundary (addresses_of New revision) at twins.block.bound)
-    (λ i n. (run_alike revision.board revision.after twins.after n i).state.at)
+ends_alike : (side : Side) (revision : Revision) (twins : TwinStart)
+    → end_on side revision twins ≡ end_on side revision (twins_without_waits revision twins)
+ends_alike side revision twins =
+    let end : (ℕ → ℕ) → Option ℕ = λ at. first_boundary (addresses_of side revision) at twins.block.bound in
+    let at : ProgramStart → ℕ → ℕ = λ start n. (run revision.board (store_of side revision) start n).state.at in
+    ap end (λ i n. (run_alike revision.board (store_of side revision) (start_on side twins) n i).state.at)
+    ∙ ap (λ start. end (at start)) (sym (on_side side revision twins))
 
-segments_alike : (side : Side) (revision : Revision) (twins : Twins)
-    → bits_of_segment side revision twins ≡ bits_of_segment side revision (thinned_twins revision twins)
+segments_alike : (side : Side) (revision : Revision) (twins : TwinStart)
+    → bits_of_segment side revision twins ≡ bits_of_segment side revision (twins_without_waits revision twins)
 segments_alike side revision twins =
     cycles_alike side revision twins (cycles_on side revision twins)
-    ∙ ap (λ end. bits_of_cycles side revision (thinned_twins revision twins) (unwrap_or end twins.block.bound))
+    ∙ ap (λ end. bits_of_cycles side revision (twins_without_waits revision twins) (unwrap_or end twins.block.bound))
     (ends_alike side revision twins)
 
-pub cases_are_thinned : CasesAreThinned
+pub twin_cases_are_thinned : TwinCasesAreThinned
 unfolding twin_case
-cases_are_thinned revision twins = record {
+twin_cases_are_thinned revision twins = record {
   cycles = λ side. ap (λ end. unwrap_or end twins.block.bound) (ends_alike side revision twins);
   late = λ side. ap is_none (ends_alike side revision twins);
   bits = ap₂ (λ xs ys. xs ++ ys) (segments_alike Old revision twins)

@@ -1,0 +1,5 @@
+use Rattle.mw_revise.proofs.WithoutWaits.{twin_cases_are_thinned}
+use Rattle.mw_revise.proofs.laws.twin_cases_are_thinned.Goals as goal
+
+pub returns : goal.returns
+returns c = twin_cases_are_thinned
